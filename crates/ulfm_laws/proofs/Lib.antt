@@ -1,0 +1,4 @@
+pub mod Beginnings
+pub mod Bits
+pub mod Members
+pub mod Several

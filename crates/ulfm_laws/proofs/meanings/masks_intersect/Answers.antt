@@ -1,0 +1,12 @@
+use Rattle.ulfm_laws.specs.Masks.{mask_unit, mask_meld}
+use Rattle.ulfm_laws.specs.StandsFor.{mask_stands_for, places}
+use Rattle.ulfm_laws.proofs.Bits.{Contains-bits_of_set, bits_of-ones, bits_of-and}
+use Rattle.ulfm_laws.proofs.Several.{to_intersection}
+use Rattle.ulfm_laws.proofs.meanings.masks_intersect.Goals as goal
+
+pub returns-clause-ids : goal.returns-clause-ids
+returns-clause-ids c = λ x. Contains-bits_of_set x.bits
+
+pub returns-clause-melds : goal.returns-clause-melds
+returns-clause-melds c =
+    to_intersection places mask_unit mask_meld mask_stands_for bits_of-ones (λ x y. bits_of-and x.bits y.bits)

@@ -1,0 +1,9 @@
+pub mod Bodies
+pub mod Combined
+pub mod Counts
+pub mod Flags
+pub mod Lawful
+pub mod Masks
+pub mod Ranges
+pub mod StandsFor
+pub mod Summaries

@@ -1,0 +1,29 @@
+-- Sets of context ids, 0 to 31, as the bits of a word, combined by AND.
+use Rattle.std.specs.Prelude.{◌≡◌, ◌<◌, ◌^◌, bit_and}
+use Rattle.std.specs.Coded.{le_prop}
+use Rattle.std.specs.Int.Bits.{and_self}
+use Rattle.std.proofs.Common.{lit<, lt_of_le_of_lt}
+use Rattle.std.proofs.lemmas.Nat.{and_le_l, and_comm, and_assoc}
+use Rattle.ulfm_laws.specs.Lawful.{IsLawful}
+use Rattle.ulfm_laws.specs.Ranges.{same_by_number, ones-and}
+use Rattle.ulfm_laws.specs.declared.ctx_mask.CtxMask.{CtxMask}
+
+-- every id
+abbrev pub mask_unit : CtxMask
+mask_unit = record { bits = 0xffff_ffff; fits = lit< tt }
+
+-- the ids that are in both
+abbrev pub mask_meld : CtxMask → CtxMask → CtxMask
+mask_meld x y = record { bits = bit_and x.bits y.bits; fits = lt_of_le_of_lt (and_le_l x.bits y.bits) x.fits }
+
+-- masks with the same bits are the same
+pub same_mask : (x y : CtxMask) → x.bits ≡ y.bits → x ≡ y
+same_mask x y = same_by_number (λ n. n < 2 ^ 32) (λ n. le_prop) (λ n fits. record { bits = n; fits = fits }) x.bits y.bits x.fits y.fits
+
+pub mask_lawful : IsLawful mask_unit mask_meld
+mask_lawful = record {
+  associative = λ x y z. same_mask (mask_meld (mask_meld x y) z) (mask_meld x (mask_meld y z)) (and_assoc z.bits x.bits y.bits);
+  commutative = λ x y. same_mask (mask_meld x y) (mask_meld y x) (and_comm x.bits y.bits);
+  idempotent = λ x. same_mask (mask_meld x x) x (and_self x.bits);
+  unit_left = λ x. same_mask (mask_meld mask_unit x) x (ones-and x.bits x.fits);
+}

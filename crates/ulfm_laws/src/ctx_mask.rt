@@ -1,0 +1,33 @@
+ghost use Rattle.std.specs.Prelude.{◌<◌, ◌^◌};
+
+use crate::meld::Meld;
+
+/// A set of context ids, 0 to 31: those that are free at a rank, as it gives them to `MPI_Comm_shrink`.
+///
+/// Bit i of `bits` stands where id i is in the set. Sets are combined by intersection, so an id of the outcome is
+/// free at each rank. The unit has every id.
+#[derive(Clone, Copy, Debug, PartialEq, Eq)]
+pub struct CtxMask {
+    pub bits: u32,
+    ghost fits: { bits < 2 ^ 32 },
+}
+
+impl Meld for CtxMask {
+    ghost use Rattle.ulfm_laws.specs.Masks.{mask_unit, mask_meld, mask_lawful};
+
+    ghost unit = { mask_unit };
+
+    ghost meld = { mask_meld };
+
+    ghost lawful = { mask_lawful };
+
+    fn unit() -> CtxMask {
+        CtxMask { bits: 0xffff_ffff }
+    }
+
+    fn meld(&self, other: &CtxMask) -> CtxMask {
+        CtxMask {
+            bits: self.bits & other.bits,
+        }
+    }
+}

@@ -1,0 +1,53 @@
+ghost use Rattle.std.specs.Prelude.{◌<◌, ◌^◌};
+
+use crate::meld::{Meld, Packed};
+
+/// A flag of 32 bits, as ranks give it to `MPI_Comm_agree`.
+///
+/// Flags are combined bit by bit: a bit stands in the outcome where each flag has it. The unit has every bit. As a
+/// word a flag is its bits, and each word is a flag.
+#[derive(Clone, Copy, Debug, PartialEq, Eq)]
+pub struct FlagAnd {
+    pub bits: u32,
+    ghost fits: { bits < 2 ^ 32 },
+}
+
+impl Meld for FlagAnd {
+    ghost use Rattle.ulfm_laws.specs.Flags.{flag_unit, flag_meld, flag_lawful};
+
+    ghost unit = { flag_unit };
+
+    ghost meld = { flag_meld };
+
+    ghost lawful = { flag_lawful };
+
+    fn unit() -> FlagAnd {
+        FlagAnd { bits: 0xffff_ffff }
+    }
+
+    fn meld(&self, other: &FlagAnd) -> FlagAnd {
+        FlagAnd {
+            bits: self.bits & other.bits,
+        }
+    }
+}
+
+impl Packed for FlagAnd {
+    ghost use Rattle.ulfm_laws.specs.Flags.{flag_unpack, flag_unpack_pack};
+
+    ghost pack = { λ x. x.bits };
+
+    ghost unpack = { flag_unpack };
+
+    ghost unpack_pack = { flag_unpack_pack };
+
+    ghost pack_fits = { λ x. x.fits };
+
+    fn pack(&self) -> u32 {
+        self.bits
+    }
+
+    fn unpack(word: u32) -> Option<FlagAnd> {
+        Some(FlagAnd { bits: word })
+    }
+}

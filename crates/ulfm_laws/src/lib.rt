@@ -1,0 +1,30 @@
+//! What ranks contribute to a round, and how contributions are combined.
+//!
+//! A round is decided by combining what its members contributed. Contributions come in any order, and one may be
+//! read and combined more than once, so a kind of contribution has to be lawful: [`Meld`] says what that is, and
+//! each kind proves it. The kinds are a flag ([`FlagAnd`]), a set of context ids ([`CtxMask`]), and the beginnings
+//! of the failed group that a rank knows ([`Known`]) and has acknowledged ([`Acked`]). [`Body`] and [`Summary`] are
+//! built of them, over any payload that is lawful.
+//!
+//! What each kind stands for as a set, and what follows from the laws, are the contracts of [`meanings`].
+#![tactic(auto)]
+
+pub mod acked;
+pub mod body;
+pub mod ctx_mask;
+pub mod flag_and;
+pub mod known;
+pub mod meanings;
+pub mod meld;
+pub mod meld_all;
+pub mod summary;
+#[cfg(test)]
+mod tests;
+
+pub use acked::Acked;
+pub use body::Body;
+pub use ctx_mask::CtxMask;
+pub use flag_and::FlagAnd;
+pub use known::Known;
+pub use meld::{Meld, Packed};
+pub use summary::Summary;

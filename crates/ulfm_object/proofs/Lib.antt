@@ -1,0 +1,9 @@
+pub mod Lists
+pub mod Says
+pub mod Histories
+pub mod Decisions
+pub mod Melds
+pub mod Spawned
+pub mod Stable
+pub mod FreeIds
+pub mod Rows

@@ -1,0 +1,32 @@
+/// What is asked of the object. Each call but `Fail` is that of a rank, on a communicator that it holds.
+#[derive(Clone, Copy, Debug, PartialEq, Eq)]
+pub enum Call<P> {
+    /// The outside declares a rank failed.
+    Fail { rank: u16 },
+    /// The failed group that is known (ULFM: Communicator Functions, `MPI_COMM_GET_FAILED`).
+    GetFailed { rank: u16, comm: u16 },
+    /// The first `count` known failures are acknowledged (ULFM: Communicator Functions, `MPI_COMM_ACK_FAILED`).
+    Ack { rank: u16, comm: u16, count: u16 },
+    /// An agree is started (ULFM: Communicator Functions, `MPI_COMM_IAGREE`).
+    Agree { rank: u16, comm: u16, value: P },
+    /// A shrink is started (ULFM: Communicator Functions, `MPI_COMM_ISHRINK`).
+    Shrink { rank: u16, comm: u16 },
+    /// A barrier is started.
+    Barrier { rank: u16, comm: u16 },
+    /// The reply to the open request is asked for.
+    Poll { rank: u16, comm: u16 },
+    /// The communicator is revoked (ULFM: Communicator Functions, `MPI_COMM_REVOKE`).
+    Revoke { rank: u16, comm: u16 },
+    /// Whether the communicator is revoked (ULFM: Communicator Functions, `MPI_COMM_IS_REVOKED`).
+    IsRevoked { rank: u16, comm: u16 },
+    /// The communicator is given back.
+    Free { rank: u16, comm: u16 },
+}
+
+/// What a rank has started on a communicator and not yet been answered, with its round.
+#[derive(Clone, Copy, Debug, PartialEq, Eq)]
+pub enum Request {
+    Agree { round: u16 },
+    Shrink { round: u16 },
+    Barrier { round: u16 },
+}
