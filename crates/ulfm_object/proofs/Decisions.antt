@@ -1,4 +1,4 @@
--- What is decided stays decided, alike in every legal longer history.
+-- Decided rounds: what may stand at a place, and why no later event changes a decision.
 use Rattle.std.proofs.Common.{◌≡◌, ℕ, ◌≤◌, ◌-◌, slice_get, Bool, true, false, not, ◌&&◌, ◌==◌, List, [], ◌∷◌, ◌++◌, map, length, take, Option, Some, None, is_some, refl, ap, ap₂, sym, ◌∙◌, subst, arith, append-nil, length-append, filter, filter_map, IsTrue, if◌then◌else◌}
 use Rattle.std.specs.Prelude.{⊤}
 use Rattle.std.specs.List.{list_any, list_all, cons_option, AllByRecursion}
@@ -20,29 +20,29 @@ use Rattle.ulfm_object.specs.History.{History, failures, slot}
 use Rattle.ulfm_object.proofs.Says.{put_by, declared_by}
 use Rattle.ulfm_object.specs.Rounds.{known_of, body_of, contribution_of, failed_among, round_among, members, failed, round, union_of, decided_by, is_decided, Decision, lacks_one, decision}
 use Rattle.ulfm_object.specs.Legal.{Exists, IsPlace, MayFollow, IsLegal}
-use Rattle.ulfm_object.proofs.Lists.{first_stays, first_push, none_first, filter_map_same, all_some, each_filter_map, each_filter, filter_map_each, map_same, each_from, any_same, any_none, each_always, filter_none, not_in_take, not_in_filter, in_list, get_stays}
+use Rattle.ulfm_object.proofs.Lists.{first_stays, first_push, none_first, filter_map_same, all_some, each_filter_map, each_filter, filter_map_each, each_from, any_same, any_none, each_always, filter_none, not_in_take, not_in_filter, in_list, get_stays}
 use Rattle.ulfm_object.proofs.Histories.{by_events, stays, exists_push, members_same}
 
 module _ {P : Type 0} (meld : P → P → P) (limits : Limits) where
   abbrev ranks : ℕ
   ranks = limits.ranks
 
-  -- what a mark or a contribution names fits into a failed group of n ranks
+  -- a mark or a contribution names no more than the n failures that there are
   abbrev pub Fits : ℕ → Slot P → Type 0
   Fits n s = known_of s ≤ n
 
-  -- a mark names the failed group up to and with its rank
+  -- the last failure that a mark names is the marked rank itself
   abbrev pub Names : List ℕ → ℕ → Slot P → Type 0
   Names F r (Marked mark) = slice_get F (mark.known.count - 1) ≡ Some r
   Names F r (Given given) = ⊤
 
-  -- what stands at a place of a legal history
+  -- what is known of a settled place: where it is, and that it names failures which there are
   pub record Stands (h : History P) (c k r : ℕ) (s : Slot P) : Type 0 where
     pub place : IsPlace limits h c k r
     pub fits : Fits (length (failed ranks h c)) s
     pub names : Names (failed ranks h c) r s
 
-  -- at most one event settles a place
+  -- no place is settled twice
   abbrev pub AtMostOnce : History P → Type 0
   AtMostOnce h = (c k r : ℕ) → length (filter_map (λ e. put_by c k r e.event) h) ≤ 1
 
@@ -56,7 +56,7 @@ module _ {P : Type 0} (meld : P → P → P) (limits : Limits) where
   chosen true x y e = (refl, cc)
   chosen false x y e = absurd cc
 
-  -- an allowed event that settles a place finds it empty, and fits there
+  -- an allowed settlement finds its place empty
   pub put_stands : (h : History P) (e : Event P) (c k r : ℕ) (s : Slot P) → MayFollow meld limits h e → put_by c k r e ≡ Some s → (slot h c k r ≡ None) × Stands h c k r s
   put_stands h (Fail rank) c k r s may is = absurd (cc is)
   put_stands h (Settle comm round rank given) c k r s may is =
@@ -71,7 +71,7 @@ module _ {P : Type 0} (meld : P → P → P) (limits : Limits) where
   put_stands h (Revoke comm) c k r s may is = absurd (cc is)
   put_stands h (Spawn comm parent round) c k r s may is = absurd (cc is)
 
-  -- the failed group after one more event
+  -- one more event adds to a failed group at most a declared member
   pub failed_push : (h : History P) (e : Entry P) (c : ℕ) → Exists h c → MayFollow meld limits h e.event
       → failed ranks (h ++ e ∷ []) c ≡ failed ranks h c ++ filter (has (members ranks h c)) (cons_option (declared_by e.event) [])
   failed_push h e c here may =
@@ -96,7 +96,7 @@ module _ {P : Type 0} (meld : P → P → P) (limits : Limits) where
         names = subst (λ F. Names F r s) (sym (failed_push h e c here may)) (names_more (failed ranks h c) (filter (has (members ranks h c)) (cons_option (declared_by e.event) [])) r s stands.names);
       }
 
-  -- what is settled in a legal history is a mark or a contribution that was allowed
+  -- what stands in a legal history was once allowed, and still fits
   pub slot_stands : (h : History P) → IsLegal meld limits h → (c k r : ℕ) (s : Slot P) → slot h c k r ≡ Some s → Stands h c k r s
   slot_stands h legal =
       by_events meld limits (λ w. (c k r : ℕ) (s : Slot P) → slot w c k r ≡ Some s → Stands w c k r s) (λ c k r s e. absurd (cc e))
@@ -109,7 +109,7 @@ module _ {P : Type 0} (meld : P → P → P) (limits : Limits) where
           let still = first_stays (λ x. put_by c k r x.event) w (e ∷ []) t was in
           let same : t ≡ s = cc (still, is) in subst (Stands w c k r) same (q c k r t was)
 
-  -- each place is settled at most once
+  -- in a legal history no place is settled twice
   pub settled_once : (h : History P) → IsLegal meld limits h → AtMostOnce h
   settled_once h legal =
       by_events meld limits AtMostOnce (λ c k r. omega arith) (λ w e lw q may c k r. step w e c k r (q c k r) may (put_by c k r e.event) refl) h legal
@@ -125,11 +125,11 @@ module _ {P : Type 0} (meld : P → P → P) (limits : Limits) where
           last None is = rw (append-nil (filter_map (λ x. put_by c k r x.event) w)) le
           last (Some s) is = rw (none_first (filter_map (λ x. put_by c k r x.event) w) (put_stands w e.event c k r s may is).0) (omega arith)
 
-  -- one more event leaves what the settled places of these members are
+  -- an event changes nothing of a round whose members are all settled
   settled_push : (h : History P) (e : Entry P) (c k : ℕ) (ms : List ℕ) → list_all (λ r. is_some (slot h c k r)) ms ≡ true → round_among ms (h ++ e ∷ []) c k ≡ round_among ms h c k
   settled_push h e c k ms all = filter_map_same (slot h c k) (slot (h ++ e ∷ []) c k) (λ r s is. first_stays (λ x. put_by c k r x.event) h (e ∷ []) s is) ms all
 
-  -- what an event newly declares was not declared
+  -- the rank that an event declares is not in the failed group before it
   newly : (h : History P) (e : Event P) (F : List ℕ) (p : ℕ → Bool) → MayFollow meld limits h e → ((r : ℕ) → has (failures h) r ≡ false → has F r ≡ false) → AllByRecursion (λ r. has F r ≡ false) (filter p (cons_option (declared_by e) []))
   newly h (Fail r) F p may out = each_filter p (λ x. has F x ≡ false) (r ∷ []) (out r may.first, tt)
   newly h (Settle comm round rank given) F p may out = tt
@@ -138,7 +138,7 @@ module _ {P : Type 0} (meld : P → P → P) (limits : Limits) where
   newly h (Revoke comm) F p may out = tt
   newly h (Spawn comm parent round) F p may out = tt
 
-  -- the union of beginnings of F is the same where F has gone on by other ranks
+  -- later failures don't change which ranks the settled places name
   union_more : (F X : List ℕ) (L : List (Slot P)) → AllByRecursion (Fits (length F)) L → AllByRecursion (λ r. has F r ≡ false) X
       → union_of (F ++ X) L ≡ union_of F L
   union_more F X L fits out =
@@ -151,7 +151,7 @@ module _ {P : Type 0} (meld : P → P → P) (limits : Limits) where
       filter_none test X (each_from (λ r. has F r ≡ false) (λ r. test r ≡ false) (λ r o. any_none (λ s. has (take (known_of s) F) r) L (each_always (λ s. has (take (known_of s) F) r ≡ false) (λ s. not_in_take (known_of s) F r o) L)) X out) in
       filter_agree longer test same (F ++ X) ∙ (filter-append test F X ∙ (ap (λ w. filter test F ++ w) none ∙ append-nil (filter test F)))
 
-  -- a decision is the same where the failed group has gone on by other ranks
+  -- and so they don't change what the settled places decide
   decided_more : (F X : List ℕ) (L : List (Slot P)) → AllByRecursion (Fits (length F)) L → AllByRecursion (λ r. has F r ≡ false) X → decided_by meld (F ++ X) L ≡ decided_by meld F L
   decided_more F X L fits out =
       let given = filter_map contribution_of L in
@@ -167,7 +167,7 @@ module _ {P : Type 0} (meld : P → P → P) (limits : Limits) where
       acked_fits (Marked mark) g f e = absurd (cc e)
       acked_fits (Given given) g f e = let same : given ≡ g = cc e in subst (λ w. w.acked.count ≤ length F) same (omega (arith, f, given.within))
 
-  -- a decision is the same after one more event
+  -- one more event leaves a decided round decided, and as it was
   pub decision_push : (h : History P) (e : Entry P) (c k : ℕ) → IsLegal meld limits h → Exists h c → is_decided ranks h c k ≡ true → MayFollow meld limits h e.event
       → (is_decided ranks (h ++ e ∷ []) c k ≡ true) × (decision meld ranks (h ++ e ∷ []) c k ≡ decision meld ranks h c k)
   decision_push h e c k legal here all may =
@@ -183,7 +183,7 @@ module _ {P : Type 0} (meld : P → P → P) (limits : Limits) where
         ap₂ (decided_by meld) (failed_push h e c here may) list ∙ decided_more F X (round ranks h c k) fits out,
       )
 
-  -- a decision is alike in every legal history that begins with one in which it was made
+  -- whoever reads a decided round later reads the same decision
   pub decision_stays : (h longer : History P) (c k : ℕ) → IsPrefix h longer → IsLegal meld limits longer → Exists h c → IsTrue (is_decided ranks h c k)
       → IsTrue (is_decided ranks longer c k) × (decision meld ranks longer c k ≡ decision meld ranks h c k)
   decision_stays h longer c k begins legal here all =

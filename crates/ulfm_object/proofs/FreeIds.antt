@@ -1,4 +1,4 @@
--- The mask that a shrink offers has exactly the ids that the rank does not hold.
+-- Free context ids, bit by bit: a shrink offers those that no held communicator has.
 use Rattle.std.proofs.Common.{◌≡◌, ◌↔◌, ℕ, zero, suc, ◌<◌, ◌||◌, ◌==◌, Bool, true, false, List, [], ◌∷◌, refl, ap, sym, ◌∙◌, arith, inl, inr, if◌then◌else◌}
 use Rattle.std.proofs.lemmas.Bool.{and_parts, cases_lt, eq-eqb, eqb-true, or_left, or_right}
 use Rattle.std.proofs.lemmas.List.Folds.{list_any-append}
@@ -8,7 +8,7 @@ use Rattle.std.proofs.lemmas.Nat.Bits.{bit_at_and, bit_at_ones, bit_at-lt}
 use Rattle.ulfm_object.specs.History.{first_ranks, has}
 use Rattle.ulfm_object.specs.Records.{Held, all_but, free_ids}
 
--- a bit is in the mask exactly where each held communicator leaves it
+-- a bit stands in the mask where every held communicator leaves it standing
 pub free_is : (held : List Held) (i : ℕ) → i < 32 → (bit_at (free_ids held).bits i ≡ 1) ↔ AllByRecursion (λ x. bit_at (all_but x.context).bits i ≡ 1) held
 free_is [] i within = (λ e. tt, λ u. bit_at_ones 32 i within)
 free_is (x ∷ held) i within =
@@ -18,7 +18,7 @@ free_is (x ∷ held) i within =
     let low = bit_at-lt (free_ids held).bits i in
     (λ e. (omega (arith, e, both, small, low), rest.0 (omega (arith, e, both, small, low))), λ all. let r = rest.1 all.1 in omega (arith, both, all.0, r))
 
--- each of the ids, and each bit
+-- computed for each of the 32 ids, at each of the 32 bits
 all_but_table : list_all (λ i. list_all (λ k. bit_at (all_but i).bits k == (if i == k then 0 else 1)) (first_ranks 32)) (first_ranks 32) ≡ true
 all_but_table = refl
 
@@ -40,13 +40,13 @@ in_first (suc n) k within =
       | inr more ↦ or_right (has (first_ranks n) k) (has (n ∷ []) k) (or_left (n == k) false (eq-eqb n k (omega (arith, within, more))))
     ]
 
--- all ids but one
+-- a held communicator takes away its own id and no other
 pub all_but_is : (i k : ℕ) → i < 32 → k < 32 → bit_at (all_but i).bits k ≡ (if i == k then 0 else 1)
 all_but_is i k low within =
     let row = all_at (λ i. list_all (λ k. bit_at (all_but i).bits k == (if i == k then 0 else 1)) (first_ranks 32)) (first_ranks 32) i all_but_table (in_first 32 i low) in
     eqb-true (bit_at (all_but i).bits k) (if i == k then 0 else 1) (all_at (λ k. bit_at (all_but i).bits k == (if i == k then 0 else 1)) (first_ranks 32) k row (in_first 32 k within))
 
--- so an id is in the mask exactly where no held communicator has it
+-- so the mask has an id exactly where no held communicator has it
 pub free_where : (held : List Held) (i : ℕ) → i < 32 → AllByRecursion (λ x. x.context < 32) held → (bit_at (free_ids held).bits i ≡ 1) ↔ AllByRecursion (λ x. (x.context == i) ≡ false) held
 free_where held i within small =
     let is = free_is held i within in

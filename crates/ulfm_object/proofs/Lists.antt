@@ -1,4 +1,4 @@
--- Lists, as the lemmas on histories need them.
+-- Lemmas on lists that the proofs on histories cite.
 use Rattle.std.proofs.Common.{◌≡◌, ℕ, zero, suc, ◌<◌, ◌≤◌, Bool, true, false, cond, ◌||◌, ◌&&◌, ◌==◌, List, [], ◌∷◌, ◌++◌, map, reverse, length, take, Option, Some, None, is_some, slice_get, refl, ap, ap₂, sym, ◌∙◌, subst, arith, length-append, filter, filter_map, nat_eq, append_assoc}
 use Rattle.std.specs.List.{list_any, list_all, cons_option, AllByRecursion, IsDistinct}
 use Rattle.std.specs.Prelude.{find}
@@ -9,24 +9,25 @@ use Rattle.std.proofs.lemmas.List.Folds.{list_any-append}
 use mathlib.Core.List.{IsPrefix}
 use Rattle.ulfm_object.specs.History.{has}
 
--- a list with no first element is empty
+-- only the empty list lacks a first element
 pub none_first : {Y : Type 0} (xs : List Y) → slice_get xs 0 ≡ None → xs ≡ []
 none_first [] e = refl
 none_first (x ∷ xs) e = absurd cc
 
+-- an option that is something has a value
 pub is_some_of : {Y : Type 0} (o : Option Y) → is_some o ≡ true → (y : Y) × (o ≡ Some y)
 is_some_of None e = absurd cc
 is_some_of (Some y) e = (y, refl)
 
 module _ {X Y : Type 0} where
-  -- what came first stays first
+  -- the first value that f keeps is the first of every longer list
   pub first_stays : (f : X → Option Y) (xs ys : List X) (y : Y) → slice_get (filter_map f xs) 0 ≡ Some y → slice_get (filter_map f (xs ++ ys)) 0 ≡ Some y
   first_stays f [] ys y e = absurd cc
   first_stays f (x ∷ xs) ys y e =
       elim (f x) as (λ o. slice_get (cons_option o (filter_map f xs)) 0 ≡ Some y → slice_get (cons_option o (filter_map f (xs ++ ys))) 0 ≡ Some y)
       [ None ↦ first_stays f xs ys y | Some z ↦ λ e. e ] e
 
-  -- where there was none, the next one is first
+  -- while f keeps nothing, the next element decides which value is first
   pub first_push : (f : X → Option Y) (xs : List X) (x : X) → slice_get (filter_map f xs) 0 ≡ None → slice_get (filter_map f (xs ++ x ∷ [])) 0 ≡ f x
   first_push f [] x e = last (f x)
     where
@@ -37,7 +38,7 @@ module _ {X Y : Type 0} where
       elim (f w) as (λ o. slice_get (cons_option o (filter_map f xs)) 0 ≡ None → slice_get (cons_option o (filter_map f (xs ++ x ∷ []))) 0 ≡ f x)
       [ None ↦ first_push f xs x | Some z ↦ λ e. absurd (cc e) ] e
 
-  -- where f has a value at each element, and g the same, both give one list
+  -- g keeps the same list as f, where f keeps each element and g agrees with it
   pub filter_map_same : (f g : X → Option Y) → ((x : X) (y : Y) → f x ≡ Some y → g x ≡ Some y) → (xs : List X) → list_all (λ x. is_some (f x)) xs ≡ true → filter_map g xs ≡ filter_map f xs
   filter_map_same f g same [] all = refl
   filter_map_same f g same (x ∷ xs) all =
@@ -47,7 +48,7 @@ module _ {X Y : Type 0} where
       let rest = filter_map_same f g same xs parts.1 in
       ap₂ cons_option (there ∙ sym here.1) rest
 
-  -- f and g have values at the same elements
+  -- and then g keeps each element too
   pub all_some : (f g : X → Option Y) → ((x : X) (y : Y) → f x ≡ Some y → g x ≡ Some y) → (xs : List X) → list_all (λ x. is_some (f x)) xs ≡ true → list_all (λ x. is_some (g x)) xs ≡ true
   all_some f g same [] all = refl
   all_some f g same (x ∷ xs) all =
@@ -55,7 +56,7 @@ module _ {X Y : Type 0} where
       let here = is_some_of (f x) parts.0 in
       and_from (is_some (g x)) (list_all (λ x. is_some (g x)) xs) (ap is_some (same x here.0 here.1)) (all_some f g same xs parts.1)
 
-  -- what holds of each value holds of all that are kept
+  -- a fact of every value of f holds of the values that it keeps
   pub each_filter_map : (f : X → Option Y) (P : Y → Type 0) → ((x : X) (y : Y) → f x ≡ Some y → P y) → (xs : List X) → AllByRecursion P (filter_map f xs)
   each_filter_map f P each [] = tt
   each_filter_map f P each (x ∷ xs) =
@@ -63,6 +64,7 @@ module _ {X Y : Type 0} where
       elim (f x) as (λ o. ((y : Y) → o ≡ Some y → P y) → AllByRecursion P (cons_option o (filter_map f xs)))
       [ None ↦ λ here. rest | Some y ↦ λ here. (here y refl, rest) ] (each x)
 
+  -- a fact of the elements gives a fact of what f keeps of them
   pub filter_map_each : (f : X → Option Y) (P : X → Type 0) (Q : Y → Type 0) → ((x : X) (y : Y) → P x → f x ≡ Some y → Q y) → (xs : List X) → AllByRecursion P xs → AllByRecursion Q (filter_map f xs)
   filter_map_each f P Q each [] all = tt
   filter_map_each f P Q each (x ∷ xs) all =
@@ -70,37 +72,39 @@ module _ {X Y : Type 0} where
       elim (f x) as (λ o. ((y : Y) → o ≡ Some y → Q y) → AllByRecursion Q (cons_option o (filter_map f xs)))
       [ None ↦ λ here. rest | Some y ↦ λ here. (here y refl, rest) ] (λ y. each x y all.0)
 
+  -- functions that agree on a list map it alike
   pub map_same : (f g : X → Y) (xs : List X) → AllByRecursion (λ x. g x ≡ f x) xs → map g xs ≡ map f xs
   map_same f g [] all = refl
   map_same f g (x ∷ xs) all = ap₂ (λ y ys. y ∷ ys) all.0 (map_same f g xs all.1)
 
+-- a fact of each element gives what follows from it
 pub each_from : {X : Type 0} (P Q : X → Type 0) → ((x : X) → P x → Q x) → (xs : List X) → AllByRecursion P xs → AllByRecursion Q xs
 each_from P Q imp [] all = tt
 each_from P Q imp (x ∷ xs) all = (imp x all.0, each_from P Q imp xs all.1)
 
+-- tests that agree on a list find alike
 pub any_same : {X : Type 0} (p q : X → Bool) (xs : List X) → AllByRecursion (λ x. q x ≡ p x) xs → list_any q xs ≡ list_any p xs
 any_same p q [] all = refl
 any_same p q (x ∷ xs) all = ap₂ (λ a b. a || b) all.0 (any_same p q xs all.1)
 
+-- where no element passes, none is found
 pub any_none : {X : Type 0} (p : X → Bool) (xs : List X) → AllByRecursion (λ x. p x ≡ false) xs → list_any p xs ≡ false
 any_none p [] all = refl
 any_none p (x ∷ xs) all = or_from (p x) (list_any p xs) all.0 (any_none p xs all.1)
 
-pub each_of_map : {X Y : Type 0} (f : X → Y) (P : Y → Type 0) → ((x : X) → P (f x)) → (xs : List X) → AllByRecursion P (map f xs)
-each_of_map f P each [] = tt
-each_of_map f P each (x ∷ xs) = (each x, each_of_map f P each xs)
-
+-- where no element passes, nothing is kept
 pub filter_none : {X : Type 0} (p : X → Bool) (xs : List X) → AllByRecursion (λ x. p x ≡ false) xs → filter p xs ≡ []
 filter_none p [] all = refl
 filter_none p (x ∷ xs) all = ap (λ b. cond b (x ∷ filter p xs) (filter p xs)) all.0 ∙ filter_none p xs all.1
 
--- what is not in a list is in no part of it
+-- a rank outside a list is outside its beginnings
 pub not_in_take : (n : ℕ) (xs : List ℕ) (r : ℕ) → has xs r ≡ false → has (take n xs) r ≡ false
 not_in_take zero xs r out = refl
 not_in_take (suc n) [] r out = refl
 not_in_take (suc n) (x ∷ xs) r out =
     let parts = or_parts (x == r) (has xs r) out in or_from (x == r) (has (take n xs) r) parts.0 (not_in_take n xs r parts.1)
 
+-- a filter brings in nobody from outside
 pub not_in_filter : (p : ℕ → Bool) (xs : List ℕ) (r : ℕ) → has xs r ≡ false → has (filter p xs) r ≡ false
 not_in_filter p [] r out = refl
 not_in_filter p (x ∷ xs) r out =
@@ -110,39 +114,45 @@ not_in_filter p (x ∷ xs) r out =
     step true here rest = or_from (x == r) (has (filter p xs) r) here rest
     step false here rest = rest
 
+-- the last element comes first in reverse
 pub reverse_push : {X : Type 0} (xs : List X) (x : X) → reverse (xs ++ x ∷ []) ≡ x ∷ reverse xs
 reverse_push xs x = reverse-append xs (x ∷ [])
 
--- a place that has an element is below the length
+-- an index at which an element stands is below the length
 pub in_list : {X : Type 0} (xs : List X) (n : ℕ) (x : X) → slice_get xs n ≡ Some x → n < length xs
 in_list [] n x e = absurd cc
 in_list (y ∷ xs) zero x e = omega arith
 in_list (y ∷ xs) (suc n) x e = omega (arith, in_list xs n x e)
 
+-- what all have, those that are kept have
 pub each_filter : {X : Type 0} (p : X → Bool) (P : X → Type 0) (xs : List X) → AllByRecursion P xs → AllByRecursion P (filter p xs)
 each_filter p P [] all = tt
 each_filter p P (x ∷ xs) all =
     let rest = each_filter p P xs all.1 in
     elim (p x) as (λ b. AllByRecursion P (cond b (x ∷ filter p xs) (filter p xs))) [ true ↦ (all.0, rest) | false ↦ rest ]
 
+-- a fact of everything holds of each element
 pub each_always : {X : Type 0} (P : X → Type 0) → ((x : X) → P x) → (xs : List X) → AllByRecursion P xs
 each_always P all [] = tt
 each_always P all (x ∷ xs) = (all x, each_always P all xs)
 
+-- what all have, a beginning has
 pub each_take : {X : Type 0} (P : X → Type 0) (n : ℕ) (xs : List X) → AllByRecursion P xs → AllByRecursion P (take n xs)
 each_take P zero xs all = tt
 each_take P (suc n) [] all = tt
 each_take P (suc n) (x ∷ xs) all = (all.0, each_take P n xs all.1)
 
+-- tests that agree on a list keep alike
 pub filter_same : {X : Type 0} (p q : X → Bool) (xs : List X) → AllByRecursion (λ x. q x ≡ p x) xs → filter q xs ≡ filter p xs
 filter_same p q [] all = refl
 filter_same p q (x ∷ xs) all = ap₂ (λ b ys. cond b (x ∷ ys) ys) all.0 (filter_same p q xs all.1)
 
+-- one more element that has what all have
 pub each_push : {X : Type 0} (P : X → Type 0) (xs : List X) (x : X) → AllByRecursion P xs → P x → AllByRecursion P (xs ++ x ∷ [])
 each_push P [] x all last = (last, tt)
 each_push P (y ∷ xs) x all last = (all.0, each_push P xs x all.1 last)
 
--- a filter leaves a list without repeats so
+-- filtering brings no repeats
 pub distinct_filter : (p : ℕ → Bool) (xs : List ℕ) → IsDistinct nat_eq xs → IsDistinct nat_eq (filter p xs)
 distinct_filter p [] distinct = distinct
 distinct_filter p (x ∷ xs) distinct =
@@ -150,25 +160,29 @@ distinct_filter p (x ∷ xs) distinct =
     let head = each_filter p (λ y. nat_eq x y ≡ false) xs (IsDistinct-head nat_eq x xs distinct) in
     elim (p x) as (λ b. IsDistinct nat_eq (cond b (x ∷ filter p xs) (filter p xs))) [ true ↦ IsDistinct-cons nat_eq x (filter p xs) head rest | false ↦ rest ]
 
+-- beginnings of beginnings are beginnings
 pub prefix_trans : {X : Type 0} (xs ys zs : List X) → IsPrefix xs ys → IsPrefix ys zs → IsPrefix xs zs
 prefix_trans xs ys zs p q = (p.0 ++ q.0, sym (append_assoc xs p.0 q.0) ∙ (ap (λ w. w ++ q.0) p.1 ∙ q.1))
 
+-- what stands at an index stays when more follows
 pub get_stays : {X : Type 0} (xs ys : List X) (n : ℕ) (x : X) → slice_get xs n ≡ Some x → slice_get (xs ++ ys) n ≡ Some x
 get_stays [] ys n x e = absurd cc
 get_stays (z ∷ xs) ys zero x e = e
 get_stays (z ∷ xs) ys (suc n) x e = get_stays xs ys n x e
 
--- what stands in a list stands in each that begins with it
+-- a longer list has the same element at that index
 pub get_prefix : {X : Type 0} (xs ys : List X) (n : ℕ) (x : X) → IsPrefix xs ys → slice_get xs n ≡ Some x → slice_get ys n ≡ Some x
 get_prefix xs ys n x begins e = subst (λ w. slice_get w n ≡ Some x) begins.1 (get_stays xs begins.0 n x e)
 
+-- a beginning is no longer than the list
 pub length_prefix : {X : Type 0} (xs ys : List X) → IsPrefix xs ys → length xs ≤ length ys
 length_prefix xs ys begins = omega (arith, sym (ap length begins.1) ∙ length-append xs begins.0)
 
+-- whoever is in a beginning is in the list
 pub has_prefix : (xs ys : List ℕ) (r : ℕ) → IsPrefix xs ys → has xs r ≡ true → has ys r ≡ true
 has_prefix xs ys r begins is = ap (λ w. has w r) (sym begins.1) ∙ (list_any-append (λ x. nat_eq x r) xs begins.0 ∙ or_left (has xs r) (has begins.0 r) is)
 
--- a member of a filtered list passes the test
+-- whoever a filter kept passes its test
 pub has_passes : (p : ℕ → Bool) (xs : List ℕ) (r : ℕ) → has (filter p xs) r ≡ true → p r ≡ true
 has_passes p [] r e = absurd (cc e)
 has_passes p (x ∷ xs) r e = go (has_passes p xs r) (p x) refl e
@@ -181,7 +195,7 @@ has_passes p (x ∷ xs) r e = go (has_passes p xs r) (p x) refl e
     go more false is e = more e
     go more true is e = head (x == r) refl is more e
 
--- what is in a list and passes the test is in the filtered list
+-- a filter keeps whoever passes its test
 pub has_kept : (p : ℕ → Bool) (xs : List ℕ) (r : ℕ) → has xs r ≡ true → p r ≡ true → has (filter p xs) r ≡ true
 has_kept p [] r e is = absurd (cc e)
 has_kept p (x ∷ xs) r e is = go (λ e. has_kept p xs r e is) (x == r) refl (p x) refl e
@@ -192,7 +206,7 @@ has_kept p (x ∷ xs) r e is = go (λ e. has_kept p xs r e is) (x == r) refl (p 
     go more false same true is_in e = or_right (x == r) (has (filter p xs) r) (more e)
     go more false same false is_in e = more e
 
--- what holds of each element holds of one that is in the list
+-- a fact of all elements holds of a rank that is among them
 pub at_member : (Q : ℕ → Type 0) (xs : List ℕ) (r : ℕ) → AllByRecursion Q xs → has xs r ≡ true → Q r
 at_member Q [] r all e = absurd (cc e)
 at_member Q (x ∷ xs) r all e = go (at_member Q xs r all.1) (x == r) refl e
@@ -201,7 +215,7 @@ at_member Q (x ∷ xs) r all e = go (at_member Q xs r all.1) (x == r) refl e
     go more true same e = subst Q (eqb-true x r same) all.0
     go more false same e = more e
 
--- a test that not all pass fails at some element
+-- where a test does not hold of all, some rank fails it
 pub some_fails : (p : ℕ → Bool) (xs : List ℕ) → list_all p xs ≡ false → (r : ℕ) × (has xs r ≡ true) × (p r ≡ false)
 some_fails p [] e = absurd (cc e)
 some_fails p (x ∷ xs) e = go (λ e. some_fails p xs e) (p x) refl e
@@ -210,11 +224,12 @@ some_fails p (x ∷ xs) e = go (λ e. some_fails p xs e) (p x) refl e
     go more false is e = (x, or_left (x == x) (has xs x) (eq-eqb x x refl), is)
     go more true is e = let rest = more e in (rest.0, or_right (x == rest.0) (has xs rest.0) rest.1, rest.2)
 
+-- an option that is nothing
 pub none_of : {X : Type 0} (o : Option X) → is_some o ≡ false → o ≡ None
 none_of None e = refl
 none_of (Some x) e = absurd cc
 
--- what is found holds of all, and passes the test
+-- the element that is found has what all have, and passes the test
 pub find_holds : {X : Type 0} (p : X → Bool) (Q : X → Type 0) (xs : List X) (x : X) → AllByRecursion Q xs → find p xs ≡ Some x → Q x × (p x ≡ true)
 find_holds p Q [] x all e = absurd (cc e)
 find_holds {X = X} p Q (y ∷ ys) x all e = go (λ e. find_holds p Q ys x all.1 e) (p y) refl e
@@ -223,25 +238,18 @@ find_holds {X = X} p Q (y ∷ ys) x all e = go (λ e. find_holds p Q ys x all.1 
     go more true is e = let same : y ≡ x = cc e in subst (λ w. Q w × (p w ≡ true)) same (all.0, is)
     go more false is e = more e
 
-pub passes_all : (p : ℕ → Bool) (xs : List ℕ) → AllByRecursion (λ r. p r ≡ true) (filter p xs)
-passes_all p [] = tt
-passes_all p (x ∷ xs) = go (p x) refl (passes_all p xs)
-  where
-    go : (b : Bool) → p x ≡ b → AllByRecursion (λ r. p r ≡ true) (filter p xs) → AllByRecursion (λ r. p r ≡ true) (cond b (x ∷ filter p xs) (filter p xs))
-    go true is rest = (is, rest)
-    go false is rest = rest
-
+-- each element of a list is in it
 pub all_has : (xs : List ℕ) → AllByRecursion (λ r. has xs r ≡ true) xs
 all_has [] = tt
 all_has (x ∷ xs) = (or_left (x == x) (has xs x) (eq-eqb x x refl), each_from (λ r. has xs r ≡ true) (λ r. has (x ∷ xs) r ≡ true) (λ r in_it. or_right (x == r) (has xs r) in_it) xs (all_has xs))
 
--- what stands in a list is in it
+-- a rank at an index of a list is in the list
 pub has_at : (xs : List ℕ) (n r : ℕ) → slice_get xs n ≡ Some r → has xs r ≡ true
 has_at [] n r e = absurd (cc e)
 has_at (x ∷ xs) zero r e = let same : x ≡ r = cc e in or_left (x == r) (has xs r) (eq-eqb x r same)
 has_at (x ∷ xs) (suc n) r e = or_right (x == r) (has xs r) (has_at xs n r e)
 
--- what is in a part of a list is in the list
+-- a filter adds nobody
 pub has_filter : (p : ℕ → Bool) (xs : List ℕ) (r : ℕ) → has (filter p xs) r ≡ true → has xs r ≡ true
 has_filter p [] r e = e
 has_filter p (x ∷ xs) r e =
@@ -254,6 +262,7 @@ has_filter p (x ∷ xs) r e =
     first_or true b c imp e = refl
     first_or false b c imp e = imp e
 
+-- a filter makes a list no longer
 pub length-filter-le : (p : ℕ → Bool) (xs : List ℕ) → length (filter p xs) ≤ length xs
 length-filter-le p [] = omega arith
 length-filter-le p (x ∷ xs) =

@@ -1,5 +1,5 @@
--- A decision read off the meld of all that is settled.
-use Rattle.std.proofs.Common.{◌≡◌, ℕ, zero, suc, ◌≤◌, min, max, Bool, true, false, cond, not, ◌&&◌, ◌||◌, ◌==◌, List, [], ◌∷◌, map, length, take, refl, ap, ap₂, sym, ◌∙◌, arith, filter, filter_map, nat_lt, nat_eq, inl, inr}
+-- Why a decision can be read off one summary: failed groups are beginnings of one list, so their lengths are enough.
+use Rattle.std.proofs.Common.{◌≡◌, ℕ, zero, suc, ◌≤◌, min, max, Bool, true, false, cond, not, ◌||◌, ◌==◌, List, [], ◌∷◌, map, length, take, refl, ap, ap₂, sym, ◌∙◌, arith, filter, filter_map, nat_lt, nat_eq, inl, inr}
 use Rattle.std.specs.List.{list_any, AllByRecursion, IsDistinct}
 use Rattle.std.proofs.lemmas.Bool.Decides.{nat_tests}
 use Rattle.std.proofs.lemmas.Bool.{eq-eqb, lt-ltb, le-ltb, cases_lt}
@@ -16,7 +16,7 @@ use Rattle.ulfm_object.specs.Rounds.{known_of, body_of, contribution_of, union_o
 use Rattle.ulfm_object.proofs.Lists.{each_from, any_same, filter_none, each_always, each_take, filter_same}
 use Rattle.std.proofs.lemmas.List.Elements.{filter_agree}
 
--- what is in a beginning is in each longer one
+-- a longer beginning has all that a shorter one has
 pub longer_has : (m n : ℕ) (F : List ℕ) (r : ℕ) → m ≤ n → has (take m F) r ≡ true → has (take n F) r ≡ true
 longer_has zero n F r le in_it = absurd (cc in_it)
 longer_has (suc m) zero F r le in_it = absurd (omega arith)
@@ -24,13 +24,13 @@ longer_has (suc m) (suc n) [] r le in_it = in_it
 longer_has (suc m) (suc n) (x ∷ F) r le in_it =
     elim (x == r) as (λ b. (b || has (take m F) r) ≡ true → (b || has (take n F) r) ≡ true) [ true ↦ λ h. h | false ↦ longer_has m n F r (omega arith) ] in_it
 
-or_absorbs : (a b : Bool) → (a ≡ true → b ≡ true) → (b ≡ (a || b)) × (b ≡ (b || a)) × (a ≡ (a && b)) × (a ≡ (b && a))
-or_absorbs true true imp = (refl, refl, refl, refl)
+or_absorbs : (a b : Bool) → (a ≡ true → b ≡ true) → (b ≡ (a || b)) × (b ≡ (b || a))
+or_absorbs true true imp = (refl, refl)
 or_absorbs true false imp = absurd (cc (imp refl))
-or_absorbs false true imp = (refl, refl, refl, refl)
-or_absorbs false false imp = (refl, refl, refl, refl)
+or_absorbs false true imp = (refl, refl)
+or_absorbs false false imp = (refl, refl)
 
--- of beginnings of one list, the greatest length is that of the union
+-- two beginnings together are the longer of them
 pub has_longer : (m n : ℕ) (F : List ℕ) (r : ℕ) → has (take (max m n) F) r ≡ (has (take m F) r || has (take n F) r)
 has_longer m n F r =
     elim (cases_lt m n) [
@@ -38,15 +38,7 @@ has_longer m n F r =
       | inr more ↦ let e : max m n ≡ m = omega arith in rw e ((or_absorbs (has (take n F) r) (has (take m F) r) (longer_has n m F r more)).1)
     ]
 
--- and the least is that of the intersection
-pub has_shorter : (m n : ℕ) (F : List ℕ) (r : ℕ) → has (take (min m n) F) r ≡ (has (take m F) r && has (take n F) r)
-has_shorter m n F r =
-    elim (cases_lt m n) [
-      | inl less ↦ let e : min m n ≡ m = omega arith in rw e ((or_absorbs (has (take m F) r) (has (take n F) r) (longer_has m n F r (omega arith))).2)
-      | inr more ↦ let e : min m n ≡ n = omega arith in rw e ((or_absorbs (has (take n F) r) (has (take m F) r) (longer_has n m F r more)).3)
-    ]
-
--- the ranks of a list without repeats that are in a beginning of it are that beginning
+-- without repeats, exactly the beginning itself is in the beginning
 pub filter_take : (n : ℕ) (F : List ℕ) → IsDistinct nat_eq F → filter (λ r. has (take n F) r) F ≡ take n F
 filter_take zero F distinct = filter_none (λ r. has (take 0 F) r) F (each_always (λ r. has (take 0 F) r ≡ false) (λ r. refl) F)
 filter_take (suc n) [] distinct = refl
@@ -58,7 +50,7 @@ filter_take (suc n) (x ∷ F) distinct =
     ap (λ b. cond (b || has (take n F) x) (x ∷ filter (λ r. (x == r) || has (take n F) r) F) (filter (λ r. (x == r) || has (take n F) r) F)) itself
     ∙ ap (λ ys. x ∷ ys) (others ∙ filter_take n F (IsDistinct-tail nat_eq x F distinct))
 
--- a beginning lacks a rank of another exactly where it is shorter
+-- of two beginnings, the shorter one lacks a rank of the other, and only it does
 pub lacks_is : (a n : ℕ) (F : List ℕ) → IsDistinct nat_eq F → n ≤ length F → list_any (λ r. not (has (take a F) r)) (take n F) ≡ nat_lt a n
 lacks_is a zero F distinct le = sym (le-ltb a 0 (omega arith))
 lacks_is a (suc n) [] distinct le = absurd (omega arith)
@@ -88,7 +80,7 @@ module _ {P : Type 0} (meld : P → P → P) where
   groups_are F (Marked known ∷ L) r = ap (λ b. has (take known.known.count F) r || b) (groups_are F L r) ∙ sym (has_longer known.known.count (all_of meld L).known.count F r)
   groups_are F (Given given ∷ L) r = ap (λ b. has (take given.known.count F) r || b) (groups_are F L r) ∙ sym (has_longer given.known.count (all_of meld L).known.count F r)
 
-  -- the union of the named groups is the beginning of the greatest length
+  -- all named groups together are the beginning of the greatest known
   pub union_is : (F : List ℕ) (L : List (Slot P)) → IsDistinct nat_eq F → union_of F L ≡ take (all_of meld L).known.count F
   union_is F L distinct = filter_agree (λ r. list_any (λ s. has (take (known_of s) F) r) L) (λ r. has (take (all_of meld L).known.count F) r) (groups_are F L) F ∙ filter_take (all_of meld L).known.count F distinct
 
@@ -100,12 +92,13 @@ module _ {P : Type 0} (meld : P → P → P) where
   acked_is n (Given given ∷ L) le =
       ap (λ b. nat_lt given.acked.count n || b) (acked_is n L le) ∙ below_least given.acked.count (all_of meld L).acked.count n
 
+  -- the greatest known is no more than there are failures
   pub known_fits : (F : List ℕ) (L : List (Slot P)) → AllByRecursion (λ s. known_of s ≤ length F) L → (all_of meld L).known.count ≤ length F
   known_fits F [] fits = omega arith
   known_fits F (Marked known ∷ L) fits = omega (arith, fits.0, known_fits F L fits.1)
   known_fits F (Given given ∷ L) fits = omega (arith, fits.0, known_fits F L fits.1)
 
-  -- the decision is the meld: its body, the known beginning, and an error where acked is below known
+  -- so the summary decides: its body, the beginning up to known, and an error where acked is below known
   pub decided_is : (F : List ℕ) (L : List (Slot P)) → IsDistinct nat_eq F → AllByRecursion (λ s. known_of s ≤ length F) L
       → decided_by meld F L ≡ record { body = (all_of meld L).body; failed = take (all_of meld L).known.count F; raised = nat_lt (all_of meld L).acked.count (all_of meld L).known.count }
   decided_is F L distinct fits =

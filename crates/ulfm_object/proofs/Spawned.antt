@@ -1,7 +1,7 @@
--- What a spawned communicator is, failures without repeats, and records that fit.
-use Rattle.std.proofs.Common.{◌≡◌, ◌⊎◌, ℕ, zero, suc, ◌+◌, ◌<◌, true, false, cond, ◌==◌, List, [], ◌∷◌, ◌++◌, length, Some, slice_get, refl, ap, ap₂, sym, ◌∙◌, subst, arith, append-nil, nat_eq, inl, inr, IsTrue}
+-- Spawned communicators: whose survivors they are. And failures: nobody is declared twice.
+use Rattle.std.proofs.Common.{◌≡◌, ◌⊎◌, ℕ, zero, suc, ◌+◌, ◌<◌, false, ◌==◌, List, [], ◌∷◌, ◌++◌, length, Some, slice_get, refl, ap, ap₂, sym, ◌∙◌, subst, arith, append-nil, nat_eq, inl, inr, IsTrue}
 use Rattle.std.specs.List.{cons_option, IsDistinct}
-use Rattle.std.proofs.lemmas.Bool.{or_parts, eq-eqb}
+use Rattle.std.proofs.lemmas.Bool.{or_parts}
 use Rattle.std.proofs.lemmas.List.Elements.{filter_map-append}
 use Rattle.std.proofs.lemmas.Map.Keys.{IsDistinct-head, IsDistinct-tail, IsDistinct-cons}
 use Rattle.ulfm_object.specs.declared.limits.Limits.{Limits}
@@ -12,7 +12,7 @@ use Rattle.ulfm_object.specs.declared.event.Event.TheVariants.{Fail, Settle, Mar
 use Rattle.ulfm_object.specs.History.{has, without}
 use Rattle.ulfm_object.specs.History.{History, failures, spawns}
 use Rattle.ulfm_object.proofs.Says.{declared_by, made_by}
-use Rattle.ulfm_object.specs.Rounds.{members, is_decided, Decision, decision, group_among}
+use Rattle.ulfm_object.specs.Rounds.{members, is_decided, Decision, decision}
 use Rattle.ulfm_object.specs.Legal.{Exists, MaySpawn, MayFollow, IsLegal}
 use Rattle.ulfm_object.proofs.Lists.{in_list, each_push}
 use Rattle.ulfm_object.proofs.Histories.{by_events, exists_push, members_made, members_same, spawns_push}
@@ -22,7 +22,7 @@ module _ {P : Type 0} (meld : P → P → P) (limits : Limits) where
   abbrev ranks : ℕ
   ranks = limits.ranks
 
-  -- communicator j + 1 was made of round k of the communicator c
+  -- what is known of communicator j + 1, made of round k of c
   pub record IsMade (h : History P) (j c k : ℕ) : Type 0 where
     pub exists : Exists h c
     pub decided : IsTrue (is_decided ranks h c k)
@@ -50,7 +50,8 @@ module _ {P : Type 0} (meld : P → P → P) (limits : Limits) where
         group = members_made ranks h e (n + 1) c k refl (omega (arith, may.next, is)) ∙ sym (ap₂ (λ ms (d : Decision P). without ms d.failed) parent next.1);
       }
 
-  at_push : (xs : List (ℕ × ℕ)) (x y : ℕ × ℕ) (n : ℕ) → slice_get (xs ++ x ∷ []) n ≡ Some y → ((n < length xs) × (slice_get xs n ≡ Some y)) ⊎ ((n ≡ length xs) × (x ≡ y))
+  -- what stands in a list with one more element stood there before, or is that element
+  pub at_push : (xs : List (ℕ × ℕ)) (x y : ℕ × ℕ) (n : ℕ) → slice_get (xs ++ x ∷ []) n ≡ Some y → ((n < length xs) × (slice_get xs n ≡ Some y)) ⊎ ((n ≡ length xs) × (x ≡ y))
   at_push [] x y zero e = inr (refl, cc)
   at_push [] x y (suc n) e = absurd (cc e)
   at_push (z ∷ xs) x y zero e = inl (omega arith, e)
@@ -77,7 +78,7 @@ module _ {P : Type 0} (meld : P → P → P) (limits : Limits) where
   step w by (Arrive comm round rank) legal q may j c k at = unmade w (record { by = by; event = Arrive comm round rank }) legal q may j c k at
   step w by (Revoke comm) legal q may j c k at = unmade w (record { by = by; event = Revoke comm }) legal q may j c k at
 
-  -- a spawned communicator's members are its parent's without the failed group of the round that it was made of
+  -- the members of a spawned communicator are its parent's, but for those whom the round's decision leaves out
   pub members_of_spawned : (h : History P) → IsLegal meld limits h → (j c k : ℕ) → slice_get (spawns h) j ≡ Some (c, k) → IsMade h j c k
   members_of_spawned h legal =
       by_events meld limits (λ w. (j c k : ℕ) → slice_get (spawns w) j ≡ Some (c, k) → IsMade w j c k) (λ j c k e. absurd (cc e))
@@ -93,7 +94,7 @@ module _ {P : Type 0} (meld : P → P → P) (limits : Limits) where
   unfolding IsDistinct
   nothing = tt
 
-  -- no rank is declared twice
+  -- the list of failures has no repeats
   pub failures_distinct : (h : History P) → IsLegal meld limits h → IsDistinct nat_eq (failures h)
   failures_distinct h legal =
       by_events meld limits (λ w. IsDistinct nat_eq (failures w)) nothing

@@ -1,4 +1,4 @@
--- What a rank may do, and what its record says, whatever others do in between.
+-- What others do in between takes nothing away: not what a rank may do next, and not what its record says.
 use Rattle.std.proofs.Common.{refl, append-nil, false, ◌+◌, ◌==◌, ◌&&◌, ◌≡◌, ℕ, ◌≤◌, ◌-◌, Bool, List, [], ◌∷◌, ◌++◌, length, take, Option, Some, None, slice_get, ap, sym, ◌∙◌, subst, arith, append_assoc, filter, nat_lt, inl, inr}
 use Rattle.std.proofs.lemmas.List.Elements.{filter-append, filter_map-append, Contains-append_left}
 use Rattle.std.specs.List.{list_any}
@@ -11,7 +11,6 @@ use Rattle.ulfm_object.specs.declared.call.Request.TheVariants.{Agree, Shrink, B
 use Rattle.ulfm_object.specs.declared.event.Event.{Event}
 use Rattle.ulfm_object.specs.declared.event.Event.TheVariants.{Settle, Arrive}
 use Rattle.ulfm_object.specs.declared.contribution.Slot.{Slot}
-use Rattle.ulfm_object.specs.declared.contribution.Slot.TheVariants.{Given}
 use Rattle.ulfm_object.specs.History.{has}
 use Rattle.ulfm_object.specs.History.{History, failures, slot, has_arrived, is_revoked, spawns}
 use Rattle.ulfm_object.proofs.Says.{made_by}
@@ -19,7 +18,7 @@ use Rattle.ulfm_object.specs.Rounds.{members, failed, round, Decision, decision,
 use Rattle.ulfm_object.specs.Legal.{Exists, IsPlace, MayFail, MaySettle, MayMark, MayArrive, MayRevoke, MaySpawn, IsLegal}
 use Rattle.ulfm_object.specs.Records.{Held, Record, Fits, FitsHeld, FitsRequest, IsContext, IsOwn, contexts_of}
 use Rattle.ulfm_object.proofs.Lists.{none_first, each_from, each_filter_map, distinct_filter, get_prefix, length_prefix, has_prefix}
-use Rattle.ulfm_object.proofs.Histories.{members_stay, failures_begin, legal_parts, slot_stays}
+use Rattle.ulfm_object.proofs.Histories.{members_stay, failures_begin, legal_parts}
 use Rattle.ulfm_object.proofs.Decisions.{decision_stays, slot_stands, Stands}
 use Rattle.ulfm_object.proofs.Melds.{decided_is}
 use Rattle.ulfm_object.specs.Rounds.{all_of}
@@ -29,13 +28,13 @@ at_end : {X : Type 0} (xs zs : List X) → slice_get (xs ++ zs) (length xs) ≡ 
 at_end [] zs = refl
 at_end (x ∷ xs) zs = at_end xs zs
 
--- a list that has nothing where the shorter one ends is the shorter one
+-- a list without an element where its beginning ends is that beginning
 pub same_prefix : {X : Type 0} (xs ys : List X) → IsPrefix xs ys → slice_get ys (length xs) ≡ None → ys ≡ xs
 same_prefix xs ys begins empty =
     let rest = none_first begins.0 (sym (at_end xs begins.0) ∙ (ap (λ w. slice_get w (length xs)) begins.1 ∙ empty)) in
     sym begins.1 ∙ (ap (λ w. xs ++ w) rest ∙ append-nil xs)
 
--- the communicators of a longer history begin with those of the shorter one
+-- communicators keep their numbers
 pub spawns_begin : {P : Type 0} (h longer : History P) → IsPrefix h longer → IsPrefix (spawns h) (spawns longer)
 spawns_begin h longer begins = (spawns begins.0, sym (filter_map-append (λ e. made_by e.event) h begins.0) ∙ ap spawns begins.1)
 
@@ -46,7 +45,7 @@ module _ {P : Type 0} (meld : P → P → P) (limits : Limits) where
   legal_start : (h longer : History P) → IsPrefix h longer → IsLegal meld limits longer → IsLegal meld limits h
   legal_start h longer begins legal = (legal_parts meld limits h begins.0 (subst (IsLegal meld limits) (sym begins.1) legal)).0
 
-  -- the failed group of a longer history begins with that of the shorter one
+  -- a failed group only grows at its end
   pub failed_begins : (h longer : History P) (c : ℕ) → IsPrefix h longer → IsLegal meld limits longer → Exists h c → IsPrefix (failed ranks h c) (failed ranks longer c)
   failed_begins h longer c begins legal here =
       let same = (members_stay ranks h longer c begins here).1 in
@@ -54,12 +53,13 @@ module _ {P : Type 0} (meld : P → P → P) (limits : Limits) where
       let p : ℕ → Bool = has (members ranks h c) in
       (filter p more.0, sym (filter-append p (failures h) more.0) ∙ (ap (filter p) more.1 ∙ ap (λ ms. filter (has ms) (failures longer)) (sym same)))
 
+  -- a place of a round stays one
   place_stays : (h longer : History P) (c k r : ℕ) → IsPrefix h longer → IsLegal meld limits longer → IsPlace limits h c k r → IsPlace limits longer c k r
   place_stays h longer c k r begins legal place =
       let both = members_stay ranks h longer c begins place.exists in
       record { exists = both.0; member = ap (λ ms. has ms r) both.1 ∙ place.member; in_rounds = place.in_rounds }
 
-  -- what may be settled may be settled as long as the place is empty
+  -- a contribution stays allowed until its place is taken
   pub settle_stays : (h longer : History P) (c k r : ℕ) (given : Contribution P) → IsPrefix h longer → IsLegal meld limits longer → MaySettle limits h c k r given → slot longer c k r ≡ None → MaySettle limits longer c k r given
   settle_stays h longer c k r given begins legal may empty =
       record {
@@ -68,7 +68,7 @@ module _ {P : Type 0} (meld : P → P → P) (limits : Limits) where
         known = omega (arith, may.known, length_prefix (failed ranks h c) (failed ranks longer c) (failed_begins h longer c begins legal may.place.exists));
       }
 
-  -- and so is a mark
+  -- so does a mark
   pub mark_stays : (h longer : History P) (c k r : ℕ) (mark : MarkCount) → IsPrefix h longer → IsLegal meld limits longer → MayMark limits h c k r mark → slot longer c k r ≡ None → MayMark limits longer c k r mark
   mark_stays h longer c k r mark begins legal may empty =
       let group = failed_begins h longer c begins legal may.place.exists in
@@ -78,20 +78,20 @@ module _ {P : Type 0} (meld : P → P → P) (limits : Limits) where
         declared = get_prefix (failed ranks h c) (failed ranks longer c) (mark.known.count - 1) r group may.declared;
       }
 
-  -- and so is an arrival, as long as the rank has not arrived
+  -- so does an arrival, until the rank has arrived
   pub arrive_stays : (h longer : History P) (c k r : ℕ) → IsPrefix h longer → IsLegal meld limits longer → MayArrive limits h c k r → has_arrived longer c k r ≡ false → MayArrive limits longer c k r
   arrive_stays h longer c k r begins legal may empty = record { place = place_stays h longer c k r begins legal may.place; first = empty }
 
-  -- a communicator that may be revoked may be revoked until it is
+  -- so does a revocation, until the communicator is revoked
   pub revoke_stays : (h longer : History P) (c : ℕ) → IsPrefix h longer → IsLegal meld limits longer → MayRevoke h c → is_revoked longer c ≡ false → MayRevoke longer c
   revoke_stays h longer c begins legal may empty = record { exists = (members_stay ranks h longer c begins may.exists).0; first = empty }
 
-  -- a rank may be declared as long as the next place of the list is empty
+  -- a declaration stays allowed until another takes its place in the list
   pub fail_stays : (h longer : History P) (r : ℕ) → IsPrefix h longer → MayFail limits h r → slice_get (failures longer) (length (failures h)) ≡ None → MayFail limits longer r
   fail_stays h longer r begins may empty =
       record { rank = may.rank; first = ap (λ w. has w r) (same_prefix (failures h) (failures longer) (failures_begin h longer begins) empty) ∙ may.first }
 
-  -- a decided round's communicator may be made as long as the next place of the list is empty
+  -- a communicator stays allowed until another takes its number
   pub spawn_stays : (h longer : History P) (j c k : ℕ) → IsPrefix h longer → IsLegal meld limits longer → MaySpawn meld limits h j c k → slice_get (spawns longer) (length (spawns h)) ≡ None → MaySpawn meld limits longer j c k
   spawn_stays h longer j c k begins legal may empty =
       let same = same_prefix (spawns h) (spawns longer) (spawns_begin h longer begins) empty in
@@ -106,7 +106,8 @@ module _ {P : Type 0} (meld : P → P → P) (limits : Limits) where
         first = ap (λ w. list_any (λ made. (made.0 == c) && (made.1 == k)) w) same ∙ may.first;
       }
 
-  context_stays : (h longer : History P) (c context : ℕ) → IsPrefix h longer → IsLegal meld limits longer → IsContext meld ranks h c context → IsContext meld ranks longer c context
+  -- a context id stays
+  pub context_stays : (h longer : History P) (c context : ℕ) → IsPrefix h longer → IsLegal meld limits longer → IsContext meld ranks h c context → IsContext meld ranks longer c context
   context_stays h longer c context begins legal (inl world) = inl world
   context_stays h longer c context begins legal (inr (parent, k, mask, above, at, body, lowest)) =
       let made = members_of_spawned meld limits h (legal_start h longer begins legal) (c - 1) parent k at in
@@ -123,7 +124,7 @@ module _ {P : Type 0} (meld : P → P → P) (limits : Limits) where
   request_stays h longer r ids c (Some (Shrink k)) begins fits = (fits.0, fits.1, own_stays h longer r (Settle c k r fits.0) begins fits.2, fits.3, fits.4)
   request_stays h longer r ids c (Some (Barrier k)) begins fits = own_stays h longer r (Arrive c k r) begins fits
 
-  -- a communicator that is held as a history has it is held so in every legal longer one
+  -- what is held of a communicator stays right
   pub held_stays : (h longer : History P) (r : ℕ) (ids : List ℕ) (x : Held) → IsPrefix h longer → IsLegal meld limits longer → FitsHeld meld ranks h r ids x → FitsHeld meld ranks longer r ids x
   held_stays h longer r ids x begins legal fits =
       let both = members_stay ranks h longer x.comm begins fits.exists in
@@ -136,7 +137,7 @@ module _ {P : Type 0} (meld : P → P → P) (limits : Limits) where
         request = request_stays h longer r ids x.comm x.request begins fits.request;
       }
 
-  -- what fits a history fits every legal history that begins with it
+  -- a record that fits goes on to fit
   pub fits_stays : (h longer : History P) (own : Record) → IsPrefix h longer → IsLegal meld limits longer → Fits meld limits h own → Fits meld limits longer own
   fits_stays h longer own begins legal fits =
       let more = failures_begin h longer begins in
@@ -149,7 +150,7 @@ module _ {P : Type 0} (meld : P → P → P) (limits : Limits) where
         refused = λ yes. has_prefix (failures h) (failures longer) own.number more (fits.refused yes);
       }
 
-  -- in a legal history a decision is read off the meld of all that is settled
+  -- in a legal history a decision is that of the summary of its round
   pub decision_is : (h : History P) (c k : ℕ) → IsLegal meld limits h
       → decision meld ranks h c k ≡ (let all = all_of meld (round ranks h c k) in record { body = all.body; failed = take all.known.count (failed ranks h c); raised = nat_lt all.acked.count all.known.count })
   decision_is h c k legal =

@@ -1,5 +1,5 @@
 -- The sequential object: calls one after another, where nobody else steps.
-use Rattle.std.specs.{Prelude.{◌≡◌, ◌⊎◌, ℕ, ◌==◌, Bool, true, not, List, [], ◌∷◌, map, filter, filter_map, find, Option, Some, None, is_some, if◌then◌else◌, IsTrue, IsFalse}, List.{AllByRecursion}}
+use Rattle.std.specs.{Prelude.{◌≡◌, ◌⊎◌, ℕ, ◌==◌, true, not, List, [], ◌∷◌, map, filter, filter_map, find, Option, Some, None, is_some, if◌then◌else◌, IsTrue, IsFalse}, List.{AllByRecursion}}
 use Rattle.ulfm_object.specs.declared.{call.Call.{Call}, call.Call.TheVariants.{Fail}, call.Request.{Request}, call.Request.TheVariants.{Agree, Shrink, Barrier}, reply.Reply.{Reply}, reply.Reply.TheVariants.{Refused}, refusal.Refusal.TheVariants.{NoSuchRank, SelfFailed}, event.Caller.{Caller}, event.Caller.TheVariants.{Outside, Rank}, event.Event.{Event}, limits.Limits.{Limits}}
 use Rattle.ulfm_object.specs.{Answers.{comm_of, polled_by, traits_of}, History.{History, failures, first_ranks, has, says, slot}, Legal.{IsLegal}, Records.{Fits, Record, new_record}, Rounds.{failed}, Runs.{IsFailRun, IsRun}}
 

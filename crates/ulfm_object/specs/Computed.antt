@@ -1,6 +1,6 @@
 -- The sequential object as a function: what each call adds and replies where nobody else steps, and the next state. Nothing here
 -- has to be believed: that it computes the steps of the object, and the only ones, is a law.
-use Rattle.std.specs.Prelude.{◌≡◌, ℕ, ◌+◌, ◌<◌, ◌≤◌, ◌==◌, Bool, true, false, not, ◌&&◌, ◌||◌, min, max, if◌then◌else◌, List, [], ◌∷◌, ◌++◌, length, map, filter, filter_map, find, unwrap_or, Option, Some, None, is_some, nat_lt, IsTrue}
+use Rattle.std.specs.Prelude.{ℕ, ◌+◌, ◌<◌, ◌≤◌, ◌==◌, Bool, true, false, not, ◌&&◌, min, max, if◌then◌else◌, List, [], ◌∷◌, ◌++◌, length, filter, filter_map, find, unwrap_or, Option, Some, None, is_some, nat_lt, IsTrue}
 use Rattle.std.specs.Int.{bit_at}
 use Rattle.std.specs.List.{enumerate_from, position_from}
 use Rattle.std.proofs.Common.{arith, lit≤}
@@ -9,7 +9,7 @@ use Rattle.std.proofs.lemmas.Bool.Decides.{nat_tests}
 use Rattle.ulfm_laws.specs.{Ranges.{is_acked_count}, declared.acked.Acked.{Acked}, declared.known.Known.{Known}, declared.body.Body.{Body}, declared.body.Body.TheVariants.{Unit as NoBody, Flag as OfFlags, Ctx as OfIds, Clash}}
 use Rattle.ulfm_object.specs.declared.{call.Call.{Call}, reply.Reply.{Reply}, reply.Reply.TheVariants.{Started, Pending, Agreed, Shrunk, FailedGroup, Acked as AckedCount, Declared, AlreadyFailed, Revoked, AlreadyRevoked, Standing, Freed, Refused}, refusal.Refusal.{Refusal}, refusal.Refusal.TheVariants.{SelfFailed, Mismatch, NoContext, NoRoom, NoSuchRank, Twice}, call.Request.{Request}, call.Request.TheVariants.{Agree, Shrink, Barrier}, contribution.Contribution.{Contribution}, contribution.MarkCount.{MarkCount}, contribution.Offer.{Offer}, contribution.Offer.TheVariants.{Flag, Ctx}, contribution.Slot.{Slot}, contribution.Slot.TheVariants.{Given, Mark as Marked}, limits.Limits.{Limits}, event.Caller.TheVariants.{Outside, Rank}, event.Event.{Event}, event.Event.TheVariants.{Fail, Settle, Mark, Arrive, Revoke, Spawn}}
 use Rattle.ulfm_object.specs.declared.call.Call.TheVariants as call
-use Rattle.ulfm_object.specs.{History.{History, entries_by, failures, first_ranks, has, has_arrived, is_revoked, slot, spawns}, Rounds.{Decision, members, failed, is_decided, decision}, Legal.{is_made}, Records.{Held, Record, free_ids, held_at}, Answers.{View, barrier_reply, comm_of, left_by, refusal_of}, Alone.{State, after_call, new_state, record_at}}
+use Rattle.ulfm_object.specs.{History.{History, entries_by, failures, first_ranks, has, has_arrived, is_revoked, slot, spawns}, Rounds.{Decision, members, failed, is_decided, decision}, Legal.{is_made}, Records.{Held, Record, free_ids, held_at}, Answers.{View, barrier_reply, comm_of, left_by, refusal_of}, Alone.{State, after_call, record_at}}
 
 pub within_all : (n : ℕ) → min n 1024 ≤ 1024
 within_all n = min-le_right n 1024

@@ -1,5 +1,5 @@
 -- Histories, the oldest event first, and what they say.
-use Rattle.std.specs.{Prelude.{ℕ, zero, suc, ◌==◌, Bool, false, not, ◌&&◌, if◌then◌else◌, List, [], ◌∷◌, ◌++◌, Option, Some, None, filter, filter_map, map, slice_get}, List.{list_any}}
+use Rattle.std.specs.{Prelude.{ℕ, zero, suc, ◌==◌, Bool, not, ◌&&◌, if◌then◌else◌, List, [], ◌∷◌, ◌++◌, Option, Some, None, filter, filter_map, map, slice_get}, List.{list_any}}
 use Rattle.ulfm_object.specs.declared.{contribution.Slot.{Slot}, contribution.Slot.TheVariants.{Given, Mark as Marked}, event.Caller.{Caller}, event.Entry.{Entry}, event.Event.{Event}, event.Event.TheVariants.{Fail, Settle, Mark, Arrive, Revoke, Spawn}}
 
 -- whether a rank is in a group; groups are lists of ranks

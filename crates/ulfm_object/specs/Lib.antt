@@ -2,6 +2,7 @@ pub mod Alone
 pub mod Answers
 pub mod Computed
 pub mod History
+pub mod Laws
 pub mod Legal
 pub mod Records
 pub mod Refusals

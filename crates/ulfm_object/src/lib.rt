@@ -4,10 +4,13 @@
 pub mod call;
 pub mod contribution;
 pub mod event;
+pub mod laws;
 pub mod limits;
 pub mod place;
 pub mod refusal;
 pub mod reply;
+#[cfg(test)]
+mod tests;
 
 pub use call::{Call, Request};
 pub use contribution::{Contribution, MarkCount, Offer, Slot};

@@ -1,4 +1,4 @@
-ghost use Rattle.std.specs.Prelude.{◌≡◌};
+ghost use Rattle.std.specs.Prelude.{◌≡◌, Some};
 ghost use Rattle.ulfm_object.specs.Refusals.{printed};
 
 use std::fmt::{self, Display, Formatter, Write};
@@ -64,6 +64,8 @@ impl Refusal {
 }
 
 impl Display for Refusal {
+    ghost output = { λ x. Some (printed x).1 };
+
     fn fmt<W: Write>(&self, f: &mut Formatter<W>) -> Result<(), fmt::Error> {
         f.write_str(self.name())
     }
