@@ -22,6 +22,7 @@ use Rattle.ulfm_object.proofs.Lists.{each_from}
 use Rattle.ulfm_object.proofs.Says.{made_by}
 use Rattle.ulfm_object.proofs.Spawned.{at_push, members_of_spawned}
 
+-- a mask has one least id
 lowest_one : (mask i j : ℕ) → IsLowestId mask i → IsLowestId mask j → i ≡ j
 lowest_one mask i j low also =
     elim (cases_lt i j) [

@@ -11,8 +11,8 @@ use Rattle.ulfm_object.specs.History.{History, failures, has}
 use Rattle.ulfm_object.specs.Rounds.{failed}
 use Rattle.ulfm_object.specs.Records.{Held, Record, Fits, FitsHeld, FitsRequest, change_at, contexts_of, held_at, is_shrink, with_held}
 use Rattle.ulfm_object.specs.Answers.{closed, opened}
-use Rattle.ulfm_object.proofs.Lists.{each_filter, each_from, each_push, find_holds}
-use Rattle.ulfm_object.proofs.LeftHeld.{shrinks, each_change, contexts_change, shrinks_change, shrinks_none, contexts_push, distinct_push, contexts_kept, distinct_kept, shrinks_kept}
+use Rattle.ulfm_object.proofs.Lists.{any_none, distinct_push, each_filter, each_from, each_push, find_holds}
+use Rattle.ulfm_object.proofs.LeftHeld.{shrinks, each_change, contexts_change, shrinks_change, shrinks_none, contexts_push, contexts_kept, distinct_kept, shrinks_kept}
 
 -- what two facts of each give holds of each
 pub each_by_two : {X : Type 0} (P Q R : X → Type 0) → ((x : X) → P x → Q x → R x) → (xs : List X) → AllByRecursion P xs → AllByRecursion Q xs → AllByRecursion R xs
@@ -125,7 +125,7 @@ module _ {P : Type 0} (meld : P → P → P) (limits : Limits) (h : History P) w
         same_limits = fits.same_limits;
         held = each_push (FitsHeld meld limits.ranks h own.number ids) own.held x
             (each_by_two (FitsHeld meld limits.ranks h own.number (contexts_of own.held)) (λ y. is_shrink y.request ≡ false) (FitsHeld meld limits.ranks h own.number ids) other own.held fits.held none) (other x new shut);
-        contexts = subst (IsDistinct nat_eq) (sym (contexts_push own.held x)) (distinct_push (contexts_of own.held) x.context fits.contexts apart);
+        contexts = subst (IsDistinct nat_eq) (sym (contexts_push own.held x)) (distinct_push nat_eq (contexts_of own.held) x.context fits.contexts (any_none (λ i. nat_eq i x.context) (contexts_of own.held) apart));
         one_shrink = omega (arith, shrinks_none (own.held ++ x ∷ []) (each_push (λ y. is_shrink y.request ≡ false) own.held x none shut));
         seen = fits.seen;
         refused = fits.refused;

@@ -5,7 +5,7 @@ use Rattle.std.specs.List.{list_any, AllByRecursion, IsDistinct}
 use Rattle.std.proofs.lemmas.Map.Keys.{IsDistinct-head, IsDistinct-tail, IsDistinct-cons}
 use Rattle.std.proofs.lemmas.Bool.{or_parts}
 use Rattle.ulfm_object.specs.Records.{Held, change_at, contexts_of, is_shrink}
-use Rattle.ulfm_object.proofs.Lists.{each_push, find_holds}
+use Rattle.ulfm_object.proofs.Lists.{find_holds}
 
 -- the communicators on which a shrink is open, counted
 abbrev pub shrinks : List Held → ℕ
@@ -114,12 +114,6 @@ shrinks_none (y ∷ held) all = subst (λ b. length (cond b (y ∷ filter (λ y.
 pub contexts_push : (held : List Held) (x : Held) → contexts_of (held ++ x ∷ []) ≡ contexts_of held ++ x.context ∷ []
 contexts_push [] x = refl
 contexts_push (y ∷ held) x = ap (λ ids. y.context ∷ ids) (contexts_push held x)
-
--- ids that differ, and one more that differs from each
-pub distinct_push : (ids : List ℕ) (i : ℕ) → IsDistinct nat_eq ids → AllByRecursion (λ j. nat_eq j i ≡ false) ids → IsDistinct nat_eq (ids ++ i ∷ [])
-distinct_push [] i distinct apart = IsDistinct-cons nat_eq i [] tt distinct
-distinct_push (j ∷ ids) i distinct apart =
-    IsDistinct-cons nat_eq j (ids ++ i ∷ []) (each_push (λ k. nat_eq j k ≡ false) ids i (IsDistinct-head nat_eq j ids distinct) apart.0) (distinct_push ids i (IsDistinct-tail nat_eq j ids distinct) apart.1)
 
 module _ (p : Held → Bool) where
   -- what holds of each context id holds of those of the communicators that are kept

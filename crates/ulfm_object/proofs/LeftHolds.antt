@@ -1,23 +1,14 @@
 -- What a rank may rely on where its record fits: whom it shares a communicator with, and that context ids tell its communicators apart.
-use Rattle.std.proofs.Common.{◌≡◌, ℕ, ◌==◌, Bool, true, false, cond, List, [], ◌∷◌, map, Some, ap, sym, ◌∙◌, subst, arith, nat_eq, inl, inr, IsTrue}
+use Rattle.std.proofs.Common.{◌≡◌, ℕ, ◌==◌, Bool, true, false, cond, List, [], ◌∷◌, map, Some, ap, sym, ◌∙◌, subst, nat_eq, IsTrue}
 use Rattle.std.specs.Prelude.{find}
 use Rattle.std.specs.List.{AllByRecursion, IsDistinct}
 use Rattle.std.proofs.lemmas.Map.Keys.{IsDistinct-head, IsDistinct-tail, IsDistinct-cons}
-use Rattle.std.proofs.lemmas.Bool.{cases_lt, eq-eqb, ne_eqb}
-use Rattle.ulfm_laws.specs.declared.ctx_mask.CtxMask.{CtxMask}
-use Rattle.ulfm_laws.specs.declared.body.Body.TheVariants.{Ctx as Ids}
+use Rattle.std.proofs.lemmas.Bool.{eq-eqb, ne_eqb}
 use Rattle.ulfm_object.specs.declared.limits.Limits.{Limits}
-use Rattle.ulfm_object.specs.{History.{History, has}, Legal.{Exists}, Records.{Held, Record, Fits, FitsHeld, IsContext, IsLowestId, contexts_of, held_at}, Rounds.{decision, members}}
+use Rattle.ulfm_object.specs.{History.{History, has}, Legal.{Exists}, Records.{Held, Record, Fits, FitsHeld, IsContext, contexts_of, held_at}, Rounds.{members}}
+use Rattle.ulfm_object.proofs.Contexts.{context_one}
 use Rattle.ulfm_object.proofs.Lists.{find_holds}
 use Rattle.ulfm_object.proofs.LeftFits.{each_by_two, held_fits}
-
--- a mask has one least id
-lowest_is_one : (mask i j : ℕ) → IsLowestId mask i → IsLowestId mask j → i ≡ j
-lowest_is_one mask i j low other =
-    elim (cases_lt i j) [
-      | inl less ↦ let none = other.least i less in let here = low.in_it in absurd (omega (arith, none, here))
-      | inr more ↦ elim (cases_lt j i) [ inl less ↦ let none = low.least j less in let here = other.in_it in absurd (omega (arith, none, here)) | inr same ↦ omega (arith, more, same) ]
-    ]
 
 -- what holds of each context id holds of that of each communicator
 each_context : (P : ℕ → Type 0) (held : List Held) → AllByRecursion P (contexts_of held) → AllByRecursion (λ y. P y.context) held
@@ -42,17 +33,6 @@ found_apart c d (z ∷ held) x y distinct at to same =
     go false false apart more at to = more at to
 
 module _ {P : Type 0} (meld : P → P → P) where
-  -- a communicator has one context id
-  pub context_is_one : (ranks : ℕ) (h : History P) (c i j : ℕ) → IsContext meld ranks h c i → IsContext meld ranks h c j → i ≡ j
-  context_is_one ranks h c i j (inl world) (inl other) = world.1 ∙ sym other.1
-  context_is_one ranks h c i j (inl (world, is)) (inr (parent, k, mask, above, at, body, lowest)) = absurd (omega (arith, world, above))
-  context_is_one ranks h c i j (inr (parent, k, mask, above, at, body, lowest)) (inl (world, is)) = absurd (omega (arith, world, above))
-  context_is_one ranks h c i j (inr (parent, k, mask, above, at, body, lowest)) (inr (parent', k', mask', above', at', body', lowest')) =
-      let same : ◌≡◌ {A = ℕ × ℕ} (parent', k') (parent, k) = cc (at, at') in
-      let there : (decision meld ranks h parent k).body ≡ Ids mask' = subst (λ (made : ℕ × ℕ). (decision meld ranks h made.0 made.1).body ≡ Ids mask') same body' in
-      let masks : mask' ≡ mask = cc (there, body) in
-      lowest_is_one mask.bits i j lowest (subst (λ (m : CtxMask). IsLowestId m.bits j) masks lowest')
-
   module _ (limits : Limits) (h : History P) where
     -- whoever holds a communicator is one of its members
     pub holder_is_member : (own : Record) (c : ℕ) (x : Held) → Fits meld limits h own → held_at own c ≡ Some x → Exists h c × (x.group ≡ members limits.ranks h c) × IsTrue (has (members limits.ranks h c) own.number)
@@ -68,7 +48,7 @@ module _ {P : Type 0} (meld : P → P → P) where
         let theirs = held_fits meld limits h other c y others to in
         let one : IsContext meld limits.ranks h c x.context = subst (λ n. IsContext meld limits.ranks h n x.context) mine.1 mine.0.context in
         let two : IsContext meld limits.ranks h c y.context = subst (λ n. IsContext meld limits.ranks h n y.context) theirs.1 theirs.0.context in
-        ((holder_is_member own c x fits at).1 ∙ sym (holder_is_member other c y others to).1, context_is_one limits.ranks h c x.context y.context one two)
+        ((holder_is_member own c x fits at).1 ∙ sym (holder_is_member other c y others to).1, context_one meld limits.ranks h c x.context y.context one two)
 
     -- two communicators that a rank holds have two context ids
     pub contexts_apart : (own : Record) (c d : ℕ) (x y : Held) → Fits meld limits h own → held_at own c ≡ Some x → held_at own d ≡ Some y → x.context ≡ y.context → c ≡ d
@@ -82,7 +62,7 @@ module _ {P : Type 0} (meld : P → P → P) where
       where
         other : (z : Held) → FitsHeld meld limits.ranks h r ids z → nat_eq y.context z.context ≡ false → nat_eq y.comm z.comm ≡ false
         other z fits differs =
-            ne_eqb y.comm z.comm (λ same. let one = context_is_one limits.ranks h z.comm y.context z.context (subst (λ n. IsContext meld limits.ranks h n y.context) same all.0.context) fits.context in
+            ne_eqb y.comm z.comm (λ same. let one = context_one meld limits.ranks h z.comm y.context z.context (subst (λ n. IsContext meld limits.ranks h n y.context) same all.0.context) fits.context in
             absurd (cc (eq-eqb y.context z.context one, differs)))
 
         apart : AllByRecursion (λ z. nat_eq y.comm z.comm ≡ false) held

@@ -1,10 +1,10 @@
 -- Context ids: which ones a rank offers, and that a round decides on none that one of its contributors holds.
-use Rattle.std.proofs.Common.{◌≡◌, ℕ, zero, suc, ◌<◌, ◌≤◌, min, ◌==◌, ◌&&◌, Bool, true, cond, List, [], ◌∷◌, map, length, Option, Some, None, slice_get, refl, ap, sym, ◌∙◌, subst, arith, filter_map, inl, inr, if◌then◌else◌}
+use Rattle.std.proofs.Common.{◌≡◌, ℕ, zero, suc, ◌<◌, ◌≤◌, min, ◌==◌, ◌&&◌, Bool, true, cond, List, [], ◌∷◌, map, length, Option, Some, None, slice_get, refl, ap, sym, ◌∙◌, subst, arith, filter_map, if◌then◌else◌}
 use Rattle.std.specs.Prelude.{Contains, ⊤}
 use Rattle.std.specs.Int.{bit_at}
 use Rattle.std.specs.List.{AllByRecursion, cons_option}
-use Rattle.std.proofs.lemmas.Bool.{and_from, cases_lt, eq-eqb}
-use Rattle.std.proofs.lemmas.Nat.Bits.{bit_at_above, bit_at_and, bit_at-lt}
+use Rattle.std.proofs.lemmas.Bool.{and_from, eq-eqb}
+use Rattle.std.proofs.lemmas.Nat.Bits.{bit_at_and, bit_at-lt}
 use Rattle.ulfm_laws.specs.declared.body.Body.{Body}
 use Rattle.ulfm_laws.specs.declared.body.Body.TheVariants.{Unit as NoBody, Flag, Ctx, Clash}
 use Rattle.ulfm_laws.specs.declared.ctx_mask.CtxMask.{CtxMask}
@@ -18,21 +18,12 @@ use Rattle.ulfm_object.specs.declared.event.Event.TheVariants.{Settle}
 use Rattle.ulfm_object.specs.declared.limits.Limits.{Limits}
 use Rattle.ulfm_object.specs.History.{History, has, same_place, slot}
 use Rattle.ulfm_object.specs.Legal.{IsLegal}
-use Rattle.ulfm_object.specs.Records.{Held, IsContext, IsOwn, contexts_of, free_ids, all_but}
+use Rattle.ulfm_object.specs.Records.{Held, IsOwn, contexts_of, free_ids, all_but}
 use Rattle.ulfm_object.specs.Rounds.{body_of, contribution_of, decision, members}
 use Rattle.ulfm_object.proofs.Says.{put_by}
 use Rattle.ulfm_object.proofs.Lists.{at_member, each_from, in_list}
 use Rattle.ulfm_object.proofs.Decisions.{settled_once}
 use Rattle.ulfm_object.proofs.FreeIds.{all_but_is}
-
-bit_within : (mask : CtxMask) (i : ℕ) → bit_at mask.bits i ≡ 1 → i < 32
-bit_within mask i is =
-    elim (cases_lt i 32) [ inl less ↦ less | inr above ↦ let none = bit_at_above mask.bits 32 i mask.fits above in absurd (omega (arith, is, none)) ]
-
--- a communicator's context id is below 32
-pub context_within : {P : Type 0} (meld : P → P → P) (ranks : ℕ) (h : History P) (c context : ℕ) → IsContext meld ranks h c context → context < 32
-context_within meld ranks h c context (inl world) = omega (arith, world.1)
-context_within meld ranks h c context (inr (parent, k, mask, above, at, body, lowest)) = bit_within mask context lowest.in_it
 
 -- no id that is held is free
 pub held_not_free : (held : List Held) → AllByRecursion (λ x. x.context < 32) held → AllByRecursion (λ i. bit_at (free_ids held).bits i ≡ 0) (contexts_of held)

@@ -10,7 +10,8 @@ use Rattle.ulfm_object.proofs.Lists.{each_from, has_prefix, length_prefix}
 use Rattle.ulfm_object.proofs.Histories.{failures_begin}
 use Rattle.ulfm_object.proofs.Stable.{failed_begins}
 use Rattle.ulfm_object.proofs.LeftHeld.{shrinks_change, shrinks_opened}
-use Rattle.ulfm_object.proofs.LeftIds.{context_within, held_not_free}
+use Rattle.ulfm_object.proofs.Contexts.{context_below}
+use Rattle.ulfm_object.proofs.LeftIds.{held_not_free}
 use Rattle.ulfm_object.proofs.LeftFits.{fits_acked, fits_closed, fits_kept, fits_opened, fits_refused, held_fits}
 use Rattle.ulfm_object.proofs.LeftShrunk.{fits_shrunk, found_stays}
 
@@ -75,7 +76,7 @@ module _ {P : Type 0} (meld : P → P → P) (limits : Limits) (view : View P) (
     -- a shrink is started: it offers no id that the rank holds
     shrink_left : (rank c : ℕ) (x : Held) (reply : Reply P) → held_at now c ≡ Some x → list_any (λ y. is_shrink y.request) now.held ≡ false → StartReplies view old x (Ctx (free_ids now.held)) reply → Leaves (call.Shrink rank c) reply
     shrink_left rank c x reply at none (inl (is, gives)) =
-        let small = each_from (FitsHeld meld limits.ranks after now.number (contexts_of now.held)) (λ y. y.context < 32) (λ y held. context_within meld limits.ranks after y.comm y.context held.context) now.held fits.held in
+        let small = each_from (FitsHeld meld limits.ranks after now.number (contexts_of now.held)) (λ y. y.context < 32) (λ y held. context_below meld limits.ranks after y.comm y.context held.context) now.held fits.held in
         by_reply (call.Shrink rank c) reply Started is
         (fits_opened meld limits after now c (λ y. Some (Shrink y.next_agreement)) x fits at
         (gives.given, free_ids now.held, own (Settle x.comm x.next_agreement now.number gives.given) gives.own, gives.offer_is, held_not_free now.held small)

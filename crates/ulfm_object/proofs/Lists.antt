@@ -268,3 +268,14 @@ length-filter-le p [] = omega arith
 length-filter-le p (x ∷ xs) =
     let rest = length-filter-le p xs in
     elim (p x) as (λ b. length (cond b (x ∷ filter p xs) (filter p xs)) ≤ length (x ∷ xs)) [ true ↦ omega (arith, rest) | false ↦ omega (arith, rest) ]
+
+pub none_distinct : {X : Type 0} (same : X → X → Bool) → IsDistinct same []
+unfolding IsDistinct
+none_distinct same = tt
+
+-- a list without repeats, and one more that is none of its elements
+pub distinct_push : {X : Type 0} (same : X → X → Bool) (xs : List X) (x : X) → IsDistinct same xs → list_any (λ y. same y x) xs ≡ false → IsDistinct same (xs ++ x ∷ [])
+distinct_push same [] x distinct out = IsDistinct-cons same x [] tt distinct
+distinct_push same (y ∷ xs) x distinct out =
+    let parts = or_parts (same y x) (list_any (λ y. same y x) xs) out in
+    IsDistinct-cons same y (xs ++ x ∷ []) (each_push (λ z. same y z ≡ false) xs x (IsDistinct-head same y xs distinct) parts.0) (distinct_push same xs x (IsDistinct-tail same y xs distinct) parts.1)

@@ -1,9 +1,7 @@
 -- What happens at most once in a legal history.
 use Rattle.std.proofs.Common.{◌≡◌, ℕ, Bool, true, false, ◌||◌, ◌&&◌, ◌==◌, List, [], ◌∷◌, ◌++◌, Option, Some, None, refl, sym, subst, append-nil, filter_map, if◌then◌else◌, nat_eq}
 use Rattle.std.specs.List.{list_any, cons_option, IsDistinct}
-use Rattle.std.proofs.lemmas.Bool.{or_parts}
 use Rattle.std.proofs.lemmas.List.Elements.{filter_map-append}
-use Rattle.std.proofs.lemmas.Map.Keys.{IsDistinct-head, IsDistinct-tail, IsDistinct-cons}
 use Rattle.ulfm_object.specs.declared.contribution.Slot.{Slot}
 use Rattle.ulfm_object.specs.declared.event.Event.{Event}
 use Rattle.ulfm_object.specs.declared.event.Event.TheVariants.{Fail, Settle, Mark, Arrive, Revoke, Spawn}
@@ -12,17 +10,7 @@ use Rattle.ulfm_object.specs.History.{History, failures, has, is_revoked, put_at
 use Rattle.ulfm_object.specs.Laws.{HappensOnce}
 use Rattle.ulfm_object.specs.Legal.{IsLegal, MayFollow}
 use Rattle.ulfm_object.proofs.Histories.{by_events}
-use Rattle.ulfm_object.proofs.Lists.{each_push, none_first}
-
-none_distinct : {X : Type 0} (same : X → X → Bool) → IsDistinct same []
-unfolding IsDistinct
-none_distinct same = tt
-
-distinct_push : {X : Type 0} (same : X → X → Bool) (xs : List X) (x : X) → IsDistinct same xs → list_any (λ y. same y x) xs ≡ false → IsDistinct same (xs ++ x ∷ [])
-distinct_push same [] x distinct out = IsDistinct-cons same x [] tt distinct
-distinct_push same (y ∷ xs) x distinct out =
-    let parts = or_parts (same y x) (list_any (λ y. same y x) xs) out in
-    IsDistinct-cons same y (xs ++ x ∷ []) (each_push (λ z. same y z ≡ false) xs x (IsDistinct-head same y xs distinct) parts.0) (distinct_push same xs x (IsDistinct-tail same y xs distinct) parts.1)
+use Rattle.ulfm_object.proofs.Lists.{distinct_push, none_distinct, none_first}
 
 module _ {P : Type 0} (place : ℕ × ℕ × ℕ) where
   -- where nothing settles a place, no settlement is of it

@@ -1,45 +1,26 @@
 -- Each step of the sequential object is the computed one.
 use Rattle.std.proofs.Common.{◌≡◌, ℕ, ◌<◌, ◌==◌, Bool, true, false, List, [], ◌∷◌, ◌++◌, Option, Some, None, nat_lt, refl, ap, ap₂, sym, ◌∙◌, subst, append-nil, inl, inr, if◌then◌else◌}
-use Rattle.std.specs.List.{AllByRecursion, cons_option}
 use Rattle.std.proofs.lemmas.Bool.{le-ltb, lt-ltb}
-use Rattle.std.proofs.lemmas.List.Elements.{filter_map-append}
 use Rattle.ulfm_object.specs.declared.call.Call.{Call}
 use Rattle.ulfm_object.specs.declared.call.Call.TheVariants as call
 use Rattle.ulfm_object.specs.declared.event.Caller.TheVariants.{Outside}
 use Rattle.ulfm_object.specs.declared.event.Event.{Event}
-use Rattle.ulfm_object.specs.declared.event.Event.TheVariants.{Fail, Settle, Mark, Arrive, Revoke, Spawn}
+use Rattle.ulfm_object.specs.declared.event.Event.TheVariants.{Fail}
 use Rattle.ulfm_object.specs.declared.limits.Limits.{Limits}
 use Rattle.ulfm_object.specs.declared.refusal.Refusal.TheVariants.{NoSuchRank}
 use Rattle.ulfm_object.specs.declared.reply.Reply.{Reply}
 use Rattle.ulfm_object.specs.declared.reply.Reply.TheVariants.{AlreadyFailed, Declared, Refused}
 use Rattle.ulfm_object.specs.History.{History, entries_by, failures, has}
-use Rattle.ulfm_object.specs.Legal.{IsLegal, MayFail, MayFollow}
+use Rattle.ulfm_object.specs.Legal.{IsLegal, MayFail}
 use Rattle.ulfm_object.specs.Records.{Fits, Record}
 use Rattle.ulfm_object.specs.Answers.{AnswersFail, View, left_by, traits_of}
 use Rattle.ulfm_object.specs.Runs.{IsFailRun}
 use Rattle.ulfm_object.specs.Alone.{IsRankStep, IsSound, IsStep, State, after_call, record_at}
 use Rattle.ulfm_object.specs.Computed.{Next, Outcome, fail_outcome, next, next_by, next_of_rank}
-use Rattle.ulfm_object.proofs.Says.{declared_by}
-use Rattle.ulfm_object.proofs.Histories.{by_events, legal_parts}
-use Rattle.ulfm_object.proofs.Lists.{at_member, each_push, find_holds}
+use Rattle.ulfm_object.proofs.Histories.{legal_parts}
+use Rattle.ulfm_object.proofs.Lists.{at_member, find_holds}
+use Rattle.ulfm_object.proofs.Marking.{failures_below}
 use Rattle.ulfm_object.proofs.OnlyRuns.{HasOutcome, run_is, span_is}
-
--- only ranks of the world are declared
-pub failures_below : {P : Type 0} (meld : P → P → P) (limits : Limits) (h : History P) → IsLegal meld limits h → AllByRecursion (λ r. r < limits.ranks) (failures h)
-failures_below {P = P} meld limits h legal =
-    by_events meld limits (λ w. AllByRecursion (λ r. r < limits.ranks) (failures w)) tt
-    (λ w e lw q may. subst (AllByRecursion (λ r. r < limits.ranks)) (sym (filter_map-append (λ x. declared_by x.event) w (e ∷ []))) (more w e.event may q)) h legal
-  where
-    same : (w : History P) → AllByRecursion (λ r. r < limits.ranks) (failures w) → AllByRecursion (λ r. r < limits.ranks) (failures w ++ [])
-    same w q = subst (AllByRecursion (λ r. r < limits.ranks)) (sym (append-nil (failures w))) q
-
-    more : (w : History P) (ev : Event P) → MayFollow meld limits w ev → AllByRecursion (λ r. r < limits.ranks) (failures w) → AllByRecursion (λ r. r < limits.ranks) (failures w ++ cons_option (declared_by ev) [])
-    more w (Fail r) may q = each_push (λ r. r < limits.ranks) (failures w) r q may.rank
-    more w (Settle c k r given) may q = same w q
-    more w (Mark c k r mark) may q = same w q
-    more w (Arrive c k r) may q = same w q
-    more w (Revoke c) may q = same w q
-    more w (Spawn j c k) may q = same w q
 
 module _ {P : Type 0} (meld : P → P → P) (limits : Limits) (h : History P) (rank : ℕ) (events : List (Event P)) (legal : IsLegal meld limits (h ++ entries_by Outside events)) (reply : Reply P) where
   abbrev by_tests : Bool → Bool → Outcome P

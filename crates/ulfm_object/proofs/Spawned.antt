@@ -1,20 +1,18 @@
 -- Spawned communicators: whose survivors they are. And failures: nobody is declared twice.
-use Rattle.std.proofs.Common.{◌≡◌, ◌⊎◌, ℕ, zero, suc, ◌+◌, ◌<◌, false, ◌==◌, List, [], ◌∷◌, ◌++◌, length, Some, slice_get, refl, ap, ap₂, sym, ◌∙◌, subst, arith, append-nil, nat_eq, inl, inr, IsTrue}
+use Rattle.std.proofs.Common.{◌≡◌, ◌⊎◌, ℕ, zero, suc, ◌+◌, ◌<◌, List, [], ◌∷◌, ◌++◌, length, Some, slice_get, refl, ap, ap₂, sym, ◌∙◌, subst, arith, append-nil, nat_eq, inl, inr, IsTrue}
 use Rattle.std.specs.List.{cons_option, IsDistinct}
-use Rattle.std.proofs.lemmas.Bool.{or_parts}
 use Rattle.std.proofs.lemmas.List.Elements.{filter_map-append}
-use Rattle.std.proofs.lemmas.Map.Keys.{IsDistinct-head, IsDistinct-tail, IsDistinct-cons}
 use Rattle.ulfm_object.specs.declared.limits.Limits.{Limits}
 use Rattle.ulfm_object.specs.declared.event.Caller.{Caller}
 use Rattle.ulfm_object.specs.declared.event.Entry.{Entry}
 use Rattle.ulfm_object.specs.declared.event.Event.{Event}
 use Rattle.ulfm_object.specs.declared.event.Event.TheVariants.{Fail, Settle, Mark, Arrive, Revoke, Spawn}
-use Rattle.ulfm_object.specs.History.{has, without}
+use Rattle.ulfm_object.specs.History.{without}
 use Rattle.ulfm_object.specs.History.{History, failures, spawns}
 use Rattle.ulfm_object.proofs.Says.{declared_by, made_by}
 use Rattle.ulfm_object.specs.Rounds.{members, is_decided, Decision, decision}
 use Rattle.ulfm_object.specs.Legal.{Exists, MaySpawn, MayFollow, IsLegal}
-use Rattle.ulfm_object.proofs.Lists.{in_list, each_push}
+use Rattle.ulfm_object.proofs.Lists.{distinct_push, in_list, none_distinct}
 use Rattle.ulfm_object.proofs.Histories.{by_events, exists_push, members_made, members_same, spawns_push}
 use Rattle.ulfm_object.proofs.Decisions.{decision_push}
 
@@ -84,24 +82,14 @@ module _ {P : Type 0} (meld : P → P → P) (limits : Limits) where
       by_events meld limits (λ w. (j c k : ℕ) → slice_get (spawns w) j ≡ Some (c, k) → IsMade w j c k) (λ j c k e. absurd (cc e))
       (λ w e lw q may j c k is. step w e.by e.event lw q may j c k (ap (λ xs. slice_get xs j) (sym (spawns_push w e)) ∙ is)) h legal
 
-  distinct_push : (xs : List ℕ) (r : ℕ) → IsDistinct nat_eq xs → has xs r ≡ false → IsDistinct nat_eq (xs ++ r ∷ [])
-  distinct_push [] r distinct out = IsDistinct-cons nat_eq r [] tt distinct
-  distinct_push (x ∷ xs) r distinct out =
-      let parts = or_parts (x == r) (has xs r) out in
-      IsDistinct-cons nat_eq x (xs ++ r ∷ []) (each_push (λ y. nat_eq x y ≡ false) xs r (IsDistinct-head nat_eq x xs distinct) parts.0) (distinct_push xs r (IsDistinct-tail nat_eq x xs distinct) parts.1)
-
-  nothing : IsDistinct nat_eq []
-  unfolding IsDistinct
-  nothing = tt
-
   -- the list of failures has no repeats
   pub failures_distinct : (h : History P) → IsLegal meld limits h → IsDistinct nat_eq (failures h)
   failures_distinct h legal =
-      by_events meld limits (λ w. IsDistinct nat_eq (failures w)) nothing
+      by_events meld limits (λ w. IsDistinct nat_eq (failures w)) (none_distinct nat_eq)
       (λ w e lw q may. subst (IsDistinct nat_eq) (sym (filter_map-append (λ x. declared_by x.event) w (e ∷ []))) (more w e.event may q)) h legal
     where
       more : (w : History P) (ev : Event P) → MayFollow meld limits w ev → IsDistinct nat_eq (failures w) → IsDistinct nat_eq (failures w ++ cons_option (declared_by ev) [])
-      more w (Fail r) may q = distinct_push (failures w) r q may.first
+      more w (Fail r) may q = distinct_push nat_eq (failures w) r q may.first
       more w (Settle c k r given) may q = subst (IsDistinct nat_eq) (sym (append-nil (failures w))) q
       more w (Mark c k r known) may q = subst (IsDistinct nat_eq) (sym (append-nil (failures w))) q
       more w (Arrive c k r) may q = subst (IsDistinct nat_eq) (sym (append-nil (failures w))) q
