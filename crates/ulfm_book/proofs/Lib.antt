@@ -1,0 +1,4 @@
+pub mod Opening
+pub mod Growing
+pub mod Moving
+pub mod Telling

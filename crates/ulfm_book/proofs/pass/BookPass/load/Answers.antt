@@ -1,0 +1,24 @@
+use Rattle.std.proofs.Common.{◌≡◌, sym, ap, subst}
+use Rattle.ulfm_words.specs.Places.{IsWithin, key_in}
+use Rattle.ulfm_book.specs.{Logs.{limits_in}, Rules.{book_of, word_named}}
+use Rattle.ulfm_book.proofs.{Moving.{look_moves}, Telling.{load_tells}}
+use Rattle.ulfm_book.proofs.pass.BookPass.load.Goals as goal
+
+pub load-found-requires : goal.load-found-requires
+load-found-requires g c =
+    let seen = c.self.inside.seen in
+    let word : c.args.word.now ≡ word_named seen.book (key_in (limits_in seen.log) c.args.place) =
+    subst (λ s. c.args.word.now ≡ word_named (book_of s.name) (key_in s.name.limits c.args.place)) (sym c.self.view_is) c.requires.word in
+    let within : IsWithin (limits_in seen.log) c.args.place = subst (λ s. IsWithin s.name.limits c.args.place) (sym c.self.view_is) c.requires.within in (
+      ap (λ w. w.tracked) word,
+      sym (ap (λ w. w.book) word),
+      c.plain-offer.ensures.0,
+      rw c.plain-offer.ensures.3 (look_moves g.P.Meld.meld g.P.Packed.pack c.args.place seen.log c.plain-offer.result.ask c.args.word.now.key c.self.invariant within (ap (λ w. w.key) word)),
+    )
+
+pub returns-clause-loads : goal.returns-clause-loads
+returns-clause-loads g c =
+    let seen = c.self.inside.seen in
+    let now = c.load-found.new.seen in
+    load_tells g.P.Meld.meld g.P.Packed.pack seen.book now.book seen.log now.log c.self.inside.trail.items c.and-self-inside.result.items c.args.place c.args.word.now.key c.load-found.result c.args.self.now
+    c.self.view_is c.requires.of c.requires.within (ap (λ w. w.key) c.requires.word) c.load-found.ensures.0 c.load-found.ensures.6.1 c.and-self-inside.ensures

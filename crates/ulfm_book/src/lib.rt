@@ -1,0 +1,20 @@
+//! Words that threads share without locks.
+//!
+//! A word is eight bytes and is set at most once, by one atomic compare-exchange from 0; every other step is one atomic load.
+//! In the proofs alone a log stands beside the words: the limits, then the events in the order in which their words were
+//! set. It only grows, its history is legal at every moment, and each word is what this history has at its place, so it is 0
+//! exactly where no event of it sets the word.
+//!
+//! A pass is the beginning of the log that one caller has seen. A told value is such a beginning, handed from one thread to
+//! another: `learn` moves no data, and lets contracts know what the other thread saw.
+#![tactic(auto)]
+
+mod line;
+mod pass;
+mod rule;
+#[cfg(test)]
+mod tests;
+mod words;
+
+pub use pass::{BookPass, BookTold};
+pub use words::BookWords;

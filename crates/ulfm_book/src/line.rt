@@ -1,0 +1,10 @@
+use ulfm_object::event::Entry;
+use ulfm_object::limits::Limits;
+
+/// A line of the log behind shared words. The log exists in the proofs alone.
+pub(crate) enum Line<P> {
+    /// The limits that the words were opened with: the first line, and no other.
+    Opened { limits: Limits },
+    /// An event, with its caller's name.
+    Made { entry: Entry<P> },
+}

@@ -1,0 +1,81 @@
+use crate::line::Line;
+use logbook::{Gain, Opening, Plain, Play, Rule};
+use std::marker::PhantomData;
+use ulfm_laws::meld::Packed;
+use ulfm_object::limits::Limits;
+use ulfm_words::Step;
+
+/// The one rule over all words, which holds between any two steps of any threads.
+pub(crate) struct Law<P: Packed> {
+    of: PhantomData<P>,
+}
+
+impl<P: Packed> Rule<Line<P>, u64> for Law<P> {
+    ghost use Rattle.std.specs.Prelude.{[]};
+    ghost use base.Fml.{ftrue};
+    ghost use Rattle.ulfm_book.specs.Rules.{IsKept};
+
+    ghost holds = { λ cells log. IsKept P.meld P.pack cells log };
+
+    ghost first = { [] };
+
+    ghost hinted = { λ n log. Unit {0} };
+
+    ghost shows = { λ log. [] };
+
+    ghost keeps = { λ names log. ftrue };
+
+    ghost moves = { λ ask before after answer. Unit {0} };
+}
+
+/// Callers trade nothing with the words.
+pub(crate) struct Nothing;
+
+impl<P: Packed> Gain<Line<P>, u64> for Nothing {
+    ghost use base.Fml.{ftrue};
+
+    ghost after = { λ names about answer. ftrue };
+}
+
+/// New words: the log has the limits alone.
+pub(crate) struct Opens;
+
+impl<P: Packed> Opening<Limits, Line<P>> for Opens {
+    ghost use Rattle.std.specs.Prelude.{[]};
+    ghost use Rattle.ulfm_book.specs.Logs.{log_of};
+
+    ghost log = { λ count limits. log_of limits [] };
+}
+
+/// A load.
+pub(crate) struct Look<P: Packed> {
+    of: PhantomData<P>,
+}
+
+impl<P: Packed> Play<Line<P>, u64> for Look<P> {
+    ghost use Rattle.ulfm_book.specs.Rules.{Looks};
+
+    ghost then = { Looks P.meld P.pack };
+}
+
+/// An exchange, which adds an event where it wins.
+pub(crate) struct Add<P: Packed> {
+    of: PhantomData<P>,
+}
+
+impl<P: Packed> Play<Line<P>, u64> for Add<P> {
+    ghost use Rattle.ulfm_book.specs.Rules.{Adds};
+
+    ghost then = { Adds P.meld P.pack };
+}
+
+/// What an exchange asks for: the line of its step's event.
+impl<P: Packed> Plain<Step, Line<P>, u64> for Add<P> {
+    ghost use Rattle.std.specs.Prelude.{None};
+    ghost use Rattle.ulfm_book.specs.Logs.{line_of};
+    ghost use Rattle.ulfm_words.specs.Entries.{entry_of};
+
+    ghost ask = { λ s. line_of (entry_of P.unpack s) };
+
+    ghost state = { λ s. None };
+}

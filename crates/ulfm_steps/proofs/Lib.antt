@@ -1,0 +1,7 @@
+pub mod Looking
+pub mod Settling
+pub mod Reading
+pub mod Marking
+pub mod Appending
+pub mod Welcome
+pub mod Spawning

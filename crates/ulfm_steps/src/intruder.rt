@@ -1,0 +1,165 @@
+// Plain words into which another's event comes, for tests.
+ghost use Rattle.std.specs.Prelude.{◌≡◌, ◌+◌, [], Some, IsTrue, length, false};
+ghost use Rattle.ulfm_object.specs.Runs.{Did};
+ghost use Rattle.ulfm_words.specs.Pass.{plain_name, last_of};
+ghost use Rattle.ulfm_words.specs.Steps.{IsOf};
+ghost use Rattle.ulfm_steps.specs.Intrusions.{is_welcome};
+
+use crate::append::Append;
+use crate::item::Item;
+use http_server::Log;
+use std::alloc::{AllocError, Allocator, Global};
+use ulfm_laws::meld::Packed;
+use ulfm_object::contribution::Slot;
+use ulfm_object::event::{Entry, Event};
+use ulfm_object::limits::Limits;
+use ulfm_object::place::Place;
+use ulfm_words::{
+    Last, PlainPass, PlainTold, PlainWords, Step, Words, set_arrival, set_revocation, set_slot,
+};
+
+/// Plain words that aren't alone: just before a step of a pass, which `IntruderPass::wait` chooses, another's event
+/// comes, if it hasn't come before.
+#[derive(Drop)]
+pub struct Intruder<P: Packed> {
+    pub plain: PlainWords<P>,
+    /// The event, and in whose name it comes. It is one that may come at any time, once: a failure, or of the world's own
+    /// communicator a revocation, an arrival or a contribution that knows of no failure.
+    pub guest: Entry<P>,
+    ghost welcome: { IsTrue (is_welcome plain.limits guest.event) },
+}
+
+/// A pass of such words.
+#[derive(Drop)]
+pub struct IntruderPass<P: Packed, A: Allocator = Global> {
+    pub plain: PlainPass<P, A>,
+    /// How many steps are made before the intrusion, if one is to come.
+    pub left: Option<u32>,
+    pub trail: Log<Last, bool>,
+}
+
+impl<P: Packed, A: Allocator> IntruderPass<P, A> {
+    /// The intrusion comes after so many further steps: 0 is just before the next one.
+    pub fn wait(&mut self, steps: u32)
+        ensures left { self.new.left ≡ Some steps }
+        ensures plain { self.new.plain ≡ self.old.plain }
+        ensures trail { self.new.trail ≡ self.old.trail }
+    {
+        self.left = Some(steps);
+    }
+
+    // A step of the pass's own.
+    fn note(&mut self, place: Place, word: u64, load: bool)
+        ensures plain { self.new.plain ≡ self.old.plain }
+        ensures count { length self.new.trail.items ≡ length self.old.trail.items + 1 }
+        ensures last { last_of self.new.trail.items ≡ Some (record { place = place; word = word; load = load }) }
+    {
+        self.trail = self.trail.and(&Last { place, word, load }, &load);
+    }
+}
+
+impl<P: Packed> Intruder<P> {
+    // Lets the event in where it is time.
+    fn intrude<A: Allocator + Copy + Drop>(&self, pass: &mut IntruderPass<P, A>)
+        requires of { IsOf P.meld (plain_name self.now.plain.limits) pass.old.plain }
+        ensures of { IsOf P.meld (plain_name self.now.plain.limits) pass.new.plain }
+        ensures did { Did false [] pass.old.plain.seen pass.new.plain.seen }
+        ensures trail { pass.new.trail ≡ pass.old.trail }
+    {
+        match pass.left {
+            None => return,
+            Some(0) => pass.left = None,
+            Some(n) => {
+                pass.left = Some(n - 1);
+                return;
+            }
+        }
+        let by = self.guest.by;
+        let plain = &mut pass.plain;
+        match self.guest.event {
+            Event::Fail { rank } => {
+                let _ = Append::new(Item::Failure { rank }, by).finish(&self.plain, plain);
+            }
+            Event::Settle {
+                comm,
+                round,
+                rank,
+                given,
+            } => {
+                let put = Slot::Given(given);
+                let _ = set_slot(&self.plain, plain, by, comm, round, rank, put);
+            }
+            Event::Arrive { comm, round, rank } => {
+                let _ = set_arrival(&self.plain, plain, by, comm, round, rank);
+            }
+            Event::Revoke { comm } => {
+                let _ = set_revocation(&self.plain, plain, by, comm);
+            }
+            Event::Mark { .. } | Event::Spawn { .. } => {}
+        }
+    }
+}
+
+impl<P: Packed, A: Allocator + Copy + Drop> Words<P, A> for Intruder<P> {
+    ghost use Rattle.ulfm_words.specs.Steps.{Sight};
+
+    type Pass = IntruderPass<P, A>;
+
+    type Told = PlainTold;
+
+    ghost name = { λ w. plain_name w.plain.limits };
+
+    ghost alone = { false };
+
+    ghost tells_all = { false };
+
+    ghost sight = { λ p. record { name = p.plain.name; seen = p.plain.seen; steps = length p.trail.items; last = last_of p.trail.items } };
+
+    ghost heard = { λ t. record { name = plain_name t.limits; seen = [] } };
+
+    fn limits(&self) -> Limits {
+        self.plain.limits
+    }
+
+    fn pass(&self, alloc: A) -> Result<IntruderPass<P, A>, AllocError> {
+        let plain = PlainPass::new(alloc, self.plain.limits)?;
+        Ok(IntruderPass {
+            plain,
+            left: None,
+            trail: Log::new(),
+        })
+    }
+
+    fn load(&self, pass: &mut IntruderPass<P, A>, place: Place) -> u64 {
+        self.intrude(pass);
+        let word = pass.plain.load(place);
+        pass.note(place, word, true);
+        word
+    }
+
+    fn set_once(&self, pass: &mut IntruderPass<P, A>, step: Step) -> Result<(), u64> {
+        self.intrude(pass);
+        match pass.plain.set_once(step) {
+            Ok(()) => {
+                pass.note(step.place, 0, false);
+                Ok(())
+            }
+            Err(word) => {
+                pass.note(step.place, word, false);
+                Err(word)
+            }
+        }
+    }
+
+    fn told(&self, _pass: &IntruderPass<P, A>) -> PlainTold {
+        PlainTold {
+            limits: self.plain.limits,
+        }
+    }
+
+    fn learn(&self, _pass: &mut IntruderPass<P, A>, _told: &PlainTold) {}
+
+    fn known_legal(&self, pass: &IntruderPass<P, A>) {
+        pass.plain.known_legal();
+    }
+}

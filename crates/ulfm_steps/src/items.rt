@@ -1,0 +1,72 @@
+ghost use Rattle.std.specs.Prelude.{◌≡◌, ◌<◌, Some, is_ok, slice_get, MatchResult};
+ghost use Rattle.ulfm_words.specs.Steps.{IsOf, Loads};
+ghost use Rattle.ulfm_words.specs.Tries.{Tries, entry};
+ghost use Rattle.ulfm_steps.specs.Appends.{items, room, place_at, event_at, HasRound, MayAdd};
+
+use crate::item::Item;
+use std::alloc::Allocator;
+use ulfm_laws::meld::Packed;
+use ulfm_object::event::Caller;
+use ulfm_object::limits::Limits;
+use ulfm_words::{Words, load_comm, load_failure, set_comm, set_failure};
+
+/// How many places the item's list has.
+pub fn room_for(item: Item, limits: Limits) -> u16
+    ensures { result ≡ room item limits }
+{
+    match item {
+        Item::Failure { .. } => limits.ranks,
+        Item::Comm { .. } => limits.comms.saturating_sub(1),
+    }
+}
+
+/// One load of a place of the item's list: what stands there, if anything does.
+pub fn load_item<P: Packed, A: Allocator, W: Words<P, A>>(
+    words: &W,
+    pass: &mut W::Pass,
+    item: Item,
+    index: u16,
+) -> Option<Item>
+    requires of { IsOf P.meld (W.name words.now) (W.sight pass.old) }
+    requires within { index < room item (W.name words.now).limits }
+    ensures loads { Loads P.meld P.pack W.alone (W.name words.now) (place_at item index) (W.sight pass.old) (W.sight pass.new) }
+    ensures stands { result ≡ slice_get (items item (W.sight pass.new).seen) index }
+{
+    match item {
+        Item::Failure { .. } => match load_failure(words, pass, index) {
+            None => None,
+            Some(rank) => Some(Item::Failure { rank }),
+        },
+        Item::Comm { .. } => match load_comm(words, pass, index + 1) {
+            None => None,
+            Some((parent, round)) => Some(Item::Comm { parent, round }),
+        },
+    }
+}
+
+/// One exchange of a place of the item's list: the item is put there, or what stands is given.
+pub fn set_item<P: Packed, A: Allocator, W: Words<P, A>>(
+    words: &W,
+    pass: &mut W::Pass,
+    by: Caller,
+    item: Item,
+    index: u16,
+) -> Result<(), Item>
+    requires of { IsOf P.meld (W.name words.now) (W.sight pass.old) }
+    requires within { index < room item (W.name words.now).limits }
+    requires may { MayAdd P.meld (W.name words.now).limits (W.sight pass.old).seen item index }
+    requires round { HasRound (W.name words.now).limits item }
+    ensures tries { Tries P.meld P.pack W.alone (W.name words.now) (place_at item index) (entry by (event_at item index)) (is_ok result) (W.sight pass.old) (W.sight pass.new) }
+    ensures stands { MatchResult result (λ _. slice_get (items item (W.sight pass.new).seen) index ≡ Some item) (λ x. slice_get (items item (W.sight pass.new).seen) index ≡ Some x) }
+{
+    match item {
+        Item::Failure { rank } => match set_failure(words, pass, by, index, rank) {
+            Ok(()) => Ok(()),
+            Err(rank) => Err(Item::Failure { rank }),
+        },
+        Item::Comm { parent, round } => match set_comm(words, pass, by, index + 1, parent, round) {
+            Ok(()) => Ok(()),
+            Err((parent, round)) => Err(Item::Comm { parent, round }),
+        },
+    }
+}

@@ -1,0 +1,57 @@
+// Settling the caller's own place: one exchange. A place that is settled stays so, whoever won it.
+ghost use Rattle.std.specs.Prelude.{◌≡◌, Some, is_ok, MatchResult};
+ghost use Rattle.ulfm_object.specs.History.{slot};
+ghost use Rattle.ulfm_object.specs.declared.contribution.Slot.TheVariants.{Given};
+ghost use Rattle.ulfm_object.specs.declared.event.Caller.TheVariants.{Rank as ByRank};
+ghost use Rattle.ulfm_object.specs.declared.event.Event.TheVariants.{Settle as Settled};
+ghost use Rattle.ulfm_object.specs.declared.place.Place.TheVariants.{Slot as SlotAt};
+ghost use Rattle.ulfm_words.specs.Steps.{IsOf};
+ghost use Rattle.ulfm_words.specs.Tries.{Tries, entry};
+ghost use Rattle.ulfm_steps.specs.Settles.{MayGive};
+
+use std::alloc::Allocator;
+use ulfm_laws::meld::Packed;
+use ulfm_object::contribution::{Contribution, Slot};
+use ulfm_object::event::Caller;
+use ulfm_words::{Words, set_slot};
+
+/// A rank's contribution to a round, to be made at the rank's own place and in its name.
+#[derive(Drop)]
+pub struct Settle<P: Packed> {
+    pub comm: u16,
+    pub round: u16,
+    pub rank: u16,
+    pub given: Contribution<P>,
+}
+
+impl<P: Packed> Settle<P> {
+    /// The exchange, which is the only step: it settles the place, or gives what has settled it.
+    pub fn step<A: Allocator, W: Words<P, A>>(
+        &self,
+        words: &W,
+        pass: &mut W::Pass,
+    ) -> Result<(), Slot<P>>
+        requires of { IsOf P.meld (W.name words.now) (W.sight pass.old) }
+        requires may { MayGive (W.name words.now).limits (W.sight pass.old).seen self.now.comm self.now.round self.now.rank self.now.given }
+        ensures tries { Tries P.meld P.pack W.alone (W.name words.now) (SlotAt self.now.comm self.now.round self.now.rank) (entry (ByRank self.now.rank) (Settled self.now.comm self.now.round self.now.rank self.now.given)) (is_ok result) (W.sight pass.old) (W.sight pass.new) }
+        ensures stands { MatchResult result (λ _. slot (W.sight pass.new).seen self.now.comm self.now.round self.now.rank ≡ Some (Given self.now.given)) (λ s. slot (W.sight pass.new).seen self.now.comm self.now.round self.now.rank ≡ Some s) }
+    {
+        let put = Slot::Given(self.given);
+        let by = Caller::Rank(self.rank);
+        set_slot(words, pass, by, self.comm, self.round, self.rank, put)
+    }
+
+    /// All steps: the one exchange.
+    pub fn finish<A: Allocator, W: Words<P, A>>(
+        self,
+        words: &W,
+        pass: &mut W::Pass,
+    ) -> Result<(), Slot<P>>
+        requires of { IsOf P.meld (W.name words.now) (W.sight pass.old) }
+        requires may { MayGive (W.name words.now).limits (W.sight pass.old).seen self.comm self.round self.rank self.given }
+        ensures tries { Tries P.meld P.pack W.alone (W.name words.now) (SlotAt self.comm self.round self.rank) (entry (ByRank self.rank) (Settled self.comm self.round self.rank self.given)) (is_ok result) (W.sight pass.old) (W.sight pass.new) }
+        ensures stands { MatchResult result (λ _. slot (W.sight pass.new).seen self.comm self.round self.rank ≡ Some (Given self.given)) (λ s. slot (W.sight pass.new).seen self.comm self.round self.rank ≡ Some s) }
+    {
+        self.step(words, pass)
+    }
+}

@@ -1,0 +1,9 @@
+pub mod SlotWords
+pub mod Keys
+pub mod Trails
+pub mod Growing
+pub mod Tied
+pub mod Telling
+pub mod Ranks
+pub mod Reading
+pub mod Setting

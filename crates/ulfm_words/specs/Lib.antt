@@ -1,0 +1,6 @@
+pub mod Places
+pub mod Slots
+pub mod Entries
+pub mod Steps
+pub mod Pass
+pub mod Tries

@@ -1,0 +1,19 @@
+use ulfm_object::event::Caller;
+use ulfm_object::place::Place;
+
+/// A word to be set at a place, in a caller's name.
+#[derive(Clone, Copy, Debug, PartialEq, Eq)]
+pub struct Step {
+    pub place: Place,
+    pub word: u64,
+    pub by: Caller,
+}
+
+/// An atomic step that was made, and the word that it found. Only contracts speak of it.
+#[derive(Clone, Copy, Debug, PartialEq, Eq)]
+pub struct Last {
+    pub place: Place,
+    pub word: u64,
+    /// Whether it was a load, and not an exchange.
+    pub load: bool,
+}

@@ -1,0 +1,52 @@
+ghost use Rattle.std.specs.Prelude.{◌≤◌};
+
+use crate::{PlainWords, Words, read_slot, slot_word};
+use std::test::Fail;
+use ulfm_laws::acked::Acked;
+use ulfm_laws::ctx_mask::CtxMask;
+use ulfm_laws::flag_and::FlagAnd;
+use ulfm_laws::known::Known;
+use ulfm_object::contribution::{Contribution, MarkCount, Offer, Slot};
+use ulfm_object::limits::Limits;
+use ulfm_object::place::Place;
+
+fn given(offer: Offer<FlagAnd>, known: u16, acked: u16) -> Slot<FlagAnd>
+    requires known { known ≤ 1024 }
+    requires acked { acked ≤ known }
+{
+    Slot::Given(Contribution {
+        offer,
+        known: Known { count: known },
+        acked: Acked { count: acked },
+    })
+}
+
+#[test]
+fn words_of_slots(rt: HostRuntime) {
+    let flag = given(Offer::Flag(FlagAnd { bits: 0xf }), 0, 0);
+    let known = Known { count: 1 };
+    let mark: Slot<FlagAnd> = Slot::Mark(MarkCount { known });
+    let mask = given(Offer::Ctx(CtxMask { bits: 0xffff_fffe }), 1, 0);
+    let full = given(Offer::Flag(FlagAnd { bits: 0xffff_ffff }), 1024, 1024);
+    assert_eq!(rt; slot_word(&flag), 0x0000_0000_1e00_0003);
+    assert_eq!(rt; slot_word(&mark), 0x0000_0000_01ff_c009);
+    assert_eq!(rt; slot_word(&mask), 0x01ff_ffff_fc00_000d);
+    assert_eq!(rt; slot_word(&full), 0x01ff_ffff_ff00_2003);
+    assert!(rt; read_slot::<FlagAnd>(0x0000_0000_01ff_c009) == Some(mark));
+    assert!(rt; read_slot::<FlagAnd>(0x01ff_ffff_ff00_2003) == Some(full));
+    assert!(rt; read_slot::<FlagAnd>(0x0000_0000_03ff_c009).is_none());
+}
+
+#[test]
+fn new_words(rt: HostRuntime) -> Result<(), Fail> {
+    let limits = Limits {
+        ranks: 3,
+        comms: 2,
+        rounds: 4,
+    };
+    let words = PlainWords::<FlagAnd>::open(limits)?;
+    let mut pass = words.pass(rt.alloc())?;
+    assert_eq!(rt; pass.load(Place::List { index: 2 }), 0);
+    assert!(rt; pass.nth(0).is_none());
+    Ok(())
+}
