@@ -23,10 +23,8 @@ mod record;
 mod refuse;
 mod replies;
 mod says;
-
 #[cfg(test)]
 mod tests;
-
 
 use crate::call::Call;
 use crate::event::{Caller, Entry, Event};
