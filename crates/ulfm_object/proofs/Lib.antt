@@ -1,11 +1,7 @@
-pub mod Added
-pub mod Answering
-pub mod Bounds
 pub mod Contexts
 pub mod Decisions
 pub mod FreeIds
 pub mod Histories
-pub mod Ids
 pub mod Interleaved
 pub mod LeftFits
 pub mod LeftHeld
@@ -19,7 +15,6 @@ pub mod Lists
 pub mod LowestId
 pub mod Marking
 pub mod Melds
-pub mod ObjectSteps
 pub mod Once
 pub mod OnlyCalls
 pub mod OnlyMarks
@@ -28,7 +23,6 @@ pub mod OnlyReply
 pub mod OnlyRuns
 pub mod OnlySpawned
 pub mod OnlyStep
-pub mod Places
 pub mod Rows
 pub mod Says
 pub mod Spawned
@@ -41,6 +35,5 @@ pub mod StepsPolls
 pub mod StepsRounds
 pub mod StepsShrinks
 pub mod StepsStarts
-pub mod Walks
 pub mod WordRows
 pub mod WordRules

@@ -4,7 +4,6 @@ pub mod Computed
 pub mod History
 pub mod Laws
 pub mod Legal
-pub mod Objects
 pub mod Records
 pub mod Refusals
 pub mod Rounds

@@ -6,7 +6,6 @@ pub mod contribution;
 pub mod event;
 pub mod laws;
 pub mod limits;
-pub mod object;
 pub mod place;
 pub mod refusal;
 pub mod reply;

@@ -1,0 +1,10 @@
+pub mod Acks
+pub mod Agrees
+pub mod Calling
+pub mod Failing
+pub mod Helds
+pub mod Holding
+pub mod Opening
+pub mod Passing
+pub mod Polls
+pub mod Replying

@@ -1,0 +1,9 @@
+use Rattle.std.proofs.Common.{◌≡◌, ◌≤◌, filter, length, take, vec_capacity}
+use Rattle.ulfm_object.specs.History.{has}
+use Rattle.ulfm_comm.proofs.groups.put_in.Given as goal
+
+abbrev pub invariant-loop-rank : goal.invariant-loop-rank
+invariant-loop-rank g l = record {
+  found : l.found.items ≡ filter (has l.group) (take l.rank-index l.ranks);
+  room : length (filter (has l.group) l.ranks) ≤ vec_capacity l.found;
+}

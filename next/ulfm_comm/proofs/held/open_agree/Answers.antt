@@ -1,0 +1,25 @@
+use Rattle.std.proofs.Common.{◌≡◌, ◌+◌, ◌<◌, ◌^◌, Some, IfSome, subst, arith, ap, sym, ◌∙◌}
+use Rattle.std.specs.List.{position}
+use Rattle.ulfm_object.specs.{Answers.{opened}, Records.{Held}}
+use Rattle.ulfm_object.specs.declared.call.Request.TheVariants.{Agree}
+use Rattle.ulfm_comm.proofs.Helds.{change_is, change_missing, find_is, is_of}
+use Rattle.ulfm_comm.proofs.held.open_agree.Goals as goal
+
+pub returns-in-Some : goal.returns-in-Some
+returns-in-Some g c =
+    let items = c.args.held.now.items in
+    let at : position (is_of c.args.comm) items ≡ Some c.in-Some.i = ap (position (is_of c.args.comm)) (sym c.deref.ensures.value) ∙ (sym c.place_of.ensures ∙ c.in-Some.is) in
+    let f : Held → Held = (λ y. opened y (Some (Agree y.next_agreement))) in
+    change_is items c.args.comm c.in-Some.i c.index_mut-x.result.now _ f at (ap f (c.x.view_is ∙ c.index_mut-x.ensures.value))
+
+pub returns-in_default : goal.returns-in_default
+returns-in_default g c = change_missing c.args.held.now.items c.args.comm _ (ap (position (is_of c.args.comm)) (sym c.deref.ensures.value) ∙ (sym c.place_of.ensures ∙ c.in_default.is))
+
+pub overflow_add-x : goal.overflow_add-x
+overflow_add-x g c =
+    let items = c.args.held.now.items in
+    let at : position (is_of c.args.comm) items ≡ Some c.in-Some.i = ap (position (is_of c.args.comm)) (sym c.deref.ensures.value) ∙ (sym c.place_of.ensures ∙ c.in-Some.is) in
+    let found = find_is items c.args.comm c.in-Some.i c.index_mut-x.result.now at in
+    let next = ap (λ (y : Held). y.next_agreement) (c.x.view_is ∙ c.index_mut-x.ensures.value) in
+    let room = subst (λ o. IfSome o (λ (y : Held). y.next_agreement + 1 < 2 ^ 16)) found c.requires in
+    omega (arith, next, room)

@@ -1,0 +1,6 @@
+use Rattle.std.proofs.Common.{◌≡◌, map}
+use Rattle.ulfm_object.specs.{History.{first_ranks}, Records.{new_record}}
+use Rattle.ulfm_comm.proofs.world.ranks_of.Given as goal
+
+abbrev pub invariant-loop-number : goal.invariant-loop-number
+invariant-loop-number g l = l.ranks.items ≡ map (new_record l.limits) (first_ranks l.number)

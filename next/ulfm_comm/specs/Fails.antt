@@ -1,0 +1,17 @@
+-- What a declaration promises.
+use Rattle.std.specs.Prelude.{◌≡◌, ℕ, Bool, true, false}
+use Rattle.ulfm_object.specs.declared.{reply.Reply.{Reply}, reply.Reply.TheVariants.{AlreadyFailed, Declared}}
+use Rattle.ulfm_object.specs.{Runs.{IsFailRun}}
+use Rattle.ulfm_words.specs.Steps.{IsOf, Name, Sight}
+
+-- the reply, by whether this call declared the rank
+abbrev pub declared : {P : Type 0} → Bool → Reply P
+declared true = Declared
+declared false = AlreadyFailed
+
+-- The pass is of these words still, and the declaration is one of the sequential object, among the steps of others, with its
+-- point at its end.
+pub record Fails {P : Type 0} (meld : P → P → P) (alone : Bool) (name : Name) (rank : ℕ) (before : Sight P) (reply : Reply P) (after : Sight P) : Type 0 where
+  pub of : IsOf meld name after
+  pub run : IsFailRun meld name.limits alone before.seen after.seen rank reply
+  pub at_end : run.span.point ≡ after.seen

@@ -1,0 +1,6 @@
+pub mod Looked
+pub mod Ends
+pub mod Ranks
+pub mod Calls
+pub mod Polls
+pub mod Fails

@@ -1,0 +1,37 @@
+ghost use Rattle.std.specs.Prelude.{◌≡◌};
+ghost use Rattle.ulfm_words.specs.Steps.{IsOf};
+ghost use Rattle.ulfm_comm.specs.Calls.{reply_of};
+ghost use Rattle.ulfm_comm.specs.Fails.{Fails, declared};
+
+use crate::world::World;
+use std::alloc::Allocator;
+use ulfm_laws::meld::Packed;
+use ulfm_object::event::Caller;
+use ulfm_object::refusal::Refusal;
+use ulfm_steps::{Append, Appended, Item};
+use ulfm_words::Words;
+
+impl<W, P: Packed, A: Allocator + Copy> World<W, P, A>
+where
+    W: Words<P, A>,
+{
+    /// Declares a rank failed, in the name of the outside: true where this call declared it, false where it had been
+    /// declared before. Where the world has N ranks, it makes 2N steps at most.
+    ///
+    /// `NoSuchRank` where the world doesn't have the rank.
+    pub fn fail(&self, pass: &mut W::Pass, rank: u16) -> Result<bool, Refusal>
+        requires of { IsOf P.meld (W.name self.now.words) (W.sight pass.old) }
+        ensures { Fails P.meld W.alone (W.name self.now.words) rank (W.sight pass.old) (reply_of declared result) (W.sight pass.new) }
+    {
+        if rank >= self.words.limits().ranks {
+            return Err(Refusal::NoSuchRank);
+        }
+        let mut append = Append::new(Item::Failure { rank }, Caller::Outside);
+        match append.finish(&self.words, pass) {
+            Appended::Won(_) => Ok(true),
+            Appended::Found(_) => Ok(false),
+            // A full list has each rank.
+            Appended::Full => Ok(false),
+        }
+    }
+}

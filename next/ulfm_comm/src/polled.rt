@@ -1,0 +1,9 @@
+/// What a poll answers.
+#[derive(Clone, Copy, Debug, PartialEq, Eq)]
+pub enum Polled<P> {
+    /// The request stays open: somebody who isn't known to have failed is missing.
+    Pending,
+    /// What an agree decided: the flags combined, the size of the failed group, and whether an error is raised: some
+    /// contributor had not acknowledged all of that group before its call.
+    Agreed { value: P, failed: u16, raised: bool },
+}

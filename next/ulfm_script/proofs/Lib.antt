@@ -1,0 +1,7 @@
+pub mod ByteLemmas
+pub mod Hexadecimal
+pub mod Numerals
+pub mod RunLemmas
+pub mod ScriptLemmas
+pub mod Spelled
+pub mod WordLemmas

@@ -1,0 +1,185 @@
+-- What is read of a line is spelled so, and what is spelled so is read.
+use Rattle.std.proofs.Common.{◌≡◌, ℕ, ◌<◌, List, [], ◌∷◌, ◌++◌, Option, Some, Result, Ok, Err, Bool, true, false, cond, refl, sym, ap, subst, ◌∙◌, append_assoc, inl, inr, arith}
+use Rattle.std.specs.{Prelude.{◌⊎◌, codes, IfOk}, Fmt.{decimal}, Str.{bytes_eq}}
+use Rattle.std.proofs.lemmas.{List.{append-nil}, Slice.Eq.{bytes_eq-Decides}}
+use Rattle.ulfm_laws.specs.declared.flag_and.FlagAnd.{FlagAnd}
+use Rattle.ulfm_object.specs.declared.call.Call.TheVariants.{Fail, GetFailed, Ack, Agree, Shrink, Barrier, Poll, Revoke, IsRevoked, Free}
+use Rattle.ulfm_script.specs.declared.line_kind.LineKind.{LineKind}
+use Rattle.ulfm_script.specs.declared.line_kind.LineKind.TheVariants.{Verb}
+use Rattle.ulfm_script.specs.{Calls.{ScriptCall, fail_of, get_of, ack_of, agree_of, poll_of, call_from, call_of}, Digits.{rank_of, comm_of, number_of, flag_of, flag_text}, Spelling.{IsOnComm, Spells}, Steps.{◌>>=◌}, Words.{word_of, one_of, two_of, three_of}}
+use Rattle.ulfm_script.proofs.{Hexadecimal.{flag_again, flag_found}, Numerals.{number_again, number_found, number_to_again, number_to_found}, WordLemmas.{IsWord, decimal_is_word, flag_is_word, joined, joined_word, one_again, one_found, same_done, step_found, three_again, three_found, two_again, two_found}}
+
+rank_again : (rank : ℕ) → rank < 1024 → rank_of (decimal rank) ≡ Ok rank
+rank_again rank h = number_to_again 1023 rank (omega arith) (omega (arith, h))
+
+comm_again : (comm : ℕ) → comm < 256 → comm_of (decimal comm) ≡ Ok comm
+comm_again comm h = number_to_again 255 comm (omega arith) (omega (arith, h))
+
+number_is_word : (n : ℕ) → n < 10000 → IsWord (decimal n)
+number_is_word n h = decimal_is_word n (omega (arith, h))
+
+fail_again : (rank : ℕ) → rank < 1024 → call_of (codes "fail " ++ decimal rank) ≡ Ok (Fail rank)
+unfolding call_of fail_of
+fail_again rank h = rw (one_again (decimal rank) (number_is_word rank (omega (arith, h))), rank_again rank h) refl
+
+get_again : (rank comm : ℕ) → rank < 1024 → comm < 256 → call_of (codes "get " ++ (decimal rank ++ 32 ∷ decimal comm)) ≡ Ok (GetFailed rank comm)
+unfolding call_of get_of
+get_again rank comm h k =
+    rw (two_again (decimal rank) (decimal comm) (number_is_word rank (omega (arith, h))) (number_is_word comm (omega (arith, k))), rank_again rank h, comm_again comm k) refl
+
+ack_again : (rank comm count : ℕ) → rank < 1024 → comm < 256 → count < 10000 → call_of (codes "ack " ++ (decimal rank ++ 32 ∷ (decimal comm ++ 32 ∷ decimal count))) ≡ Ok (Ack rank comm count)
+unfolding call_of ack_of
+ack_again rank comm count h k l =
+    rw (three_again (decimal rank) (decimal comm) (decimal count) (number_is_word rank (omega (arith, h))) (number_is_word comm (omega (arith, k))) (number_is_word count l), rank_again rank h, comm_again comm k, number_again count l) refl
+
+agree_again : (rank comm : ℕ) (flag : FlagAnd) → rank < 1024 → comm < 256 → call_of (codes "agree " ++ (decimal rank ++ 32 ∷ (decimal comm ++ 32 ∷ flag_text flag))) ≡ Ok (Agree rank comm flag)
+unfolding call_of agree_of
+agree_again rank comm flag h k =
+    rw (three_again (decimal rank) (decimal comm) (flag_text flag) (number_is_word rank (omega (arith, h))) (number_is_word comm (omega (arith, k))) (flag_is_word flag), rank_again rank h, comm_again comm k, flag_again flag) refl
+
+poll_again : (rank comm : ℕ) → rank < 1024 → comm < 256 → call_of (codes "poll " ++ (decimal rank ++ 32 ∷ decimal comm)) ≡ Ok (Poll rank comm)
+unfolding call_of poll_of
+poll_again rank comm h k =
+    rw (two_again (decimal rank) (decimal comm) (number_is_word rank (omega (arith, h))) (number_is_word comm (omega (arith, k))), rank_again rank h, comm_again comm k) refl
+
+plain_line : (verb : List ℕ) (rank comm : ℕ) → verb ++ (decimal rank ++ 32 ∷ (decimal comm ++ [])) ≡ verb ++ (decimal rank ++ 32 ∷ decimal comm)
+plain_line verb rank comm = ap (λ (t : List ℕ). verb ++ (decimal rank ++ 32 ∷ t)) (append-nil (decimal comm))
+
+-- what is spelled so is read
+pub spelled_again : (line : List ℕ) (call : ScriptCall) → Spells line call → call_of line ≡ Ok call
+spelled_again line (Fail rank) h = ap call_of h.1 ∙ fail_again rank h.0
+spelled_again line (GetFailed rank comm) h = ap call_of (h.line_is ∙ plain_line (codes "get ") rank comm) ∙ get_again rank comm h.rank_fits h.comm_fits
+spelled_again line (Ack rank comm count) h = ap call_of h.1.line_is ∙ ack_again rank comm count h.1.rank_fits h.1.comm_fits h.0
+spelled_again line (Agree rank comm flag) h = ap call_of h.line_is ∙ agree_again rank comm flag h.rank_fits h.comm_fits
+spelled_again line (Shrink rank comm) h = absurd h
+spelled_again line (Barrier rank comm) h = absurd h
+spelled_again line (Poll rank comm) h = ap call_of (h.line_is ∙ plain_line (codes "poll ") rank comm) ∙ poll_again rank comm h.rank_fits h.comm_fits
+spelled_again line (Revoke rank comm) h = absurd h
+spelled_again line (IsRevoked rank comm) h = absurd h
+spelled_again line (Free rank comm) h = absurd h
+
+-- a verb whose fields were read stands at the line's beginning
+abbrev Reads : (verb : List ℕ) → (Option (List ℕ) → Result ScriptCall LineKind) → Type 0
+Reads verb fields_of = (fields : Option (List ℕ)) (call : ScriptCall) → fields_of fields ≡ Ok call → Spells (joined verb fields) call
+
+fail_found : Reads (codes "fail") fail_of
+unfolding fail_of
+fail_found fields call e =
+    let a = step_found (one_of fields) (λ word. rank_of word >>= λ rank. Ok (Fail rank)) call e in
+    let b = step_found (rank_of a.0) (λ rank. Ok (Fail rank)) call a.2 in
+    let r = number_to_found 1023 b.0 a.0 b.1 in
+    let line : joined (codes "fail") fields ≡ codes "fail " ++ decimal b.0 = ap (joined (codes "fail")) (one_found fields a.0 a.1) ∙ ap (λ (t : List ℕ). codes "fail " ++ t) r.1 in
+    subst (Spells (joined (codes "fail") fields)) (same_done (Fail b.0) call b.2) (omega (arith, r.0), line)
+
+-- the rank and the communicator of two words
+abbrev on_comm : (ℕ → ℕ → Result ScriptCall LineKind) → List ℕ → List ℕ → Result ScriptCall LineKind
+on_comm then a b = do
+  rank ← rank_of a
+  comm ← comm_of b
+  then rank comm
+
+-- both were read, and stand there
+record IsPlace (a b : List ℕ) (then : ℕ → ℕ → Result ScriptCall LineKind) (call : ScriptCall) : Type 0 where
+  rank : ℕ
+  comm : ℕ
+  rank_fits : rank < 1024
+  comm_fits : comm < 256
+  a_is : a ≡ decimal rank
+  b_is : b ≡ decimal comm
+  rest : then rank comm ≡ Ok call
+
+place_found : (then : ℕ → ℕ → Result ScriptCall LineKind) (a b : List ℕ) (call : ScriptCall) → on_comm then a b ≡ Ok call → IsPlace a b then call
+place_found then a b call e =
+    let x = step_found (rank_of a) (λ rank. comm_of b >>= λ comm. then rank comm) call e in
+    let y = step_found (comm_of b) (λ comm. then x.0 comm) call x.2 in
+    let r = number_to_found 1023 x.0 a x.1 in
+    let c = number_to_found 255 y.0 b y.1 in
+    record { rank = x.0; comm = y.0; rank_fits = omega (arith, r.0); comm_fits = omega (arith, c.0); a_is = r.1; b_is = c.1; rest = y.2 }
+
+two_line : (verb : List ℕ) (fields : Option (List ℕ)) (a b : List ℕ) (rank comm : ℕ) → fields ≡ Some (a ++ 32 ∷ b) → rank < 1024 → comm < 256 → a ≡ decimal rank → b ≡ decimal comm
+    → IsOnComm (joined verb fields) (verb ++ 32 ∷ []) rank comm []
+two_line verb fields a b rank comm e h k i j = record {
+  rank_fits = h;
+  comm_fits = k;
+  line_is = ap (joined verb) e ∙ ap (λ (t : List ℕ). verb ++ 32 ∷ (t ++ 32 ∷ b)) i ∙ ap (λ (t : List ℕ). verb ++ 32 ∷ (decimal rank ++ 32 ∷ t)) (j ∙ sym (append-nil (decimal comm))) ∙ sym (append_assoc verb (32 ∷ []) (decimal rank ++ 32 ∷ (decimal comm ++ [])));
+}
+
+three_line : (verb : List ℕ) (fields : Option (List ℕ)) (a b last text : List ℕ) (rank comm : ℕ) → fields ≡ Some (a ++ 32 ∷ (b ++ 32 ∷ last)) → rank < 1024 → comm < 256 → a ≡ decimal rank → b ≡ decimal comm → last ≡ text
+    → IsOnComm (joined verb fields) (verb ++ 32 ∷ []) rank comm (32 ∷ text)
+three_line verb fields a b last text rank comm e h k i j l = record {
+  rank_fits = h;
+  comm_fits = k;
+  line_is = ap (joined verb) e ∙ ap (λ (t : List ℕ). verb ++ 32 ∷ (t ++ 32 ∷ (b ++ 32 ∷ last))) i ∙ ap (λ (t : List ℕ). verb ++ 32 ∷ (decimal rank ++ 32 ∷ (t ++ 32 ∷ last))) j ∙ ap (λ (t : List ℕ). verb ++ 32 ∷ (decimal rank ++ 32 ∷ (decimal comm ++ 32 ∷ t))) l ∙ sym (append_assoc verb (32 ∷ []) (decimal rank ++ 32 ∷ (decimal comm ++ 32 ∷ text)));
+}
+
+get_found : Reads (codes "get") get_of
+unfolding get_of
+get_found fields call e =
+    let w = step_found (two_of fields) (λ w. on_comm (λ rank comm. Ok (GetFailed rank comm)) w.0 w.1) call e in
+    let p = place_found (λ rank comm. Ok (GetFailed rank comm)) w.0.0 w.0.1 call w.2 in
+    subst (Spells (joined (codes "get") fields)) (same_done (GetFailed p.rank p.comm) call p.rest) (two_line (codes "get") fields w.0.0 w.0.1 p.rank p.comm (two_found fields w.0 w.1) p.rank_fits p.comm_fits p.a_is p.b_is)
+
+poll_found : Reads (codes "poll") poll_of
+unfolding poll_of
+poll_found fields call e =
+    let w = step_found (two_of fields) (λ w. on_comm (λ rank comm. Ok (Poll rank comm)) w.0 w.1) call e in
+    let p = place_found (λ rank comm. Ok (Poll rank comm)) w.0.0 w.0.1 call w.2 in
+    subst (Spells (joined (codes "poll") fields)) (same_done (Poll p.rank p.comm) call p.rest) (two_line (codes "poll") fields w.0.0 w.0.1 p.rank p.comm (two_found fields w.0 w.1) p.rank_fits p.comm_fits p.a_is p.b_is)
+
+abbrev ack_rest : List ℕ → ℕ → ℕ → Result ScriptCall LineKind
+ack_rest word rank comm = number_of word >>= λ count. Ok (Ack rank comm count)
+
+ack_found : Reads (codes "ack") ack_of
+unfolding ack_of
+ack_found fields call e =
+    let w = step_found (three_of fields) (λ w. on_comm (ack_rest w.2) w.0 w.1) call e in
+    let p = place_found (ack_rest w.0.2) w.0.0 w.0.1 call w.2 in
+    let n = step_found (number_of w.0.2) (λ count. Ok (Ack p.rank p.comm count)) call p.rest in
+    let f = number_found w.0.2 n.0 n.1 in
+    subst (Spells (joined (codes "ack") fields)) (same_done (Ack p.rank p.comm n.0) call n.2)
+    (f.0, three_line (codes "ack") fields w.0.0 w.0.1 w.0.2 (decimal n.0) p.rank p.comm (three_found fields w.0 w.1) p.rank_fits p.comm_fits p.a_is p.b_is f.1)
+
+abbrev agree_rest : List ℕ → ℕ → ℕ → Result ScriptCall LineKind
+agree_rest word rank comm = flag_of word >>= λ flag. Ok (Agree rank comm flag)
+
+agree_found : Reads (codes "agree") agree_of
+unfolding agree_of
+agree_found fields call e =
+    let w = step_found (three_of fields) (λ w. on_comm (agree_rest w.2) w.0 w.1) call e in
+    let p = place_found (agree_rest w.0.2) w.0.0 w.0.1 call w.2 in
+    let n = step_found (flag_of w.0.2) (λ flag. Ok (Agree p.rank p.comm flag)) call p.rest in
+    subst (Spells (joined (codes "agree") fields)) (same_done (Agree p.rank p.comm n.0) call n.2)
+    (three_line (codes "agree") fields w.0.0 w.0.1 w.0.2 (flag_text n.0) p.rank p.comm (three_found fields w.0 w.1) p.rank_fits p.comm_fits p.a_is p.b_is (flag_found w.0.2 n.0 n.1))
+
+-- one of two ways
+chosen : {A : Type 0} (b : Bool) (x y z : A) → cond b x y ≡ z → ((b ≡ true) × (x ≡ z)) ⊎ ((b ≡ false) × (y ≡ z))
+chosen true x y z e = inl (refl, e)
+chosen false x y z e = inr (refl, e)
+
+-- a first word that is tested for one verb after another
+verb_found : (word verb : List ℕ) (fields : Option (List ℕ)) (fields_of : Option (List ℕ) → Result ScriptCall LineKind) (other : Result ScriptCall LineKind) (call : ScriptCall) → Reads verb fields_of
+    → (other ≡ Ok call → Spells (joined word fields) call) → cond (bytes_eq word verb) (fields_of fields) other ≡ Ok call → Spells (joined word fields) call
+verb_found word verb fields fields_of other call reads rest e = elim (chosen (bytes_eq word verb) (fields_of fields) other (Ok call) e) [
+  | inl this ↦ subst (λ (w : List ℕ). Spells (joined w fields) call) (sym ((bytes_eq-Decides word verb).0 this.0)) (reads fields call this.1)
+  | inr that ↦ rest that.1
+]
+
+no_verb : (line : List ℕ) (call : ScriptCall) → (let r : Result ScriptCall LineKind = Err Verb in r) ≡ Ok call → Spells line call
+no_verb line call e = absurd cc
+
+read_from : (word : List ℕ) (fields : Option (List ℕ)) (call : ScriptCall) → call_from (word, fields) ≡ Ok call → Spells (joined word fields) call
+read_from word fields call e = verb_found word (codes "fail") fields fail_of _ call fail_found
+    (verb_found word (codes "get") fields get_of _ call get_found
+    (verb_found word (codes "ack") fields ack_of _ call ack_found
+    (verb_found word (codes "agree") fields agree_of _ call agree_found
+    (verb_found word (codes "poll") fields poll_of _ call poll_found (no_verb (joined word fields) call))))) e
+
+-- what is read is spelled so
+pub read_is_spelled : (line : List ℕ) (call : ScriptCall) → call_of line ≡ Ok call → Spells line call
+unfolding call_of
+read_is_spelled line call e = subst (λ (t : List ℕ). Spells t call) (joined_word line) (read_from (word_of line).0 (word_of line).1 call e)
+
+-- the same at a result
+pub found : (line : List ℕ) (r : Result ScriptCall LineKind) → r ≡ call_of line → IfOk r (λ call. Spells line call)
+found line (Ok call) e = read_is_spelled line call (sym e)
+found line (Err kind) e = tt

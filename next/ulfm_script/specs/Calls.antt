@@ -1,0 +1,66 @@
+-- What a line of a script asks for, or the first fault in it from the left.
+use Rattle.std.specs.Prelude.{ℕ, List, codes, Option, Result, Ok, Err, if◌then◌else◌}
+use Rattle.std.specs.Str.{bytes_eq}
+use Rattle.ulfm_laws.specs.declared.flag_and.FlagAnd.{FlagAnd}
+use Rattle.ulfm_object.specs.declared.call.Call.{Call}
+use Rattle.ulfm_object.specs.declared.call.Call.TheVariants.{Fail, GetFailed, Ack, Agree, Poll}
+use Rattle.ulfm_script.specs.declared.line_kind.LineKind.{LineKind}
+use Rattle.ulfm_script.specs.declared.line_kind.LineKind.TheVariants.{Verb}
+use Rattle.ulfm_script.specs.Digits.{rank_of, comm_of, number_of, flag_of}
+use Rattle.ulfm_script.specs.Steps.{◌>>=◌}
+use Rattle.ulfm_script.specs.Words.{word_of, one_of, two_of, three_of}
+
+-- a call of a script
+abbrev pub ScriptCall : Type 0
+ScriptCall = Call FlagAnd
+
+-- the fields of each verb
+unfoldable pub fail_of : Option (List ℕ) → Result ScriptCall LineKind
+fail_of fields = do
+  word ← one_of fields
+  rank ← rank_of word
+  Ok (Fail rank)
+
+unfoldable pub get_of : Option (List ℕ) → Result ScriptCall LineKind
+get_of fields = do
+  words ← two_of fields
+  rank ← rank_of words.0
+  comm ← comm_of words.1
+  Ok (GetFailed rank comm)
+
+unfoldable pub ack_of : Option (List ℕ) → Result ScriptCall LineKind
+ack_of fields = do
+  words ← three_of fields
+  rank ← rank_of words.0
+  comm ← comm_of words.1
+  count ← number_of words.2
+  Ok (Ack rank comm count)
+
+unfoldable pub agree_of : Option (List ℕ) → Result ScriptCall LineKind
+agree_of fields = do
+  words ← three_of fields
+  rank ← rank_of words.0
+  comm ← comm_of words.1
+  flag ← flag_of words.2
+  Ok (Agree rank comm flag)
+
+unfoldable pub poll_of : Option (List ℕ) → Result ScriptCall LineKind
+poll_of fields = do
+  words ← two_of fields
+  rank ← rank_of words.0
+  comm ← comm_of words.1
+  Ok (Poll rank comm)
+
+-- a verb, and the text behind it
+abbrev pub call_from : List ℕ × Option (List ℕ) → Result ScriptCall LineKind
+call_from first =
+    if bytes_eq first.0 (codes "fail") then fail_of first.1
+    else (if bytes_eq first.0 (codes "get") then get_of first.1
+    else (if bytes_eq first.0 (codes "ack") then ack_of first.1
+    else (if bytes_eq first.0 (codes "agree") then agree_of first.1
+    else (if bytes_eq first.0 (codes "poll") then poll_of first.1
+    else Err Verb))))
+
+-- the call of a line
+unfoldable pub call_of : List ℕ → Result ScriptCall LineKind
+call_of line = call_from (word_of line)

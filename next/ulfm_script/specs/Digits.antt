@@ -1,0 +1,59 @@
+-- Numbers and flags in words.
+use Rattle.std.specs.Prelude.{ℕ, zero, suc, ◌+◌, ◌*◌, ◌-◌, ◌/◌, ◌%◌, ◌^◌, List, [], ◌∷◌, ◌++◌, length, slice_index, Option, Some, None, Result, Ok, Err, ◌&&◌, ◌||◌, ◌==◌, nat_lt, nat_le, if◌then◌else◌}
+use Rattle.std.proofs.Common.{lit<, mod-lt}
+use Rattle.ulfm_laws.specs.declared.flag_and.FlagAnd.{FlagAnd}
+use Rattle.ulfm_script.specs.declared.line_kind.LineKind.{LineKind}
+use Rattle.ulfm_script.specs.declared.line_kind.LineKind.TheVariants.{Number, Flag}
+use Rattle.ulfm_script.specs.Steps.{◌>>=◌, or_fault}
+
+-- the value of a decimal digit
+abbrev pub digit_of : ℕ → Option ℕ
+digit_of x = if nat_le 48 x && nat_le x 57 then Some (x - 48) else None
+
+-- the value of a lower case hexadecimal digit
+abbrev pub hex_of : ℕ → Option ℕ
+hex_of x = if nat_le 48 x && nat_le x 57 then Some (x - 48) else (if nat_le 97 x && nat_le x 102 then Some (x - 97 + 10) else None)
+
+-- the value of digits in a base, behind others of this value
+abbrev pub digits_after : LineKind → ℕ → (ℕ → Option ℕ) → ℕ → List ℕ → Result ℕ LineKind
+digits_after kind base digit value [] = Ok value
+digits_after kind base digit value (x ∷ xs) = or_fault kind (digit x) >>= λ d. digits_after kind base digit (value * base + d) xs
+
+-- a number has one to four decimal digits, and no zero before others
+unfoldable pub number_of : List ℕ → Result ℕ LineKind
+number_of word =
+    if (length word == 0) || nat_lt 4 (length word) || (nat_lt 1 (length word) && (slice_index word 0 == 48)) then Err Number
+    else digits_after Number 10 digit_of 0 word
+
+-- a number up to a greatest one
+unfoldable pub number_to : ℕ → List ℕ → Result ℕ LineKind
+number_to most word = number_of word >>= λ n. if nat_lt most n then Err Number else Ok n
+
+-- a rank
+abbrev pub rank_of : List ℕ → Result ℕ LineKind
+rank_of word = number_to 1023 word
+
+-- a communicator
+abbrev pub comm_of : List ℕ → Result ℕ LineKind
+comm_of word = number_to 255 word
+
+-- the flag of these bits; eight digits are less than 2 ^ 32, so all of them are kept
+abbrev pub as_flag : ℕ → FlagAnd
+as_flag n = record { bits = n % 2 ^ 32; fits = mod-lt n (lit< tt) }
+
+-- a flag has eight hexadecimal digits
+unfoldable pub flag_of : List ℕ → Result FlagAnd LineKind
+flag_of word = if length word == 8 then (digits_after Flag 16 hex_of 0 word >>= λ n. Ok (as_flag n)) else Err Flag
+
+-- the digit of a value below 16
+abbrev pub hex_digit : ℕ → ℕ
+hex_digit n = if nat_lt n 10 then 48 + n else 87 + n
+
+-- the last so many hexadecimal digits of a number
+abbrev pub hex_digits : ℕ → ℕ → List ℕ
+hex_digits zero n = []
+hex_digits (suc count) n = hex_digits count (n / 16) ++ hex_digit (n % 16) ∷ []
+
+-- a flag as it is printed
+unfoldable pub flag_text : FlagAnd → List ℕ
+flag_text flag = hex_digits 8 flag.bits

@@ -1,0 +1,11 @@
+pub mod Buffers
+pub mod Calls
+pub mod Digits
+pub mod Headers
+pub mod Printed
+pub mod Runs
+pub mod Scripts
+pub mod Spelling
+pub mod Steps
+pub mod Words
+pub mod Written

@@ -1,0 +1,22 @@
+-- What a write leaves.
+use Rattle.std.specs.Prelude.{◌≡◌, ℕ, List, ◌++◌, Option, Result, Ok, Err}
+use Rattle.std.specs.Io.KnownBytes.{Appends}
+use Rattle.ulfm_script.specs.declared.fault.RunFault.{RunFault}
+use Rattle.ulfm_script.specs.declared.fault.RunFault.TheVariants.{Write}
+
+-- the first list is a beginning of the second
+abbrev pub Begins : {X : Type 0} → List X → List X → Type 0
+Begins {X} xs ys = (rest : List X) × (xs ++ rest ≡ ys)
+
+-- a beginning of the bytes was written
+abbrev pub WritesPart : Option (List ℕ) → Option (List ℕ) → List ℕ → Type 0
+WritesPart old new bytes = (part : List ℕ) × Begins part bytes × Appends old new part
+
+-- all bytes were written, or the writer failed
+abbrev pub WritesAll : List ℕ → Option (List ℕ) → Option (List ℕ) → Result (Unit {0}) RunFault → Type 0
+WritesAll bytes old new (Ok done) = Appends old new bytes
+WritesAll bytes old new (Err fault) = (fault ≡ Write) × WritesPart old new bytes
+
+-- all of the output is written, but for what waits
+abbrev pub Holds : Option (List ℕ) → Option (List ℕ) → List ℕ → List ℕ → Type 0
+Holds old new waiting out = (written : List ℕ) × Appends old new written × (written ++ waiting ≡ out)

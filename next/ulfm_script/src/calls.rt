@@ -1,0 +1,95 @@
+//! The calls of a script, line by line.
+ghost use Rattle.std.specs.Prelude.{◌≡◌, Ok, IfOk};
+ghost use Rattle.ulfm_script.specs.Calls.{ScriptCall, call_of, fail_of, get_of, ack_of, agree_of, poll_of};
+ghost use Rattle.ulfm_script.specs.Spelling.{Spells};
+ghost use Rattle.ulfm_script.specs.Words.{rest_at};
+
+use crate::digits::{LAST_COMM, LAST_RANK, read_flag, read_number, read_number_to};
+use crate::line_kind::LineKind;
+use crate::words::{one_word, split_word, three_words, two_words};
+use ulfm_laws::FlagAnd;
+use ulfm_object::Call;
+
+/// The call of one line of a script, without its newline, or the first fault in it from `verb` on.
+///
+/// A line is `fail R`, `get R C`, `ack R C N`, `agree R C F` or `poll R C`: ranks R are 0 to 1023, communicators C 0 to 255,
+/// counts N 0 to 9999, in decimal without leading zeros, and a flag F is eight lower case hexadecimal digits.
+pub fn read_call(line: &[u8]) -> Result<Call<FlagAnd>, LineKind>
+    // What is read is spelled so, and what is spelled so is read.
+    ensures found { IfOk result (λ call. Spells line.now call) }
+    ensures only { (call : ScriptCall) → Spells line.now call → result ≡ Ok call }
+    ensures exact { result ≡ call_of line.now }
+{
+    parse_call(line)
+}
+
+#[tactic(auto, unfolding(crate::specs::Calls::call_of))]
+fn parse_call(line: &[u8]) -> Result<Call<FlagAnd>, LineKind>
+    ensures { result ≡ call_of line.now }
+{
+    let (verb, fields) = split_word(line);
+    if verb == b"fail".as_slice() {
+        read_fail(fields)
+    } else if verb == b"get".as_slice() {
+        read_get(fields)
+    } else if verb == b"ack".as_slice() {
+        read_ack(fields)
+    } else if verb == b"agree".as_slice() {
+        read_agree(fields)
+    } else if verb == b"poll".as_slice() {
+        read_poll(fields)
+    } else {
+        Err(LineKind::Verb)
+    }
+}
+
+#[tactic(auto, unfolding(crate::specs::Calls::fail_of))]
+fn read_fail(fields: Option<&[u8]>) -> Result<Call<FlagAnd>, LineKind>
+    ensures { result ≡ fail_of (rest_at fields.entry) }
+{
+    let word = one_word(fields)?;
+    let rank = read_number_to(LAST_RANK, word)?;
+    Ok(Call::Fail { rank })
+}
+
+#[tactic(auto, unfolding(crate::specs::Calls::get_of))]
+fn read_get(fields: Option<&[u8]>) -> Result<Call<FlagAnd>, LineKind>
+    ensures { result ≡ get_of (rest_at fields.entry) }
+{
+    let (rank, comm) = two_words(fields)?;
+    let rank = read_number_to(LAST_RANK, rank)?;
+    let comm = read_number_to(LAST_COMM, comm)?;
+    Ok(Call::GetFailed { rank, comm })
+}
+
+#[tactic(auto, unfolding(crate::specs::Calls::ack_of))]
+fn read_ack(fields: Option<&[u8]>) -> Result<Call<FlagAnd>, LineKind>
+    ensures { result ≡ ack_of (rest_at fields.entry) }
+{
+    let (rank, comm, count) = three_words(fields)?;
+    let rank = read_number_to(LAST_RANK, rank)?;
+    let comm = read_number_to(LAST_COMM, comm)?;
+    let count = read_number(count)?;
+    Ok(Call::Ack { rank, comm, count })
+}
+
+#[tactic(auto, unfolding(crate::specs::Calls::agree_of))]
+fn read_agree(fields: Option<&[u8]>) -> Result<Call<FlagAnd>, LineKind>
+    ensures { result ≡ agree_of (rest_at fields.entry) }
+{
+    let (rank, comm, value) = three_words(fields)?;
+    let rank = read_number_to(LAST_RANK, rank)?;
+    let comm = read_number_to(LAST_COMM, comm)?;
+    let value = read_flag(value)?;
+    Ok(Call::Agree { rank, comm, value })
+}
+
+#[tactic(auto, unfolding(crate::specs::Calls::poll_of))]
+fn read_poll(fields: Option<&[u8]>) -> Result<Call<FlagAnd>, LineKind>
+    ensures { result ≡ poll_of (rest_at fields.entry) }
+{
+    let (rank, comm) = two_words(fields)?;
+    let rank = read_number_to(LAST_RANK, rank)?;
+    let comm = read_number_to(LAST_COMM, comm)?;
+    Ok(Call::Poll { rank, comm })
+}

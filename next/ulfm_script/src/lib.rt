@@ -1,0 +1,29 @@
+//! Call scripts: their text, and the engine that runs them.
+#![tactic(auto)]
+
+pub mod calls;
+mod digits;
+pub mod engine;
+pub mod fault;
+pub mod header;
+mod input;
+pub mod laws;
+pub mod line_kind;
+pub mod machine;
+mod output;
+pub mod printing;
+pub mod running;
+mod words;
+
+pub use calls::read_call;
+pub use engine::run_script;
+pub use fault::RunFault;
+pub use header::read_header;
+pub use laws::prints_the_replies;
+pub use line_kind::LineKind;
+pub use machine::Machine;
+pub use printing::print_reply;
+pub use running::run_calls;
+
+#[cfg(test)]
+mod tests;

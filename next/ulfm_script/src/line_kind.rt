@@ -1,0 +1,33 @@
+use thiserror::Error;
+
+/// What is wrong with a line of a script. The kinds are tested in this order, the fields of a call from left to right.
+#[derive(Clone, Copy, Debug, PartialEq, Eq, Error)]
+pub enum LineKind {
+    /// The text ends inside the line.
+    #[error("cut")]
+    Cut,
+    /// The line has more than 64 bytes.
+    #[error("long")]
+    Long,
+    /// There is a line after the 100,000th.
+    #[error("lines")]
+    Lines,
+    /// The first line isn't a header, or there is none.
+    #[error("header")]
+    Header,
+    /// A limit of the header is out of its range, or the world is too large.
+    #[error("limits")]
+    Limits,
+    /// The first word is no verb.
+    #[error("verb")]
+    Verb,
+    /// The verb has too few or too many words behind it, or an empty one.
+    #[error("words")]
+    Words,
+    /// A field isn't a number in its form and range.
+    #[error("number")]
+    Number,
+    /// A field isn't a flag in its form.
+    #[error("flag")]
+    Flag,
+}

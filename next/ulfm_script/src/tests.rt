@@ -1,0 +1,181 @@
+use crate::{LineKind, RunFault, run_calls};
+use std::test::Fail;
+
+fn line(number: u32, kind: LineKind) -> Result<(), RunFault> {
+    Err(RunFault::Line { number, kind })
+}
+
+/// What a script gives that is run over memory.
+fn run(rt: &HostRuntime, script: &[u8]) -> Result<(Vec<u8>, Result<(), RunFault>), Fail> {
+    let mut reader = script;
+    let mut out = Vec::new(rt.alloc());
+    let end = run_calls(rt.alloc(), &mut reader, &mut out);
+    Ok((out, end))
+}
+
+/// The worked rows.
+#[test]
+fn worked_rows(rt: HostRuntime) -> Result<(), Fail> {
+    let rows: [(&str, &[u8], &[u8]); 10] = [
+        (
+            "acknowledged_by_all",
+            b"ulfm 1 3 1 4\nfail 2\nack 0 0 1\nack 1 0 1\nagree 0 0 0000000f\nagree 1 0 0000003c\npoll 0 0\npoll 1 0\n",
+            b"declared\nacked 1\nacked 1\nstarted\nstarted\nagreed 0000000c failed 1 clean\nagreed 0000000c failed 1 clean\n",
+        ),
+        (
+            "acknowledged_by_one",
+            b"ulfm 1 3 1 4\nfail 2\nack 0 0 1\nagree 0 0 0000000f\nagree 1 0 0000003c\npoll 0 0\npoll 1 0\n",
+            b"declared\nacked 1\nstarted\nstarted\nagreed 0000000c failed 1 raised\nagreed 0000000c failed 1 raised\n",
+        ),
+        (
+            "acknowledged_too_late",
+            b"ulfm 1 2 1 4\nfail 1\nagree 0 0 00000001\nack 0 0 1\npoll 0 0\n",
+            b"declared\nstarted\nacked 1\nagreed 00000001 failed 1 raised\n",
+        ),
+        (
+            "acknowledgements_count",
+            b"ulfm 1 3 1 2\nget 0 0\nfail 1\nfail 2\nack 0 0 0\nack 0 0 1\nack 0 0 9\nack 0 0 1\nget 0 0\nfail 1\nfail 7\n",
+            b"failed none\ndeclared\ndeclared\nacked 0\nacked 1\nacked 2\nacked 2\nfailed 1 2\nalready-failed\nrefused 13 no-such-rank\n",
+        ),
+        (
+            "failed_rank_raises",
+            b"ulfm 1 3 1 4\nfail 2\nagree 0 0 0000000f\nagree 1 0 0000003c\npoll 0 0\npoll 1 0\n",
+            b"declared\nstarted\nstarted\nagreed 0000000c failed 1 raised\nagreed 0000000c failed 1 raised\n",
+        ),
+        (
+            "fails_after_contributing",
+            b"ulfm 1 3 1 4\nagree 0 0 0000000f\nagree 1 0 0000003c\nagree 2 0 00000004\nfail 2\npoll 0 0\npoll 1 0\npoll 2 0\n",
+            b"started\nstarted\nstarted\ndeclared\nagreed 00000004 failed 0 clean\nagreed 00000004 failed 0 clean\nrefused 1 self-failed\n",
+        ),
+        (
+            "known_to_the_others",
+            b"ulfm 1 3 1 4\nagree 2 0 00000005\nfail 2\nagree 0 0 0000000f\nagree 1 0 00000007\npoll 0 0\npoll 1 0\n",
+            b"started\ndeclared\nstarted\nstarted\nagreed 00000005 failed 1 raised\nagreed 00000005 failed 1 raised\n",
+        ),
+        (
+            "one_rank",
+            b"ulfm 1 1 1 2\nagree 0 0 000000ff\npoll 0 0\n",
+            b"started\nagreed 000000ff failed 0 clean\n",
+        ),
+        (
+            "pending_then_decided",
+            b"ulfm 1 3 1 4\nagree 0 0 0000000f\nagree 1 0 0000003c\npoll 0 0\nagree 2 0 00000004\npoll 0 0\n",
+            b"started\nstarted\npending\nstarted\nagreed 00000004 failed 0 clean\n",
+        ),
+        (
+            "three_flags",
+            b"ulfm 1 3 1 4\nagree 0 0 0000000f\nagree 1 0 0000003c\nagree 2 0 ffffffff\npoll 0 0\npoll 1 0\npoll 2 0\n",
+            b"started\nstarted\nstarted\nagreed 0000000c failed 0 clean\nagreed 0000000c failed 0 clean\nagreed 0000000c failed 0 clean\n",
+        ),
+    ];
+    for (name, script, wanted) in rows {
+        let (out, end) = run(&rt, script)?;
+        assert_eq!(rt; out.as_slice(), wanted, "{name}");
+        assert_eq!(rt; end, Ok(()), "{name}");
+    }
+    Ok(())
+}
+
+/// The first fault of a line, and what the lines before it print.
+#[test]
+fn line_faults(rt: HostRuntime) -> Result<(), Fail> {
+    let rows: [(&[u8], &[u8], Result<(), RunFault>); 31] = [
+        (
+            b"ulfm 1 2 1 4\nagree 0 0 0000000f\npoll 0",
+            b"started\n",
+            line(3, LineKind::Cut),
+        ),
+        (b"", b"", line(1, LineKind::Header)),
+        (
+            b"ulfm 1 2 1 4\nagree 0 0 00000000f\n",
+            b"",
+            line(2, LineKind::Flag),
+        ),
+        (b"ulfm 1 2 1 4\nfail 1024\n", b"", line(2, LineKind::Number)),
+        (b"ulfm 1 1024 1 2048\n", b"", line(1, LineKind::Limits)),
+        (b"ulfm 1 1024 1 2047\n", b"", Ok(())),
+        (b"ulfm 1 3 1\n", b"", line(1, LineKind::Header)),
+        (b"ulfm 1 03 1 4\n", b"", line(1, LineKind::Header)),
+        (b"ulfm 3 3 1 4\n", b"", line(1, LineKind::Header)),
+        (b"ulfm 1 10000 1 1\n", b"", line(1, LineKind::Header)),
+        (b"ulfm 1 0 1 1\n", b"", line(1, LineKind::Limits)),
+        (b"ulfm 1 9999 1 1\n", b"", line(1, LineKind::Limits)),
+        (b"ulfm 1 2 256 4096\n", b"", line(1, LineKind::Limits)),
+        (b"ulfm 1 1 256 4096\n", b"", Ok(())),
+        (b"ulfm 1 1023 1 2048\n", b"", Ok(())),
+        (b"ulfm 1 3 1 4\n\n", b"", line(2, LineKind::Verb)),
+        (b"ulfm 1 3 1 4\n fail 0\n", b"", line(2, LineKind::Verb)),
+        (b"ulfm 1 3 1 4\n\xff\n", b"", line(2, LineKind::Verb)),
+        (
+            b"ulfm 1 3 1 4\nxxxxxxxxxxxxxxxxxxxxxxxxxxxxxxxxxxxxxxxxxxxxxxxxxxxxxxxxxxxxxxxx\n",
+            b"",
+            line(2, LineKind::Verb),
+        ),
+        (
+            b"ulfm 1 3 1 4\nxxxxxxxxxxxxxxxxxxxxxxxxxxxxxxxxxxxxxxxxxxxxxxxxxxxxxxxxxxxxxxxxx\n",
+            b"",
+            line(2, LineKind::Long),
+        ),
+        (
+            b"ulfm 1 3 1 4\nxxxxxxxxxxxxxxxxxxxxxxxxxxxxxxxxxxxxxxxxxxxxxxxxxxxxxxxxxxxxxxxxxxxxxx",
+            b"",
+            line(2, LineKind::Cut),
+        ),
+        (b"ulfm 1 3 1 4\nfail 0 \n", b"", line(2, LineKind::Words)),
+        (b"ulfm 1 3 1 4\nfail\n", b"", line(2, LineKind::Words)),
+        (b"ulfm 1 3 1 4\nfail 00\n", b"", line(2, LineKind::Number)),
+        (b"ulfm 1 3 1 4\nfail 0\r\n", b"", line(2, LineKind::Number)),
+        (
+            b"ulfm 1 3 1 4\nack 0 0 10000\n",
+            b"",
+            line(2, LineKind::Number),
+        ),
+        (
+            b"ulfm 1 3 1 4\nagree 0 256 0\n",
+            b"",
+            line(2, LineKind::Number),
+        ),
+        (
+            b"ulfm 1 3 1 4\nagree 0 0 0000000F\n",
+            b"",
+            line(2, LineKind::Flag),
+        ),
+        (b"ulfm 1 3 1 4\nshrink 0 0\n", b"", line(2, LineKind::Verb)),
+        (
+            b"ulfm 1 3 1 4\nfail 1023\n",
+            b"refused 13 no-such-rank\n",
+            Ok(()),
+        ),
+        (
+            b"ulfm 1 3 1 4\nagree 0 3 00000001\n",
+            b"refused 2 no-such-comm\n",
+            Ok(()),
+        ),
+    ];
+    for (script, wanted, ends) in rows {
+        let (out, end) = run(&rt, script)?;
+        let text = std::str::from_utf8(script).unwrap_or("no text");
+        assert_eq!(rt; end, ends, "{text}");
+        assert_eq!(rt; out.as_slice(), wanted, "{text}");
+    }
+    Ok(())
+}
+
+/// No script has more than 100,000 lines.
+#[test]
+fn last_line(rt: HostRuntime) -> Result<(), Fail> {
+    let mut script = Vec::from_slice(rt.alloc(), b"ulfm 1 1 1 1\n")?;
+    for _ in 2..100_001 {
+        script.extend_from_slice(b"fail 9\n")?;
+    }
+    let (_, end) = run(&rt, &script)?;
+    assert_eq!(rt; end, Ok(()));
+    script.extend_from_slice(b"x")?;
+    let (_, end) = run(&rt, &script)?;
+    assert_eq!(rt; end, line(100_001, LineKind::Cut));
+    script.extend_from_slice(b"\n")?;
+    let (out, end) = run(&rt, &script)?;
+    assert_eq!(rt; end, line(100_001, LineKind::Lines));
+    assert_eq!(rt; out.len(), 99_999 * b"refused 13 no-such-rank\n".len());
+    Ok(())
+}
