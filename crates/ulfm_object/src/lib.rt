@@ -1,21 +1,11 @@
-//! The agreement object: what a world is made of, what ranks ask of it, and what it answers.
+//! The sequential agreement object: the slow, plain program that is the definition, made to run. What a world is made of, what
+//! ranks ask and what they are answered comes from `ulfm_model`.
 #![tactic(auto)]
 
-pub mod call;
-pub mod contribution;
-pub mod event;
-pub mod laws;
-pub mod limits;
-pub mod place;
-pub mod refusal;
-pub mod reply;
-#[cfg(test)]
-mod tests;
+pub mod object;
 
-pub use call::{Call, Request};
-pub use contribution::{Contribution, MarkCount, Offer, Slot};
-pub use event::{Caller, Entry, Event};
-pub use limits::{Limits, OpenFault};
-pub use place::Place;
-pub use refusal::{Refusal, refusal_number};
-pub use reply::Reply;
+pub use object::Object;
+pub use ulfm_model::{
+    Call, Caller, Contribution, Entry, Event, Limits, MarkCount, Offer, OpenFault, Place, Refusal,
+    Reply, Request, Slot, refusal_number,
+};

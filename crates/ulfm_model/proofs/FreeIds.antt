@@ -1,0 +1,69 @@
+-- Free context ids, bit by bit: a shrink offers those that no held communicator has.
+use Rattle.std.proofs.Common.{◌≡◌, ◌↔◌, ℕ, zero, suc, ◌<◌, ◌||◌, ◌==◌, Bool, true, false, List, [], ◌∷◌, refl, ap, sym, ◌∙◌, arith, inl, inr, if◌then◌else◌}
+use Rattle.std.proofs.lemmas.Bool.{and_parts, cases_lt, eq-eqb, eqb-true, or_left, or_right}
+use Rattle.std.proofs.lemmas.List.Folds.{list_any-append}
+use Rattle.std.specs.Int.{bit_at}
+use Rattle.std.specs.List.{AllByRecursion, list_all}
+use Rattle.std.proofs.lemmas.Nat.Bits.{bit_at_and, bit_at_ones, bit_at-lt}
+use Rattle.ulfm_model.specs.History.{first_ranks, has}
+use Rattle.ulfm_model.specs.Records.{Held, all_but, free_ids}
+
+-- a bit stands in the mask where every held communicator leaves it standing
+pub free_is : (held : List Held) (i : ℕ) → i < 32 → (bit_at (free_ids held).bits i ≡ 1) ↔ AllByRecursion (λ x. bit_at (all_but x.context).bits i ≡ 1) held
+free_is [] i within = (λ e. tt, λ u. bit_at_ones 32 i within)
+free_is (x ∷ held) i within =
+    let rest = free_is held i within in
+    let both = bit_at_and (all_but x.context).bits (free_ids held).bits i in
+    let small = bit_at-lt (all_but x.context).bits i in
+    let low = bit_at-lt (free_ids held).bits i in
+    (λ e. (omega (arith, e, both, small, low), rest.0 (omega (arith, e, both, small, low))), λ all. let r = rest.1 all.1 in omega (arith, both, all.0, r))
+
+-- computed for each of the 32 ids, at each of the 32 bits
+all_but_table : list_all (λ i. list_all (λ k. bit_at (all_but i).bits k == (if i == k then 0 else 1)) (first_ranks 32)) (first_ranks 32) ≡ true
+all_but_table = refl
+
+all_at : (p : ℕ → Bool) (xs : List ℕ) (r : ℕ) → list_all p xs ≡ true → has xs r ≡ true → p r ≡ true
+all_at p [] r all e = absurd (cc e)
+all_at p (x ∷ xs) r all e =
+    let parts = and_parts (p x) (list_all p xs) all in go (all_at p xs r parts.1) parts.0 (x == r) refl e
+  where
+    go : (has xs r ≡ true → p r ≡ true) → p x ≡ true → (b : Bool) → (x == r) ≡ b → (b || has xs r) ≡ true → p r ≡ true
+    go more here true same e = ap p (sym (eqb-true x r same)) ∙ here
+    go more here false same e = more e
+
+in_first : (n k : ℕ) → k < n → has (first_ranks n) k ≡ true
+in_first zero k within = absurd (omega (arith, within))
+in_first (suc n) k within =
+    list_any-append (λ x. x == k) (first_ranks n) (n ∷ [])
+    ∙ elim (cases_lt k n) [
+      | inl less ↦ or_left (has (first_ranks n) k) (has (n ∷ []) k) (in_first n k less)
+      | inr more ↦ or_right (has (first_ranks n) k) (has (n ∷ []) k) (or_left (n == k) false (eq-eqb n k (omega (arith, within, more))))
+    ]
+
+-- a held communicator takes away its own id and no other
+pub all_but_is : (i k : ℕ) → i < 32 → k < 32 → bit_at (all_but i).bits k ≡ (if i == k then 0 else 1)
+all_but_is i k low within =
+    let row = all_at (λ i. list_all (λ k. bit_at (all_but i).bits k == (if i == k then 0 else 1)) (first_ranks 32)) (first_ranks 32) i all_but_table (in_first 32 i low) in
+    eqb-true (bit_at (all_but i).bits k) (if i == k then 0 else 1) (all_at (λ k. bit_at (all_but i).bits k == (if i == k then 0 else 1)) (first_ranks 32) k row (in_first 32 k within))
+
+-- so the mask has an id exactly where no held communicator has it
+pub free_where : (held : List Held) (i : ℕ) → i < 32 → AllByRecursion (λ x. x.context < 32) held → (bit_at (free_ids held).bits i ≡ 1) ↔ AllByRecursion (λ x. (x.context == i) ≡ false) held
+free_where held i within small =
+    let is = free_is held i within in
+    (λ e. each_both held (both_of held small (is.0 e)), λ all. is.1 (each_bit held small all))
+  where
+    both_of : (held : List Held) → AllByRecursion (λ x. x.context < 32) held → AllByRecursion (λ x. bit_at (all_but x.context).bits i ≡ 1) held → AllByRecursion (λ x. (x.context < 32) × (bit_at (all_but x.context).bits i ≡ 1)) held
+    both_of [] small bits = tt
+    both_of (x ∷ held) small bits = ((small.0, bits.0), both_of held small.1 bits.1)
+
+    away : (b : Bool) → ◌≡◌ {A = ℕ} (if b then 0 else 1) 1 → b ≡ false
+    away true e = absurd (cc e)
+    away false e = refl
+
+    each_both : (held : List Held) → AllByRecursion (λ x. (x.context < 32) × (bit_at (all_but x.context).bits i ≡ 1)) held → AllByRecursion (λ x. (x.context == i) ≡ false) held
+    each_both [] all = tt
+    each_both (x ∷ held) all = (away (x.context == i) (sym (all_but_is x.context i all.0.0 within) ∙ all.0.1), each_both held all.1)
+
+    each_bit : (held : List Held) → AllByRecursion (λ x. x.context < 32) held → AllByRecursion (λ x. (x.context == i) ≡ false) held → AllByRecursion (λ x. bit_at (all_but x.context).bits i ≡ 1) held
+    each_bit [] small all = tt
+    each_bit (x ∷ held) small all = (all_but_is x.context i small.0 within ∙ ap (λ (b : Bool). let n : ℕ = (if b then 0 else 1) in n) all.0, each_bit held small.1 all.1)

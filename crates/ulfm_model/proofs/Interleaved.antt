@@ -1,0 +1,153 @@
+-- Worked calls with others' steps in between.
+use Rattle.std.proofs.Common.{◌≡◌, IsTrue, ℕ, [], ◌∷◌, ◌++◌, Some, true, false, refl, arith, inl, inr}
+use Rattle.std.specs.Prelude.{bit_and}
+use Rattle.ulfm_laws.specs.declared.body.Body.TheVariants.{Unit as NoBody}
+use Rattle.ulfm_model.specs.declared.call.Call.TheVariants.{Agree as Ask, Poll}
+use Rattle.ulfm_model.specs.declared.reply.Reply.TheVariants.{Started, Refused}
+use Rattle.ulfm_model.specs.declared.refusal.Refusal.TheVariants.{SelfFailed, IsRevoked, ProcFailed}
+use Rattle.ulfm_model.specs.declared.call.Request.TheVariants.{Agree, Barrier}
+use Rattle.ulfm_model.specs.declared.contribution.Offer.TheVariants.{Flag}
+use Rattle.ulfm_model.specs.declared.event.Caller.{Caller}
+use Rattle.ulfm_model.specs.declared.event.Caller.TheVariants.{Outside, Rank}
+use Rattle.ulfm_model.specs.declared.event.Entry.{Entry}
+use Rattle.ulfm_model.specs.declared.event.Event.{Event}
+use Rattle.ulfm_model.specs.declared.event.Event.TheVariants.{Fail, Settle, Mark, Arrive, Revoke}
+use Rattle.ulfm_model.specs.declared.limits.Limits.{Limits}
+use Rattle.ulfm_model.specs.Answers.{closed}
+use Rattle.ulfm_model.specs.Computed.{given_at, mark_at}
+use Rattle.ulfm_model.specs.History.{History}
+use Rattle.ulfm_model.specs.Legal.{IsLegal, MayFollow}
+use Rattle.ulfm_model.specs.Records.{Record, new_record, with_held}
+use Rattle.ulfm_model.specs.Rounds.{decision, is_decided}
+use Rattle.ulfm_model.specs.Runs.{IsRun}
+
+-- an event in the name of its caller
+abbrev by : Caller → Event ℕ → Entry ℕ
+by caller event = record { by = caller; event = event }
+
+-- a world of three ranks
+abbrev three : Limits
+three = record { ranks = 3; comms = 2; rounds = 4 }
+
+-- a world of two
+abbrev two : Limits
+two = record { ranks = 2; comms = 1; rounds = 2 }
+
+-- rank 2 is declared between its look and its exchange
+abbrev late : History ℕ
+late = by Outside (Fail 2) ∷ by (Rank 2) (Settle 0 0 2 (given_at (Flag 0x5) 0 0)) ∷ []
+
+-- its agree is answered started all the same, since its contribution came before any mark
+contribution_in_flight : IsRun bit_and three false [] late (new_record three 2) (Ask 2 0 0x5) Started (with_held (new_record three 2) 0 (λ x. record x { next_agreement = 1; request = Some (Agree 0) }))
+contribution_in_flight = record {
+  in_use = refl;
+  span = record {
+    look = [];
+    point = late;
+    own = Settle 0 0 2 (given_at (Flag 0x5) 0 0) ∷ [];
+    looked = record { since = []; goes_on = refl; stands = tt; quiet = λ alone. refl };
+    did = record { since = late; goes_on = refl; stands = inr (inl (refl, tt)); quiet = λ alone. absurd (cc alone) };
+    point_begins = (late, refl);
+    point_ends = ([], refl);
+    legal = search arith;
+  };
+  answer = record {
+    own = (record { not_declared = refl; not_refused = refl; adds = (_, refl, (given_at (Flag 0x5) 0 0, refl)) }, tt);
+    replies = inr (record {
+      not_declared = refl;
+      replies = inl (refl, record { given = given_at (Flag 0x5) 0 0; own = refl; stands = refl; offer_is = refl; known = refl; acked = refl });
+    });
+    leaves = record { seen = refl; record_is = refl };
+  };
+}
+
+-- rank 2 is declared and marked between its look and its exchange
+abbrev marked : History ℕ
+marked = by Outside (Fail 2) ∷ by (Rank 0) (Mark 0 0 2 (mark_at 1)) ∷ []
+
+-- its agree is refused for good, without an event
+mark_comes_first : IsRun bit_and three false [] marked (new_record three 2) (Ask 2 0 0x5) (Refused SelfFailed) (record (new_record three 2) { refused = true })
+mark_comes_first = record {
+  in_use = refl;
+  span = record {
+    look = [];
+    point = marked;
+    own = [];
+    looked = record { since = []; goes_on = refl; stands = tt; quiet = λ alone. refl };
+    did = record { since = marked; goes_on = refl; stands = tt; quiet = λ alone. absurd (cc alone) };
+    point_begins = (marked, refl);
+    point_ends = ([], refl);
+    legal = search arith;
+  };
+  answer = record {
+    own = tt;
+    replies = inl (record { reply_is = refl; declared = refl; adds_nothing = λ x starts. refl });
+    leaves = record { seen = refl; record_is = refl };
+  };
+}
+
+-- rank 0 waits in a barrier
+abbrev waiting : Record
+waiting = with_held (new_record two 0) 0 (λ x. record x { next_barrier = 1; request = Some (Barrier 0) })
+
+-- both have arrived in it
+abbrev arrived : History ℕ
+arrived = by (Rank 0) (Arrive 0 0 0) ∷ by (Rank 1) (Arrive 0 0 1) ∷ []
+
+-- a revocation between the loads of a poll decides its answer
+revoked_between_loads : IsRun bit_and two false arrived (arrived ++ by (Rank 1) (Revoke 0) ∷ []) waiting (Poll 0 0) (Refused IsRevoked) (closed waiting 0)
+revoked_between_loads = record {
+  in_use = refl;
+  span = record {
+    look = arrived;
+    point = arrived ++ by (Rank 1) (Revoke 0) ∷ [];
+    own = [];
+    looked = record { since = []; goes_on = refl; stands = tt; quiet = λ alone. refl };
+    did = record { since = by (Rank 1) (Revoke 0) ∷ []; goes_on = refl; stands = tt; quiet = λ alone. absurd (cc alone) };
+    point_begins = (by (Rank 1) (Revoke 0) ∷ [], refl);
+    point_ends = ([], refl);
+    legal = search arith;
+  };
+  answer = record {
+    own = tt;
+    replies = inr (record { not_declared = refl; replies = refl });
+    leaves = record { seen = refl; record_is = refl };
+  };
+}
+
+-- rank 1 is declared with its arrival in flight
+abbrev declared : History ℕ
+declared = by Outside (Fail 1) ∷ by (Rank 0) (Arrive 0 0 0) ∷ []
+
+-- a poll may have its point before the arrival
+late_arrival : IsRun bit_and two false declared (declared ++ by (Rank 1) (Arrive 0 0 1) ∷ []) (record waiting { seen = 1 ∷ [] }) (Poll 0 0) (Refused ProcFailed) (closed (record waiting { seen = 1 ∷ [] }) 0)
+late_arrival = record {
+  in_use = refl;
+  span = record {
+    look = declared;
+    point = declared;
+    own = [];
+    looked = record { since = []; goes_on = refl; stands = tt; quiet = λ alone. refl };
+    did = record { since = by (Rank 1) (Arrive 0 0 1) ∷ []; goes_on = refl; stands = tt; quiet = λ alone. absurd (cc alone) };
+    point_begins = ([], refl);
+    point_ends = (by (Rank 1) (Arrive 0 0 1) ∷ [], refl);
+    legal = search arith;
+  };
+  answer = record {
+    own = tt;
+    replies = inr (record { not_declared = refl; replies = refl });
+    leaves = record { seen = refl; record_is = refl };
+  };
+}
+
+-- both ranks are declared and marked
+abbrev nobody : History ℕ
+nobody = by Outside (Fail 0) ∷ by Outside (Fail 1) ∷ by Outside (Mark 0 0 0 (mark_at 1)) ∷ by Outside (Mark 0 0 1 (mark_at 2)) ∷ []
+
+-- their round is decided without a contribution: both have failed, and nobody is there to lack an acknowledgement
+decision_of_nobody : IsLegal bit_and two nobody × IsTrue (is_decided 2 nobody 0 0) × (decision bit_and 2 nobody 0 0 ≡ record { body = NoBody; failed = 0 ∷ 1 ∷ []; raised = false })
+decision_of_nobody = (search arith, refl, refl)
+
+-- the mark of rank 1 may not leave out that rank 0 failed first
+mark_counts_one_too_few : ¬ MayFollow bit_and two (by Outside (Fail 0) ∷ by Outside (Fail 1) ∷ by Outside (Mark 0 0 0 (mark_at 1)) ∷ []) (Mark 0 0 1 (mark_at 1))
+mark_counts_one_too_few may = cc (may.declared)

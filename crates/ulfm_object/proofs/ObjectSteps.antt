@@ -1,0 +1,129 @@
+-- What the program of the sequential object needs of its state, and the steps that it takes.
+use Rattle.std.proofs.Common.{◌≡◌, ℕ, zero, suc, ◌+◌, ◌<◌, ◌≤◌, Bool, true, false, cond, ◌==◌, List, [], ◌∷◌, map, length, Option, Some, None, is_some, get_or, set, refl, ap, ap₂, sym, ◌∙◌, subst, arith, nat_eq, nat_le, if◌then◌else◌}
+use Rattle.std.specs.List.{AllByRecursion, IsDistinct, list_any, position}
+use Rattle.std.proofs.lemmas.Bool.{eq-eqb, eqb-true, ne_eqb}
+use Rattle.std.proofs.lemmas.Bool.Decides.{nat_tests}
+use Rattle.std.proofs.lemmas.List.Quantifiers.{position-Some}
+use Rattle.std.proofs.lemmas.Map.Keys.{IsDistinct-head, IsDistinct-tail}
+use Rattle.ulfm_model.specs.declared.{call.Call.{Call}, limits.Limits.{Limits}, refusal.Refusal.{Refusal}, refusal.Refusal.TheVariants.{Busy, RoundsUsedUp, ShrinkOpen}, reply.Reply.TheVariants.{Started}}
+use Rattle.ulfm_model.specs.declared.call.Call.TheVariants as call
+use Rattle.ulfm_model.specs.{Alone.{State, record_at}, Answers.{comm_of, first_refusal, refusal_of, refusal_on, tests_of, traits_of}, Computed.{next, next_of_rank, outcome_of, rank_outcome, used_outcome}, History.{History, failures, first_ranks, has}, Legal.{IsLegal}, Records.{Held, Record, held_at, is_shrink}, Sizes.{MayOpen}}
+use Rattle.ulfm_object.specs.Objects.{FitsNext, IsFew, rank_of}
+use Rattle.ulfm_model.proofs.Lists.{any_none, distinct_push, each_from, each_push, none_distinct}
+use Rattle.ulfm_model.proofs.Marking.{failures_few}
+use Rattle.ulfm_model.proofs.StepsShrinks.{spawns_fit}
+
+-- where no test of several refuses, the first doesn't, and none of the others does
+none_first_test : (test : Bool × Refusal) (tests : List (Bool × Refusal)) → first_refusal (test ∷ tests) ≡ None → (test.0 ≡ false) × (first_refusal tests ≡ None)
+none_first_test test tests none = go test.0 refl none
+  where
+    go : (b : Bool) → test.0 ≡ b → (if b then Some test.1 else first_refusal tests) ≡ None → (test.0 ≡ false) × (first_refusal tests ≡ None)
+    go true is none = absurd (cc none)
+    go false is none = (is, none)
+
+round_left : (rounds next : ℕ) → rounds ≤ 4096 → nat_le rounds next ≡ false → next < 65535
+round_left rounds next small left = grind (arith, nat_tests)
+
+round_before : (rounds next : ℕ) → rounds ≤ 4096 → nat_le rounds (next + 1) ≡ false → next < 65535
+round_before rounds next small left = grind (arith, nat_tests)
+
+-- a request that the record's tests allow has a round whose next number fits
+allowed_fits : {P : Type 0} (own : Record) (x : Held) (asked : Call P) → own.limits.rounds ≤ 4096 → first_refusal (tests_of own x asked) ≡ None → FitsNext ((traits_of asked).starts x)
+allowed_fits own x (call.Fail rank) small none = tt
+allowed_fits own x (call.GetFailed rank c) small none = tt
+allowed_fits own x (call.Ack rank c count) small none = tt
+allowed_fits own x (call.Agree rank c value) small none =
+    let used : Bool × Refusal = (nat_le own.limits.rounds (x.next_agreement + 1), RoundsUsedUp) in
+    let rest = none_first_test (is_some x.request, Busy) (used ∷ []) none in
+    round_before own.limits.rounds x.next_agreement small (none_first_test used [] rest.1).0
+allowed_fits own x (call.Shrink rank c) small none =
+    let used : Bool × Refusal = (nat_le own.limits.rounds x.next_agreement, RoundsUsedUp) in
+    let other : Bool × Refusal = (list_any (λ y. is_shrink y.request) own.held, ShrinkOpen) in
+    let rest = none_first_test (is_some x.request, Busy) (other ∷ used ∷ []) none in
+    let last = none_first_test other (used ∷ []) rest.1 in
+    round_left own.limits.rounds x.next_agreement small (none_first_test used [] last.1).0
+allowed_fits own x (call.Barrier rank c) small none =
+    let used : Bool × Refusal = (nat_le own.limits.rounds x.next_barrier, RoundsUsedUp) in
+    let rest = none_first_test (is_some x.request, Busy) (used ∷ []) none in
+    round_left own.limits.rounds x.next_barrier small (none_first_test used [] rest.1).0
+allowed_fits own x (call.Poll rank c) small none = tt
+allowed_fits own x (call.Revoke rank c) small none = tt
+allowed_fits own x (call.IsRevoked rank c) small none = tt
+allowed_fits own x (call.Free rank c) small none = tt
+
+-- a call that has started something has a round whose next number fits
+pub started_fits : {P : Type 0} (meld : P → P → P) (limits : Limits) (h : History P) (own : Record) (asked : Call P) → own.limits.rounds ≤ 4096 → (outcome_of meld limits h own asked).reply ≡ Started
+    → (x : Held) → held_at own (comm_of asked) ≡ Some x → FitsNext ((traits_of asked).starts x)
+started_fits meld limits h own asked small starts x holds = by_declared (has (failures h) own.number) starts
+  where
+    by_refusal : (o : Option Refusal) → refusal_of own asked ≡ o → (used_outcome meld limits h own (held_at own (comm_of asked)) o asked).reply ≡ Started → FitsNext ((traits_of asked).starts x)
+    by_refusal (Some refusal) is e = absurd (cc e)
+    by_refusal None is e = allowed_fits own x asked small (ap (λ w. refusal_on own w asked) (sym holds) ∙ is)
+
+    by_declared : (b : Bool) → (rank_outcome meld limits h own asked b).reply ≡ Started → FitsNext ((traits_of asked).starts x)
+    by_declared true e = absurd (cc e)
+    by_declared false e = by_refusal (refusal_of own asked) refl e
+
+-- a legal history has few failures and communicators
+pub few_of : {P : Type 0} (meld : P → P → P) (limits : Limits) (h : History P) → MayOpen limits → IsLegal meld limits h → IsFew h
+few_of meld limits h may legal =
+    let failed = failures_few meld limits h legal in
+    let made = spawns_fit meld limits h legal may.in_range.some_comms in
+    let ranks = may.in_range.ranks in
+    let comms = may.in_range.comms in
+    record { failures = omega (arith, failed, ranks); spawns = omega (arith, made, comms) }
+
+all_below : (n : ℕ) → AllByRecursion (λ r. r < n) (first_ranks n)
+all_below zero = tt
+all_below (suc n) =
+    each_push (λ r. r < suc n) (first_ranks n) n (each_from (λ r. r < n) (λ r. r < suc n) (λ r less. omega (arith, less)) (first_ranks n) (all_below n)) (omega arith)
+
+-- all ranks differ
+pub ranks_distinct : (n : ℕ) → IsDistinct nat_eq (first_ranks n)
+ranks_distinct zero = none_distinct nat_eq
+ranks_distinct (suc n) =
+    distinct_push nat_eq (first_ranks n) n (ranks_distinct n)
+    (any_none (λ r. nat_eq r n) (first_ranks n) (each_from (λ r. r < n) (λ r. nat_eq r n ≡ false) (λ r less. ne_eqb r n (λ same. omega (arith, less, same))) (first_ranks n) (all_below n)))
+
+module _ {X Y : Type 0} (v : X → Y) (number : Y → ℕ) (r : ℕ) (y : Y) where
+  -- the elements with those of number r changed
+  abbrev changed : List X → List Y
+  changed xs = map (λ x. if number x == r then y else x) (map v xs)
+
+  unchanged : (xs : List X) → AllByRecursion (λ n. (n == r) ≡ false) (map (λ x. number (v x)) xs) → changed xs ≡ map v xs
+  unchanged [] apart = refl
+  unchanged (x ∷ xs) apart = ap₂ (λ z zs. z ∷ zs) (ap (λ (b : Bool). if b then y else v x) apart.0) (unchanged xs apart.1)
+
+  changed_at : (xs : List X) (i : ℕ) (d : X) → IsDistinct nat_eq (map (λ x. number (v x)) xs) → i < length xs → (number (v (get_or xs i d)) == r) ≡ true
+      → ((k : ℕ) → k < i → (number (v (get_or xs k d)) == r) ≡ false) → changed xs ≡ set (map v xs) i y
+  changed_at [] i d distinct within here before = absurd (omega (arith, within))
+  changed_at (x ∷ xs) zero d distinct within here before =
+      let same : number (v x) ≡ r = eqb-true (number (v x)) r here in
+      let apart : AllByRecursion (λ n. (n == r) ≡ false) (map (λ x. number (v x)) xs) =
+      each_from (λ n. nat_eq (number (v x)) n ≡ false) (λ n. (n == r) ≡ false) (λ n differs. turned n (subst (λ w. nat_eq w n ≡ false) same differs)) (map (λ x. number (v x)) xs)
+      (IsDistinct-head nat_eq (number (v x)) (map (λ x. number (v x)) xs) distinct) in
+      ap₂ (λ z zs. z ∷ zs) (ap (λ (b : Bool). if b then y else v x) here) (unchanged xs apart)
+    where
+      turned : (n : ℕ) → nat_eq r n ≡ false → (n == r) ≡ false
+      turned n differs = ne_eqb n r (λ same. absurd (cc (eq-eqb r n (sym same), differs)))
+  changed_at (x ∷ xs) (suc i) d distinct within here before =
+      ap₂ (λ z zs. z ∷ zs) (ap (λ (b : Bool). if b then y else v x) (before 0 (omega arith)))
+      (changed_at xs i d (IsDistinct-tail nat_eq (number (v x)) (map (λ x. number (v x)) xs) distinct) (omega (arith, within)) here (λ k less. before (suc k) (omega (arith, less))))
+
+-- the elements with the first of number r changed, where the numbers differ
+pub replaced : {X Y : Type 0} (v : X → Y) (number : Y → ℕ) (xs : List X) (r i : ℕ) (d : X) (y : Y) → IsDistinct nat_eq (map (λ x. number (v x)) xs) → position (λ x. number (v x) == r) xs ≡ Some i
+    → map (λ x. if number x == r then y else x) (map v xs) ≡ set (map v xs) i y
+replaced {X = X} v number xs r i d y distinct at = let first = position-Some (λ (x : X). number (v x) == r) xs i d at in changed_at v number r y xs i d distinct first.0 first.1 first.2
+
+-- the next step of a call of a rank
+pub next_of_call : {P : Type 0} (meld : P → P → P) (state : State P) (asked : Call P) → ((r : ℕ) → asked ≡ call.Fail r → ⊥) → next_of_rank meld state (rank_of asked) (record_at state (rank_of asked)) asked ≡ next meld state asked
+next_of_call meld state (call.Fail rank) not_fail = absurd (not_fail rank refl)
+next_of_call meld state (call.GetFailed rank c) not_fail = refl
+next_of_call meld state (call.Ack rank c count) not_fail = refl
+next_of_call meld state (call.Agree rank c value) not_fail = refl
+next_of_call meld state (call.Shrink rank c) not_fail = refl
+next_of_call meld state (call.Barrier rank c) not_fail = refl
+next_of_call meld state (call.Poll rank c) not_fail = refl
+next_of_call meld state (call.Revoke rank c) not_fail = refl
+next_of_call meld state (call.IsRevoked rank c) not_fail = refl
+next_of_call meld state (call.Free rank c) not_fail = refl

@@ -1,9 +1,0 @@
-use Rattle.ulfm_object.proofs.OnlyStep.{step_is_next}
-use Rattle.ulfm_object.proofs.StepsNext.{next_is_step}
-use Rattle.ulfm_object.proofs.laws.calls_have_one_step.Goals as goal
-
-pub returns : goal.returns
-returns g c = λ state sound may asked. record {
-  is_step = next_is_step g.P.Meld.meld state sound may.in_range.ranks may.in_range.some_comms asked;
-  only = step_is_next g.P.Meld.meld state sound asked;
-}

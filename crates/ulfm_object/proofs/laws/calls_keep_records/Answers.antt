@@ -1,5 +1,0 @@
-use Rattle.ulfm_object.proofs.LeftRuns.{call_fits}
-use Rattle.ulfm_object.proofs.laws.calls_keep_records.Goals as goal
-
-pub returns : goal.returns
-returns g c = λ limits alone before after own new asked reply. call_fits g.P.Meld.meld limits alone before after own asked reply new

@@ -1,5 +1,0 @@
-use Rattle.ulfm_object.proofs.Contexts.{has_one_context}
-use Rattle.ulfm_object.proofs.laws.contexts_are_ids.Goals as goal
-
-pub returns : goal.returns
-returns g c = has_one_context g.P.Meld.meld

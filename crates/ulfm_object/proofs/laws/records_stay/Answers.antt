@@ -1,5 +1,0 @@
-use Rattle.ulfm_object.proofs.Stable.{fits_stays}
-use Rattle.ulfm_object.proofs.laws.records_stay.Goals as goal
-
-pub returns : goal.returns
-returns g c = fits_stays g.P.Meld.meld

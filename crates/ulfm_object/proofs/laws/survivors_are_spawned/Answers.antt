@@ -1,6 +1,0 @@
-use Rattle.ulfm_object.proofs.Spawned.{members_of_spawned}
-use Rattle.ulfm_object.proofs.laws.survivors_are_spawned.Goals as goal
-
-pub returns : goal.returns
-returns g c = λ limits h j parent k legal at.
-    let made = members_of_spawned g.P.Meld.meld limits h legal j parent k at in (made.decided, made.group)

@@ -1,5 +1,0 @@
-use Rattle.ulfm_object.proofs.Contexts.{offered_where}
-use Rattle.ulfm_object.proofs.laws.unheld_ids_are_offered.Goals as goal
-
-pub returns : goal.returns
-returns g c = offered_where g.P.Meld.meld

@@ -1,0 +1,264 @@
+//! The sequential object as a program: it keeps what has happened and what each rank holds, and answers one call after
+//! another. It is slow and plain: each answer walks the history as the definitions do.
+
+ghost use Rattle.std.specs.Prelude.{◌≡◌, ◌⊎◌, ◌==◌, ◌++◌, IfErr, IfOk, List, OnErr, OnOk, map, position};
+ghost use Rattle.ulfm_model.specs.Alone.{IsSound, State, new_state, record_at};
+ghost use Rattle.ulfm_model.specs.Answers.{left_by};
+ghost use Rattle.ulfm_model.specs.Computed.{next_of_fail, next_of_rank, outcome_of};
+ghost use Rattle.ulfm_model.specs.History.{entries_by, failures, first_ranks};
+ghost use Rattle.ulfm_object.specs.Objects.{IsFew, TakesStep, rank_of, record_of, state_of};
+ghost use Rattle.ulfm_model.specs.Records.{Record, new_record};
+ghost use Rattle.ulfm_model.specs.Rounds.{failed, members};
+ghost use Rattle.ulfm_model.specs.Sizes.{IsUnfit, MayOpen};
+ghost use Rattle.ulfm_model.specs.declared.event.Caller.TheVariants.{Rank};
+ghost use Rattle.ulfm_model.specs.declared.limits.OpenFault.TheVariants.{OutOfMemory};
+
+mod adds;
+mod decide;
+mod groups;
+mod leaves;
+mod outcome;
+mod reads;
+mod record;
+mod refuse;
+mod replies;
+mod says;
+#[cfg(test)]
+mod tests;
+
+use crate::object::groups::{failed, first_ranks, members};
+use crate::object::leaves::leave;
+use crate::object::outcome::outcome_of;
+use crate::object::reads::{failures, is_declared};
+use crate::object::record::{HeldComm, RankRecord};
+use std::alloc::{AllocError, Allocator};
+use std::marker::Model;
+use ulfm_laws::meld::Meld;
+use ulfm_model::call::Call;
+use ulfm_model::event::{Caller, Entry, Event};
+use ulfm_model::limits::{Limits, OpenFault};
+use ulfm_model::refusal::Refusal;
+use ulfm_model::reply::Reply;
+
+/// The sequential object.
+#[derive(Drop)]
+pub struct Object<P: Meld, A: Allocator> {
+    alloc: A,
+    limits: Limits,
+    log: Vec<Entry<P>, A>,
+    records: Vec<RankRecord<A>, A>,
+}
+
+impl<P: Meld, A: Allocator> Model for Object<P, A> {
+    ghost Value = { State P };
+
+    ghost view = { λ a. state_of a.limits a.log.items a.records.items };
+
+    ghost invariant = { λ a. MayOpen a.limits × IsSound P.meld (state_of a.limits a.log.items a.records.items) };
+}
+
+/// A new rank's record: it holds the world's communicator alone.
+fn new_record<A: Allocator + Copy + Drop>(
+    alloc: A,
+    limits: Limits,
+    number: u16,
+) -> Result<RankRecord<A>, AllocError>
+    ensures { IfOk result (λ own. record_of limits own ≡ new_record limits number) }
+{
+    let group = first_ranks(alloc, limits.ranks)?;
+    let mut held = Vec::new(alloc);
+    held.push(HeldComm {
+        comm: 0,
+        group,
+        context: 0,
+        acked: 0,
+        next_agreement: 0,
+        next_barrier: 0,
+        request: None,
+    })?;
+    let seen = Vec::new(alloc);
+    Ok(RankRecord {
+        number,
+        held,
+        seen,
+        refused: false,
+    })
+}
+
+/// A new record of each rank.
+fn new_records<A: Allocator + Copy + Drop>(
+    alloc: A,
+    limits: Limits,
+) -> Result<Vec<RankRecord<A>, A>, AllocError>
+    ensures { IfOk result (λ records. map (record_of limits) records.items ≡ map (new_record limits) (first_ranks limits.ranks)) }
+{
+    let mut records = Vec::new(alloc);
+    for number in 0..limits.ranks {
+        let record = new_record(alloc, limits, number)?;
+        records.push(record)?;
+    }
+    Ok(records)
+}
+
+/// The outside declares a rank.
+fn declare<P: Meld, A: Allocator + Drop>(
+    limits: Limits,
+    log: &mut Vec<Entry<P>, A>,
+    rank: u16,
+) -> Result<Reply<P>, AllocError>
+    ensures ok { (records : List Record) → let old : State P = record { limits = limits; history = log.old.items; records = records } in IfOk result (λ reply. (reply ≡ (next_of_fail old rank).reply) × (record old { history = log.new.items } ≡ (next_of_fail old rank).state)) }
+    ensures err { OnErr result (log.new.items ≡ log.old.items) }
+{
+    if rank >= limits.ranks {
+        return Ok(Reply::Refused(Refusal::NoSuchRank));
+    }
+    if is_declared(log, rank) {
+        return Ok(Reply::AlreadyFailed);
+    }
+    log.push(Entry {
+        by: Caller::Outside,
+        event: Event::Fail { rank },
+    })?;
+    Ok(Reply::Declared)
+}
+
+/// Where the record of a rank stands.
+fn place_of_rank<A: Allocator>(records: &[RankRecord<A>], rank: u16) -> Option<usize>
+    ensures { result ≡ position (λ own. own.number == rank) records.now }
+{
+    records.iter().position(|own| own.number == rank)
+}
+
+/// A call of a rank that was not refused for good before: the log and the rank's record change at the end alone.
+fn answer_in_use<P: Meld, A: Allocator + Copy + Drop>(
+    alloc: A,
+    limits: Limits,
+    log: &mut Vec<Entry<P>, A>,
+    own: &mut RankRecord<A>,
+    asked: &Call<P>,
+) -> Result<Reply<P>, AllocError>
+    requires may { MayOpen limits }
+    requires few { IsFew log.old.items }
+    ensures reply { IfOk result (λ reply. reply ≡ (outcome_of P.meld limits log.old.items (record_of limits own.old) asked.now).reply) }
+    ensures log { OnOk result (log.new.items ≡ log.old.items ++ entries_by (Rank own.old.number) (outcome_of P.meld limits log.old.items (record_of limits own.old) asked.now).own) }
+    ensures own { IfOk result (λ reply. record_of limits own.new ≡ left_by limits.ranks log.new.items (record (record_of limits own.old) { seen = failures log.old.items }) asked.now reply) }
+    ensures err { OnErr result ((log.new.items ≡ log.old.items) × (record_of limits own.new ≡ record_of limits own.old)) }
+{
+    let seen = failures(alloc, log)?;
+    let outcome = outcome_of(alloc, limits, log, own, asked)?;
+    let reply = outcome.reply;
+    leave(alloc, limits, &outcome.after, own, seen, asked, reply)?;
+    *log = outcome.after;
+    Ok(reply)
+}
+
+/// A call of a rank.
+fn answer<P: Meld, A: Allocator + Copy + Drop>(
+    alloc: A,
+    limits: Limits,
+    log: &mut Vec<Entry<P>, A>,
+    records: &mut [RankRecord<A>],
+    asked: &Call<P>,
+) -> Result<Reply<P>, AllocError>
+    requires may { MayOpen limits }
+    requires few { IsFew log.old.items }
+    requires numbers { map (λ own. own.number) records.old ≡ first_ranks limits.ranks }
+    ensures ok { let old = state_of limits log.old.items records.old in let next = next_of_rank P.meld old (rank_of asked.now) (record_at old (rank_of asked.now)) asked.now in IfOk result (λ reply. (reply ≡ next.reply) × (state_of limits log.new.items records.new ≡ next.state)) }
+    ensures err { OnErr result (state_of limits log.new.items records.new ≡ state_of limits log.old.items records.old) }
+{
+    let rank = rank_of(asked);
+    let Some(i) = place_of_rank(records, rank) else {
+        return Ok(Reply::Refused(Refusal::NoSuchRank));
+    };
+    let own = &mut records[i];
+    if own.refused {
+        return Ok(Reply::Refused(Refusal::SelfFailed));
+    }
+    answer_in_use(alloc, limits, log, own, asked)
+}
+
+/// One call, on the log and the records of a sound state: they are those of the next state, or as they were.
+fn take_step<P: Meld, A: Allocator + Copy + Drop>(
+    alloc: A,
+    limits: Limits,
+    log: &mut Vec<Entry<P>, A>,
+    records: &mut [RankRecord<A>],
+    asked: &Call<P>,
+) -> Result<Reply<P>, AllocError>
+    requires may { MayOpen limits }
+    requires sound { IsSound P.meld (state_of limits log.old.items records.old) }
+    ensures sound { IsSound P.meld (state_of limits log.new.items records.new) }
+    ensures step { IfOk result (TakesStep P.meld (state_of limits log.old.items records.old) asked.now (state_of limits log.new.items records.new)) }
+    ensures err { OnErr result (state_of limits log.new.items records.new ≡ state_of limits log.old.items records.old) }
+{
+    match *asked {
+        Call::Fail { rank } => declare(limits, log, rank),
+        _ => answer(alloc, limits, log, records, asked),
+    }
+}
+
+/// The rank that a call names.
+fn rank_of<P: Copy>(asked: &Call<P>) -> u16
+    ensures { result ≡ rank_of asked.now }
+{
+    match *asked {
+        Call::Fail { rank } => rank,
+        Call::GetFailed { rank, .. } => rank,
+        Call::Ack { rank, .. } => rank,
+        Call::Agree { rank, .. } => rank,
+        Call::Shrink { rank, .. } => rank,
+        Call::Barrier { rank, .. } => rank,
+        Call::Poll { rank, .. } => rank,
+        Call::Revoke { rank, .. } => rank,
+        Call::IsRevoked { rank, .. } => rank,
+        Call::Free { rank, .. } => rank,
+    }
+}
+
+impl<P: Meld, A: Allocator + Copy + Drop> Object<P, A> {
+    /// A new object: nothing has happened, and each rank holds the world's communicator alone. The faults are tested in
+    /// their order: `OutOfRange`, `TooLarge`, `OutOfMemory`.
+    pub fn open(alloc: A, limits: Limits) -> Result<Object<P, A>, OpenFault>
+        ensures ok { IfOk result (λ object. (object ≡ new_state limits) × MayOpen limits) }
+        ensures err { IfErr result (λ fault. IsUnfit limits fault ⊎ ((fault ≡ OutOfMemory) × MayOpen limits)) }
+    {
+        limits.check()?;
+        let Ok(records) = new_records(alloc, limits) else {
+            return Err(OpenFault::OutOfMemory);
+        };
+        Ok(Object {
+            alloc,
+            limits,
+            log: Vec::new(alloc),
+            records,
+        })
+    }
+
+    /// Answers one call. After an error, which is want of memory, the object is as it was.
+    pub fn apply(&mut self, asked: &Call<P>) -> Result<Reply<P>, AllocError>
+        ensures step { IfOk result (TakesStep P.meld self.old asked.now self.new) }
+        ensures err { OnErr result (self.new ≡ self.old) }
+    {
+        take_step(
+            self.alloc,
+            self.limits,
+            &mut self.log,
+            &mut self.records,
+            asked,
+        )
+    }
+
+    /// The members of a communicator, in order; nobody where it doesn't exist.
+    pub fn members(&self, comm: u16) -> Result<Vec<u16, A>, AllocError>
+        ensures { IfOk result (λ group. group.items ≡ members self.now.limits.ranks self.now.history comm) }
+    {
+        members(self.alloc, self.limits.ranks, &self.log, comm)
+    }
+
+    /// The failed group of a communicator, in the order of the failures; nobody where it doesn't exist.
+    pub fn failed(&self, comm: u16) -> Result<Vec<u16, A>, AllocError>
+        ensures { IfOk result (λ group. group.items ≡ failed self.now.limits.ranks self.now.history comm) }
+    {
+        failed(self.alloc, self.limits.ranks, &self.log, comm)
+    }
+}

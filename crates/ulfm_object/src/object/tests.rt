@@ -1,0 +1,541 @@
+// The worked scripts, and memory that is refused.
+use crate::object::Object;
+use linked_list_allocator::LocalHeap;
+use std::alloc::{AllocError, Global};
+use std::process::Abort;
+use std::test::Fail;
+use ulfm_laws::flag_and::FlagAnd;
+use ulfm_model::call::Call;
+use ulfm_model::limits::{Limits, OpenFault};
+use ulfm_model::refusal::Refusal;
+use ulfm_model::reply::Reply;
+
+type Line = (Call<FlagAnd>, Reply<FlagAnd>);
+
+fn fail(rank: u16) -> Call<FlagAnd> {
+    Call::Fail { rank }
+}
+
+fn get(rank: u16, comm: u16) -> Call<FlagAnd> {
+    Call::GetFailed { rank, comm }
+}
+
+fn ack(rank: u16, comm: u16, count: u16) -> Call<FlagAnd> {
+    Call::Ack { rank, comm, count }
+}
+
+fn agree(rank: u16, comm: u16, bits: u32) -> Call<FlagAnd> {
+    let value = FlagAnd { bits };
+    Call::Agree { rank, comm, value }
+}
+
+fn shrink(rank: u16, comm: u16) -> Call<FlagAnd> {
+    Call::Shrink { rank, comm }
+}
+
+fn barrier(rank: u16, comm: u16) -> Call<FlagAnd> {
+    Call::Barrier { rank, comm }
+}
+
+fn poll(rank: u16, comm: u16) -> Call<FlagAnd> {
+    Call::Poll { rank, comm }
+}
+
+fn revoke(rank: u16, comm: u16) -> Call<FlagAnd> {
+    Call::Revoke { rank, comm }
+}
+
+fn is_revoked(rank: u16, comm: u16) -> Call<FlagAnd> {
+    Call::IsRevoked { rank, comm }
+}
+
+fn free(rank: u16, comm: u16) -> Call<FlagAnd> {
+    Call::Free { rank, comm }
+}
+
+fn agreed(bits: u32, failed: u16, raised: bool) -> Reply<FlagAnd> {
+    let value = FlagAnd { bits };
+    Reply::Agreed {
+        value,
+        failed,
+        raised,
+    }
+}
+
+fn shrunk(comm: u16, context: u8, size: u16) -> Reply<FlagAnd> {
+    Reply::Shrunk {
+        comm,
+        context,
+        size,
+    }
+}
+
+fn failed_group(count: u16) -> Reply<FlagAnd> {
+    Reply::FailedGroup { count }
+}
+
+fn acked(count: u16) -> Reply<FlagAnd> {
+    Reply::Acked { count }
+}
+
+fn standing(revoked: bool) -> Reply<FlagAnd> {
+    Reply::Standing { revoked }
+}
+
+fn limits(ranks: u16, comms: u16, rounds: u16) -> Limits {
+    Limits {
+        ranks,
+        comms,
+        rounds,
+    }
+}
+
+/// An object that has answered a script as it should.
+fn run(
+    rt: &impl Abort,
+    alloc: Global,
+    limits: Limits,
+    script: &[Line],
+) -> Result<Object<FlagAnd, Global>, Fail> {
+    let mut object = Object::open(alloc, limits)?;
+    for line in script {
+        let reply = object.apply(&line.0)?;
+        assert!(rt; reply == line.1, "{:?} is answered {reply:?}", line.0);
+    }
+    Ok(object)
+}
+
+fn one_rank_script() -> [Line; 2] {
+    [
+        (agree(0, 0, 0xff), Reply::Started),
+        (poll(0, 0), agreed(0xff, 0, false)),
+    ]
+}
+
+#[test]
+fn one_rank(rt: HostRuntime) -> Result<(), Fail> {
+    run(&rt, rt.alloc(), limits(1, 1, 2), &one_rank_script())?;
+    Ok(())
+}
+
+#[test]
+fn three_flags(rt: HostRuntime) -> Result<(), Fail> {
+    let script = [
+        (agree(0, 0, 0xf), Reply::Started),
+        (agree(1, 0, 0x3c), Reply::Started),
+        (agree(2, 0, 0xffffffff), Reply::Started),
+        (poll(0, 0), agreed(0xc, 0, false)),
+        (poll(1, 0), agreed(0xc, 0, false)),
+        (poll(2, 0), agreed(0xc, 0, false)),
+    ];
+    run(&rt, rt.alloc(), limits(3, 1, 4), &script)?;
+    Ok(())
+}
+
+#[test]
+fn pending_then_decided(rt: HostRuntime) -> Result<(), Fail> {
+    let script = [
+        (agree(0, 0, 0xf), Reply::Started),
+        (agree(1, 0, 0x3c), Reply::Started),
+        (poll(0, 0), Reply::Pending),
+        (agree(2, 0, 0x4), Reply::Started),
+        (poll(0, 0), agreed(0x4, 0, false)),
+    ];
+    run(&rt, rt.alloc(), limits(3, 1, 4), &script)?;
+    Ok(())
+}
+
+#[test]
+fn failed_rank_raises(rt: HostRuntime) -> Result<(), Fail> {
+    let script = [
+        (fail(2), Reply::Declared),
+        (agree(0, 0, 0xf), Reply::Started),
+        (agree(1, 0, 0x3c), Reply::Started),
+        (poll(0, 0), agreed(0xc, 1, true)),
+        (poll(1, 0), agreed(0xc, 1, true)),
+    ];
+    run(&rt, rt.alloc(), limits(3, 1, 4), &script)?;
+    Ok(())
+}
+
+#[test]
+fn acknowledged_by_all(rt: HostRuntime) -> Result<(), Fail> {
+    let script = [
+        (fail(2), Reply::Declared),
+        (ack(0, 0, 1), acked(1)),
+        (ack(1, 0, 1), acked(1)),
+        (agree(0, 0, 0xf), Reply::Started),
+        (agree(1, 0, 0x3c), Reply::Started),
+        (poll(0, 0), agreed(0xc, 1, false)),
+        (poll(1, 0), agreed(0xc, 1, false)),
+    ];
+    run(&rt, rt.alloc(), limits(3, 1, 4), &script)?;
+    Ok(())
+}
+
+#[test]
+fn acknowledged_by_one(rt: HostRuntime) -> Result<(), Fail> {
+    let script = [
+        (fail(2), Reply::Declared),
+        (ack(0, 0, 1), acked(1)),
+        (agree(0, 0, 0xf), Reply::Started),
+        (agree(1, 0, 0x3c), Reply::Started),
+        (poll(0, 0), agreed(0xc, 1, true)),
+        (poll(1, 0), agreed(0xc, 1, true)),
+    ];
+    run(&rt, rt.alloc(), limits(3, 1, 4), &script)?;
+    Ok(())
+}
+
+#[test]
+fn fails_after_contributing(rt: HostRuntime) -> Result<(), Fail> {
+    let script = [
+        (agree(0, 0, 0xf), Reply::Started),
+        (agree(1, 0, 0x3c), Reply::Started),
+        (agree(2, 0, 0x4), Reply::Started),
+        (fail(2), Reply::Declared),
+        (poll(0, 0), agreed(0x4, 0, false)),
+        (poll(1, 0), agreed(0x4, 0, false)),
+        (poll(2, 0), Reply::Refused(Refusal::SelfFailed)),
+    ];
+    run(&rt, rt.alloc(), limits(3, 1, 4), &script)?;
+    Ok(())
+}
+
+#[test]
+fn known_to_the_others(rt: HostRuntime) -> Result<(), Fail> {
+    let script = [
+        (agree(2, 0, 0x5), Reply::Started),
+        (fail(2), Reply::Declared),
+        (agree(0, 0, 0xf), Reply::Started),
+        (agree(1, 0, 0x7), Reply::Started),
+        (poll(0, 0), agreed(0x5, 1, true)),
+        (poll(1, 0), agreed(0x5, 1, true)),
+    ];
+    run(&rt, rt.alloc(), limits(3, 1, 4), &script)?;
+    Ok(())
+}
+
+#[test]
+fn agrees_though_revoked(rt: HostRuntime) -> Result<(), Fail> {
+    let script = [
+        (revoke(1, 0), Reply::Revoked),
+        (revoke(0, 0), Reply::AlreadyRevoked),
+        (barrier(0, 0), Reply::Started),
+        (poll(0, 0), Reply::Refused(Refusal::IsRevoked)),
+        (agree(0, 0, 0xf), Reply::Started),
+        (agree(1, 0, 0x7), Reply::Started),
+        (poll(0, 0), agreed(0x7, 0, false)),
+        (poll(1, 0), agreed(0x7, 0, false)),
+        (shrink(0, 0), Reply::Started),
+        (shrink(1, 0), Reply::Started),
+        (poll(0, 0), shrunk(1, 1, 2)),
+        (poll(1, 0), shrunk(1, 1, 2)),
+        (is_revoked(0, 0), standing(true)),
+        (is_revoked(0, 1), standing(false)),
+    ];
+    let object = run(&rt, rt.alloc(), limits(2, 4, 8), &script)?;
+    assert!(rt; object.members(1)?.as_slice() == [0, 1].as_slice());
+    Ok(())
+}
+
+#[test]
+fn shrinks_keep_order(rt: HostRuntime) -> Result<(), Fail> {
+    let script = [
+        (fail(1), Reply::Declared),
+        (shrink(3, 0), Reply::Started),
+        (shrink(0, 0), Reply::Started),
+        (shrink(2, 0), Reply::Started),
+        (poll(3, 0), shrunk(1, 1, 3)),
+        (poll(0, 0), shrunk(1, 1, 3)),
+        (poll(2, 0), shrunk(1, 1, 3)),
+        (fail(0), Reply::Declared),
+        (shrink(3, 1), Reply::Started),
+        (shrink(2, 1), Reply::Started),
+        (poll(3, 1), shrunk(2, 2, 2)),
+        (poll(2, 1), shrunk(2, 2, 2)),
+    ];
+    let object = run(&rt, rt.alloc(), limits(4, 4, 4), &script)?;
+    assert!(rt; object.members(1)?.as_slice() == [0, 2, 3].as_slice());
+    assert!(rt; object.members(2)?.as_slice() == [2, 3].as_slice());
+    assert!(rt; object.members(3)?.is_empty());
+    assert!(rt; object.failed(1)?.as_slice() == [0].as_slice());
+    Ok(())
+}
+
+#[test]
+fn contexts_come_back(rt: HostRuntime) -> Result<(), Fail> {
+    let script = [
+        (shrink(0, 0), Reply::Started),
+        (shrink(1, 0), Reply::Started),
+        (poll(0, 0), shrunk(1, 1, 2)),
+        (poll(1, 0), shrunk(1, 1, 2)),
+        (free(0, 1), Reply::Freed),
+        (shrink(0, 0), Reply::Started),
+        (shrink(1, 0), Reply::Started),
+        (poll(0, 0), shrunk(2, 2, 2)),
+        (poll(1, 0), shrunk(2, 2, 2)),
+    ];
+    let object = run(&rt, rt.alloc(), limits(2, 4, 8), &script)?;
+    assert!(rt; object.members(2)?.as_slice() == [0, 1].as_slice());
+    Ok(())
+}
+
+#[test]
+fn agree_meets_shrink(rt: HostRuntime) -> Result<(), Fail> {
+    let script = [
+        (agree(0, 0, 0xf), Reply::Started),
+        (shrink(1, 0), Reply::Started),
+        (poll(0, 0), Reply::Refused(Refusal::Mismatch)),
+        (poll(1, 0), Reply::Refused(Refusal::Mismatch)),
+        (agree(0, 0, 0xf), Reply::Started),
+        (agree(1, 0, 0x3), Reply::Started),
+        (poll(1, 0), agreed(0x3, 0, false)),
+    ];
+    run(&rt, rt.alloc(), limits(2, 2, 4), &script)?;
+    Ok(())
+}
+
+#[test]
+fn rounds_and_room_used_up(rt: HostRuntime) -> Result<(), Fail> {
+    let script = [
+        (agree(0, 0, 0x1), Reply::Refused(Refusal::RoundsUsedUp)),
+        (shrink(0, 0), Reply::Started),
+        (shrink(1, 0), Reply::Started),
+        (poll(0, 0), Reply::Refused(Refusal::NoRoom)),
+        (poll(1, 0), Reply::Refused(Refusal::NoRoom)),
+        (shrink(0, 0), Reply::Refused(Refusal::RoundsUsedUp)),
+    ];
+    run(&rt, rt.alloc(), limits(2, 1, 1), &script)?;
+    Ok(())
+}
+
+fn acknowledgements_script() -> [Line; 10] {
+    [
+        (get(0, 0), failed_group(0)),
+        (fail(1), Reply::Declared),
+        (fail(2), Reply::Declared),
+        (ack(0, 0, 0), acked(0)),
+        (ack(0, 0, 1), acked(1)),
+        (ack(0, 0, 9), acked(2)),
+        (ack(0, 0, 1), acked(2)),
+        (get(0, 0), failed_group(2)),
+        (fail(1), Reply::AlreadyFailed),
+        (fail(7), Reply::Refused(Refusal::NoSuchRank)),
+    ]
+}
+
+#[test]
+fn acknowledgements_count(rt: HostRuntime) -> Result<(), Fail> {
+    let script = acknowledgements_script();
+    let object = run(&rt, rt.alloc(), limits(3, 1, 2), &script)?;
+    assert!(rt; object.failed(0)?.as_slice() == [1, 2].as_slice());
+    assert!(rt; object.failed(1)?.is_empty());
+    Ok(())
+}
+
+#[test]
+fn acknowledged_too_late(rt: HostRuntime) -> Result<(), Fail> {
+    let script = [
+        (fail(1), Reply::Declared),
+        (agree(0, 0, 0x1), Reply::Started),
+        (ack(0, 0, 1), acked(1)),
+        (poll(0, 0), agreed(0x1, 1, true)),
+    ];
+    run(&rt, rt.alloc(), limits(2, 1, 4), &script)?;
+    Ok(())
+}
+
+#[test]
+fn barrier_and_failure(rt: HostRuntime) -> Result<(), Fail> {
+    let script = [
+        (barrier(0, 0), Reply::Started),
+        (barrier(1, 0), Reply::Started),
+        (poll(0, 0), Reply::Pending),
+        (fail(2), Reply::Declared),
+        (poll(0, 0), Reply::Refused(Refusal::ProcFailed)),
+        (poll(0, 0), Reply::Refused(Refusal::Idle)),
+    ];
+    run(&rt, rt.alloc(), limits(3, 1, 4), &script)?;
+    Ok(())
+}
+
+#[test]
+fn barrier_before_failure(rt: HostRuntime) -> Result<(), Fail> {
+    let script = [
+        (barrier(0, 0), Reply::Started),
+        (barrier(1, 0), Reply::Started),
+        (fail(1), Reply::Declared),
+        (poll(0, 0), Reply::Done),
+    ];
+    run(&rt, rt.alloc(), limits(2, 1, 4), &script)?;
+    Ok(())
+}
+
+#[test]
+fn refusals_in_order(rt: HostRuntime) -> Result<(), Fail> {
+    let script = [
+        (shrink(0, 0), Reply::Started),
+        (shrink(0, 0), Reply::Refused(Refusal::Busy)),
+        (poll(0, 0), Reply::Pending),
+        (poll(1, 0), Reply::Refused(Refusal::Idle)),
+        (shrink(1, 0), Reply::Started),
+        (poll(0, 0), shrunk(1, 1, 2)),
+        (shrink(0, 0), Reply::Started),
+        (shrink(0, 1), Reply::Refused(Refusal::ShrinkOpen)),
+        (agree(0, 1, 0x1), Reply::Started),
+        (free(0, 1), Reply::Refused(Refusal::Busy)),
+        (free(0, 0), Reply::Refused(Refusal::WorldKept)),
+        (get(1, 1), Reply::Refused(Refusal::NoSuchComm)),
+    ];
+    let object = run(&rt, rt.alloc(), limits(2, 4, 8), &script)?;
+    assert!(rt; object.members(1)?.as_slice() == [0, 1].as_slice());
+    Ok(())
+}
+
+#[test]
+fn all_contexts_come_back(rt: HostRuntime) -> Result<(), Fail> {
+    let mut object = Object::open(rt.alloc(), limits(1, 40, 40))?;
+    for i in 1..32u16 {
+        object.apply(&shrink(0, 0))?;
+        let reply = object.apply(&poll(0, 0))?;
+        assert!(rt; reply == shrunk(i, i as u8, 1), "{reply:?}");
+    }
+    let script = [
+        (shrink(0, 0), Reply::Started),
+        (poll(0, 0), Reply::Refused(Refusal::NoContext)),
+        (free(0, 7), Reply::Freed),
+        (shrink(0, 0), Reply::Started),
+        (poll(0, 0), shrunk(32, 7, 1)),
+    ];
+    for line in &script {
+        let reply = object.apply(&line.0)?;
+        assert!(rt; reply == line.1, "{reply:?}");
+    }
+    assert!(rt; object.members(32)?.as_slice() == [0].as_slice());
+    Ok(())
+}
+
+#[test]
+fn limits_are_tested_in_order(rt: HostRuntime) {
+    let none = Object::<FlagAnd, Global>::open(rt.alloc(), limits(0, 1, 1));
+    assert!(rt; none.err() == Some(OpenFault::OutOfRange));
+    let large = Object::<FlagAnd, Global>::open(rt.alloc(), limits(1024, 1, 2048));
+    assert!(rt; large.err() == Some(OpenFault::TooLarge));
+}
+
+/// Fills a heap, block by block, until it has no more than so many bytes of room. The room comes back with what is
+/// answered.
+fn filled<'a>(
+    alloc: Global,
+    heap: &'a LocalHeap,
+    room: usize,
+) -> Result<Vec<Vec<u8, &'a LocalHeap>, Global>, AllocError> {
+    let mut blocks = Vec::new(alloc);
+    for _ in 0..1024usize {
+        if heap.free() <= room {
+            break;
+        }
+        blocks.push(Vec::with_capacity(heap, 16)?)?;
+    }
+    Ok(blocks)
+}
+
+/// Fails where the objects differ in what has happened, or in the members or the failures of the world.
+fn expect_alike<'a>(
+    rt: &impl Abort,
+    object: &Object<FlagAnd, &'a LocalHeap>,
+    twin: &Object<FlagAnd, Global>,
+) -> Result<(), Fail> {
+    assert!(rt; object.log.as_slice() == twin.log.as_slice());
+    assert!(rt; object.members(0)?.as_slice() == twin.members(0)?.as_slice());
+    assert!(rt; object.failed(0)?.as_slice() == twin.failed(0)?.as_slice());
+    Ok(())
+}
+
+/// A call, with more room each time until it isn't refused any more; before that it must leave the object as it was. Answers
+/// how many times it was refused.
+fn apply_refused<'a>(
+    rt: &impl Abort,
+    heap: &'a LocalHeap,
+    object: &mut Object<FlagAnd, &'a LocalHeap>,
+    twin: &mut Object<FlagAnd, Global>,
+    line: &Line,
+) -> Result<usize, Fail> {
+    for count in 0..200usize {
+        let blocks = filled(twin.alloc, heap, count * 16)?;
+        let answered = object.apply(&line.0);
+        drop(blocks);
+        if let Ok(reply) = answered {
+            assert!(rt; reply == line.1, "{:?} is answered {reply:?}", line.0);
+            twin.apply(&line.0)?;
+            return Ok(count);
+        }
+        expect_alike(rt, object, twin)?;
+    }
+    assert!(rt; false, "{:?} is never answered", line.0);
+    Ok(0)
+}
+
+/// A script, each call of which is refused its memory until there is enough. Answers how many times one was refused.
+fn run_refused(
+    rt: &impl Abort,
+    alloc: Global,
+    limits: Limits,
+    script: &[Line],
+) -> Result<usize, Fail> {
+    let heap = LocalHeap::new(alloc, 1 << 14)?;
+    let mut object = Object::open(&heap, limits)?;
+    let mut twin = Object::open(alloc, limits)?;
+    let mut refused = 0usize;
+    for line in script {
+        let more = apply_refused(rt, &heap, &mut object, &mut twin, line)?;
+        refused = refused.saturating_add(more);
+    }
+    expect_alike(rt, &object, &twin)?;
+    Ok(refused)
+}
+
+#[test]
+fn one_rank_is_refused_memory(rt: HostRuntime) -> Result<(), Fail> {
+    let refused = run_refused(&rt, rt.alloc(), limits(1, 1, 2), &one_rank_script())?;
+    assert!(rt; refused > 0, "no call was refused");
+    Ok(())
+}
+
+#[test]
+fn acknowledgements_are_refused_memory(rt: HostRuntime) -> Result<(), Fail> {
+    let script = acknowledgements_script();
+    let refused = run_refused(&rt, rt.alloc(), limits(3, 1, 2), &script)?;
+    assert!(rt; refused > 0, "no call was refused");
+    Ok(())
+}
+
+#[test]
+fn shrinks_are_refused_memory(rt: HostRuntime) -> Result<(), Fail> {
+    let script = [
+        (fail(1), Reply::Declared),
+        (shrink(0, 0), Reply::Started),
+        (poll(0, 0), shrunk(1, 1, 1)),
+        (free(0, 1), Reply::Freed),
+    ];
+    let refused = run_refused(&rt, rt.alloc(), limits(2, 2, 2), &script)?;
+    assert!(rt; refused > 0, "no call was refused");
+    Ok(())
+}
+
+#[test]
+fn openings_are_refused_memory(rt: HostRuntime) -> Result<(), Fail> {
+    for count in 0..200usize {
+        let heap = LocalHeap::new(rt.alloc(), count * 16)?;
+        match Object::<FlagAnd, &LocalHeap>::open(&heap, limits(3, 1, 2)) {
+            Err(fault) => assert!(rt; fault == OpenFault::OutOfMemory),
+            Ok(object) => {
+                assert!(rt; count > 1 && object.log.is_empty());
+                return Ok(());
+            }
+        }
+    }
+    assert!(rt; false, "no opening succeeds");
+    Ok(())
+}
