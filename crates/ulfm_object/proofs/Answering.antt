@@ -6,13 +6,14 @@ use Rattle.std.proofs.lemmas.List.{map-set}
 use Rattle.std.proofs.Math.Seq.{map-set_same}
 use Rattle.std.specs.declared.alloc.AllocError.{AllocError}
 use Rattle.ulfm_model.specs.declared.{call.Call.{Call}, limits.Limits.{Limits}, event.Caller.TheVariants.{Rank}, refusal.Refusal.TheVariants.{NoSuchRank, SelfFailed}, reply.Reply.{Reply}, reply.Reply.TheVariants.{Refused}}
-use Rattle.ulfm_object.specs.declared.{object.record.RankRecord.{RankRecord}}
+use Rattle.ulfm_record.specs.declared.record.RankRecord.{RankRecord}
 use Rattle.ulfm_model.specs.declared.call.Call.TheVariants as call
 use Rattle.ulfm_model.specs.{Alone.{IsSound, IsStep, State, record_at}, Answers.{left_by, traits_of}, Computed.{Next, next, next_by, next_of_fail, next_of_rank, outcome_of}, History.{History, entries_by, failures, first_ranks}, Records.{Record}, Sizes.{MayOpen}}
-use Rattle.ulfm_object.specs.Objects.{IsFew, TakesStep, rank_of, record_of, state_of}
+use Rattle.ulfm_object.specs.Objects.{IsFew, TakesStep, state_of}
+use Rattle.ulfm_record.specs.Kept.{rank_of, record_of}
 use Rattle.ulfm_model.proofs.LeftSound.{step_sound}
 use Rattle.ulfm_object.proofs.ObjectSteps.{few_of, next_of_call, ranks_distinct, replaced}
-use Rattle.ulfm_object.proofs.Places.{find_no_place, find_place, map_map}
+use Rattle.ulfm_record.proofs.Places.{find_no_place, find_place, map_map}
 use Rattle.ulfm_model.proofs.StepsNext.{next_is_step}
 
 module _ {P A : Type 0} (meld : P → P → P) (limits : Limits) (log : History P) (records : List (RankRecord A)) (asked : Call P) where

@@ -2,7 +2,13 @@
 //! ranks ask and what they are answered comes from `ulfm_model`.
 #![tactic(auto)]
 
+mod adds;
+mod leaves;
 pub mod object;
+mod outcome;
+mod replies;
+#[cfg(test)]
+mod tests;
 
 pub use object::Object;
 pub use ulfm_model::{

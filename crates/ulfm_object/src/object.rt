@@ -6,39 +6,28 @@ ghost use Rattle.ulfm_model.specs.Alone.{IsSound, State, new_state, record_at};
 ghost use Rattle.ulfm_model.specs.Answers.{left_by};
 ghost use Rattle.ulfm_model.specs.Computed.{next_of_fail, next_of_rank, outcome_of};
 ghost use Rattle.ulfm_model.specs.History.{entries_by, failures, first_ranks};
-ghost use Rattle.ulfm_object.specs.Objects.{IsFew, TakesStep, rank_of, record_of, state_of};
+ghost use Rattle.ulfm_object.specs.Objects.{IsFew, TakesStep, state_of};
+ghost use Rattle.ulfm_record.specs.Kept.{rank_of, record_of};
 ghost use Rattle.ulfm_model.specs.Records.{Record, new_record};
 ghost use Rattle.ulfm_model.specs.Rounds.{failed, members};
 ghost use Rattle.ulfm_model.specs.Sizes.{IsUnfit, MayOpen};
 ghost use Rattle.ulfm_model.specs.declared.event.Caller.TheVariants.{Rank};
 ghost use Rattle.ulfm_model.specs.declared.limits.OpenFault.TheVariants.{OutOfMemory};
 
-mod adds;
-mod decide;
-mod groups;
-mod leaves;
-mod outcome;
-mod reads;
-mod record;
-mod refuse;
-mod replies;
-mod says;
-#[cfg(test)]
-mod tests;
-
-use crate::object::groups::{failed, first_ranks, members};
-use crate::object::leaves::leave;
-use crate::object::outcome::outcome_of;
-use crate::object::reads::{failures, is_declared};
-use crate::object::record::{HeldComm, RankRecord};
+use crate::leaves::leave;
+use crate::outcome::outcome_of;
 use std::alloc::{AllocError, Allocator};
 use std::marker::Model;
+use ulfm_history::groups::{failed, first_ranks, members};
+use ulfm_history::reads::{failures, is_declared};
 use ulfm_laws::meld::Meld;
 use ulfm_model::call::Call;
 use ulfm_model::event::{Caller, Entry, Event};
 use ulfm_model::limits::{Limits, OpenFault};
 use ulfm_model::refusal::Refusal;
 use ulfm_model::reply::Reply;
+use ulfm_record::calls::rank_of;
+use ulfm_record::record::{HeldComm, RankRecord};
 
 /// The sequential object.
 #[derive(Drop)]
@@ -67,15 +56,7 @@ fn new_record<A: Allocator + Copy + Drop>(
 {
     let group = first_ranks(alloc, limits.ranks)?;
     let mut held = Vec::new(alloc);
-    held.push(HeldComm {
-        comm: 0,
-        group,
-        context: 0,
-        acked: 0,
-        next_agreement: 0,
-        next_barrier: 0,
-        request: None,
-    })?;
+    held.push(HeldComm::new(0, 0, group))?;
     let seen = Vec::new(alloc);
     Ok(RankRecord {
         number,
@@ -194,24 +175,6 @@ fn take_step<P: Meld, A: Allocator + Copy + Drop>(
     match *asked {
         Call::Fail { rank } => declare(limits, log, rank),
         _ => answer(alloc, limits, log, records, asked),
-    }
-}
-
-/// The rank that a call names.
-fn rank_of<P: Copy>(asked: &Call<P>) -> u16
-    ensures { result ≡ rank_of asked.now }
-{
-    match *asked {
-        Call::Fail { rank } => rank,
-        Call::GetFailed { rank, .. } => rank,
-        Call::Ack { rank, .. } => rank,
-        Call::Agree { rank, .. } => rank,
-        Call::Shrink { rank, .. } => rank,
-        Call::Barrier { rank, .. } => rank,
-        Call::Poll { rank, .. } => rank,
-        Call::Revoke { rank, .. } => rank,
-        Call::IsRevoked { rank, .. } => rank,
-        Call::Free { rank, .. } => rank,
     }
 }
 

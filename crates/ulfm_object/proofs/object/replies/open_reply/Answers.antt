@@ -1,4 +1,0 @@
-use Rattle.ulfm_object.proofs.object.replies.open_reply.Goals as goal
-
-pub returns-in-Barrier : goal.returns-in-Barrier
-returns-in-Barrier g c = λ events. rw c.in-Barrier.is (c.barrier_poll.ensures events)

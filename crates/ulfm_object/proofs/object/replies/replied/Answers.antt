@@ -1,4 +1,0 @@
-use Rattle.ulfm_object.proofs.object.replies.replied.Goals as goal
-
-pub returns-in-Poll : goal.returns-in-Poll
-returns-in-Poll g c = λ events. rw c.in-Poll.is (c.poll_reply.ensures events)

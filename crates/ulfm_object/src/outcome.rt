@@ -1,0 +1,107 @@
+// What a call of a rank comes to.
+ghost use Rattle.std.specs.Prelude.{◌≡◌, ◌++◌, IfOk};
+ghost use Rattle.ulfm_model.specs.Computed.{held_outcome, outcome_of, used_outcome};
+ghost use Rattle.ulfm_model.specs.Answers.{comm_of, refusal_of};
+ghost use Rattle.ulfm_model.specs.Records.{held_at};
+ghost use Rattle.ulfm_model.specs.Sizes.{MayOpen};
+ghost use Rattle.ulfm_model.specs.History.{entries_by};
+ghost use Rattle.ulfm_object.specs.Objects.{IsFew};
+ghost use Rattle.ulfm_record.specs.Kept.{held_of, record_of};
+ghost use Rattle.ulfm_model.specs.declared.event.Caller.TheVariants.{Rank};
+ghost use Rattle.ulfm_model.specs.declared.reply.Reply.TheVariants.{Refused};
+
+use crate::adds::{added, extended};
+use crate::replies::replied;
+use std::alloc::{AllocError, Allocator};
+use ulfm_history::reads::is_declared;
+use ulfm_laws::meld::Meld;
+use ulfm_model::call::Call;
+use ulfm_model::event::{Caller, Entry};
+use ulfm_model::limits::Limits;
+use ulfm_model::refusal::Refusal;
+use ulfm_model::reply::Reply;
+use ulfm_record::calls::comm_of;
+use ulfm_record::record::{HeldComm, RankRecord, place_of};
+use ulfm_record::refuse::refusal_of;
+
+/// The history after a call, and its reply.
+#[derive(Drop)]
+pub struct Outcome<P: Meld, A: Allocator> {
+    pub after: Vec<Entry<P>, A>,
+    pub reply: Reply<P>,
+}
+
+/// A call that the record doesn't refuse, of a rank that isn't declared.
+fn held_outcome<P: Meld, A: Allocator + Copy + Drop>(
+    alloc: A,
+    limits: Limits,
+    history: &[Entry<P>],
+    own: &RankRecord<A>,
+    x: &HeldComm<A>,
+    asked: &Call<P>,
+) -> Result<Outcome<P, A>, AllocError>
+    requires may { MayOpen limits }
+    requires few { IsFew history.now }
+    ensures after { IfOk result (λ out. out.after.items ≡ history.now ++ entries_by (Rank own.now.number) (held_outcome P.meld limits history.now (record_of limits own.now) (held_of x.now) asked.now).own) }
+    ensures reply { IfOk result (λ out. out.reply ≡ (held_outcome P.meld limits history.now (record_of limits own.now) (held_of x.now) asked.now).reply) }
+{
+    let events = added(alloc, limits, history, own, x, asked)?;
+    let after = extended(alloc, history, Caller::Rank(own.number), &events)?;
+    let reply = replied(alloc, limits, history, &after, own, x, asked)?;
+    Ok(Outcome { after, reply })
+}
+
+/// A refusal; nothing is added.
+fn refused<P: Meld, A: Allocator + Copy + Drop>(
+    alloc: A,
+    history: &[Entry<P>],
+    refusal: Refusal,
+) -> Result<Outcome<P, A>, AllocError>
+    ensures after { IfOk result (λ out. out.after.items ≡ history.now) }
+    ensures reply { IfOk result (λ out. out.reply ≡ Refused refusal) }
+{
+    let after = Vec::from_slice(alloc, history)?;
+    let reply = Reply::Refused(refusal);
+    Ok(Outcome { after, reply })
+}
+
+/// A call of a rank that isn't declared, by what its record says first.
+fn used_outcome<P: Meld, A: Allocator + Copy + Drop>(
+    alloc: A,
+    limits: Limits,
+    history: &[Entry<P>],
+    own: &RankRecord<A>,
+    asked: &Call<P>,
+) -> Result<Outcome<P, A>, AllocError>
+    requires may { MayOpen limits }
+    requires few { IsFew history.now }
+    ensures after { let record_is = record_of limits own.now in IfOk result (λ out. out.after.items ≡ history.now ++ entries_by (Rank own.now.number) (used_outcome P.meld limits history.now record_is (held_at record_is (comm_of asked.now)) (refusal_of record_is asked.now) asked.now).own) }
+    ensures reply { let record_is = record_of limits own.now in IfOk result (λ out. out.reply ≡ (used_outcome P.meld limits history.now record_is (held_at record_is (comm_of asked.now)) (refusal_of record_is asked.now) asked.now).reply) }
+{
+    if let Some(refusal) = refusal_of(limits, own, asked) {
+        return refused(alloc, history, refusal);
+    }
+    match place_of(&own.held, comm_of(asked)) {
+        Some(i) => held_outcome(alloc, limits, history, own, &own.held[i], asked),
+        None => refused(alloc, history, Refusal::SelfFailed),
+    }
+}
+
+/// A call of a rank that wasn't refused for good before.
+pub fn outcome_of<P: Meld, A: Allocator + Copy + Drop>(
+    alloc: A,
+    limits: Limits,
+    history: &[Entry<P>],
+    own: &RankRecord<A>,
+    asked: &Call<P>,
+) -> Result<Outcome<P, A>, AllocError>
+    requires may { MayOpen limits }
+    requires few { IsFew history.now }
+    ensures after { IfOk result (λ out. out.after.items ≡ history.now ++ entries_by (Rank own.now.number) (outcome_of P.meld limits history.now (record_of limits own.now) asked.now).own) }
+    ensures reply { IfOk result (λ out. out.reply ≡ (outcome_of P.meld limits history.now (record_of limits own.now) asked.now).reply) }
+{
+    if is_declared(history, own.number) {
+        return refused(alloc, history, Refusal::SelfFailed);
+    }
+    used_outcome(alloc, limits, history, own, asked)
+}
