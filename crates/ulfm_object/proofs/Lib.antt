@@ -1,4 +1,5 @@
 pub mod Added
 pub mod Answering
 pub mod Bounds
+pub mod Holding
 pub mod ObjectSteps
