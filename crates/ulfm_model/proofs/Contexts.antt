@@ -11,10 +11,9 @@ use Rattle.ulfm_model.specs.declared.event.Event.{Event}
 use Rattle.ulfm_model.specs.declared.event.Event.TheVariants.{Spawn}
 use Rattle.ulfm_model.specs.declared.limits.Limits.{Limits}
 use Rattle.ulfm_model.specs.History.{History, has, spawns}
-use Rattle.ulfm_model.specs.Rounds.{Decision, decision, is_decided}
+use Rattle.ulfm_model.specs.{History.{Decision, Exists, IsLegal, MayFollow, decision, is_decided}, Records.{Fits, FitsHeld, Held, IsContext, IsLowestId, Record, free_ids}}
+use Rattle.ulfm_model.proofs.Terms.{contexts_of}
 use Rattle.ulfm_model.specs.Laws.{HasOneContext}
-use Rattle.ulfm_model.specs.Legal.{Exists, IsLegal, MayFollow}
-use Rattle.ulfm_model.specs.Records.{Fits, FitsHeld, Held, IsContext, IsLowestId, Record, contexts_of, free_ids}
 use Rattle.ulfm_model.proofs.Decisions.{decision_push}
 use Rattle.ulfm_model.proofs.FreeIds.{free_where}
 use Rattle.ulfm_model.proofs.Histories.{by_events, spawns_push}

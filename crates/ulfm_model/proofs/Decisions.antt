@@ -18,8 +18,8 @@ use Rattle.ulfm_model.specs.declared.contribution.Slot.TheVariants.{Given, Mark 
 use Rattle.ulfm_model.specs.History.{has}
 use Rattle.ulfm_model.specs.History.{History, failures, slot}
 use Rattle.ulfm_model.proofs.Says.{put_by, declared_by}
-use Rattle.ulfm_model.specs.Rounds.{known_of, body_of, contribution_of, failed_among, round_among, members, failed, round, union_of, decided_by, is_decided, Decision, lacks_one, decision}
-use Rattle.ulfm_model.specs.Legal.{Exists, IsPlace, MayFollow, IsLegal}
+use Rattle.ulfm_model.specs.History.{Decision, Exists, IsLegal, IsPlace, MayFollow, body_of, contribution_of, decided_by, decision, failed, failed_among, is_decided, known_of, members, round, round_among, union_of}
+use Rattle.ulfm_model.proofs.Terms.{lacks_one}
 use Rattle.ulfm_model.proofs.Lists.{first_stays, first_push, none_first, filter_map_same, all_some, each_filter_map, each_filter, filter_map_each, each_from, any_same, any_none, each_always, filter_none, not_in_take, not_in_filter, in_list, get_stays}
 use Rattle.ulfm_model.proofs.Histories.{by_events, stays, exists_push, members_same}
 
@@ -62,11 +62,11 @@ module _ {P : Type 0} (meld : P → P → P) (limits : Limits) where
   put_stands h (Settle comm round rank given) c k r s may is =
       let parts = chosen ((comm == c) && (round == k) && (rank == r)) (Given given) s is in
       let at = here_of c k r comm round rank parts.0 in
-      rw (← at.0, ← at.1, ← at.2) (rw (← parts.1) (may.first, record { place = may.place; fits = may.known; names = tt }))
+      rw (← at.0, ← at.1, ← at.2) (rw (← parts.1) (may.1, record { place = may.0; fits = may.2; names = tt }))
   put_stands h (Mark comm round rank known) c k r s may is =
       let parts = chosen ((comm == c) && (round == k) && (rank == r)) (Marked known) s is in
       let at = here_of c k r comm round rank parts.0 in
-      rw (← at.0, ← at.1, ← at.2) (rw (← parts.1) (may.first, record { place = may.place; fits = omega (arith, in_list (failed ranks h comm) (known.known.count - 1) rank may.declared); names = may.declared }))
+      rw (← at.0, ← at.1, ← at.2) (rw (← parts.1) (may.1, record { place = may.0; fits = omega (arith, in_list (failed ranks h comm) (known.known.count - 1) rank may.2); names = may.2 }))
   put_stands h (Arrive comm round rank) c k r s may is = absurd (cc is)
   put_stands h (Revoke comm) c k r s may is = absurd (cc is)
   put_stands h (Spawn comm parent round) c k r s may is = absurd (cc is)
@@ -131,7 +131,7 @@ module _ {P : Type 0} (meld : P → P → P) (limits : Limits) where
 
   -- the rank that an event declares is not in the failed group before it
   newly : (h : History P) (e : Event P) (F : List ℕ) (p : ℕ → Bool) → MayFollow meld limits h e → ((r : ℕ) → has (failures h) r ≡ false → has F r ≡ false) → AllByRecursion (λ r. has F r ≡ false) (filter p (cons_option (declared_by e) []))
-  newly h (Fail r) F p may out = each_filter p (λ x. has F x ≡ false) (r ∷ []) (out r may.first, tt)
+  newly h (Fail r) F p may out = each_filter p (λ x. has F x ≡ false) (r ∷ []) (out r may.1, tt)
   newly h (Settle comm round rank given) F p may out = tt
   newly h (Mark comm round rank known) F p may out = tt
   newly h (Arrive comm round rank) F p may out = tt

@@ -14,11 +14,10 @@ use Rattle.ulfm_model.specs.declared.event.Event.{Event}
 use Rattle.ulfm_model.specs.declared.event.Event.TheVariants.{Fail, Settle, Mark, Arrive, Revoke}
 use Rattle.ulfm_model.specs.declared.limits.Limits.{Limits}
 use Rattle.ulfm_model.specs.Answers.{closed}
-use Rattle.ulfm_model.specs.Computed.{given_at, mark_at}
+use Rattle.ulfm_model.specs.History.{IsLegal, MayFollow, decision, is_decided}
+use Rattle.ulfm_model.proofs.Computed.{given_at, mark_at}
 use Rattle.ulfm_model.specs.History.{History}
-use Rattle.ulfm_model.specs.Legal.{IsLegal, MayFollow}
 use Rattle.ulfm_model.specs.Records.{Record, new_record, with_held}
-use Rattle.ulfm_model.specs.Rounds.{decision, is_decided}
 use Rattle.ulfm_model.specs.Runs.{IsRun}
 
 -- an event in the name of its caller
@@ -150,4 +149,4 @@ decision_of_nobody = (search arith, refl, refl)
 
 -- the mark of rank 1 may not leave out that rank 0 failed first
 mark_counts_one_too_few : ¬ MayFollow bit_and two (by Outside (Fail 0) ∷ by Outside (Fail 1) ∷ by Outside (Mark 0 0 0 (mark_at 1)) ∷ []) (Mark 0 0 1 (mark_at 1))
-mark_counts_one_too_few may = cc (may.declared)
+mark_counts_one_too_few may = cc (may.2)

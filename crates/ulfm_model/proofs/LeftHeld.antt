@@ -4,7 +4,8 @@ use Rattle.std.specs.Prelude.{find}
 use Rattle.std.specs.List.{list_any, AllByRecursion, IsDistinct}
 use Rattle.std.proofs.lemmas.Map.Keys.{IsDistinct-head, IsDistinct-tail, IsDistinct-cons}
 use Rattle.std.proofs.lemmas.Bool.{or_parts}
-use Rattle.ulfm_model.specs.Records.{Held, change_at, contexts_of, is_shrink}
+use Rattle.ulfm_model.specs.Records.{Held, change_at, is_shrink}
+use Rattle.ulfm_model.proofs.Terms.{contexts_of}
 use Rattle.ulfm_model.proofs.Lists.{find_holds}
 
 -- the communicators on which a shrink is open, counted

@@ -9,9 +9,8 @@ use Rattle.ulfm_laws.specs.declared.ctx_mask.CtxMask.{CtxMask}
 use Rattle.ulfm_model.specs.declared.call.Request.TheVariants.{Shrink}
 use Rattle.ulfm_model.specs.declared.limits.Limits.{Limits}
 use Rattle.ulfm_model.specs.History.{History, has, spawns, without}
-use Rattle.ulfm_model.specs.Legal.{Exists, IsLegal}
-use Rattle.ulfm_model.specs.Records.{Held, Record, Fits, FitsHeld, FitsRequest, IsLowestId, contexts_of, held_at, is_shrink, new_held}
-use Rattle.ulfm_model.specs.Rounds.{Decision, decision, is_decided, members}
+use Rattle.ulfm_model.specs.{History.{Decision, Exists, IsLegal, decision, is_decided, members}, Records.{Fits, FitsHeld, FitsRequest, Held, IsLowestId, Record, held_at, is_shrink}}
+use Rattle.ulfm_model.proofs.Terms.{contexts_of, new_held}
 use Rattle.ulfm_model.specs.Answers.{closed}
 use Rattle.ulfm_model.proofs.Lists.{each_from, get_prefix, has_kept, in_list}
 use Rattle.ulfm_model.proofs.Histories.{members_stay}

@@ -1,3 +1,4 @@
+pub mod Computed
 pub mod Contexts
 pub mod Decisions
 pub mod FreeIds
@@ -27,6 +28,7 @@ pub mod Rows
 pub mod Says
 pub mod Spawned
 pub mod Stable
+pub mod Terms
 pub mod StepsAlone
 pub mod StepsNext
 pub mod StepsOutcome

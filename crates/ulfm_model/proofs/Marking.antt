@@ -16,10 +16,8 @@ use Rattle.ulfm_model.specs.declared.event.Entry.{Entry}
 use Rattle.ulfm_model.specs.declared.event.Event.{Event}
 use Rattle.ulfm_model.specs.declared.event.Event.TheVariants.{Fail, Settle, Mark, Arrive, Revoke, Spawn}
 use Rattle.ulfm_model.specs.History.{History, entries_by, failures, has, same_place, slot, spawns}
-use Rattle.ulfm_model.specs.Rounds.{failed, members}
-use Rattle.ulfm_model.specs.Legal.{Exists, IsLegal, IsLegalAfter, MayFollow, MayMark}
-use Rattle.ulfm_model.specs.Alone.{settled_by}
-use Rattle.ulfm_model.specs.Computed.{mark_at, mark_of, marks_of}
+use Rattle.ulfm_model.specs.History.{Exists, IsLegal, IsLegalAfter, MayFollow, failed, members}
+use Rattle.ulfm_model.proofs.{Computed.{mark_at, mark_of, marks_of}, Terms.{settled_by}}
 use Rattle.ulfm_model.proofs.Says.{declared_by, made_by, put_by}
 use Rattle.ulfm_model.proofs.Lists.{distinct_filter, each_always, each_push, first_push, has_at, has_passes, in_list, length-filter-le, none_of}
 use Rattle.ulfm_model.proofs.Histories.{by_events, legal_push, members_stay, slot_stays}
@@ -42,7 +40,7 @@ module _ {P : Type 0} (meld : P → P → P) (limits : Limits) where
       (λ w e lw q may. subst (AllByRecursion (λ r. r < limits.ranks)) (sym (filter_map-append (λ x. declared_by x.event) w (e ∷ []))) (more w e.event may q)) h legal
     where
       more : (w : History P) (ev : Event P) → MayFollow meld limits w ev → AllByRecursion (λ r. r < limits.ranks) (failures w) → AllByRecursion (λ r. r < limits.ranks) (failures w ++ cons_option (declared_by ev) [])
-      more w (Fail r) may q = each_push (λ r. r < limits.ranks) (failures w) r q may.rank
+      more w (Fail r) may q = each_push (λ r. r < limits.ranks) (failures w) r q may.0
       more w (Settle c k r given) may q = subst (AllByRecursion (λ r. r < limits.ranks)) (sym (append-nil (failures w))) q
       more w (Mark c k r known) may q = subst (AllByRecursion (λ r. r < limits.ranks)) (sym (append-nil (failures w))) q
       more w (Arrive c k r) may q = subst (AllByRecursion (λ r. r < limits.ranks)) (sym (append-nil (failures w))) q
@@ -164,16 +162,15 @@ module _ {P : Type 0} (meld : P → P → P) (limits : Limits) (h : History P) (
   failed_distinct = distinct_filter (has (members ranks h c)) (failures h) (failures_distinct meld limits h legal)
 
   -- the member that is declared as the n-th of its communicator, counted from 0, may be marked
-  may_mark : (n r : ℕ) → k < limits.rounds → ranks ≤ 1024 → slice_get (failed ranks h c) n ≡ Some r → slot h c k r ≡ None → MayMark limits h c k r (mark_at (n + 1))
+  may_mark : (n r : ℕ) → k < limits.rounds → ranks ≤ 1024 → slice_get (failed ranks h c) n ≡ Some r → slot h c k r ≡ None → MayFollow meld limits h (Mark c k r (mark_at (n + 1)))
   may_mark n r round small at empty =
       let below = in_list (failed ranks h c) n r at in
       let few = failed_few meld limits h (members ranks h c) legal in
-      let count : max 1 (min (n + 1) 1024) - 1 ≡ n = omega (arith, below, few, small) in
-      record {
-        place = record { exists = exists; member = has_passes (has (members ranks h c)) (failures h) r (has_at (failed ranks h c) n r at); in_rounds = round };
-        first = empty;
-        declared = ap (slice_get (failed ranks h c)) count ∙ at;
-      }
+      let count : max 1 (min (n + 1) 1024) - 1 ≡ n = omega (arith, below, few, small) in (
+        record { exists = exists; member = has_passes (has (members ranks h c)) (failures h) r (has_at (failed ranks h c) n r at); in_rounds = round },
+        empty,
+        ap (slice_get (failed ranks h c)) count ∙ at,
+      )
 
   legal_from : (rest : List ℕ) (n : ℕ) (w : History P) → k < limits.rounds → ranks ≤ 1024 → IsPrefix h w → IsLegal meld limits w → ((i r : ℕ) → slice_get rest i ≡ Some r → slice_get (failed ranks h c) (n + i) ≡ Some r)
       → AreSame h by c k w rest → IsDistinct nat_eq rest → IsLegalAfter meld limits w (entries_by by (marks_from h by c k (n + 1) rest))

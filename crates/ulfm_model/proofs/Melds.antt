@@ -11,8 +11,8 @@ use Rattle.ulfm_laws.specs.Combined.{combined}
 use Rattle.ulfm_model.specs.declared.contribution.Slot.{Slot}
 use Rattle.ulfm_model.specs.declared.contribution.Slot.TheVariants.{Given, Mark as Marked}
 use Rattle.ulfm_model.specs.History.{has}
-use Rattle.ulfm_model.specs.Rounds.{all_of}
-use Rattle.ulfm_model.specs.Rounds.{known_of, body_of, contribution_of, union_of, lacks_one, Decision, decided_by}
+use Rattle.ulfm_model.specs.{History.{Decision, body_of, contribution_of, decided_by, known_of, union_of}, Laws.{all_of}}
+use Rattle.ulfm_model.proofs.Terms.{lacks_one}
 use Rattle.ulfm_model.proofs.Lists.{each_from, any_same, filter_none, each_always, each_take, filter_same}
 use Rattle.std.proofs.lemmas.List.Elements.{filter_agree}
 

@@ -6,9 +6,9 @@ use Rattle.ulfm_model.specs.declared.contribution.Slot.{Slot}
 use Rattle.ulfm_model.specs.declared.event.Event.{Event}
 use Rattle.ulfm_model.specs.declared.event.Event.TheVariants.{Fail, Settle, Mark, Arrive, Revoke, Spawn}
 use Rattle.ulfm_model.specs.declared.limits.Limits.{Limits}
-use Rattle.ulfm_model.specs.History.{History, failures, has, is_revoked, put_at, same_place, says, slot, spawns}
+use Rattle.ulfm_model.specs.History.{History, IsLegal, MayFollow, failures, has, is_revoked, same_place, says, slot, spawns}
+use Rattle.ulfm_model.proofs.Terms.{put_at}
 use Rattle.ulfm_model.specs.Laws.{HappensOnce}
-use Rattle.ulfm_model.specs.Legal.{IsLegal, MayFollow}
 use Rattle.ulfm_model.proofs.Histories.{by_events}
 use Rattle.ulfm_model.proofs.Lists.{distinct_push, none_distinct, none_first}
 
@@ -42,7 +42,7 @@ module _ {P : Type 0} (meld : P → P → P) (limits : Limits) where
       more w q (Some x) out = distinct_push same (filter_map (λ e. f e.event) w) x q (out x refl)
 
   declares : (h : History P) (event : Event P) (r : ℕ) → MayFollow meld limits h event → (says event).declares ≡ Some r → list_any (λ y. nat_eq y r) (failures h) ≡ false
-  declares h (Fail rank) r may is = let same : rank ≡ r = cc is in subst (λ r. has (failures h) r ≡ false) same may.first
+  declares h (Fail rank) r may is = let same : rank ≡ r = cc is in subst (λ r. has (failures h) r ≡ false) same may.1
   declares h event r may is = absurd (cc is)
 
   no_other : (h : History P) (c k r : ℕ) (place : ℕ × ℕ × ℕ) → (c, k, r) ≡ place → slot h c k r ≡ None → list_any (λ y. same_place y.0 place) (filter_map (λ e. (says e.event).settles) h) ≡ false
@@ -51,20 +51,20 @@ module _ {P : Type 0} (meld : P → P → P) (limits : Limits) where
 
   settles : (h : History P) (event : Event P) (put : (ℕ × ℕ × ℕ) × Slot P) → MayFollow meld limits h event → (says event).settles ≡ Some put
       → list_any (λ y. same_place y.0 put.0) (filter_map (λ e. (says e.event).settles) h) ≡ false
-  settles h (Settle c k r given) put may is = no_other h c k r put.0 (cc) may.first
-  settles h (Mark c k r mark) put may is = no_other h c k r put.0 (cc) may.first
+  settles h (Settle c k r given) put may is = no_other h c k r put.0 (cc) may.1
+  settles h (Mark c k r mark) put may is = no_other h c k r put.0 (cc) may.1
   settles h event put may is = absurd (cc is)
 
   arrives : (h : History P) (event : Event P) (place : ℕ × ℕ × ℕ) → MayFollow meld limits h event → (says event).arrives ≡ Some place
       → list_any (λ y. same_place y place) (filter_map (λ e. (says e.event).arrives) h) ≡ false
   arrives h (Arrive c k r) place may is =
       let same : (c, k, r) ≡ place = cc is in
-      subst (λ place. list_any (λ y. same_place y place) (filter_map (λ e. (says e.event).arrives) h) ≡ false) same may.first
+      subst (λ place. list_any (λ y. same_place y place) (filter_map (λ e. (says e.event).arrives) h) ≡ false) same may.1
   arrives h event place may is = absurd (cc is)
 
   revokes : (h : History P) (event : Event P) (c : ℕ) → MayFollow meld limits h event → (says event).revokes ≡ Some c
       → list_any (λ y. nat_eq y c) (filter_map (λ e. (says e.event).revokes) h) ≡ false
-  revokes h (Revoke comm) c may is = let same : comm ≡ c = cc is in subst (λ c. is_revoked h c ≡ false) same may.first
+  revokes h (Revoke comm) c may is = let same : comm ≡ c = cc is in subst (λ c. is_revoked h c ≡ false) same may.1
   revokes h event c may is = absurd (cc is)
 
   makes : (h : History P) (event : Event P) (x : ℕ × ℕ) → MayFollow meld limits h event → (says event).makes ≡ Some x → list_any (λ y. (y.0 == x.0) && (y.1 == x.1)) (spawns h) ≡ false

@@ -23,12 +23,10 @@ use Rattle.ulfm_model.specs.declared.reply.Reply.{Reply}
 use Rattle.ulfm_model.specs.declared.reply.Reply.TheVariants.{Started, AlreadyRevoked, Revoked, Refused}
 use Rattle.ulfm_model.specs.declared.refusal.Refusal.TheVariants.{Twice}
 use Rattle.ulfm_model.specs.History.{History, entries_by, failures, has, has_arrived, is_revoked, slot}
-use Rattle.ulfm_model.specs.Rounds.{members}
-use Rattle.ulfm_model.specs.Legal.{IsLegal, MayFollow}
+use Rattle.ulfm_model.specs.{History.{IsLegal, MayFollow, members}, Runs.{unsettled_of}}
+use Rattle.ulfm_model.proofs.{Computed.{added, added_by_poll, given_at, marks_of, replied, settle_of, start_reply}, Terms.{settled_by}}
 use Rattle.ulfm_model.specs.Records.{FitsHeld, Held, Record, free_ids}
 use Rattle.ulfm_model.specs.Answers.{BarrierStartReplies, CallAdds, PollAdds, PollReplies, Replies, StartReplies, View, traits_of}
-use Rattle.ulfm_model.specs.Alone.{settled_by, unsettled_of}
-use Rattle.ulfm_model.specs.Computed.{added, added_by_poll, given_at, marks_of, replied, settle_of, start_reply}
 use Rattle.ulfm_model.proofs.Says.{declared_by}
 use Rattle.ulfm_model.proofs.Histories.{failures_begin, legal_parts, members_stay}
 use Rattle.ulfm_model.proofs.Lists.{each_from, has_prefix}
@@ -111,7 +109,7 @@ module _ {P : Type 0} (meld : P → P → P) (limits : Limits) (h : History P) (
   start_is : (x : Held) (offer : Offer P) (reply : Reply P) → StartReplies view own x offer reply
       → (events ≡ settle_of h n x offer) × (reply ≡ start_reply (slot h x.comm x.next_agreement n))
   start_is x offer reply (inl (started, gave)) =
-      let empty : slot h x.comm x.next_agreement n ≡ None = (was_allowed (Settle x.comm x.next_agreement n gave.given) gave.own).first in
+      let empty : slot h x.comm x.next_agreement n ≡ None = (was_allowed (Settle x.comm x.next_agreement n gave.given) gave.own).1 in
       let size = length (filter (has x.group) (failures h)) in
       let same = given_is gave.given offer size x.acked gave.offer_is gave.known gave.acked in (
         gave.own ∙ (ap (λ g. Settle x.comm x.next_agreement n g ∷ []) same ∙ ap (λ o. if is_some o then [] else Settle x.comm x.next_agreement n (given_at offer size x.acked) ∷ []) (sym empty)),
@@ -125,7 +123,7 @@ module _ {P : Type 0} (meld : P → P → P) (limits : Limits) (h : History P) (
   barrier_is : (x : Held) (reply : Reply P) → BarrierStartReplies view own x reply
       → (events ≡ (if has_arrived h x.comm x.next_barrier n then [] else Arrive x.comm x.next_barrier n ∷ [])) × (reply ≡ (if has_arrived h x.comm x.next_barrier n then Refused Twice else Started))
   barrier_is x reply (stands, inl (started, one)) =
-      let away : has_arrived h x.comm x.next_barrier n ≡ false = (was_allowed (Arrive x.comm x.next_barrier n) one).first in
+      let away : has_arrived h x.comm x.next_barrier n ≡ false = (was_allowed (Arrive x.comm x.next_barrier n) one).1 in
       (one ∙ ap (λ b. if b then [] else Arrive x.comm x.next_barrier n ∷ []) (sym away), started ∙ ap (λ b. if b then Refused Twice else Started) (sym away))
   barrier_is x reply (stands, inr (twice, none)) =
       let there : has_arrived h x.comm x.next_barrier n ≡ true = ap (λ w. has_arrived w x.comm x.next_barrier n) (sym (unchanged none)) ∙ stands in
@@ -134,7 +132,7 @@ module _ {P : Type 0} (meld : P → P → P) (limits : Limits) (h : History P) (
   revoke_is : (c : ℕ) (reply : Reply P) → IsTrue (is_revoked after c) × (((reply ≡ Revoked) × (events ≡ Revoke c ∷ [])) ⊎ ((reply ≡ AlreadyRevoked) × (events ≡ [])))
       → (events ≡ (if is_revoked h c then [] else Revoke c ∷ [])) × (reply ≡ (if is_revoked h c then AlreadyRevoked else Revoked))
   revoke_is c reply (stands, inl (revoked, one)) =
-      let open_before : is_revoked h c ≡ false = (was_allowed (Revoke c) one).first in
+      let open_before : is_revoked h c ≡ false = (was_allowed (Revoke c) one).1 in
       (one ∙ ap (λ b. if b then [] else Revoke c ∷ []) (sym open_before), revoked ∙ ap (λ b. if b then AlreadyRevoked else Revoked) (sym open_before))
   revoke_is c reply (stands, inr (already, none)) =
       let there : is_revoked h c ≡ true = ap (λ w. is_revoked w c) (sym (unchanged none)) ∙ stands in

@@ -17,12 +17,10 @@ use Rattle.ulfm_model.specs.declared.event.Event.TheVariants.{Mark, Spawn}
 use Rattle.ulfm_model.specs.declared.limits.Limits.{Limits}
 use Rattle.ulfm_model.specs.declared.reply.Reply.{Reply}
 use Rattle.ulfm_model.specs.History.{History, entries_by, failures, has, slot, spawns}
-use Rattle.ulfm_model.specs.Rounds.{Decision, decision, failed, is_decided, known_of, members, round}
-use Rattle.ulfm_model.specs.Legal.{Exists, IsLegal, IsLegalAfter, MayFollow, MayMark, MaySpawn, is_made}
+use Rattle.ulfm_model.specs.History.{Decision, Exists, IsLegal, IsLegalAfter, MayFollow, MaySpawn, decision, failed, is_decided, is_made, known_of, members, round}
+use Rattle.ulfm_model.proofs.{Computed.{is_free_mask, marks_of, spawn_of}, Terms.{settled_by}}
 use Rattle.ulfm_model.specs.Records.{Held}
 use Rattle.ulfm_model.specs.Answers.{PollReplies}
-use Rattle.ulfm_model.specs.Alone.{settled_by}
-use Rattle.ulfm_model.specs.Computed.{is_free_mask, marks_of, spawn_of}
 use Rattle.ulfm_model.proofs.Lists.{distinct_filter, not_in_filter}
 use Rattle.ulfm_model.proofs.Histories.{exists_push, legal_parts, legal_push, spawns_push}
 use Rattle.ulfm_model.proofs.Decisions.{decision_push, failed_push}
@@ -71,9 +69,9 @@ module _ {P : Type 0} (meld : P → P → P) (limits : Limits) (c k : ℕ) (by :
   -- a shrink's poll adds nothing to a round that is decided and made
   closed_round : (w : History P) (e : Event P) → is_decided ranks w c k ≡ true → is_made w c k ≡ true → ShrinkAdds c k e → MayFollow meld limits w e → ⊥
   closed_round w e all made (inl (r, mark, is)) may =
-      let this : MayMark limits w c k r mark = subst (MayFollow meld limits w) is may in
-      let some = all_member (λ m. is_some (slot w c k m)) (members ranks w c) r all this.place.member in
-      let empty = ap is_some this.first in
+      let this : MayFollow meld limits w (Mark c k r mark) = subst (MayFollow meld limits w) is may in
+      let some = all_member (λ m. is_some (slot w c k m)) (members ranks w c) r all this.0.member in
+      let empty = ap is_some this.1 in
       cc (some, empty)
   closed_round w e all made (inr (j, is)) may = let this : MaySpawn meld limits w j c k = subst (MayFollow meld limits w) is may in cc (made, this.first)
 
@@ -102,7 +100,7 @@ module _ {P : Type 0} (meld : P → P → P) (limits : Limits) (c k : ℕ) (by :
   counts_are w F [] here same legal = tt
   counts_are w F (p ∷ pairs) here same legal =
       let now : Entry P = entry (marked c k p) in (
-        ap (λ G. slice_get G (p.1.known.count - 1)) (sym same) ∙ legal.0.declared,
+        ap (λ G. slice_get G (p.1.known.count - 1)) (sym same) ∙ legal.0.2,
         counts_are (w ++ now ∷ []) F pairs (exists_push w now c here) (failed_push meld limits w now c here legal.0 ∙ (append-nil (failed ranks w c) ∙ same)) legal.1,
       )
 

@@ -11,12 +11,12 @@ use Rattle.ulfm_model.specs.declared.refusal.Refusal.TheVariants.{NoSuchRank}
 use Rattle.ulfm_model.specs.declared.reply.Reply.{Reply}
 use Rattle.ulfm_model.specs.declared.reply.Reply.TheVariants.{AlreadyFailed, Declared, Refused}
 use Rattle.ulfm_model.specs.History.{History, entries_by, failures, has}
-use Rattle.ulfm_model.specs.Legal.{IsLegal, MayFail}
+use Rattle.ulfm_model.proofs.Terms.{after_call}
+use Rattle.ulfm_model.specs.{History.{IsLegal, MayFollow}, Runs.{IsRankStep, IsSound, IsStep, State}}
+use Rattle.ulfm_model.proofs.{Computed.{Next, Outcome, fail_outcome, next, next_by, next_of_rank}, Terms.{record_at}}
 use Rattle.ulfm_model.specs.Records.{Fits, Record}
 use Rattle.ulfm_model.specs.Answers.{AnswersFail, View, left_by, traits_of}
 use Rattle.ulfm_model.specs.Runs.{IsFailRun}
-use Rattle.ulfm_model.specs.Alone.{IsRankStep, IsSound, IsStep, State, after_call, record_at}
-use Rattle.ulfm_model.specs.Computed.{Next, Outcome, fail_outcome, next, next_by, next_of_rank}
 use Rattle.ulfm_model.proofs.Histories.{legal_parts}
 use Rattle.ulfm_model.proofs.Lists.{at_member, find_holds}
 use Rattle.ulfm_model.proofs.Marking.{failures_below}
@@ -33,8 +33,8 @@ module _ {P : Type 0} (meld : P → P → P) (limits : Limits) (h : History P) (
   -- a declaration where nobody else steps is the computed one
   pub fail_is : AnswersFail limits (record { look = failures h; history = h ++ entries_by Outside events; own = events }) rank reply → HasOutcome events reply (fail_outcome limits h rank)
   fail_is (inl (declared, one, stands)) =
-      let may : MayFail limits h rank = (legal_parts meld limits h (entries_by Outside (Fail rank ∷ [])) (subst (λ es. IsLegal meld limits (h ++ entries_by Outside es)) one legal)).1.0 in
-      has_tests true false (lt-ltb rank limits.ranks may.rank) may.first (one, declared)
+      let may : MayFollow meld limits h (Fail rank) = (legal_parts meld limits h (entries_by Outside (Fail rank ∷ [])) (subst (λ es. IsLegal meld limits (h ++ entries_by Outside es)) one legal)).1.0 in
+      has_tests true false (lt-ltb rank limits.ranks may.0) may.1 (one, declared)
   fail_is (inr (inl (already, none, stands))) =
       let stood : has (failures h) rank ≡ true = ap (λ w. has (failures w) rank) (sym (ap (λ es. h ++ entries_by Outside es) none ∙ append-nil h)) ∙ stands in
       let below = at_member (λ r. r < limits.ranks) (failures h) rank (failures_below meld limits h (legal_parts meld limits h (entries_by Outside events) legal).0) stood in

@@ -4,7 +4,8 @@ use Rattle.std.specs.List.{cons_option, list_any}
 use Rattle.std.proofs.Common.{[]}
 use Rattle.ulfm_model.specs.declared.contribution.Slot.{Slot}
 use Rattle.ulfm_model.specs.declared.event.Event.{Event}
-use Rattle.ulfm_model.specs.History.{has, put_at, same_place, says}
+use Rattle.ulfm_model.specs.History.{has, same_place, says}
+use Rattle.ulfm_model.proofs.Terms.{put_at}
 
 -- whom it declares failed
 abbrev pub declared_by : {P : Type 0} → Event P → Option ℕ

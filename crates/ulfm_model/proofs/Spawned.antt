@@ -10,8 +10,7 @@ use Rattle.ulfm_model.specs.declared.event.Event.TheVariants.{Fail, Settle, Mark
 use Rattle.ulfm_model.specs.History.{without}
 use Rattle.ulfm_model.specs.History.{History, failures, spawns}
 use Rattle.ulfm_model.proofs.Says.{declared_by, made_by}
-use Rattle.ulfm_model.specs.Rounds.{members, is_decided, Decision, decision}
-use Rattle.ulfm_model.specs.Legal.{Exists, MaySpawn, MayFollow, IsLegal}
+use Rattle.ulfm_model.specs.History.{Decision, Exists, IsLegal, MayFollow, MaySpawn, decision, is_decided, members}
 use Rattle.ulfm_model.proofs.Lists.{distinct_push, in_list, none_distinct}
 use Rattle.ulfm_model.proofs.Histories.{by_events, exists_push, members_made, members_same, spawns_push}
 use Rattle.ulfm_model.proofs.Decisions.{decision_push}
@@ -89,7 +88,7 @@ module _ {P : Type 0} (meld : P → P → P) (limits : Limits) where
       (λ w e lw q may. subst (IsDistinct nat_eq) (sym (filter_map-append (λ x. declared_by x.event) w (e ∷ []))) (more w e.event may q)) h legal
     where
       more : (w : History P) (ev : Event P) → MayFollow meld limits w ev → IsDistinct nat_eq (failures w) → IsDistinct nat_eq (failures w ++ cons_option (declared_by ev) [])
-      more w (Fail r) may q = distinct_push nat_eq (failures w) r q may.first
+      more w (Fail r) may q = distinct_push nat_eq (failures w) r q may.1
       more w (Settle c k r given) may q = subst (IsDistinct nat_eq) (sym (append-nil (failures w))) q
       more w (Mark c k r known) may q = subst (IsDistinct nat_eq) (sym (append-nil (failures w))) q
       more w (Arrive c k r) may q = subst (IsDistinct nat_eq) (sym (append-nil (failures w))) q

@@ -9,19 +9,17 @@ use Rattle.ulfm_model.specs.declared.limits.Limits.{Limits}
 use Rattle.ulfm_model.specs.declared.call.Request.{Request}
 use Rattle.ulfm_model.specs.declared.call.Request.TheVariants.{Agree, Shrink, Barrier}
 use Rattle.ulfm_model.specs.declared.event.Event.{Event}
-use Rattle.ulfm_model.specs.declared.event.Event.TheVariants.{Settle, Arrive}
+use Rattle.ulfm_model.specs.declared.event.Event.TheVariants.{Fail, Settle, Mark, Arrive, Revoke}
 use Rattle.ulfm_model.specs.declared.contribution.Slot.{Slot}
 use Rattle.ulfm_model.specs.History.{has}
 use Rattle.ulfm_model.specs.History.{History, failures, slot, has_arrived, is_revoked, spawns}
 use Rattle.ulfm_model.proofs.Says.{made_by}
-use Rattle.ulfm_model.specs.Rounds.{members, failed, round, Decision, decision, known_of}
-use Rattle.ulfm_model.specs.Legal.{Exists, IsPlace, MayFail, MaySettle, MayMark, MayArrive, MayRevoke, MaySpawn, IsLegal}
-use Rattle.ulfm_model.specs.Records.{Held, Record, Fits, FitsHeld, FitsRequest, IsContext, IsOwn, contexts_of}
+use Rattle.ulfm_model.specs.{History.{Decision, Exists, IsLegal, IsPlace, MayFollow, MaySpawn, decision, failed, known_of, members, round}, Laws.{all_of}, Records.{Fits, FitsHeld, FitsRequest, Held, IsContext, Record}}
+use Rattle.ulfm_model.proofs.Terms.{IsOwn, contexts_of}
 use Rattle.ulfm_model.proofs.Lists.{none_first, each_from, each_filter_map, distinct_filter, get_prefix, length_prefix, has_prefix}
 use Rattle.ulfm_model.proofs.Histories.{members_stay, failures_begin, legal_parts}
 use Rattle.ulfm_model.proofs.Decisions.{decision_stays, slot_stands, Stands}
 use Rattle.ulfm_model.proofs.Melds.{decided_is}
-use Rattle.ulfm_model.specs.Rounds.{all_of}
 use Rattle.ulfm_model.proofs.Spawned.{members_of_spawned, failures_distinct}
 
 at_end : {X : Type 0} (xs zs : List X) → slice_get (xs ++ zs) (length xs) ≡ slice_get zs 0
@@ -60,36 +58,34 @@ module _ {P : Type 0} (meld : P → P → P) (limits : Limits) where
       record { exists = both.0; member = ap (λ ms. has ms r) both.1 ∙ place.member; in_rounds = place.in_rounds }
 
   -- a contribution stays allowed until its place is taken
-  pub settle_stays : (h longer : History P) (c k r : ℕ) (given : Contribution P) → IsPrefix h longer → IsLegal meld limits longer → MaySettle limits h c k r given → slot longer c k r ≡ None → MaySettle limits longer c k r given
-  settle_stays h longer c k r given begins legal may empty =
-      record {
-        place = place_stays h longer c k r begins legal may.place;
-        first = empty;
-        known = omega (arith, may.known, length_prefix (failed ranks h c) (failed ranks longer c) (failed_begins h longer c begins legal may.place.exists));
-      }
+  pub settle_stays : (h longer : History P) (c k r : ℕ) (given : Contribution P) → IsPrefix h longer → IsLegal meld limits longer → MayFollow meld limits h (Settle c k r given) → slot longer c k r ≡ None → MayFollow meld limits longer (Settle c k r given)
+  settle_stays h longer c k r given begins legal may empty = (
+    place_stays h longer c k r begins legal may.0,
+    empty,
+    omega (arith, may.2, length_prefix (failed ranks h c) (failed ranks longer c) (failed_begins h longer c begins legal may.0.exists)),
+  )
 
   -- so does a mark
-  pub mark_stays : (h longer : History P) (c k r : ℕ) (mark : MarkCount) → IsPrefix h longer → IsLegal meld limits longer → MayMark limits h c k r mark → slot longer c k r ≡ None → MayMark limits longer c k r mark
+  pub mark_stays : (h longer : History P) (c k r : ℕ) (mark : MarkCount) → IsPrefix h longer → IsLegal meld limits longer → MayFollow meld limits h (Mark c k r mark) → slot longer c k r ≡ None → MayFollow meld limits longer (Mark c k r mark)
   mark_stays h longer c k r mark begins legal may empty =
-      let group = failed_begins h longer c begins legal may.place.exists in
-      record {
-        place = place_stays h longer c k r begins legal may.place;
-        first = empty;
-        declared = get_prefix (failed ranks h c) (failed ranks longer c) (mark.known.count - 1) r group may.declared;
-      }
+      let group = failed_begins h longer c begins legal may.0.exists in (
+        place_stays h longer c k r begins legal may.0,
+        empty,
+        get_prefix (failed ranks h c) (failed ranks longer c) (mark.known.count - 1) r group may.2,
+      )
 
   -- so does an arrival, until the rank has arrived
-  pub arrive_stays : (h longer : History P) (c k r : ℕ) → IsPrefix h longer → IsLegal meld limits longer → MayArrive limits h c k r → has_arrived longer c k r ≡ false → MayArrive limits longer c k r
-  arrive_stays h longer c k r begins legal may empty = record { place = place_stays h longer c k r begins legal may.place; first = empty }
+  pub arrive_stays : (h longer : History P) (c k r : ℕ) → IsPrefix h longer → IsLegal meld limits longer → MayFollow meld limits h (Arrive c k r) → has_arrived longer c k r ≡ false → MayFollow meld limits longer (Arrive c k r)
+  arrive_stays h longer c k r begins legal may empty = (place_stays h longer c k r begins legal may.0, empty)
 
   -- so does a revocation, until the communicator is revoked
-  pub revoke_stays : (h longer : History P) (c : ℕ) → IsPrefix h longer → IsLegal meld limits longer → MayRevoke h c → is_revoked longer c ≡ false → MayRevoke longer c
-  revoke_stays h longer c begins legal may empty = record { exists = (members_stay ranks h longer c begins may.exists).0; first = empty }
+  pub revoke_stays : (h longer : History P) (c : ℕ) → IsPrefix h longer → IsLegal meld limits longer → MayFollow meld limits h (Revoke c) → is_revoked longer c ≡ false → MayFollow meld limits longer (Revoke c)
+  revoke_stays h longer c begins legal may empty = ((members_stay ranks h longer c begins may.0).0, empty)
 
   -- a declaration stays allowed until another takes its place in the list
-  pub fail_stays : (h longer : History P) (r : ℕ) → IsPrefix h longer → MayFail limits h r → slice_get (failures longer) (length (failures h)) ≡ None → MayFail limits longer r
+  pub fail_stays : (h longer : History P) (r : ℕ) → IsPrefix h longer → MayFollow meld limits h (Fail r) → slice_get (failures longer) (length (failures h)) ≡ None → MayFollow meld limits longer (Fail r)
   fail_stays h longer r begins may empty =
-      record { rank = may.rank; first = ap (λ w. has w r) (same_prefix (failures h) (failures longer) (failures_begin h longer begins) empty) ∙ may.first }
+      (may.0, ap (λ w. has w r) (same_prefix (failures h) (failures longer) (failures_begin h longer begins) empty) ∙ may.1)
 
   -- a communicator stays allowed until another takes its number
   pub spawn_stays : (h longer : History P) (j c k : ℕ) → IsPrefix h longer → IsLegal meld limits longer → MaySpawn meld limits h j c k → slice_get (spawns longer) (length (spawns h)) ≡ None → MaySpawn meld limits longer j c k

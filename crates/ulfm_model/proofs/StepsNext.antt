@@ -10,12 +10,10 @@ use Rattle.ulfm_model.specs.declared.limits.Limits.{Limits}
 use Rattle.ulfm_model.specs.declared.event.Caller.TheVariants.{Outside, Rank}
 use Rattle.ulfm_model.specs.declared.event.Event.TheVariants.{Fail}
 use Rattle.ulfm_model.specs.History.{History, entries_by, failures, has}
-use Rattle.ulfm_model.specs.Legal.{IsLegal, IsLegalAfter}
+use Rattle.ulfm_model.specs.{History.{IsLegal, IsLegalAfter}, Runs.{IsAloneRun, IsFailRun, IsRankStep, IsSound, IsStep, State}}
+use Rattle.ulfm_model.proofs.{Computed.{Outcome, fail_outcome, next, next_by, next_of_rank, outcome_of}, Terms.{record_at, view_of}}
 use Rattle.ulfm_model.specs.Records.{Fits, Record}
 use Rattle.ulfm_model.specs.Answers.{AnswersFail, left_by, traits_of}
-use Rattle.ulfm_model.specs.Runs.{IsFailRun, view_of}
-use Rattle.ulfm_model.specs.Alone.{IsAloneRun, IsRankStep, IsSound, IsStep, State, record_at}
-use Rattle.ulfm_model.specs.Computed.{Outcome, fail_outcome, next, next_by, next_of_rank, outcome_of}
 use Rattle.ulfm_model.proofs.Lists.{find_holds}
 use Rattle.ulfm_model.proofs.Says.{declared_by}
 use Rattle.ulfm_model.proofs.StepsAlone.{good_run, span_alone}
@@ -50,7 +48,7 @@ module _ {P : Type 0} (meld : P → P → P) (limits : Limits) (h : History P) (
       by_tests : (below : Bool) → nat_lt r limits.ranks ≡ below → (was : Bool) → has (failures h) r ≡ was
           → IsFailRunOf r (if below then (if was then (record { own = []; reply = AlreadyFailed }) else (record { own = Fail r ∷ []; reply = Declared })) else (record { own = []; reply = Refused NoSuchRank }))
       by_tests true below true was = run_of (record { own = []; reply = AlreadyFailed }) tt (inr (inl (refl, refl, ap (λ w. has (failures w) r) (append-nil h) ∙ was)))
-      by_tests true below false was = run_of (record { own = Fail r ∷ []; reply = Declared }) (record { rank = grind (arith, nat_tests); first = was }, tt) (inl (refl, refl, declared_after r))
+      by_tests true below false was = run_of (record { own = Fail r ∷ []; reply = Declared }) ((grind (arith, nat_tests), was), tt) (inl (refl, refl, declared_after r))
       by_tests false below was stood = run_of (record { own = []; reply = Refused NoSuchRank }) tt (inr (inr (refl, refl, grind (arith, nat_tests))))
 
 module _ {P : Type 0} (meld : P → P → P) (state : State P) (sound : IsSound meld state) (small : state.limits.ranks ≤ 1024) (some : 0 < state.limits.comms) where

@@ -10,10 +10,9 @@ use Rattle.ulfm_model.specs.declared.event.Caller.TheVariants.{Rank}
 use Rattle.ulfm_model.specs.declared.event.Entry.{Entry}
 use Rattle.ulfm_model.specs.declared.event.Event.TheVariants.{Revoke}
 use Rattle.ulfm_model.specs.History.{History, failures, has, is_revoked, says}
-use Rattle.ulfm_model.specs.Legal.{Exists}
-use Rattle.ulfm_model.specs.Records.{Fits, FitsHeld, Held, Record, contexts_of, held_at}
+use Rattle.ulfm_model.specs.{History.{Exists}, Records.{Fits, FitsHeld, Held, Record, held_at}}
+use Rattle.ulfm_model.proofs.{Computed.{held_outcome}, Terms.{contexts_of}}
 use Rattle.ulfm_model.specs.Answers.{refusal_of}
-use Rattle.ulfm_model.specs.Computed.{held_outcome}
 use Rattle.ulfm_model.proofs.Lists.{find_holds}
 use Rattle.ulfm_model.proofs.StepsAlone.{IsGood, call_good}
 
@@ -63,4 +62,4 @@ module _ {P : Type 0} (meld : P → P → P) (limits : Limits) (h : History P) (
           let stands : is_revoked (h ++ entry ∷ []) c ≡ true =
           ap (λ cs. has cs c) (filter_map-append (λ e. (says e.event).revokes) h (entry ∷ [])) ∙ has_last (filter_map (λ e. (says e.event).revokes) h) c in
           call_good meld limits h own (call.Revoke rank c) x (record { own = Revoke c ∷ []; reply = Revoked }) at passed alive
-          (record { exists = subst (Exists h) same exists; first = stood }, tt) (ap Revoke (sym same), tt) (stands, inl (refl, refl)) (λ polls. refl)
+          ((subst (Exists h) same exists, stood), tt) (ap Revoke (sym same), tt) (stands, inl (refl, refl)) (λ polls. refl)

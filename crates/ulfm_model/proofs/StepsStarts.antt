@@ -19,11 +19,10 @@ use Rattle.ulfm_model.specs.declared.event.Entry.{Entry}
 use Rattle.ulfm_model.specs.declared.event.Event.{Event}
 use Rattle.ulfm_model.specs.declared.event.Event.TheVariants.{Settle, Arrive}
 use Rattle.ulfm_model.specs.History.{History, entries_by, failures, has, has_arrived, same_place, says, slot}
-use Rattle.ulfm_model.specs.Rounds.{failed, members}
-use Rattle.ulfm_model.specs.Legal.{IsLegal, IsLegalAfter}
+use Rattle.ulfm_model.specs.History.{IsLegal, IsLegalAfter, failed, members}
+use Rattle.ulfm_model.proofs.Computed.{given_at, held_outcome, start_reply}
 use Rattle.ulfm_model.specs.Records.{FitsHeld, Held, Record, free_ids, held_at}
 use Rattle.ulfm_model.specs.Answers.{StartReplies, refusal_of}
-use Rattle.ulfm_model.specs.Computed.{given_at, held_outcome, start_reply}
 use Rattle.ulfm_model.proofs.Lists.{first_push, has_at, has_filter}
 use Rattle.ulfm_model.proofs.Says.{put_by}
 use Rattle.ulfm_model.proofs.Decisions.{slot_stands}
@@ -66,11 +65,11 @@ module _ {P : Type 0} (meld : P → P → P) (limits : Limits) (h : History P) (
         let entry : Entry P = record { by = Rank own.number; event = Settle x.comm x.next_agreement own.number given } in
         record {
           legal_after = (
-            record {
-              place = record { exists = fits.exists; member = ap (λ w. has w own.number) (sym fits.group) ∙ fits.member; in_rounds = round };
-              first = was;
-              known = omega (arith, same);
-            },
+            (
+              record { exists = fits.exists; member = ap (λ w. has w own.number) (sym fits.group) ∙ fits.member; in_rounds = round },
+              was,
+              omega (arith, same),
+            ),
             tt,
           );
           adds = ((given, refl), tt);
@@ -122,5 +121,5 @@ module _ {P : Type 0} (meld : P → P → P) (limits : Limits) (h : History P) (
             ∙ (list_any-append (λ p. same_place p place) before (place ∷ [])
             ∙ or_right (list_any (λ p. same_place p place) before) (list_any (λ p. same_place p place) (place ∷ [])) (or_left (same_place place place) false (same_itself x.comm x.next_barrier own.number))) in
             call_good meld limits h own (call.Barrier rank c) x (record { own = entry.event ∷ []; reply = Started }) at passed alive
-            (record { place = record { exists = fits.exists; member = ap (λ w. has w own.number) (sym fits.group) ∙ fits.member; in_rounds = round }; first = was }, tt)
+            ((record { exists = fits.exists; member = ap (λ w. has w own.number) (sym fits.group) ∙ fits.member; in_rounds = round }, was), tt)
             (refl, tt) (arrived, inl (refl, refl)) (λ polls. refl)

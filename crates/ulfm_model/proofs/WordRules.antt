@@ -16,8 +16,8 @@ use Rattle.ulfm_model.specs.declared.place.Place.{Place}
 use Rattle.ulfm_model.specs.declared.place.Place.TheVariants.{List as ListAt, Comm as CommAt, Revoked as RevokedAt, Slot as SlotAt, Arrival as ArrivalAt}
 use Rattle.ulfm_model.specs.History.{History, failures, has, has_arrived, is_revoked, same_place, says, spawns}
 use Rattle.ulfm_model.specs.Laws.{Sets, SetsOneWord, HasWords}
-use Rattle.ulfm_model.specs.Legal.{IsLegal, IsLegalAfter, MayFollow}
-use Rattle.ulfm_model.specs.Words.{offer_word, place_of, slot_word, word_at, word_of, word_or_zero}
+use Rattle.ulfm_model.specs.{History.{IsLegal, IsLegalAfter, MayFollow}, Words.{offer_word, place_of, slot_word, word_at, word_of}}
+use Rattle.ulfm_model.proofs.Terms.{word_or_zero}
 use Rattle.ulfm_model.proofs.Histories.{along, by_events, legal_parts, legal_push}
 use Rattle.ulfm_model.proofs.Lists.{first_push}
 use Rattle.ulfm_model.proofs.Says.{arrives_at, declared_by, made_by, put_by, revokes}
@@ -149,19 +149,19 @@ module _ {P : Type 0} (pack : P → ℕ) (meld : P → P → P) (limits : Limits
     list_word (Fail rank) (length (failures h)) ∙ ap (word_or_zero (λ rank. rank + 1)) (at_end (failures h) rank),
   )
   word_set (Settle c k r given) may = (
-    ap (word_or_zero (slot_word pack)) may.first,
-    ap (word_or_zero (slot_word pack)) (first_push (λ x. put_by c k r x.event) h (record { by = by; event = Settle c k r given }) may.first ∙ ap (λ b. if b then Some (Given given) else None) (itself c k r)),
+    ap (word_or_zero (slot_word pack)) may.1,
+    ap (word_or_zero (slot_word pack)) (first_push (λ x. put_by c k r x.event) h (record { by = by; event = Settle c k r given }) may.1 ∙ ap (λ b. if b then Some (Given given) else None) (itself c k r)),
   )
   word_set (Mark c k r mark) may = (
-    ap (word_or_zero (slot_word pack)) may.first,
-    ap (word_or_zero (slot_word pack)) (first_push (λ x. put_by c k r x.event) h (record { by = by; event = Mark c k r mark }) may.first ∙ ap (λ b. if b then Some (Marked mark) else None) (itself c k r)),
+    ap (word_or_zero (slot_word pack)) may.1,
+    ap (word_or_zero (slot_word pack)) (first_push (λ x. put_by c k r x.event) h (record { by = by; event = Mark c k r mark }) may.1 ∙ ap (λ b. if b then Some (Marked mark) else None) (itself c k r)),
   )
   word_set (Arrive c k r) may = (
-    ap (λ b. if b then 1 else 0) may.first,
+    ap (λ b. if b then 1 else 0) may.1,
     ap (λ b. if b then 1 else 0) (arrived_is (Arrive c k r) c k r ∙ or_second (has_arrived h c k r) (arrives_at {P = P} c k r (Arrive c k r)) (ap (λ b. b || false) (itself c k r))),
   )
   word_set (Revoke c) may = (
-    ap (λ b. if b then 1 else 0) may.first,
+    ap (λ b. if b then 1 else 0) may.1,
     ap (λ b. if b then 1 else 0) (revoked_is (Revoke c) c ∙ or_second (is_revoked h c) (revokes {P = P} c (Revoke c)) (ap (λ b. b || false) (eq-eqb c c refl))),
   )
   word_set (Spawn j parent round) may = made_new j parent round may.next

@@ -1,10 +1,32 @@
--- Which replies are answers to a call of a rank, at a point of a history, and what each leaves of the rank's record.
-use Rattle.std.specs.{Prelude.{◌≡◌, ◌⊎◌, ℕ, ◌+◌, ◌-◌, ◌<◌, ◌≤◌, ◌==◌, Bool, not, min, max, true, false, if◌then◌else◌, List, [], ◌∷◌, ◌++◌, length, filter, slice_get, Option, Some, None, is_some, nat_le, IsTrue, IsFalse}, List.{AllByRecursion, list_any, list_all}}
+-- Which replies are answers to a call of a rank, at a point of a history, and what each leaves of the rank's record; refusals among them.
+use Rattle.std.specs.{Prelude.{◌≡◌, ◌⊎◌, ℕ, ◌+◌, ◌-◌, ◌<◌, ◌≤◌, ◌==◌, Bool, not, min, max, true, false, if◌then◌else◌, List, [], ◌∷◌, ◌++◌, length, filter, slice_get, Option, Some, None, is_some, nat_le, IsTrue, IsFalse, codes}, List.{AllByRecursion, list_any, list_all}, Option.{option_and_then}}
 use mathlib.Core.List.{IsPrefix}
 use Rattle.ulfm_laws.specs.declared.{body.Body.TheVariants.{Flag as OfFlags, Ctx as OfIds, Clash}, ctx_mask.CtxMask.{CtxMask}}
-use Rattle.ulfm_model.specs.declared.{call.Call.{Call}, reply.Reply.{Reply}, reply.Reply.TheVariants.{Started, Pending, Agreed, Shrunk, Done, FailedGroup, Acked, Declared, AlreadyFailed, Revoked, AlreadyRevoked, Standing, Freed, Refused}, refusal.Refusal.{Refusal}, refusal.Refusal.TheVariants.{SelfFailed, NoSuchComm, Busy, ShrinkOpen, RoundsUsedUp, Idle, Mismatch, NoContext, NoRoom, IsRevoked, ProcFailed, WorldKept, NoSuchRank, Twice}, call.Request.{Request}, call.Request.TheVariants.{Agree, Shrink, Barrier}, contribution.Contribution.{Contribution}, contribution.MarkCount.{MarkCount}, contribution.Offer.{Offer}, contribution.Offer.TheVariants.{Flag, Ctx}, contribution.Slot.TheVariants.{Given}, limits.Limits.{Limits}, event.Caller.{Caller}, event.Caller.TheVariants.{Outside, Rank}, event.Event.{Event}, event.Event.TheVariants.{Fail, Settle, Mark, Arrive, Revoke, Spawn}}
+use Rattle.ulfm_model.specs.declared.{call.Call.{Call}, reply.Reply.{Reply}, reply.Reply.TheVariants.{Started, Pending, Agreed, Shrunk, Done, FailedGroup, Acked, Declared, AlreadyFailed, Revoked, AlreadyRevoked, Standing, Freed, Refused}, refusal.Refusal.{Refusal}, refusal.Refusal.TheVariants.{SelfFailed, NoSuchComm, Busy, ShrinkOpen, RoundsUsedUp, Idle, Mismatch, NoContext, NoRoom, IsRevoked, ProcFailed, WorldKept, NoSuchRank, OutOfMemory, Twice}, call.Request.{Request}, call.Request.TheVariants.{Agree, Shrink, Barrier}, contribution.Contribution.{Contribution}, contribution.MarkCount.{MarkCount}, contribution.Offer.{Offer}, contribution.Offer.TheVariants.{Flag, Ctx}, contribution.Slot.TheVariants.{Given}, limits.Limits.{Limits}, event.Caller.{Caller}, event.Caller.TheVariants.{Outside, Rank}, event.Event.{Event}, event.Event.TheVariants.{Fail, Settle, Mark, Arrive, Revoke, Spawn}}
 use Rattle.ulfm_model.specs.declared.call.Call.TheVariants as call
-use Rattle.ulfm_model.specs.{History.{History, failures, has, has_arrived, is_revoked, slot, spawns}, Rounds.{Decision, members, failed, is_decided, decision}, Legal.{is_made}, Refusals.{Effect, printed}, Refusals.Effect.{Keeps, Ends, ForGood}, Records.{Held, Record, IsLowestId, is_shrink, free_ids, held_at, new_held, with_held}}
+use Rattle.ulfm_model.specs.{History.{Decision, History, decision, failed, failures, has, has_arrived, is_decided, is_made, is_revoked, members, slot, spawns}, Records.{Held, IsLowestId, Record, free_ids, held_at, is_shrink, with_held}}
+
+-- what a refusal leaves: the record as it is; the request ended; the rank refused for good
+pub data Effect : Type 0 where
+  Keeps Ends ForGood : Effect
+
+-- the number, the printed name and the effect of each refusal
+abbrev pub printed : Refusal → ℕ × List ℕ × Effect
+printed SelfFailed = (1, codes "self-failed", ForGood)
+printed NoSuchComm = (2, codes "no-such-comm", Keeps)
+printed Busy = (3, codes "busy", Keeps)
+printed ShrinkOpen = (4, codes "shrink-open", Keeps)
+printed RoundsUsedUp = (5, codes "rounds-used-up", Keeps)
+printed Idle = (6, codes "idle", Keeps)
+printed Mismatch = (7, codes "mismatch", Ends)
+printed NoContext = (8, codes "no-context", Ends)
+printed NoRoom = (9, codes "no-room", Ends)
+printed IsRevoked = (10, codes "is-revoked", Ends)
+printed ProcFailed = (11, codes "proc-failed", Ends)
+printed WorldKept = (12, codes "world-kept", Keeps)
+printed NoSuchRank = (13, codes "no-such-rank", Keeps)
+printed OutOfMemory = (14, codes "out-of-memory", Keeps)
+printed Twice = (15, codes "twice", Keeps)
 
 -- what a reply rests on: the failures that the call's look found, the history at the reply's point, and the call's own events
 pub record View (P : Type 0) : Type 0 where
@@ -12,70 +34,49 @@ pub record View (P : Type 0) : Type 0 where
   pub history : History P
   pub own : List (Event P)
 
--- the traits of a call: its caller; its communicator, 0 for a declaration; the request that it starts on a held one; whether it polls
+-- the traits of a call: its caller; its communicator, 0 for a declaration; the request that it starts on a held one; whether it polls; and its
+-- tests on a held one, in their order, each with its refusal
 pub record Traits : Type 0 where
   pub by : Caller
   pub comm : ℕ
   pub starts : Held → Option Request
   pub polls : Bool
+  pub tests : Record → Held → List (Bool × Refusal)
 
--- a call of a rank that neither starts nor polls
+-- a call of a rank that neither starts nor polls, and has no test
 abbrev pub plain : ℕ → ℕ → Traits
-plain rank c = record { by = Rank rank; comm = c; starts = λ x. None; polls = false }
+plain rank c = record { by = Rank rank; comm = c; starts = λ x. None; polls = false; tests = λ old x. [] }
 
 -- the traits of each call
 abbrev pub traits_of : {P : Type 0} → Call P → Traits
 traits_of (call.Fail rank) = record (plain rank 0) { by = Outside }
 traits_of (call.GetFailed rank c) = plain rank c
 traits_of (call.Ack rank c count) = plain rank c
-traits_of (call.Agree rank c value) = record (plain rank c) { starts = λ x. Some (Agree x.next_agreement) }
-traits_of (call.Shrink rank c) = record (plain rank c) { starts = λ x. Some (Shrink x.next_agreement) }
-traits_of (call.Barrier rank c) = record (plain rank c) { starts = λ x. Some (Barrier x.next_barrier) }
-traits_of (call.Poll rank c) = record (plain rank c) { polls = true }
+traits_of (call.Agree rank c value) = record (plain rank c) { starts = λ x. Some (Agree x.next_agreement); tests = λ old x. (is_some x.request, Busy) ∷ (nat_le old.limits.rounds (x.next_agreement + 1), RoundsUsedUp) ∷ [] }
+traits_of (call.Shrink rank c) = record (plain rank c) { starts = λ x. Some (Shrink x.next_agreement); tests = λ old x. (is_some x.request, Busy) ∷ (list_any (λ y. is_shrink y.request) old.held, ShrinkOpen) ∷ (nat_le old.limits.rounds x.next_agreement, RoundsUsedUp) ∷ [] }
+traits_of (call.Barrier rank c) = record (plain rank c) { starts = λ x. Some (Barrier x.next_barrier); tests = λ old x. (is_some x.request, Busy) ∷ (nat_le old.limits.rounds x.next_barrier, RoundsUsedUp) ∷ [] }
+traits_of (call.Poll rank c) = record (plain rank c) { polls = true; tests = λ old x. (not (is_some x.request), Idle) ∷ [] }
 traits_of (call.Revoke rank c) = plain rank c
 traits_of (call.IsRevoked rank c) = plain rank c
-traits_of (call.Free rank c) = plain rank c
-
--- the communicator of a call
-abbrev pub comm_of : {P : Type 0} → Call P → ℕ
-comm_of asked = (traits_of asked).comm
-
--- the request that is open on a communicator, if the rank holds it
-abbrev pub request_of : Option Held → Option Request
-request_of None = None
-request_of (Some x) = x.request
+traits_of (call.Free rank c) = record (plain rank c) { tests = λ old x. (c == 0, WorldKept) ∷ (is_some x.request, Busy) ∷ [] }
 
 -- the request that a call polls
 abbrev pub polled_by : {P : Type 0} → Record → Call P → Option Request
-polled_by old asked = if (traits_of asked).polls then request_of (held_at old (comm_of asked)) else None
-
--- the tests of a call on a communicator that the rank holds, in their order, each with its refusal
-abbrev pub tests_of : {P : Type 0} → Record → Held → Call P → List (Bool × Refusal)
-tests_of old x (call.Fail rank) = []
-tests_of old x (call.GetFailed rank c) = []
-tests_of old x (call.Ack rank c count) = []
-tests_of old x (call.Agree rank c value) = (is_some x.request, Busy) ∷ (nat_le old.limits.rounds (x.next_agreement + 1), RoundsUsedUp) ∷ []
-tests_of old x (call.Shrink rank c) =
-    (is_some x.request, Busy) ∷ (list_any (λ y. is_shrink y.request) old.held, ShrinkOpen) ∷ (nat_le old.limits.rounds x.next_agreement, RoundsUsedUp) ∷ []
-tests_of old x (call.Barrier rank c) = (is_some x.request, Busy) ∷ (nat_le old.limits.rounds x.next_barrier, RoundsUsedUp) ∷ []
-tests_of old x (call.Poll rank c) = (not (is_some x.request), Idle) ∷ []
-tests_of old x (call.Revoke rank c) = []
-tests_of old x (call.IsRevoked rank c) = []
-tests_of old x (call.Free rank c) = (c == 0, WorldKept) ∷ (is_some x.request, Busy) ∷ []
+polled_by old asked = if (traits_of asked).polls then option_and_then (λ x. x.request) (held_at old (traits_of asked).comm) else None
 
 -- the first refusal whose test holds
 abbrev pub first_refusal : List (Bool × Refusal) → Option Refusal
 first_refusal [] = None
 first_refusal (test ∷ tests) = if test.0 then Some test.1 else first_refusal tests
 
--- the refusal where the rank doesn't hold the communicator, or by the first test
+-- the refusal where the rank doesn't hold the communicator, or by the first test that holds
 abbrev pub refusal_on : {P : Type 0} → Record → Option Held → Call P → Option Refusal
 refusal_on old None asked = Some NoSuchComm
-refusal_on old (Some x) asked = first_refusal (tests_of old x asked)
+refusal_on old (Some x) asked = first_refusal ((traits_of asked).tests old x)
 
 -- the refusal of a call by the rank's record, if it has one
 abbrev pub refusal_of : {P : Type 0} → Record → Call P → Option Refusal
-refusal_of old asked = refusal_on old (held_at old (comm_of asked)) asked
+refusal_of old asked = refusal_on old (held_at old (traits_of asked).comm) asked
 
 -- the event marks, in round k, a member that the look found declared
 abbrev pub MarksDeclared : {P : Type 0} → List ℕ → Held → ℕ → Event P → Type 0
@@ -105,7 +106,7 @@ CallAdds look r x (call.Free rank c) event = ⊥
 pub record MayOwn {P : Type 0} (look : List ℕ) (old : Record) (asked : Call P) (event : Event P) : Type 0 where
   pub not_declared : IsFalse (has look old.number)
   pub not_refused : refusal_of old asked ≡ None
-  pub adds : (x : Held) × (held_at old (comm_of asked) ≡ Some x) × CallAdds look old.number x asked event
+  pub adds : (x : Held) × (held_at old (traits_of asked).comm ≡ Some x) × CallAdds look old.number x asked event
 
 -- a start has contributed this offer, with the failures that the look found and those that the record has acknowledged
 pub record Contributes {P : Type 0} (view : View P) (old : Record) (x : Held) (offer : Offer P) : Type 0 where
@@ -211,20 +212,20 @@ refused_with now c ForGood = record now { refused = true }
 
 -- after a reply, by the history at its point
 abbrev pub left_by : {P : Type 0} → ℕ → History P → Record → Call P → Reply P → Record
-left_by ranks h now asked Started = with_held now (comm_of asked) (λ y. opened y ((traits_of asked).starts y))
+left_by ranks h now asked Started = with_held now (traits_of asked).comm (λ y. opened y ((traits_of asked).starts y))
 left_by ranks h now asked Pending = now
-left_by ranks h now asked (Agreed value count raised) = closed now (comm_of asked)
-left_by ranks h now asked (Shrunk j context size) = let rest = closed now (comm_of asked) in record rest { held = rest.held ++ new_held j context (members ranks h j) ∷ [] }
-left_by ranks h now asked Done = closed now (comm_of asked)
+left_by ranks h now asked (Agreed value count raised) = closed now (traits_of asked).comm
+left_by ranks h now asked (Shrunk j context size) = let rest = closed now (traits_of asked).comm in record rest { held = rest.held ++ record { comm = j; group = members ranks h j; context = context; acked = 0; next_agreement = 0; next_barrier = 0; request = None } ∷ [] }
+left_by ranks h now asked Done = closed now (traits_of asked).comm
 left_by ranks h now asked (FailedGroup count) = now
-left_by ranks h now asked (Acked count) = with_held now (comm_of asked) (λ y. record y { acked = count })
+left_by ranks h now asked (Acked count) = with_held now (traits_of asked).comm (λ y. record y { acked = count })
 left_by ranks h now asked Declared = now
 left_by ranks h now asked AlreadyFailed = now
 left_by ranks h now asked Revoked = now
 left_by ranks h now asked AlreadyRevoked = now
 left_by ranks h now asked (Standing revoked) = now
-left_by ranks h now asked Freed = record now { held = filter (λ y. not (y.comm == comm_of asked)) now.held }
-left_by ranks h now asked (Refused refusal) = refused_with now (comm_of asked) (printed refusal).2
+left_by ranks h now asked Freed = record now { held = filter (λ y. not (y.comm == (traits_of asked).comm)) now.held }
+left_by ranks h now asked (Refused refusal) = refused_with now (traits_of asked).comm (printed refusal).2
 
 -- the failures that the rank has seen then: those of the look; a shrink's poll may have read on, up to the point
 abbrev pub Sees : {P : Type 0} → Bool → View P → List ℕ → Type 0
@@ -245,7 +246,7 @@ pub record IsSelfFailed {P : Type 0} (view : View P) (old : Record) (asked : Cal
 -- any other reply, to a rank that the look didn't find declared
 pub record IsReply {P : Type 0} (meld : P → P → P) (limits : Limits) (view : View P) (old : Record) (asked : Call P) (reply : Reply P) : Type 0 where
   pub not_declared : IsFalse (has view.look old.number)
-  pub replies : RepliesBy meld limits view old (held_at old (comm_of asked)) asked reply (refusal_of old asked)
+  pub replies : RepliesBy meld limits view old (held_at old (traits_of asked).comm) asked reply (refusal_of old asked)
 
 -- the reply is an answer to a rank's call, and leaves this record
 pub record Answers {P : Type 0} (meld : P → P → P) (limits : Limits) (view : View P) (old : Record) (asked : Call P) (reply : Reply P) (new : Record) : Type 0 where

@@ -1,9 +1,9 @@
 -- The laws of the object, as statements: each is what a function of src/laws.rt ensures.
-use Rattle.std.specs.{Prelude.{Bool, ◌≡◌, ◌≢◌, ◌↔◌, ℕ, ◌+◌, ◌<◌, ◌==◌, ◌&&◌, List, [], ◌∷◌, ◌++◌, filter_map, take, slice_get, Some, IsTrue, IsFalse, nat_eq}, Int.{bit_at}, List.{IsDistinct}}
+use Rattle.std.specs.{Prelude.{Bool, ◌≡◌, ◌≢◌, ◌↔◌, ℕ, ◌+◌, ◌<◌, ◌==◌, ◌&&◌, List, [], ◌∷◌, ◌++◌, filter_map, map, take, slice_get, Some, IsTrue, IsFalse, nat_eq}, Int.{bit_at}, List.{IsDistinct}}
 use mathlib.Core.List.{IsPrefix}
-use Rattle.ulfm_laws.specs.declared.summary.Summary.{Summary}
-use Rattle.ulfm_model.specs.declared.{call.Call.{Call}, event.Entry.{Entry}, limits.Limits.{Limits}, place.Place.{Place}, reply.Reply.{Reply}}
-use Rattle.ulfm_model.specs.{History.{History, failures, has, same_place, says, spawns, without}, Rounds.{Decision, all_of, decision, failed, is_decided, members, round}, Legal.{Exists, IsLegal, MayFollow}, Records.{Fits, Held, IsContext, Record, contexts_of, free_ids, held_at}, Answers.{traits_of}, Runs.{IsCall}, Alone.{IsSound, IsStep, State, new_state}, Computed.{next}, Sizes.{MayOpen}, Words.{place_of, word_at, word_of}}
+use Rattle.ulfm_laws.specs.{declared.summary.Summary.{Summary}, Bodies.{body_unit}, Combined.{combined}, Counts.{acked_unit}, Summaries.{summary_unit, summary_meld}}
+use Rattle.ulfm_model.specs.declared.{call.Call.{Call}, contribution.Slot.{Slot}, contribution.Slot.TheVariants.{Given, Mark as Marked}, event.Entry.{Entry}, limits.Limits.{Limits}, place.Place.{Place}, reply.Reply.{Reply}}
+use Rattle.ulfm_model.specs.{Answers.{traits_of}, History.{Decision, Exists, History, IsLegal, MayFollow, body_of, decision, failed, failures, has, is_decided, members, round, same_place, says, spawns, without}, Records.{Fits, Held, IsContext, Record, free_ids, held_at}, Runs.{IsCall, IsSound, IsStep, State, new_state}, Words.{MayOpen, place_of, word_at, word_of}}
 
 -- a record that fits a history fits every longer legal one
 abbrev pub RecordsStay : {P : Type 0} → (P → P → P) → Type 0
@@ -43,6 +43,15 @@ SurvivorsAreSpawned {P} meld =
     → IsTrue (is_decided limits.ranks h parent k)
     × (members limits.ranks h (j + 1) ≡ without (members limits.ranks h parent) (decision meld limits.ranks h parent k).failed)
 
+-- what a mark or a contribution says, as a summary: a mark has no body, and acknowledges everyone
+abbrev pub summary_of : {P : Type 0} → Slot P → Summary P
+summary_of (Marked mark) = record { body = body_unit; known = mark.known; acked = acked_unit }
+summary_of (Given given) = record { body = body_of given.offer; known = given.known; acked = given.acked }
+
+-- what all of them say together
+abbrev pub all_of : {P : Type 0} → (P → P → P) → List (Slot P) → Summary P
+all_of meld settled = combined summary_unit (summary_meld meld) (map summary_of settled)
+
 -- a decision is read off a summary: the body; the failed group's beginning up to the greatest known; an error where acked is
 -- below it
 pub record IsReadOff {P : Type 0} (failed : List ℕ) (all : Summary P) (made : Decision P) : Type 0 where
@@ -73,7 +82,7 @@ EventsHappenOnce {P} meld = (limits : Limits) (h : History P) → IsLegal meld l
 abbrev pub UnheldIdsAreOffered : {P : Type 0} → (P → P → P) → Type 0
 UnheldIdsAreOffered {P} meld =
     (limits : Limits) (h : History P) (own : Record) → Fits meld limits h own → (id : ℕ) → id < 32
-    → (bit_at (free_ids own.held).bits id ≡ 1) ↔ IsFalse (has (contexts_of own.held) id)
+    → (bit_at (free_ids own.held).bits id ≡ 1) ↔ IsFalse (has (map (λ x. x.context) own.held) id)
 
 -- an event of a history that sets the word at a place
 pub record Sets {P : Type 0} (h : History P) (place : Place) (e : Entry P) : Type 0 where
@@ -107,11 +116,12 @@ StatesStaySound {P} meld =
     × ((state new : State P) (asked : Call P) (reply : Reply P) → IsSound meld state
     → IsStep meld state (traits_of asked).by asked reply new → IsSound meld new)
 
--- in a sound state each call has one reply and one next state, and `next` computes them
+-- in a sound state each call has one reply and one next state
 pub record HasOneStep {P : Type 0} (meld : P → P → P) (state : State P) (asked : Call P) : Type 0 where
-  pub is_step : IsStep meld state (traits_of asked).by asked (next meld state asked).reply (next meld state asked).state
-  pub only : (reply : Reply P) (new : State P) → IsStep meld state (traits_of asked).by asked reply new
-      → (reply ≡ (next meld state asked).reply) × (new ≡ (next meld state asked).state)
+  pub reply : Reply P
+  pub next : State P
+  pub is_step : IsStep meld state (traits_of asked).by asked reply next
+  pub only : (other : Reply P) (new : State P) → IsStep meld state (traits_of asked).by asked other new → (other ≡ reply) × (new ≡ next)
 
 -- so it is where a world of the state's limits may be opened
 abbrev pub CallsHaveOneStep : {P : Type 0} → (P → P → P) → Type 0

@@ -1,12 +1,6 @@
-pub mod Alone
 pub mod Answers
-pub mod Computed
 pub mod History
 pub mod Laws
-pub mod Legal
 pub mod Records
-pub mod Refusals
-pub mod Rounds
 pub mod Runs
-pub mod Sizes
 pub mod Words

@@ -3,8 +3,8 @@ use Rattle.std.specs.{Prelude.{◌≡◌, ◌⊎◌, ℕ, ◌<◌, ◌≤◌, �
 use Rattle.std.proofs.{Common.{lit<, lt_of_le_of_lt}, Math.Nat.{sub-le}}
 use mathlib.Core.List.{IsPrefix}
 use Rattle.ulfm_laws.specs.{declared.body.Body.TheVariants.{Ctx as Ids}, declared.ctx_mask.CtxMask.{CtxMask}, Combined.{combined}, Masks.{mask_unit, mask_meld}}
-use Rattle.ulfm_model.specs.declared.{call.Request.{Request}, call.Request.TheVariants.{Agree, Shrink, Barrier}, limits.Limits.{Limits}, contribution.Contribution.{Contribution}, contribution.Offer.TheVariants.{Flag, Ctx}, event.Caller.TheVariants.{Rank}, event.Event.{Event}, event.Event.TheVariants.{Settle, Arrive}}
-use Rattle.ulfm_model.specs.{History.{History, failures, first_ranks, has, spawns}, Rounds.{members, failed, decision}, Legal.{Exists}}
+use Rattle.ulfm_model.specs.declared.{call.Request.{Request}, call.Request.TheVariants.{Agree, Shrink, Barrier}, limits.Limits.{Limits}, contribution.Contribution.{Contribution}, contribution.Offer.TheVariants.{Flag, Ctx}, event.Caller.TheVariants.{Rank}, event.Event.TheVariants.{Settle, Arrive}}
+use Rattle.ulfm_model.specs.History.{Exists, History, decision, failed, failures, first_ranks, has, members, spawns}
 
 -- a communicator that a rank holds, with how many of its failures the rank has acknowledged, its next rounds and its open request
 pub record Held : Type 0 where
@@ -44,10 +44,6 @@ is_shrink (Some (Agree k)) = false
 is_shrink (Some (Shrink k)) = true
 is_shrink (Some (Barrier k)) = false
 
--- the context ids of some communicators
-abbrev pub contexts_of : List Held → List ℕ
-contexts_of held = map (λ x. x.context) held
-
 -- all context ids but i, which is below 32: all bits but bit i
 abbrev pub all_but : ℕ → CtxMask
 all_but i = record { bits = 0xffff_ffff - 2 ^ i; fits = lt_of_le_of_lt (sub-le 0xffff_ffff (2 ^ i)) (lit< tt) }
@@ -67,17 +63,13 @@ IsContext {P} meld ranks h c context =
     ((c ≡ 0) × (context ≡ 0))
     ⊎ ((parent k : ℕ) × (mask : CtxMask) × (0 < c) × (slice_get (spawns h) (c - 1) ≡ Some (parent, k)) × ((decision meld ranks h parent k).body ≡ Ids mask) × IsLowestId mask.bits context)
 
--- the history has this event in the name of rank r
-abbrev pub IsOwn : {P : Type 0} → History P → ℕ → Event P → Type 0
-IsOwn h r event = Contains h (record { by = Rank r; event = event })
-
 -- an open request has the rank's own event at its place: a flag, a mask without the ids that the rank holds, or an arrival
 abbrev pub FitsRequest : {P : Type 0} → History P → ℕ → List ℕ → ℕ → Option Request → Type 0
 FitsRequest h r ids c None = ⊤
-FitsRequest {P} h r ids c (Some (Agree k)) = (given : Contribution P) × (flag : P) × IsOwn h r (Settle c k r given) × (given.offer ≡ Flag flag)
+FitsRequest {P} h r ids c (Some (Agree k)) = (given : Contribution P) × (flag : P) × Contains h (record { by = Rank r; event = Settle c k r given }) × (given.offer ≡ Flag flag)
 FitsRequest {P} h r ids c (Some (Shrink k)) =
-    (given : Contribution P) × (mask : CtxMask) × IsOwn h r (Settle c k r given) × (given.offer ≡ Ctx mask) × AllByRecursion (λ i. bit_at mask.bits i ≡ 0) ids
-FitsRequest h r ids c (Some (Barrier k)) = IsOwn h r (Arrive c k r)
+    (given : Contribution P) × (mask : CtxMask) × Contains h (record { by = Rank r; event = Settle c k r given }) × (given.offer ≡ Ctx mask) × AllByRecursion (λ i. bit_at mask.bits i ≡ 0) ids
+FitsRequest h r ids c (Some (Barrier k)) = Contains h (record { by = Rank r; event = Arrive c k r })
 
 -- a communicator is held as the history has it, by a rank of this number that holds these context ids
 pub record FitsHeld {P : Type 0} (meld : P → P → P) (ranks : ℕ) (h : History P) (r : ℕ) (ids : List ℕ) (x : Held) : Type 0 where
@@ -91,16 +83,12 @@ pub record FitsHeld {P : Type 0} (meld : P → P → P) (ranks : ℕ) (h : Histo
 -- the record is one that its rank may hold in this history; its context ids differ, and at most one shrink is open
 pub record Fits {P : Type 0} (meld : P → P → P) (limits : Limits) (h : History P) (own : Record) : Type 0 where
   pub same_limits : own.limits ≡ limits
-  pub held : AllByRecursion (FitsHeld meld limits.ranks h own.number (contexts_of own.held)) own.held
-  pub contexts : IsDistinct nat_eq (contexts_of own.held)
+  pub held : AllByRecursion (FitsHeld meld limits.ranks h own.number (map (λ x. x.context) own.held)) own.held
+  pub contexts : IsDistinct nat_eq (map (λ x. x.context) own.held)
   pub one_shrink : length (filter (λ x. is_shrink x.request) own.held) ≤ 1
   pub seen : IsPrefix own.seen (failures h)
   pub refused : IsTrue own.refused → IsTrue (has (failures h) own.number)
 
--- a communicator as a rank first holds it
-abbrev pub new_held : ℕ → ℕ → List ℕ → Held
-new_held c context group = record { comm = c; group = group; context = context; acked = 0; next_agreement = 0; next_barrier = 0; request = None }
-
 -- a new rank holds the world's communicator alone
 abbrev pub new_record : Limits → ℕ → Record
-new_record limits number = record { number = number; limits = limits; held = new_held 0 0 (first_ranks limits.ranks) ∷ []; seen = []; refused = false }
+new_record limits number = record { number = number; limits = limits; held = record { comm = 0; group = first_ranks limits.ranks; context = 0; acked = 0; next_agreement = 0; next_barrier = 0; request = None } ∷ []; seen = []; refused = false }

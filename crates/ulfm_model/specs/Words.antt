@@ -1,7 +1,31 @@
--- The words of the object: each event sets one, which was 0, and no other event sets it again.
-use Rattle.std.specs.Prelude.{ℕ, zero, suc, ◌+◌, ◌*◌, ◌^◌, if◌then◌else◌, length, Option, Some, None, slice_get}
-use Rattle.ulfm_model.specs.declared.{contribution.Offer.{Offer}, contribution.Offer.TheVariants.{Flag, Ctx}, contribution.Slot.{Slot}, contribution.Slot.TheVariants.{Given, Mark as Marked}, event.Event.{Event}, event.Event.TheVariants.{Fail, Settle, Mark, Arrive, Revoke, Spawn}, place.Place.{Place}, place.Place.TheVariants.{List as ListAt, Comm as CommAt, Revoked as RevokedAt, Slot as SlotAt, Arrival as ArrivalAt}}
+-- The words of a world: how many there are, which limits may be opened, and which word each event sets.
+use Rattle.std.specs.{Prelude.{ℕ, zero, suc, ◌+◌, ◌*◌, ◌^◌, ◌<◌, ◌≤◌, if◌then◌else◌, length, slice_get}, Option.{option_map_or}}
+use Rattle.ulfm_model.specs.declared.{contribution.Offer.{Offer}, contribution.Offer.TheVariants.{Flag, Ctx}, contribution.Slot.{Slot}, contribution.Slot.TheVariants.{Given, Mark as Marked}, event.Event.{Event}, event.Event.TheVariants.{Fail, Settle, Mark, Arrive, Revoke, Spawn}, limits.Limits.{Limits}, limits.OpenFault.{OpenFault}, limits.OpenFault.TheVariants.{OutOfRange, TooLarge, OutOfMemory}, place.Place.{Place}, place.Place.TheVariants.{List as ListAt, Comm as CommAt, Revoked as RevokedAt, Slot as SlotAt, Arrival as ArrivalAt}}
 use Rattle.ulfm_model.specs.History.{History, failures, has_arrived, is_revoked, slot, spawns}
+
+-- a word for each rank, two for each communicator, and two for each rank in each round of each communicator
+abbrev pub size_of : Limits → ℕ
+size_of limits = limits.ranks + 2 * limits.comms + 2 * limits.comms * limits.rounds * limits.ranks
+
+-- each limit is in its range
+pub record IsInRange (limits : Limits) : Type 0 where
+  pub some_ranks : 0 < limits.ranks
+  pub ranks : limits.ranks ≤ 1024
+  pub some_comms : 0 < limits.comms
+  pub comms : limits.comms ≤ 256
+  pub some_rounds : 0 < limits.rounds
+  pub rounds : limits.rounds ≤ 4096
+
+-- a world of these limits may be opened
+pub record MayOpen (limits : Limits) : Type 0 where
+  pub in_range : IsInRange limits
+  pub small : size_of limits ≤ 4194304
+
+-- this fault is the first that these limits have
+abbrev pub IsUnfit : Limits → OpenFault → Type 0
+IsUnfit limits OutOfRange = ¬ IsInRange limits
+IsUnfit limits TooLarge = IsInRange limits × (4194304 < size_of limits)
+IsUnfit limits OutOfMemory = ⊥
 
 -- a word of a slot, from its lowest bit on: a 1, two bits for the tag, 11 for known, 11 for acked, 32 for the payload
 abbrev pub packed : ℕ → ℕ → ℕ → ℕ → ℕ
@@ -35,20 +59,11 @@ word_of pack (Arrive c k r) = 1
 word_of pack (Revoke c) = 1
 word_of pack (Spawn j c k) = 1 + c * 4096 + k
 
--- the word of what stands, and 0 where nothing stands
-abbrev pub word_or_zero : {X : Type 0} → (X → ℕ) → Option X → ℕ
-word_or_zero word None = 0
-word_or_zero word (Some x) = word x
-
--- the parent and the round of communicator j, if it was made
-abbrev pub made_at : {P : Type 0} → History P → ℕ → Option (ℕ × ℕ)
-made_at h zero = None
-made_at h (suc j) = slice_get (spawns h) j
-
--- the word at a place after a history
+-- the word at a place after a history: that of what stands there, and 0 where nothing does
 abbrev pub word_at : {P : Type 0} → (P → ℕ) → History P → Place → ℕ
-word_at pack h (ListAt i) = word_or_zero (λ rank. rank + 1) (slice_get (failures h) i)
-word_at pack h (CommAt j) = word_or_zero (λ made. 1 + made.0 * 4096 + made.1) (made_at h j)
+word_at pack h (ListAt i) = option_map_or (λ rank. rank + 1) (slice_get (failures h) i) 0
+word_at pack h (CommAt zero) = 0
+word_at pack h (CommAt (suc j)) = option_map_or (λ made. 1 + made.0 * 4096 + made.1) (slice_get (spawns h) j) 0
 word_at pack h (RevokedAt c) = if is_revoked h c then 1 else 0
-word_at pack h (SlotAt c k r) = word_or_zero (slot_word pack) (slot h c k r)
+word_at pack h (SlotAt c k r) = option_map_or (slot_word pack) (slot h c k r) 0
 word_at pack h (ArrivalAt c k r) = if has_arrived h c k r then 1 else 0

@@ -28,7 +28,7 @@ pub enum OpenFault {
 }
 
 impl Limits {
-    ghost use Rattle.ulfm_model.specs.Sizes.{size_of, MayOpen, IsUnfit};
+    ghost use Rattle.ulfm_model.specs.Words.{IsUnfit, MayOpen, size_of};
 
     /// The greatest number of ranks.
     pub const MAX_RANKS: u16 = 1024;

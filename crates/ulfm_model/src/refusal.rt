@@ -1,5 +1,5 @@
 ghost use Rattle.std.specs.Prelude.{◌≡◌, Some};
-ghost use Rattle.ulfm_model.specs.Refusals.{printed};
+ghost use Rattle.ulfm_model.specs.Answers.{printed};
 
 use std::fmt::{self, Display, Formatter, Write};
 

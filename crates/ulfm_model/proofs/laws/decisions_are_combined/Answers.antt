@@ -1,6 +1,6 @@
 use Rattle.std.proofs.lemmas.Bool.{lt-ltb, ltb-true}
 use Rattle.std.proofs.Common.{ap, sym, ◌∙◌}
-use Rattle.ulfm_model.specs.Rounds.{all_of, round}
+use Rattle.ulfm_model.specs.{History.{round}, Laws.{all_of}}
 use Rattle.ulfm_model.proofs.Stable.{decision_is}
 use Rattle.ulfm_model.proofs.laws.decisions_are_combined.Goals as goal
 

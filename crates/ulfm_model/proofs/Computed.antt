@@ -9,7 +9,9 @@ use Rattle.std.proofs.lemmas.Bool.Decides.{nat_tests}
 use Rattle.ulfm_laws.specs.{Ranges.{is_acked_count}, declared.acked.Acked.{Acked}, declared.known.Known.{Known}, declared.body.Body.{Body}, declared.body.Body.TheVariants.{Unit as NoBody, Flag as OfFlags, Ctx as OfIds, Clash}}
 use Rattle.ulfm_model.specs.declared.{call.Call.{Call}, reply.Reply.{Reply}, reply.Reply.TheVariants.{Started, Pending, Agreed, Shrunk, FailedGroup, Acked as AckedCount, Declared, AlreadyFailed, Revoked, AlreadyRevoked, Standing, Freed, Refused}, refusal.Refusal.{Refusal}, refusal.Refusal.TheVariants.{SelfFailed, Mismatch, NoContext, NoRoom, NoSuchRank, Twice}, call.Request.{Request}, call.Request.TheVariants.{Agree, Shrink, Barrier}, contribution.Contribution.{Contribution}, contribution.MarkCount.{MarkCount}, contribution.Offer.{Offer}, contribution.Offer.TheVariants.{Flag, Ctx}, contribution.Slot.{Slot}, contribution.Slot.TheVariants.{Given, Mark as Marked}, limits.Limits.{Limits}, event.Caller.TheVariants.{Outside, Rank}, event.Event.{Event}, event.Event.TheVariants.{Fail, Settle, Mark, Arrive, Revoke, Spawn}}
 use Rattle.ulfm_model.specs.declared.call.Call.TheVariants as call
-use Rattle.ulfm_model.specs.{History.{History, entries_by, failures, first_ranks, has, has_arrived, is_revoked, slot, spawns}, Rounds.{Decision, members, failed, is_decided, decision}, Legal.{is_made}, Records.{Held, Record, free_ids, held_at}, Answers.{View, barrier_reply, comm_of, left_by, refusal_of}, Alone.{State, after_call, record_at}}
+use Rattle.ulfm_model.proofs.Terms.{after_call}
+use Rattle.ulfm_model.specs.{Answers.{View, barrier_reply, left_by, refusal_of}, History.{Decision, History, decision, entries_by, failed, failures, first_ranks, has, has_arrived, is_decided, is_made, is_revoked, members, slot, spawns}, Records.{Held, Record, free_ids, held_at}, Runs.{State}}
+use Rattle.ulfm_model.proofs.Terms.{comm_of, record_at}
 
 pub within_all : (n : ℕ) → min n 1024 ≤ 1024
 within_all n = min-le_right n 1024
