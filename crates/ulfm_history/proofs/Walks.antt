@@ -6,7 +6,8 @@ use Rattle.std.proofs.lemmas.Bool.{ne_eqb, eq-eqb}
 use Rattle.std.proofs.lemmas.List.{reverse-append, reverse-reverse, take-append-drop, take_more}
 use mathlib.Core.List.{IsPrefix}
 use Rattle.ulfm_model.specs.declared.event.Entry.{Entry}
-use Rattle.ulfm_model.specs.{History.{History, first_ranks, says, spawns, without}, Legal.{Exists}, Rounds.{group_among, members, members_after, members_by}}
+use Rattle.ulfm_model.specs.History.{Exists, History, first_ranks, members, members_after, members_by, says, spawns, without}
+use Rattle.ulfm_model.proofs.Terms.{group_among}
 use Rattle.ulfm_history.specs.Walked.{IsMissing, IsOrigin}
 use Rattle.ulfm_model.proofs.Says.{made_by}
 use Rattle.ulfm_model.proofs.Histories.{members_made, members_stay, spawns_push}

@@ -2,7 +2,7 @@
 use Rattle.std.specs.{Prelude.{◌≡◌, ◌⊎◌, ℕ, ◌+◌, ◌<◌, [], ◌∷◌, ◌++◌, length, take, Some}}
 use Rattle.ulfm_model.specs.declared.event.Entry.{Entry}
 use Rattle.ulfm_history.specs.declared.decide.Decided.{Decided}
-use Rattle.ulfm_model.specs.{History.{History, says, spawns}, Rounds.{Decision}}
+use Rattle.ulfm_model.specs.History.{Decision, History, says, spawns}
 
 -- a decision
 abbrev pub decision_of : {P A : Type 0} → Decided P A → Decision P

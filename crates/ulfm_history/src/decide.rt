@@ -1,8 +1,8 @@
 //! What an agreement round decides.
 ghost use Rattle.std.specs.Prelude.{◌≡◌, IfOk, filter_map, is_some, map};
 ghost use Rattle.std.specs.List.{list_all, list_any};
-ghost use Rattle.ulfm_model.specs.History.{slot};
-ghost use Rattle.ulfm_model.specs.Rounds.{body_of, contribution_of, decided_by, decision, is_decided, lacks_one};
+ghost use Rattle.ulfm_model.proofs.Terms.{lacks_one};
+ghost use Rattle.ulfm_model.specs.History.{body_of, contribution_of, decided_by, decision, is_decided, slot};
 ghost use Rattle.ulfm_history.specs.Walked.{decision_of};
 
 use crate::groups::{failed_among, first_of, members, round_among, union_of};

@@ -1,8 +1,8 @@
 //! Who the members of a communicator are, and which of them an agreement round leaves out.
 ghost use Rattle.std.specs.Prelude.{◌≡◌, ◌==◌, IfOk, MatchOption, if◌then◌else◌, length, take};
 ghost use Rattle.std.specs.List.{list_any};
-ghost use Rattle.ulfm_model.specs.History.{first_ranks, has, without};
-ghost use Rattle.ulfm_model.specs.Rounds.{failed, failed_among, group_among, known_of, members, round_among, union_of};
+ghost use Rattle.ulfm_model.proofs.Terms.{group_among};
+ghost use Rattle.ulfm_model.specs.History.{failed, failed_among, first_ranks, has, known_of, members, round_among, union_of, without};
 ghost use Rattle.ulfm_history.specs.Walked.{IsMissing, IsOrigin};
 
 use crate::reads::{has_rank, is_declared, slot};

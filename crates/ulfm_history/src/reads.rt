@@ -1,8 +1,7 @@
 //! What a history says, question by question. Each answer walks it from its start.
 ghost use Rattle.std.specs.Prelude.{◌≡◌, ◌==◌, ◌&&◌, IfOk, length};
 ghost use Rattle.std.specs.List.{list_any, position_from};
-ghost use Rattle.ulfm_model.specs.History.{failures, has, has_arrived, is_revoked, same_place, slot, spawns};
-ghost use Rattle.ulfm_model.specs.Legal.{is_made};
+ghost use Rattle.ulfm_model.specs.History.{failures, has, has_arrived, is_made, is_revoked, same_place, slot, spawns};
 
 use crate::says::{arrival, declared, made, put, revoked};
 use std::alloc::{AllocError, Allocator};

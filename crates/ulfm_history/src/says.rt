@@ -1,6 +1,7 @@
 // What one entry of a history says, question by question.
 ghost use Rattle.std.specs.Prelude.{◌≡◌};
-ghost use Rattle.ulfm_model.specs.History.{put_at, says};
+ghost use Rattle.ulfm_model.proofs.Terms.{put_at};
+ghost use Rattle.ulfm_model.specs.History.{says};
 
 use ulfm_model::contribution::Slot;
 use ulfm_model::event::{Entry, Event};

@@ -2,7 +2,7 @@
 use Rattle.std.specs.{Prelude.{ℕ, ◌<◌, ◌≤◌, List, length, map}}
 use Rattle.ulfm_model.specs.declared.{call.Call.{Call}, limits.Limits.{Limits}, reply.Reply.{Reply}}
 use Rattle.ulfm_record.specs.declared.record.RankRecord.{RankRecord}
-use Rattle.ulfm_model.specs.{Alone.{IsStep, State}, Answers.{traits_of}, History.{History, failures, spawns}}
+use Rattle.ulfm_model.specs.{Answers.{traits_of}, History.{History, failures, spawns}, Runs.{IsStep, State}}
 use Rattle.ulfm_record.specs.Kept.{record_of}
 
 -- the object's state, by its limits, its log and its ranks' records

@@ -2,15 +2,15 @@
 //! another. It is slow and plain: each answer walks the history as the definitions do.
 
 ghost use Rattle.std.specs.Prelude.{◌≡◌, ◌⊎◌, ◌==◌, ◌++◌, IfErr, IfOk, List, OnErr, OnOk, map, position};
-ghost use Rattle.ulfm_model.specs.Alone.{IsSound, State, new_state, record_at};
+ghost use Rattle.ulfm_model.proofs.Computed.{next_of_fail, next_of_rank, outcome_of};
+ghost use Rattle.ulfm_model.proofs.Terms.{record_at};
 ghost use Rattle.ulfm_model.specs.Answers.{left_by};
-ghost use Rattle.ulfm_model.specs.Computed.{next_of_fail, next_of_rank, outcome_of};
-ghost use Rattle.ulfm_model.specs.History.{entries_by, failures, first_ranks};
+ghost use Rattle.ulfm_model.specs.History.{entries_by, failed, failures, first_ranks, members};
+ghost use Rattle.ulfm_model.specs.Records.{Record, new_record};
+ghost use Rattle.ulfm_model.specs.Runs.{IsSound, State, new_state};
+ghost use Rattle.ulfm_model.specs.Words.{IsUnfit, MayOpen};
 ghost use Rattle.ulfm_object.specs.Objects.{IsFew, TakesStep, state_of};
 ghost use Rattle.ulfm_record.specs.Kept.{rank_of, record_of};
-ghost use Rattle.ulfm_model.specs.Records.{Record, new_record};
-ghost use Rattle.ulfm_model.specs.Rounds.{failed, members};
-ghost use Rattle.ulfm_model.specs.Sizes.{IsUnfit, MayOpen};
 ghost use Rattle.ulfm_model.specs.declared.event.Caller.TheVariants.{Rank};
 ghost use Rattle.ulfm_model.specs.declared.limits.OpenFault.TheVariants.{OutOfMemory};
 

@@ -1,10 +1,11 @@
 // What a call of a rank comes to.
 ghost use Rattle.std.specs.Prelude.{◌≡◌, ◌++◌, IfOk};
-ghost use Rattle.ulfm_model.specs.Computed.{held_outcome, outcome_of, used_outcome};
-ghost use Rattle.ulfm_model.specs.Answers.{comm_of, refusal_of};
-ghost use Rattle.ulfm_model.specs.Records.{held_at};
-ghost use Rattle.ulfm_model.specs.Sizes.{MayOpen};
+ghost use Rattle.ulfm_model.proofs.Computed.{held_outcome, outcome_of, used_outcome};
+ghost use Rattle.ulfm_model.proofs.Terms.{comm_of};
+ghost use Rattle.ulfm_model.specs.Answers.{refusal_of};
 ghost use Rattle.ulfm_model.specs.History.{entries_by};
+ghost use Rattle.ulfm_model.specs.Records.{held_at};
+ghost use Rattle.ulfm_model.specs.Words.{MayOpen};
 ghost use Rattle.ulfm_object.specs.Objects.{IsFew};
 ghost use Rattle.ulfm_record.specs.Kept.{held_of, record_of};
 ghost use Rattle.ulfm_model.specs.declared.event.Caller.TheVariants.{Rank};

@@ -8,7 +8,8 @@ use Rattle.std.proofs.lemmas.Bool.{cases_lt, eq-eqb, ne_eqb}
 use Rattle.std.proofs.lemmas.List.Folds.{find-append}
 use Rattle.std.proofs.lemmas.Nat.Bits.{bit_at-trailing_zeros}
 use Rattle.std.proofs.Math.Pow.{pow_mono}
-use Rattle.ulfm_model.specs.{Computed.{lowest_id}, History.{first_ranks}}
+use Rattle.ulfm_model.specs.History.{first_ranks}
+use Rattle.ulfm_model.proofs.Computed.{lowest_id}
 
 none_first : (p : ℕ → Bool) (n : ℕ) → ((k : ℕ) → k < n → p k ≡ false) → find p (first_ranks n) ≡ None
 none_first p zero fails = refl

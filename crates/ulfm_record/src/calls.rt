@@ -1,6 +1,7 @@
 //! Whom and what a call names.
 ghost use Rattle.std.specs.Prelude.{◌≡◌};
-ghost use Rattle.ulfm_model.specs.Answers.{comm_of, traits_of};
+ghost use Rattle.ulfm_model.proofs.Terms.{comm_of};
+ghost use Rattle.ulfm_model.specs.Answers.{traits_of};
 ghost use Rattle.ulfm_record.specs.Kept.{held_of, rank_of};
 
 use crate::record::HeldComm;

@@ -1,10 +1,10 @@
 //! What a reply leaves of a rank's record.
 ghost use Rattle.std.specs.Prelude.{◌≡◌, ◌==◌, ◌++◌, ◌∷◌, [], OnErr, OnOk, Some, None, ℕ, filter, find, map, not};
-ghost use Rattle.ulfm_model.specs.Answers.{comm_of, left_by, opened, refused_with, traits_of};
+ghost use Rattle.ulfm_model.proofs.Terms.{comm_of};
+ghost use Rattle.ulfm_model.specs.Answers.{left_by, opened, printed, refused_with, traits_of};
 ghost use Rattle.ulfm_model.specs.History.{History};
-ghost use Rattle.ulfm_record.specs.Kept.{FitsNext, held_of, record_of};
 ghost use Rattle.ulfm_model.specs.Records.{Held, change_at};
-ghost use Rattle.ulfm_model.specs.Refusals.{printed};
+ghost use Rattle.ulfm_record.specs.Kept.{FitsNext, held_of, record_of};
 ghost use Rattle.ulfm_model.specs.declared.limits.Limits.{Limits};
 ghost use Rattle.ulfm_model.specs.declared.reply.Reply.TheVariants.{Shrunk, Started};
 

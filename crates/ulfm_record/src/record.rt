@@ -1,8 +1,9 @@
 //! What one rank holds.
 ghost use Rattle.std.specs.Prelude.{◌≡◌, ◌==◌, IfOk, map};
 ghost use Rattle.std.specs.List.{list_any, position};
-ghost use Rattle.ulfm_model.specs.Records.{all_but, free_ids, is_shrink, new_held};
-ghost use Rattle.ulfm_model.specs.Computed.{lowest_id};
+ghost use Rattle.ulfm_model.proofs.Computed.{lowest_id};
+ghost use Rattle.ulfm_model.proofs.Terms.{new_held};
+ghost use Rattle.ulfm_model.specs.Records.{all_but, free_ids, is_shrink};
 ghost use Rattle.ulfm_record.specs.Kept.{held_of};
 
 use std::alloc::{AllocError, Allocator};

@@ -1,6 +1,7 @@
 //! When a rank's record refuses a call.
 ghost use Rattle.std.specs.Prelude.{◌≡◌};
-ghost use Rattle.ulfm_model.specs.Answers.{first_refusal, refusal_of, tests_of};
+ghost use Rattle.ulfm_model.proofs.Terms.{tests_of};
+ghost use Rattle.ulfm_model.specs.Answers.{first_refusal, refusal_of};
 ghost use Rattle.ulfm_record.specs.Kept.{held_of, record_of};
 
 use crate::calls::comm_of;

@@ -1,9 +1,8 @@
 use Rattle.std.proofs.Common.{◌≡◌, ℕ, List, ◌++◌, ◌∷◌, [], map, ap, ap₂, sym, ◌∙◌}
 use Rattle.std.proofs.lemmas.List.{map-append}
 use native.Mathlib.Numerals.{unary_clauses}
-use Rattle.ulfm_model.specs.History.{first_ranks}
+use Rattle.ulfm_model.specs.{History.{first_ranks}, Records.{Record, new_record}}
 use Rattle.ulfm_record.specs.Kept.{record_of}
-use Rattle.ulfm_model.specs.Records.{Record, new_record}
 use Rattle.ulfm_object.proofs.object.new_records.Goals as goal
 
 -- one more record keeps pace with one more rank

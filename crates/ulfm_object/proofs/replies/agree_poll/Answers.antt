@@ -1,5 +1,5 @@
 use Rattle.std.proofs.Common.{ap, arith, length}
-use Rattle.ulfm_model.specs.Rounds.{Decision}
+use Rattle.ulfm_model.specs.History.{Decision}
 use Rattle.ulfm_object.proofs.Bounds.{decision_few}
 use Rattle.ulfm_object.proofs.replies.agree_poll.Goals as goal
 

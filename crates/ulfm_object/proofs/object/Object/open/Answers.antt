@@ -1,5 +1,5 @@
 use Rattle.std.proofs.Common.{◌≡◌, ap₂, sym, subst}
-use Rattle.ulfm_model.specs.Alone.{IsSound, new_state}
+use Rattle.ulfm_model.specs.Runs.{IsSound, new_state}
 use Rattle.ulfm_object.specs.Objects.{state_of}
 use Rattle.ulfm_model.proofs.LeftSound.{new_sound}
 use Rattle.ulfm_object.proofs.object.Object.open.Goals as goal
