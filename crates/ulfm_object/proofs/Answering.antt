@@ -15,6 +15,7 @@ use Rattle.ulfm_record.specs.Kept.{rank_of, record_of}
 use Rattle.ulfm_model.proofs.LeftSound.{step_sound}
 use Rattle.ulfm_object.proofs.ObjectSteps.{few_of, next_of_call, ranks_distinct, replaced}
 use Rattle.ulfm_record.proofs.Places.{find_no_place, find_place, map_map}
+use Rattle.ulfm_model.proofs.OnlyStep.{step_is_next}
 use Rattle.ulfm_model.proofs.StepsNext.{next_is_step}
 
 module _ {P A : Type 0} (meld : P → P → P) (limits : Limits) (log : History P) (records : List (RankRecord A)) (asked : Call P) where
@@ -106,7 +107,10 @@ module _ {P A : Type 0} (meld : P → P → P) (limits : Limits) (log : History 
     -- by the result of a call
     pub takes_step : (new : State P) (result : Result (Reply P) AllocError) → IfOk result (λ reply. (reply ≡ (next meld old asked).reply) × (new ≡ (next meld old asked).state))
         → IfOk result (TakesStep meld old asked new)
-    takes_step new (Ok reply) is = record { step = step_of reply new is.0 is.1 }
+    takes_step new (Ok reply) is = record {
+      step = step_of reply new is.0 is.1;
+      only = λ other next step. (let one = step_is_next meld old sound asked other next step in (one.0 ∙ sym is.0, one.1 ∙ sym is.1));
+    }
     takes_step new (Err e) is = tt
 
     pub stays_sound : (new : State P) (result : Result (Reply P) AllocError) → IfOk result (λ reply. (reply ≡ (next meld old asked).reply) × (new ≡ (next meld old asked).state)) → OnErr result (new ≡ old) → IsSound meld new

@@ -1,5 +1,6 @@
 pub mod Added
 pub mod Answering
 pub mod Bounds
+pub mod Groups
 pub mod Holding
 pub mod ObjectSteps

@@ -1,5 +1,5 @@
 -- What the program of the sequential object keeps, as the definitions see it.
-use Rattle.std.specs.{Prelude.{ℕ, ◌<◌, ◌≤◌, List, length, map}}
+use Rattle.std.specs.{Prelude.{◌≡◌, ℕ, ◌<◌, ◌≤◌, List, length, map}}
 use Rattle.ulfm_model.specs.declared.{call.Call.{Call}, limits.Limits.{Limits}, reply.Reply.{Reply}}
 use Rattle.ulfm_record.specs.declared.record.RankRecord.{RankRecord}
 use Rattle.ulfm_model.specs.{Answers.{traits_of}, History.{History, failures, spawns}, Runs.{IsStep, State}}
@@ -14,6 +14,7 @@ pub record IsFew {P : Type 0} (h : History P) : Type 0 where
   pub failures : length (failures h) ≤ 1024
   pub spawns : length (spawns h) < 65535
 
--- one call leads from one state to the next, and this is its reply
+-- one call leads from one state to the next, and this is its reply; there is no other
 pub record TakesStep {P : Type 0} (meld : P → P → P) (old : State P) (asked : Call P) (new : State P) (reply : Reply P) : Type 0 where
   pub step : IsStep meld old (traits_of asked).by asked reply new
+  pub only : (other : Reply P) (next : State P) → IsStep meld old (traits_of asked).by asked other next → (other ≡ reply) × (next ≡ new)

@@ -7,8 +7,6 @@ mod leaves;
 pub mod object;
 mod outcome;
 mod replies;
-#[cfg(test)]
-mod tests;
 
 pub use object::Object;
 pub use ulfm_model::{

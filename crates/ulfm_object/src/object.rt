@@ -1,11 +1,11 @@
 //! The sequential object as a program: it keeps what has happened and what each rank holds, and answers one call after
 //! another. It is slow and plain: each answer walks the history as the definitions do.
 
-ghost use Rattle.std.specs.Prelude.{◌≡◌, ◌⊎◌, ◌==◌, ◌++◌, IfErr, IfOk, List, OnErr, OnOk, map, position};
+ghost use Rattle.std.specs.Prelude.{◌≡◌, ◌⊎◌, [], ◌==◌, ◌++◌, IfErr, IfOk, List, OnErr, OnOk, map, position};
 ghost use Rattle.ulfm_model.proofs.Computed.{next_of_fail, next_of_rank, outcome_of};
 ghost use Rattle.ulfm_model.proofs.Terms.{record_at};
 ghost use Rattle.ulfm_model.specs.Answers.{left_by};
-ghost use Rattle.ulfm_model.specs.History.{entries_by, failed, failures, first_ranks, members};
+ghost use Rattle.ulfm_model.specs.History.{Exists, entries_by, failed, failures, first_ranks, members};
 ghost use Rattle.ulfm_model.specs.Records.{Record, new_record};
 ghost use Rattle.ulfm_model.specs.Runs.{IsSound, State, new_state};
 ghost use Rattle.ulfm_model.specs.Words.{IsUnfit, MayOpen};
@@ -13,6 +13,9 @@ ghost use Rattle.ulfm_object.specs.Objects.{IsFew, TakesStep, state_of};
 ghost use Rattle.ulfm_record.specs.Kept.{rank_of, record_of};
 ghost use Rattle.ulfm_model.specs.declared.event.Caller.TheVariants.{Rank};
 ghost use Rattle.ulfm_model.specs.declared.limits.OpenFault.TheVariants.{OutOfMemory};
+
+#[cfg(test)]
+mod tests;
 
 use crate::leaves::leave;
 use crate::outcome::outcome_of;
@@ -213,14 +216,16 @@ impl<P: Meld, A: Allocator + Copy + Drop> Object<P, A> {
 
     /// The members of a communicator, in order; nobody where it doesn't exist.
     pub fn members(&self, comm: u16) -> Result<Vec<u16, A>, AllocError>
-        ensures { IfOk result (λ group. group.items ≡ members self.now.limits.ranks self.now.history comm) }
+        ensures group { IfOk result (λ group. group.items ≡ members self.now.limits.ranks self.now.history comm) }
+        ensures nobody { ¬ Exists self.now.history comm → IfOk result (λ group. group.items ≡ []) }
     {
         members(self.alloc, self.limits.ranks, &self.log, comm)
     }
 
     /// The failed group of a communicator, in the order of the failures; nobody where it doesn't exist.
     pub fn failed(&self, comm: u16) -> Result<Vec<u16, A>, AllocError>
-        ensures { IfOk result (λ group. group.items ≡ failed self.now.limits.ranks self.now.history comm) }
+        ensures group { IfOk result (λ group. group.items ≡ failed self.now.limits.ranks self.now.history comm) }
+        ensures nobody { ¬ Exists self.now.history comm → IfOk result (λ group. group.items ≡ []) }
     {
         failed(self.alloc, self.limits.ranks, &self.log, comm)
     }

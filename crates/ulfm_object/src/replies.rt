@@ -1,5 +1,5 @@
 // What a call is replied.
-ghost use Rattle.std.specs.Prelude.{◌≡◌, ◌≤◌, ◌==◌, ◌&&◌, IfOk, List, Some, if◌then◌else◌, length};
+ghost use Rattle.std.specs.Prelude.{◌≡◌, ◌<◌, ◌≤◌, ◌==◌, ◌&&◌, IfOk, List, Some, if◌then◌else◌, length};
 ghost use Rattle.std.specs.List.{list_all, position_from};
 ghost use Rattle.ulfm_model.proofs.Computed.{agree_reply, poll_reply, replied, shrink_reply, shrunk_reply, start_reply};
 ghost use Rattle.ulfm_model.specs.Answers.{barrier_reply};
@@ -60,7 +60,8 @@ fn shrunk_reply<P: Copy, A: Allocator + Copy + Drop>(
     round: u16,
     mask: CtxMask,
 ) -> Result<Reply<P>, AllocError>
-    requires { IsFew history.now }
+    requires few { IsFew history.now }
+    requires ids { 0 < mask.bits }
     ensures { IfOk result (λ reply. reply ≡ shrunk_reply ranks history.now mask.bits (position_from (λ of. (of.0 == comm) && (of.1 == round)) 0 (spawns history.now))) }
 {
     let Some(place) = place_made(history, comm, round) else {

@@ -1,6 +1,5 @@
 //! Whom and what a call names.
 ghost use Rattle.std.specs.Prelude.{◌≡◌};
-ghost use Rattle.ulfm_model.proofs.Terms.{comm_of};
 ghost use Rattle.ulfm_model.specs.Answers.{traits_of};
 ghost use Rattle.ulfm_record.specs.Kept.{held_of, rank_of};
 
@@ -28,7 +27,7 @@ pub fn rank_of<P: Copy>(asked: &Call<P>) -> u16
 
 /// The communicator of a call of a rank. A declaration has none, and 0 here.
 pub fn comm_of<P: Copy>(asked: &Call<P>) -> u16
-    ensures { result ≡ comm_of asked.now }
+    ensures { result ≡ (traits_of asked.now).comm }
 {
     match *asked {
         Call::Fail { .. } => 0,

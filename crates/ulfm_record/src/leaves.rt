@@ -1,6 +1,5 @@
 //! What a reply leaves of a rank's record.
 ghost use Rattle.std.specs.Prelude.{◌≡◌, ◌==◌, ◌++◌, ◌∷◌, [], OnErr, OnOk, Some, None, ℕ, filter, find, map, not};
-ghost use Rattle.ulfm_model.proofs.Terms.{comm_of};
 ghost use Rattle.ulfm_model.specs.Answers.{left_by, opened, printed, refused_with, traits_of};
 ghost use Rattle.ulfm_model.specs.History.{History};
 ghost use Rattle.ulfm_model.specs.Records.{Held, change_at};
@@ -35,8 +34,8 @@ fn open_request<A: Allocator>(x: &mut HeldComm<A>, request: Option<Request>)
 
 /// Opens the request that a call starts.
 fn start<P: Copy, A: Allocator>(held: &mut [HeldComm<A>], asked: &Call<P>)
-    requires { (x : Held) → find (λ y. y.comm == comm_of asked.now) (map held_of held.old) ≡ Some x → FitsNext ((traits_of asked.now).starts x) }
-    ensures { map held_of held.new ≡ change_at (comm_of asked.now) (λ y. opened y ((traits_of asked.now).starts y)) (map held_of held.old) }
+    requires { (x : Held) → find (λ y. y.comm == (traits_of asked.now).comm) (map held_of held.old) ≡ Some x → FitsNext ((traits_of asked.now).starts x) }
+    ensures { map held_of held.new ≡ change_at (traits_of asked.now).comm (λ y. opened y ((traits_of asked.now).starts y)) (map held_of held.old) }
 {
     if let Some(i) = place_of(held, comm_of(asked)) {
         let x = &mut held[i];
@@ -109,7 +108,7 @@ pub fn settle<P: Copy, A: Allocator + Copy + Drop>(
     reply: Reply<P>,
 )
     requires none { (j context size : ℕ) → reply ≡ Shrunk j context size → ⊥ }
-    requires fits { (x : Held) → reply ≡ Started → find (λ y. y.comm == comm_of asked.now) (map held_of own.old.held.items) ≡ Some x → FitsNext ((traits_of asked.now).starts x) }
+    requires fits { (x : Held) → reply ≡ Started → find (λ y. y.comm == (traits_of asked.now).comm) (map held_of own.old.held.items) ≡ Some x → FitsNext ((traits_of asked.now).starts x) }
     ensures { (ranks : ℕ) (h : History P) (limits : Limits) → record_of limits own.new ≡ left_by ranks h (record_of limits own.old) asked.now reply }
 {
     let comm = comm_of(asked);

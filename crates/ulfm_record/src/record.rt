@@ -1,9 +1,7 @@
 //! What one rank holds.
-ghost use Rattle.std.specs.Prelude.{◌≡◌, ◌==◌, IfOk, map};
+ghost use Rattle.std.specs.Prelude.{◌≡◌, ◌<◌, ◌==◌, IfOk, None, map};
 ghost use Rattle.std.specs.List.{list_any, position};
-ghost use Rattle.ulfm_model.proofs.Computed.{lowest_id};
-ghost use Rattle.ulfm_model.proofs.Terms.{new_held};
-ghost use Rattle.ulfm_model.specs.Records.{all_but, free_ids, is_shrink};
+ghost use Rattle.ulfm_model.specs.Records.{IsLowestId, all_but, free_ids, is_shrink};
 ghost use Rattle.ulfm_record.specs.Kept.{held_of};
 
 use std::alloc::{AllocError, Allocator};
@@ -32,7 +30,7 @@ pub struct HeldComm<A: Allocator> {
 impl<A: Allocator> HeldComm<A> {
     /// A communicator as a rank first holds it: nobody is acknowledged, no round is used, and no request is open.
     pub fn new(comm: u16, context: u8, group: Vec<u16, A>) -> HeldComm<A>
-        ensures { held_of result ≡ new_held comm context group.items }
+        ensures { held_of result ≡ record { comm = comm; group = group.items; context = context; acked = 0; next_agreement = 0; next_barrier = 0; request = None } }
     {
         HeldComm {
             comm,
@@ -120,13 +118,10 @@ pub fn free_ids<A: Allocator + Copy + Drop>(
     Ok(meld_all(&masks))
 }
 
-/// The least id of a mask; 0 of an empty one.
+/// The least id of a mask that isn't empty.
 pub fn lowest_id(mask: CtxMask) -> u8
-    ensures { result ≡ lowest_id mask.bits }
+    requires { 0 < mask.bits }
+    ensures { IsLowestId mask.bits result }
 {
-    if mask.bits == 0 {
-        0
-    } else {
-        mask.bits.trailing_zeros() as u8
-    }
+    mask.bits.trailing_zeros() as u8
 }

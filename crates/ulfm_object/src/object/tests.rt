@@ -1,7 +1,7 @@
 // The worked scripts, and memory that is refused.
 use crate::object::Object;
 use linked_list_allocator::LocalHeap;
-use std::alloc::{AllocError, Global};
+use std::alloc::{AllocError, Allocator, Global};
 use std::process::Abort;
 use std::test::Fail;
 use ulfm_laws::flag_and::FlagAnd;
@@ -9,6 +9,7 @@ use ulfm_model::call::Call;
 use ulfm_model::limits::{Limits, OpenFault};
 use ulfm_model::refusal::Refusal;
 use ulfm_model::reply::Reply;
+use ulfm_record::record::{HeldComm, RankRecord};
 
 type Line = (Call<FlagAnd>, Reply<FlagAnd>);
 
@@ -394,6 +395,65 @@ fn refusals_in_order(rt: HostRuntime) -> Result<(), Fail> {
 }
 
 #[test]
+fn refusals_come_in_their_states(rt: HostRuntime) -> Result<(), Fail> {
+    let script = [
+        (poll(0, 0), Reply::Refused(Refusal::Idle)),
+        (agree(0, 0, 0x1), Reply::Started),
+        (agree(0, 0, 0x1), Reply::Refused(Refusal::Busy)),
+        (barrier(0, 0), Reply::Refused(Refusal::Busy)),
+        (poll(0, 0), agreed(0x1, 0, false)),
+        (poll(0, 0), Reply::Refused(Refusal::Idle)),
+        (agree(0, 0, 0x3), Reply::Started),
+        (agree(0, 0, 0x3), Reply::Refused(Refusal::Busy)),
+        (poll(0, 0), agreed(0x3, 0, false)),
+        (agree(0, 0, 0x3), Reply::Refused(Refusal::RoundsUsedUp)),
+        (shrink(0, 0), Reply::Started),
+        (shrink(0, 0), Reply::Refused(Refusal::Busy)),
+        (poll(0, 0), Reply::Refused(Refusal::NoRoom)),
+        (shrink(0, 0), Reply::Refused(Refusal::RoundsUsedUp)),
+        (barrier(0, 0), Reply::Started),
+        (poll(0, 0), Reply::Done),
+        (get(0, 1), Reply::Refused(Refusal::NoSuchComm)),
+        (ack(0, 1, 1), Reply::Refused(Refusal::NoSuchComm)),
+        (agree(0, 1, 0x1), Reply::Refused(Refusal::NoSuchComm)),
+        (poll(0, 1), Reply::Refused(Refusal::NoSuchComm)),
+        (get(1, 0), Reply::Refused(Refusal::NoSuchRank)),
+        (agree(1, 1, 0x1), Reply::Refused(Refusal::NoSuchRank)),
+        (fail(0), Reply::Declared),
+        (agree(0, 0, 0x1), Reply::Refused(Refusal::SelfFailed)),
+        (poll(0, 1), Reply::Refused(Refusal::SelfFailed)),
+        (get(1, 1), Reply::Refused(Refusal::NoSuchRank)),
+    ];
+    run(&rt, rt.alloc(), limits(1, 1, 3), &script)?;
+    Ok(())
+}
+
+#[test]
+fn refused_for_good(rt: HostRuntime) -> Result<(), Fail> {
+    let refused = Reply::Refused(Refusal::SelfFailed);
+    let script = [
+        (agree(1, 0, 0x1), Reply::Started),
+        (fail(1), Reply::Declared),
+        (poll(1, 0), refused),
+        (get(1, 0), refused),
+        (ack(1, 0, 1), refused),
+        (agree(1, 0, 0x1), refused),
+        (shrink(1, 0), refused),
+        (barrier(1, 0), refused),
+        (poll(1, 0), refused),
+        (revoke(1, 0), refused),
+        (is_revoked(1, 0), refused),
+        (free(1, 0), refused),
+        (poll(1, 3), refused),
+        (is_revoked(0, 0), standing(false)),
+        (fail(1), Reply::AlreadyFailed),
+    ];
+    let object = run(&rt, rt.alloc(), limits(2, 2, 4), &script)?;
+    assert!(rt; object.log.len() == 2);
+    Ok(())
+}
+
+#[test]
 fn all_contexts_come_back(rt: HostRuntime) -> Result<(), Fail> {
     let mut object = Object::open(rt.alloc(), limits(1, 40, 40))?;
     for i in 1..32u16 {
@@ -441,15 +501,41 @@ fn filled<'a>(
     Ok(blocks)
 }
 
-/// Fails where the objects differ in what has happened, or in the members or the failures of the world.
+/// Whether two ranks hold the same communicator in the same way.
+fn are_held_alike<A: Allocator, B: Allocator>(one: &HeldComm<A>, other: &HeldComm<B>) -> bool {
+    one.comm == other.comm
+        && one.group.as_slice() == other.group.as_slice()
+        && one.context == other.context
+        && one.acked == other.acked
+        && one.next_agreement == other.next_agreement
+        && one.next_barrier == other.next_barrier
+        && one.request == other.request
+}
+
+/// Whether two records say the same.
+fn are_alike<A: Allocator, B: Allocator>(one: &RankRecord<A>, other: &RankRecord<B>) -> bool {
+    one.number == other.number
+        && one.seen.as_slice() == other.seen.as_slice()
+        && one.refused == other.refused
+        && one.held.len() == other.held.len()
+        && one
+            .held
+            .iter()
+            .zip(other.held.iter())
+            .all(|(x, y)| are_held_alike(x, y))
+}
+
+/// Fails where the objects differ in what has happened or in what a rank holds.
 fn expect_alike<'a>(
     rt: &impl Abort,
     object: &Object<FlagAnd, &'a LocalHeap>,
     twin: &Object<FlagAnd, Global>,
 ) -> Result<(), Fail> {
     assert!(rt; object.log.as_slice() == twin.log.as_slice());
-    assert!(rt; object.members(0)?.as_slice() == twin.members(0)?.as_slice());
-    assert!(rt; object.failed(0)?.as_slice() == twin.failed(0)?.as_slice());
+    assert!(rt; object.records.len() == twin.records.len());
+    for (one, other) in object.records.iter().zip(twin.records.iter()) {
+        assert!(rt; are_alike(one, other), "rank {} differs", other.number);
+    }
     Ok(())
 }
 
