@@ -17,8 +17,11 @@ use ulfm_model::event::Entry;
 /// What all who return from a round are told.
 #[derive(Drop)]
 pub struct Decided<P: Meld, A: Allocator> {
+    /// What was contributed, combined.
     pub body: Body<P>,
+    /// The group that contributors knew and marks name.
     pub failed: Vec<u16, A>,
+    /// Whether a contributor had not acknowledged all of that group.
     pub raised: bool,
 }
 
@@ -92,7 +95,7 @@ fn decided_by<P: Meld, A: Allocator + Copy + Drop>(
     })
 }
 
-/// The decision of a round.
+/// The decision of a round, by what is settled in it so far.
 pub fn decision<P: Meld, A: Allocator + Copy + Drop>(
     alloc: A,
     ranks: u16,

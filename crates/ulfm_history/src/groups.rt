@@ -13,10 +13,10 @@ use ulfm_model::event::Entry;
 
 /// The event that makes a communicator: its place in the history, and the parent and the round that it names.
 #[derive(Clone, Copy)]
-pub struct Origin {
-    pub place: usize,
-    pub parent: u16,
-    pub round: u16,
+struct Origin {
+    place: usize,
+    parent: u16,
+    round: u16,
 }
 
 /// The ranks 0 up to n - 1.
@@ -61,7 +61,7 @@ pub fn failed_among<P: Copy, A: Allocator + Copy>(
 }
 
 /// What settles these members in a round, in their order.
-pub fn round_among<P: Copy, A: Allocator + Copy>(
+pub(crate) fn round_among<P: Copy, A: Allocator + Copy>(
     alloc: A,
     members: &[u16],
     history: &[Entry<P>],
@@ -87,7 +87,7 @@ fn known_of<P: Copy>(slot: &Slot<P>) -> u16
 }
 
 /// The first ranks of a group, or all of it where it has not so many.
-pub fn first_of(group: &[u16], count: u16) -> &[u16]
+pub(crate) fn first_of(group: &[u16], count: u16) -> &[u16]
     ensures { result.now ≡ take count group.now }
 {
     let count = usize::from(count);
@@ -108,7 +108,7 @@ fn is_named<P: Copy>(failed: &[u16], settled: &[Slot<P>], rank: u16) -> bool
 }
 
 /// The union of the groups that marks and contributions name.
-pub fn union_of<P: Copy, A: Allocator + Copy>(
+pub(crate) fn union_of<P: Copy, A: Allocator + Copy>(
     alloc: A,
     failed: &[u16],
     settled: &[Slot<P>],
@@ -187,7 +187,7 @@ pub fn members<P: Copy, A: Allocator + Copy + Drop>(
     without(alloc, &group, &out)
 }
 
-/// The failed group of a communicator.
+/// The failed group of a communicator: the declared ranks among its members, in the order of their failures.
 pub fn failed<P: Copy, A: Allocator + Copy + Drop>(
     alloc: A,
     ranks: u16,

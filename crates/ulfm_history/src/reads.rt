@@ -52,7 +52,7 @@ pub fn is_declared<P: Copy>(history: &[Entry<P>], rank: u16) -> bool
         .any(|x| x == rank)
 }
 
-/// What settles a rank in an agreement round of a communicator.
+/// What settles a rank in an agreement round of a communicator, if anything does.
 pub fn slot<P: Copy>(history: &[Entry<P>], comm: u16, round: u16, rank: u16) -> Option<Slot<P>>
     ensures { result ≡ slot history.now comm round rank }
 {
