@@ -8,7 +8,7 @@ use Rattle.std.proofs.Math.Seq.{take-add, drop-cons}
 use Rattle.std.specs.Prelude.{Err}
 use Rattle.ulfm_script.specs.declared.fault.RunFault.{RunFault}
 use Rattle.ulfm_script.specs.declared.fault.RunFault.TheVariants.{Read}
-use Rattle.ulfm_script.specs.Buffers.{TakesLine}
+use Rattle.ulfm_script.specs.Buffers.{HasNoNewline, TakesLine}
 use Rattle.ulfm_script.specs.Written.{WritesPart}
 
 -- known bytes that nobody touched
@@ -133,8 +133,20 @@ pub writes_more : (a b c : Option (List ℕ)) (bytes : List ℕ) (i n : ℕ) →
 writes_more a b c bytes i n h k = (take (i + n) bytes, (drop (i + n) bytes, take-append-drop (i + n) bytes), appends_more a b c bytes i n h k)
 
 -- a line that the reader broke off
-pub failed_line : (a b c : Option (List ℕ)) (kept done : List ℕ) (fault : RunFault) → Consumes a b done → Keeps b c × (fault ≡ Read) → TakesLine a c kept (Err fault)
-failed_line a b c kept done fault h k = rw k.1 (done, consumes_keeps a b c done h k.0)
+pub failed_line : (a b c : Option (List ℕ)) (bytes kept done : List ℕ) (fault : RunFault) → HasNoNewline done → Consumes a b done → Keeps b c × (bytes ≡ []) × (fault ≡ Read) → TakesLine a c bytes kept (Err fault)
+failed_line a b c bytes kept done fault free h k = rw k.2 (done, free, k.1, consumes_keeps a b c done h k.0)
+
+-- nothing is left behind what is pending
+pub end_behind : (bytes : List ℕ) (known : Option (List ℕ)) → IsAtEnd (prepend_known bytes known) → IsAtEnd known
+end_behind bytes None h = tt
+end_behind [] (Some xs) h = h
+end_behind (x ∷ bytes) (Some xs) h = cc
+
+-- where nothing is pending, the reader itself gave what was taken
+pub taken_of_reader : (a b : Option (List ℕ)) (bytes done : List ℕ) → bytes ≡ [] → Consumes a (prepend_known bytes b) done → Consumes a b done
+taken_of_reader None b bytes done e h = tt
+taken_of_reader (Some us) None bytes done e h = absurd h
+taken_of_reader (Some us) (Some vs) bytes done e h = h ∙ ap (λ (t : List ℕ). done ++ (t ++ vs)) e
 
 -- a line of which something is kept has bytes
 pub some_kept : (kept done : List ℕ) (n : ℕ) → kept ≡ take n done → 0 < length kept → 0 < length done

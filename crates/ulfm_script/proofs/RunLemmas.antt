@@ -1,5 +1,5 @@
 -- Runs, line after line.
-use Rattle.std.proofs.Common.{◌≡◌, ℕ, ◌+◌, ◌<◌, ◌≤◌, List, [], ◌∷◌, ◌++◌, length, take, Option, Some, None, Result, Ok, Err, refl, sym, ap, subst, ◌∙◌, append_assoc, arith}
+use Rattle.std.proofs.Common.{◌≡◌, ℕ, ◌+◌, ◌<◌, ◌≤◌, List, [], ◌∷◌, ◌++◌, length, take, Option, Some, None, Result, Ok, Err, refl, sym, ap, subst, ◌∙◌, append_assoc, arith, inl, inr}
 use Rattle.std.specs.{Prelude.{IsErrAnd}, Io.KnownBytes.{Appends, Consumes, IsAtEnd, Keeps, prepend_known}}
 use Rattle.std.proofs.lemmas.List.{append-nil}
 use Rattle.ulfm_model.specs.declared.limits.Limits.{Limits}
@@ -8,12 +8,8 @@ use Rattle.ulfm_script.specs.declared.line_kind.LineKind.{LineKind}
 use Rattle.ulfm_script.specs.declared.line_kind.LineKind.TheVariants.{Cut, Long}
 use Rattle.ulfm_script.specs.declared.fault.RunFault.{RunFault}
 use Rattle.ulfm_script.specs.declared.fault.RunFault.TheVariants.{Line, Memory, Read, Write}
-use Rattle.ulfm_script.specs.{Buffers.{Drains, HasNoNewline, Puts, TakesLine}, Calls.{ScriptCall}, Headers.{header_of}, Runs.{Answered, ArePrinted, IsTextOf, Opens, Prints, PrintsFrom, PrintsSome, Runs, RunsLine, RunsUpTo, ScriptState, group_of}, Scripts.{Asked, Script, asked_last, call_at, header_at, script_of, stopped, without_header}, Written.{Holds, WritesPart}}
-use Rattle.ulfm_script.proofs.{ByteLemmas.{appends_start, appends_then, consumes_keeps, consumes_then}, ScriptLemmas.{Comes, asked_from, before_last, comes_cut, comes_end, comes_fault, comes_first, comes_on, comes_unopened, ended_script, going, kept_header, long_header, short_header}}
-
--- the run has ended so
-abbrev pub Ended : Option (List ℕ) → Option (List ℕ) → Option (List ℕ) → List ℕ → Result (Unit {0}) RunFault → Type 0
-Ended known old new rest result = (text : List ℕ) × IsTextOf known text × RunsUpTo (script_of text) old new rest result
+use Rattle.ulfm_script.specs.{Buffers.{Drains, HasNoNewline, Puts, TakesLine}, Calls.{ScriptCall}, Headers.{header_of}, Runs.{Answered, ArePrinted, IsTextOf, Opens, Prints, PrintsAll, PrintsFrom, PrintsSome, Runs, RunsLine, RunsUpTo, ScriptState, group_of}, Scripts.{Asked, Script, asked_last, call_at, header_at, script_of, stopped, without_header}, Written.{Holds, WritesPart}}
+use Rattle.ulfm_script.proofs.{ByteLemmas.{appends_start, appends_then, consumes_keeps, consumes_then, end_behind, taken_of_reader}, ScriptLemmas.{BeginsWith, Comes, asked_from, before_last, comes_cut, comes_end, comes_fault, comes_first, comes_on, comes_unopened, ended_script, going, kept_header, long_header, script_begins, short_header, unfinished_header}}
 
 -- a text that begins with what was taken
 text_of : (a b : Option (List ℕ)) (done : List ℕ) → Consumes a b done → (rest : List ℕ) × IsTextOf a (done ++ rest)
@@ -58,6 +54,20 @@ holds_part : (a b c : Option (List ℕ)) (v out : List ℕ) → Holds a b v out 
 holds_part a b c v out h k =
     (h.0 ++ k.0, (k.1.0, append_assoc h.0 k.0 k.1.0 ∙ ap (λ (t : List ℕ). h.0 ++ t) k.1.1 ∙ h.2), appends_then a b c h.0 k.0 h.1 k.2)
 
+from_nothing : (limits : Option Limits) → PrintsFrom limits [] []
+from_nothing None = refl
+from_nothing (Some limits) = (new_state limits, (refl, refl))
+
+nothing_printed : (script : Script) → PrintsSome script []
+nothing_printed script = ([], (script.calls, refl), from_nothing script.limits)
+
+-- a script that begins with another one prints its lines first
+from_beginning : (front script : Script) (out : List ℕ) → BeginsWith front script → PrintsAll front out → PrintsSome script out
+from_beginning front script out (inl none) h =
+    let empty : PrintsFrom None front.calls out = subst (λ (limits : Option Limits). PrintsFrom limits front.calls out) none h in
+    rw empty (nothing_printed script)
+from_beginning front script out (inr more) h = (front.calls, more.1, subst (λ (limits : Option Limits). PrintsFrom limits front.calls out) more.0 h)
+
 -- calls, and one more
 prints_on : (s t u : ScriptState) (calls : List ScriptCall) (call : ScriptCall) (out line : List ℕ) → Prints s calls out t → Answered t call u line → Prints s (calls ++ call ∷ []) (out ++ line) u
 prints_on s t u [] call out line h k =
@@ -99,53 +109,75 @@ all_printed script out limits calls asked t e prints =
 
 -- memory or the reader failed: nothing else is told
 pub ended_early : (known b old mid : Option (List ℕ)) (v : List ℕ) (t : ScriptState) (n : ℕ) (i : Going known b old mid v t n) (new : Option (List ℕ)) (w : List ℕ) → Holds mid new w v
-    → (text : List ℕ) × IsTextOf known text × ((out : List ℕ) × PrintsSome (script_of text) out × Holds old new w out)
+    → (text : List ℕ) × IsTextOf known text × (out : List ℕ) × PrintsSome (script_of text) out × Holds old new w out
 ended_early known b old mid v t n i new w k =
     let x = text_of known b i.done i.taken in
-    (i.done ++ x.0, x.1, (i.out, some_printed (i.done ++ x.0) i.done i.out i.limits i.calls (asked_from n x.0) t (i.comes x.0) i.prints, holds_same old mid new v w i.out i.held k))
+    (i.done ++ x.0, x.1, i.out, some_printed (i.done ++ x.0) i.done i.out i.limits i.calls (asked_from n x.0) t (i.comes x.0) i.prints, holds_same old mid new v w i.out i.held k)
 
 -- the writer failed
-ended_by_writer : (known b old mid : Option (List ℕ)) (v : List ℕ) (t : ScriptState) (n : ℕ) (i : Going known b old mid v t n) (new : Option (List ℕ)) (w : List ℕ) → WritesPart mid new v → Ended known old new w (Err Write)
-ended_by_writer known b old mid v t n i new w k =
+ended_by_writer : (known b left old mid : Option (List ℕ)) (v : List ℕ) (t : ScriptState) (n : ℕ) (i : Going known b old mid v t n) (new : Option (List ℕ)) (w : List ℕ) → WritesPart mid new v → RunsUpTo known left old new w (Err Write)
+ended_by_writer known b left old mid v t n i new w k =
     let x = text_of known b i.done i.taken in
-    (i.done ++ x.0, x.1, (i.out, some_printed (i.done ++ x.0) i.done i.out i.limits i.calls (asked_from n x.0) t (i.comes x.0) i.prints, holds_part old mid new v i.out i.held k))
+    (i.done ++ x.0, x.1, i.out, some_printed (i.done ++ x.0) i.done i.out i.limits i.calls (asked_from n x.0) t (i.comes x.0) i.prints, holds_part old mid new v i.out i.held k)
+
+-- the calls of the lines that a part of a line follows
+pub all_so_far : (done part out : List ℕ) (limits : Limits) (calls : List ScriptCall) (t : ScriptState) (n : ℕ) → Comes done limits calls n → Prints (new_state limits) calls out t → HasNoNewline part → PrintsAll (script_of (done ++ part)) out
+all_so_far done [] out limits calls t n comes prints free =
+    all_printed (script_of (done ++ [])) out limits calls (asked_last n []) t (ap script_of (append-nil done) ∙ comes_end done limits calls n comes) prints
+all_so_far done (x ∷ part) out limits calls t n comes prints free =
+    all_printed (script_of (done ++ x ∷ part)) out limits calls (stopped n Cut) t (comes_cut done (x ∷ part) limits calls n comes free (omega arith)) prints
 
 -- a line couldn't be read
-pub ended_by_read : (known b c old mid : Option (List ℕ)) (v kept : List ℕ) (t : ScriptState) (n : ℕ) (fault : RunFault) → Going known b old mid v t n → TakesLine b c kept (Err fault) → Ended known old mid v (Err fault)
-ended_by_read known b c old mid v kept t n Read i k = ended_early known b old mid v t n i mid v ([], appends_start mid, refl)
-ended_by_read known b c old mid v kept t n Memory i k = ended_early known b old mid v t n i mid v ([], appends_start mid, refl)
-ended_by_read known b c old mid v kept t n Write i k = absurd k
-ended_by_read known b c old mid v kept t n (Line m kind) i k = absurd k
+pub ended_by_read : (known b left old mid : Option (List ℕ)) (v bytes kept : List ℕ) (t : ScriptState) (n : ℕ) (fault : RunFault) → Going known b old mid v t n → TakesLine b (prepend_known bytes left) bytes kept (Err fault)
+    → RunsUpTo known left old mid v (Err fault)
+ended_by_read known b left old mid v bytes kept t n Read i k = (
+  i.done ++ k.0,
+  taken_of_reader known left bytes (i.done ++ k.0) k.2 (consumes_then known b (prepend_known bytes left) i.done k.0 i.taken k.3),
+  i.out,
+  all_so_far i.done k.0 i.out i.limits i.calls t n i.comes i.prints k.1,
+  i.held,
+)
+ended_by_read known b left old mid v bytes kept t n Memory i k = ended_early known b old mid v t n i mid v ([], appends_start mid, refl)
+ended_by_read known b left old mid v bytes kept t n Write i k = absurd k
+ended_by_read known b left old mid v bytes kept t n (Line m kind) i k = absurd k
 
 -- there is no further line
-pub ended_done : (known b c old mid : Option (List ℕ)) (v : List ℕ) (t : ScriptState) (n : ℕ) → Going known b old mid v t n → Keeps b c → IsAtEnd c → Ended known old mid v (Ok tt)
-ended_done known b c old mid v t n i k z =
-    let e = comes_end i.done i.limits i.calls n i.comes in
-    (i.done, whole_text known c i.done (consumes_keeps known b c i.done i.taken k) z, (ap (λ (s : Script). s.fault) e, i.out, all_printed (script_of i.done) i.out i.limits i.calls (asked_last n []) t e i.prints, i.held))
+pub ended_done : (known b left old mid : Option (List ℕ)) (v bytes : List ℕ) (t : ScriptState) (n : ℕ) → Going known b old mid v t n → Keeps b (prepend_known bytes left) → IsAtEnd (prepend_known bytes left) → RunsUpTo known left old mid v (Ok tt)
+ended_done known b left old mid v bytes t n i k z =
+    let e = comes_end i.done i.limits i.calls n i.comes in (
+      i.done,
+      whole_text known (prepend_known bytes left) i.done (consumes_keeps known b (prepend_known bytes left) i.done i.taken k) z,
+      ap (λ (s : Script). s.fault) e,
+      end_behind bytes left z,
+      i.out,
+      all_printed (script_of i.done) i.out i.limits i.calls (asked_last n []) t e i.prints,
+      i.held,
+    )
 
 -- a fault that all texts with this beginning have
-fault_told : (text : List ℕ) (old new : Option (List ℕ)) (w out : List ℕ) (limits : Limits) (calls : List ScriptCall) (t : ScriptState) (n m : ℕ) (kind : LineKind) → m ≡ n → script_of text ≡ ended_script limits calls (stopped n kind)
-    → Prints (new_state limits) calls out t → Holds old new w out → RunsUpTo (script_of text) old new w (Err (Line m kind))
-fault_told text old new w out limits calls t n m kind same e prints held =
-    (ap (λ (s : Script). s.fault) e ∙ ap (λ (k : ℕ). Some (k, kind)) (sym same), out, all_printed (script_of text) out limits calls (stopped n kind) t e prints, held)
+fault_told : (known left : Option (List ℕ)) (text : List ℕ) (old new : Option (List ℕ)) (w out : List ℕ) (limits : Limits) (calls : List ScriptCall) (t : ScriptState) (n m : ℕ) (kind : LineKind) → IsTextOf known text → m ≡ n → script_of text ≡ ended_script limits calls (stopped n kind)
+    → Prints (new_state limits) calls out t → Holds old new w out → RunsUpTo known left old new w (Err (Line m kind))
+fault_told known left text old new w out limits calls t n m kind whole same e prints held =
+    (text, whole, ap (λ (s : Script). s.fault) e ∙ ap (λ (k : ℕ). Some (k, kind)) (sym same), out, all_printed (script_of text) out limits calls (stopped n kind) t e prints, held)
 
 -- the text ends inside a line
-pub ended_cut : (known b c old mid : Option (List ℕ)) (v line : List ℕ) (t : ScriptState) (n : ℕ) → Going known b old mid v t n → HasNoNewline line → 0 < length line → Consumes b c line → IsAtEnd c → Ended known old mid v (Err (Line n Cut))
-ended_cut known b c old mid v line t n i free some q z =
+pub ended_cut : (known b c left old mid : Option (List ℕ)) (v line : List ℕ) (t : ScriptState) (n : ℕ) → Going known b old mid v t n → HasNoNewline line → 0 < length line → Consumes b c line → IsAtEnd c → RunsUpTo known left old mid v (Err (Line n Cut))
+ended_cut known b c left old mid v line t n i free some q z =
     let e = comes_cut i.done line i.limits i.calls n i.comes free some in
-    (i.done ++ line, whole_text known c (i.done ++ line) (consumes_then known b c i.done line i.taken q) z, fault_told (i.done ++ line) old mid v i.out i.limits i.calls t n n Cut refl e i.prints i.held)
+    let whole = whole_text known c (i.done ++ line) (consumes_then known b c i.done line i.taken q) z in
+    fault_told known left (i.done ++ line) old mid v i.out i.limits i.calls t n n Cut whole refl e i.prints i.held
 
 -- a line couldn't be run
-pub ended_line : (known b c old mid new : Option (List ℕ)) (v w line shown kept : List ℕ) (s t : ScriptState) (n : ℕ) (fault : RunFault) → Going known b old mid v s n → HasNoNewline line → Consumes b c (line ++ 10 ∷ []) → shown ≡ kept → kept ≡ take 65 line
-    → RunsLine n (call_at n shown) s t mid v new w (Err fault) → Ended known old new w (Err fault)
-ended_line known b c old mid new v w line shown kept s t n Read i free q same e r = absurd r
-ended_line known b c old mid new v w line shown kept s t n Memory i free q same e r = ended_early known b old mid v s n i new w r
-ended_line known b c old mid new v w line shown kept s t n Write i free q same e r = ended_by_writer known b old mid v s n i new w r
-ended_line known b c old mid new v w line shown kept s t n (Line m kind) i free q same e r =
+pub ended_line : (known b c left old mid new : Option (List ℕ)) (v w line shown kept : List ℕ) (s t : ScriptState) (n : ℕ) (fault : RunFault) → Going known b old mid v s n → HasNoNewline line → Consumes b c (line ++ 10 ∷ []) → shown ≡ kept → kept ≡ take 65 line
+    → RunsLine n (call_at n shown) s t mid v new w (Err fault) → RunsUpTo known left old new w (Err fault)
+ended_line known b c left old mid new v w line shown kept s t n Read i free q same e r = absurd r
+ended_line known b c left old mid new v w line shown kept s t n Memory i free q same e r = ended_early known b old mid v s n i new w r
+ended_line known b c left old mid new v w line shown kept s t n Write i free q same e r = ended_by_writer known b left old mid v s n i new w r
+ended_line known b c left old mid new v w line shown kept s t n (Line m kind) i free q same e r =
     let x = text_of known c (i.done ++ (line ++ 10 ∷ [])) (consumes_then known b c i.done (line ++ 10 ∷ []) i.taken q) in
     let text = (i.done ++ (line ++ 10 ∷ [])) ++ x.0 in
     let o = comes_fault i.done line x.0 i.limits i.calls n kind i.comes free (ap (call_at n) (sym e) ∙ ap (call_at n) (sym same) ∙ r.1) in
-    (text, x.1, fault_told text old new w i.out i.limits i.calls s n m kind r.0 o i.prints (holds_same old mid new v w i.out i.held r.2))
+    fault_told known left text old new w i.out i.limits i.calls s n m kind x.1 r.0 o i.prints (holds_same old mid new v w i.out i.held r.2)
 
 -- a line was run
 pub goes_on : (known b c old mid new : Option (List ℕ)) (v w line shown kept : List ℕ) (s t : ScriptState) (n : ℕ) → Going known b old mid v s n → HasNoNewline line → Consumes b c (line ++ 10 ∷ []) → shown ≡ kept → kept ≡ take 65 line
@@ -174,29 +206,35 @@ line_put number line text bytes rest read call s t old new (Err Write) e answere
 line_put number line text bytes rest read call s t old new (Err Read) e answered p = absurd p
 line_put number line text bytes rest read call s t old new (Err (Line m kind)) e answered p = absurd p
 
-from_nothing : (limits : Option Limits) → PrintsFrom limits [] []
-from_nothing None = refl
-from_nothing (Some limits) = (new_state limits, (refl, refl))
-
-nothing_printed : (script : Script) → PrintsSome script []
-nothing_printed script = ([], (script.calls, refl), from_nothing script.limits)
-
 -- memory was refused before the first line
-pub ended_at_once : (known old : Option (List ℕ)) (w : List ℕ) → w ≡ [] → Ended known old old w (Err Memory)
-ended_at_once known old w none = let x = some_text known in (x.0, x.1, ([], nothing_printed (script_of x.0), holds_nothing old w none))
+pub ended_at_once : (known left old : Option (List ℕ)) (w : List ℕ) → w ≡ [] → RunsUpTo known left old old w (Err Memory)
+ended_at_once known left old w none = let x = some_text known in (x.0, x.1, [], nothing_printed (script_of x.0), holds_nothing old w none)
+
+-- a script without a header prints nothing
+nothing_to_print : (script : Script) (kind : LineKind) → script ≡ without_header kind → PrintsAll script []
+nothing_to_print script kind e =
+    let none : PrintsAll (without_header kind) [] = refl in subst (λ (s : Script). PrintsAll s []) (sym e) none
 
 -- there is no machine
-pub ended_unopened : {M : Type 0} (state : M → ScriptState) (pending : List ℕ) (a b old : Option (List ℕ)) (w : List ℕ) (fault : RunFault) → pending ≡ [] → w ≡ [] → Opens state (prepend_known pending a) b (Err fault) → Ended a old old w (Err fault)
-ended_unopened state pending a b old w Memory p e k = ended_at_once a old w e
-ended_unopened state pending a b old w Read p e k = let x = some_text a in (x.0, x.1, ([], nothing_printed (script_of x.0), holds_nothing old w e))
-ended_unopened state pending a b old w Write p e k = absurd k
-ended_unopened state pending a b old w (Line m kind) p e k =
-    let none : PrintsFrom (without_header kind).limits (without_header kind).calls [] = refl in
-    (k.0, none_pending_text pending a k.0 p k.1, (ap (λ (s : Script). s.fault) k.3 ∙ ap (λ (n : ℕ). Some (n, kind)) (sym k.2), [], subst (λ (s : Script). PrintsFrom s.limits s.calls []) (sym k.3) none, holds_nothing old w e))
+pub ended_unopened : {M : Type 0} (state : M → ScriptState) (pending bytes : List ℕ) (a left old : Option (List ℕ)) (w : List ℕ) (fault : RunFault) → pending ≡ [] → w ≡ [] → Opens state (prepend_known pending a) (prepend_known bytes left) bytes (Err fault)
+    → RunsUpTo a left old old w (Err fault)
+ended_unopened state pending bytes a left old w Memory p e k = ended_at_once a left old w e
+ended_unopened state pending bytes a left old w Read p e k =
+    (k.0, none_pending_yet pending a left k.0 p (taken_of_reader (prepend_known pending a) left bytes k.0 k.2 k.3), [], nothing_to_print (script_of k.0) k.1 k.4, holds_nothing old w e)
+ended_unopened state pending bytes a left old w Write p e k = absurd k
+ended_unopened state pending bytes a left old w (Line m kind) p e k =
+    (k.0, none_pending_text pending a k.0 p k.1, ap (λ (s : Script). s.fault) k.3 ∙ ap (λ (n : ℕ). Some (n, kind)) (sym k.2), [], nothing_to_print (script_of k.0) kind k.3, holds_nothing old w e)
+
+-- the first line couldn't be read
+pub unopened_read : {M : Type 0} (state : M → ScriptState) (old new : Option (List ℕ)) (bytes kept : List ℕ) (fault : RunFault) → TakesLine old new bytes kept (Err fault) → Opens state old new bytes (Err fault)
+unopened_read state old new bytes kept Memory h = tt
+unopened_read state old new bytes kept Read h = let e = unfinished_header h.0 h.1 in (h.0, e.0, h.2, h.3, e.1)
+unopened_read state old new bytes kept Write h = h
+unopened_read state old new bytes kept (Line m kind) h = absurd h
 
 -- a machine was opened
-pub goes_first : {M : Type 0} (state : M → ScriptState) (machine : M) (pending : List ℕ) (a b old : Option (List ℕ)) (w : List ℕ) → pending ≡ [] → w ≡ [] → Opens state (prepend_known pending a) b (Ok machine) → Going a b old old w (state machine) 2
-goes_first state machine pending a b old w p e k = record {
+pub goes_first : {M : Type 0} (state : M → ScriptState) (machine : M) (pending bytes : List ℕ) (a b old : Option (List ℕ)) (w : List ℕ) → pending ≡ [] → w ≡ [] → Opens state (prepend_known pending a) b bytes (Ok machine) → Going a b old old w (state machine) 2
+goes_first state machine pending bytes a b old w p e k = record {
   done = k.0 ++ 10 ∷ [];
   limits = k.1;
   calls = [];
@@ -223,32 +261,39 @@ pub header_long : (line kept : List ℕ) → kept ≡ take 65 line → 64 < leng
 header_long line kept e long = sym (kept_header line) ∙ ap header_at (sym e) ∙ long_header kept long
 
 -- a fault that is handed on
-pub handed_on : (r : Result (Unit {0}) RunFault) (fault : RunFault) → IsErrAnd r (λ e. e ≡ fault) → r ≡ Err fault
+pub handed_on : {T : Type 0} (r : Result T RunFault) (fault : RunFault) → IsErrAnd r (λ e. e ≡ fault) → r ≡ Err fault
 handed_on (Ok done) fault h = absurd h
-handed_on (Err e) fault h = ap (λ (f : RunFault). let x : Result (Unit {0}) RunFault = Err f in x) h
-
--- a run that wrote all it told
-abbrev pub Ran : Option (List ℕ) → Option (List ℕ) → Option (List ℕ) → Result (Unit {0}) RunFault → Type 0
-Ran known old new result = (text : List ℕ) × IsTextOf known text × Runs (script_of text) old new result
+handed_on {T} (Err e) fault h = ap (λ (f : RunFault). let x : Result T RunFault = Err f in x) h
 
 -- memory was refused before anything was read
-pub ran_nothing : (known old : Option (List ℕ)) → Ran known old old (Err Memory)
-ran_nothing known old = let x = some_text known in (x.0, x.1, ([], nothing_printed (script_of x.0), appends_start old))
+pub ran_nothing : (known left old : Option (List ℕ)) → Runs known left old old (Err Memory)
+ran_nothing known left old = let x = some_text known in (x.0, x.1, [], nothing_printed (script_of x.0), appends_start old)
 
 -- all calls are the first calls
-all_first : (script : Script) (out : List ℕ) → PrintsFrom script.limits script.calls out → PrintsSome script out
+all_first : (script : Script) (out : List ℕ) → PrintsAll script out → PrintsSome script out
 all_first script out h = (script.calls, ([], append-nil script.calls), h)
 
+-- what a beginning of a text prints, the text prints first
+printed_first : (text rest out : List ℕ) → PrintsAll (script_of text) out → PrintsSome (script_of (text ++ rest)) out
+printed_first text rest out h = from_beginning (script_of text) (script_of (text ++ rest)) out (script_begins text rest) h
+
 -- a script that was run to its end, and then what waits was written
-pub ran_to_end : (known old mid new : Option (List ℕ)) (w rest : List ℕ) (result : Result (Unit {0}) RunFault) → Ended known old mid w (Ok tt) → Drains w mid rest new result → Ran known old new result
-ran_to_end known old mid new w rest (Ok done) h k = (h.0, h.1, (h.2.0, h.2.1, h.2.2, holds_drained old mid new w h.2.1 h.2.3 k.1))
-ran_to_end known old mid new w rest (Err fault) h k =
-    let part : Ran known old new (Err Write) = (h.0, h.1, (h.2.1, all_first (script_of h.0) h.2.1 h.2.2, holds_part old mid new w h.2.1 h.2.3 k.1)) in
+pub ran_to_end : (known left old mid new : Option (List ℕ)) (w rest : List ℕ) (result : Result (Unit {0}) RunFault) → RunsUpTo known left old mid w (Ok tt) → Drains w mid rest new result → Runs known left old new result
+ran_to_end known left old mid new w rest (Ok done) h k = (h.0, h.1, h.2, h.3, h.4, h.5, holds_drained old mid new w h.4 h.6 k.1)
+ran_to_end known left old mid new w rest (Err fault) h k =
+    let part : Runs known left old new (Err Write) = (h.0, h.1, h.4, all_first (script_of h.0) h.4 h.5, holds_part old mid new w h.4 h.6 k.1) in
     rw k.0 part
 
--- a script that was run to another fault than the writer's, and then the writer failed
-pub ran_to_writer : (known old mid new : Option (List ℕ)) (w : List ℕ) (fault : RunFault) → (fault ≡ Write → ⊥) → Ended known old mid w (Err fault) → WritesPart mid new w → Ran known old new (Err Write)
-ran_to_writer known old mid new w Write other h k = absurd (other refl)
-ran_to_writer known old mid new w (Line n kind) other h k = (h.0, h.1, (h.2.1, all_first (script_of h.0) h.2.1 h.2.2, holds_part old mid new w h.2.1 h.2.3 k))
-ran_to_writer known old mid new w Memory other h k = (h.0, h.1, (h.2.0, h.2.1, holds_part old mid new w h.2.0 h.2.2 k))
-ran_to_writer known old mid new w Read other h k = (h.0, h.1, (h.2.0, h.2.1, holds_part old mid new w h.2.0 h.2.2 k))
+-- a script that was run to another fault than the writer's, and then what waits was written
+pub ran_to_fault : (known left old mid new : Option (List ℕ)) (w : List ℕ) (fault : RunFault) → (fault ≡ Write → ⊥) → RunsUpTo known left old mid w (Err fault) → Appends mid new w → Runs known left old new (Err fault)
+ran_to_fault known left old mid new w Write other h k = absurd (other refl)
+ran_to_fault known left old mid new w (Line n kind) other h k = (h.0, h.1, h.2, h.3, h.4, holds_drained old mid new w h.3 h.5 k)
+ran_to_fault known left old mid new w Memory other h k = (h.0, h.1, h.2, h.3, holds_drained old mid new w h.2 h.4 k)
+ran_to_fault known left old mid new w Read other h k = (h.0, h.1, h.2, h.3, holds_drained old mid new w h.2 h.4 k)
+
+-- the same, and then the writer failed
+pub ran_to_writer : (known left old mid new : Option (List ℕ)) (w : List ℕ) (fault : RunFault) → (fault ≡ Write → ⊥) → RunsUpTo known left old mid w (Err fault) → WritesPart mid new w → Runs known left old new (Err Write)
+ran_to_writer known left old mid new w Write other h k = absurd (other refl)
+ran_to_writer known left old mid new w (Line n kind) other h k = (h.0, h.1, h.3, all_first (script_of h.0) h.3 h.4, holds_part old mid new w h.3 h.5 k)
+ran_to_writer known left old mid new w Memory other h k = (h.0, h.1, h.2, h.3, holds_part old mid new w h.2 h.4 k)
+ran_to_writer known left old mid new w Read other h k = let x = text_of known left h.0 h.1 in (h.0 ++ x.0, x.1, h.2, printed_first h.0 x.0 h.2 h.3, holds_part old mid new w h.2 h.4 k)

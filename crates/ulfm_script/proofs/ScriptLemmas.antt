@@ -1,10 +1,10 @@
 -- What a text asks for, line after line.
-use Rattle.std.proofs.Common.{◌≡◌, ℕ, ◌+◌, ◌<◌, ◌≤◌, List, [], ◌∷◌, ◌++◌, length, take, Some, Result, Ok, Err, refl, sym, ap, ◌∙◌, append_assoc, arith, inl, inr}
+use Rattle.std.proofs.Common.{◌≡◌, ◌⊎◌, ℕ, Bool, true, false, ◌==◌, if◌then◌else◌, ◌+◌, ◌<◌, ◌≤◌, List, [], ◌∷◌, ◌++◌, length, take, Some, None, Result, Ok, Err, refl, sym, ap, ◌∙◌, append_assoc, arith, inl, inr}
 use Rattle.std.proofs.lemmas.{Bool.{ne_eqb, lt-ltb, le-ltb, cases_lt}, List.{append-nil, take_all, length-take}}
 use Rattle.ulfm_model.specs.declared.limits.Limits.{Limits}
 use Rattle.ulfm_script.specs.declared.line_kind.LineKind.{LineKind}
 use Rattle.ulfm_script.specs.declared.line_kind.LineKind.TheVariants.{Cut, Header, Long}
-use Rattle.ulfm_script.specs.{Buffers.{HasNoNewline}, Calls.{ScriptCall, call_of}, Headers.{header_of}, Scripts.{Asked, Script, asked_by, asked_last, asked_then, call_at, header_at, lines_from, no_lines, rest_from, script_of, stopped, with_header, without_header}}
+use Rattle.ulfm_script.specs.{Buffers.{HasNoNewline}, Calls.{ScriptCall, call_of}, Headers.{header_of}, Scripts.{Asked, Script, asked_by, asked_last, asked_then, call_at, header_at, lines_from, no_lines, rest_from, script_by, script_of, stopped, with_header, without_header}, Written.{Begins}}
 
 -- what a text asks for whose first line has this number
 abbrev pub asked_from : ℕ → List ℕ → Asked
@@ -151,3 +151,55 @@ first_cut (x ∷ xs) h = refl
 pub header_cut : (line : List ℕ) → HasNoNewline line → 0 < length line → script_of line ≡ without_header Cut
 unfolding script_of
 header_cut line free some = rw (lines_none [] line free, rest_all [] line free) (first_cut line some)
+
+-- a text whose first line isn't ended has no header
+pub unfinished_header : (part : List ℕ) → HasNoNewline part → (kind : LineKind) × (script_of part ≡ without_header kind)
+unfinished_header [] free = (Header, no_header)
+unfinished_header (x ∷ part) free = (Cut, header_cut (x ∷ part) free (omega arith))
+
+-- the lines of a text, by those of its beginning
+lines_at : (ends : Bool) (front xs rest : List ℕ) (x : ℕ) → lines_from [] (xs ++ rest) ≡ lines_from [] xs ++ lines_from (rest_from [] xs) rest → lines_from (front ++ x ∷ []) (xs ++ rest) ≡ lines_from (front ++ x ∷ []) xs ++ lines_from (rest_from (front ++ x ∷ []) xs) rest
+    → (if ends then front ∷ lines_from [] (xs ++ rest) else lines_from (front ++ x ∷ []) (xs ++ rest))
+    ≡ (if ends then front ∷ lines_from [] xs else lines_from (front ++ x ∷ []) xs) ++ lines_from (if ends then rest_from [] xs else rest_from (front ++ x ∷ []) xs) rest
+lines_at true front xs rest x h k = ap (λ (t : List (List ℕ)). front ∷ t) h
+lines_at false front xs rest x h k = k
+
+lines_more : (front text rest : List ℕ) → lines_from front (text ++ rest) ≡ lines_from front text ++ lines_from (rest_from front text) rest
+lines_more front [] rest = refl
+lines_more front (x ∷ xs) rest = lines_at (x == 10) front xs rest x (lines_more [] xs rest) (lines_more (front ++ x ∷ []) xs rest)
+
+asked_last_calls : (number : ℕ) (last : List ℕ) → (asked_last number last).calls ≡ []
+asked_last_calls number [] = refl
+asked_last_calls number (x ∷ last) = refl
+
+none_begins : (front calls : List ScriptCall) → front ≡ [] → Begins front calls
+none_begins front calls e = (calls, ap (λ (t : List ScriptCall). t ++ calls) e)
+
+then_begins : (number : ℕ) (read : Result ScriptCall LineKind) (front all : Asked) → Begins front.calls all.calls → Begins (asked_then number read front).calls (asked_then number read all).calls
+then_begins number (Err kind) front all h = ([], refl)
+then_begins number (Ok call) front all h = (h.0, ap (λ (t : List ScriptCall). call ∷ t) h.1)
+
+-- what lines ask for are the first calls of these and more lines
+asked_begins : (number : ℕ) (lines more : List (List ℕ)) (last rest : List ℕ) → Begins (asked_by number lines last).calls (asked_by number (lines ++ more) rest).calls
+asked_begins number [] more last rest = none_begins (asked_last number last).calls (asked_by number more rest).calls (asked_last_calls number last)
+asked_begins number (line ∷ lines) more last rest = then_begins number (call_at number line) (asked_by (number + 1) lines last) (asked_by (number + 1) (lines ++ more) rest) (asked_begins (number + 1) lines more last rest)
+
+-- the script is that of a text with more behind it: without a header, or with the same one and the same first calls
+abbrev pub BeginsWith : Script → Script → Type 0
+BeginsWith front script = (front.limits ≡ None) ⊎ ((front.limits ≡ script.limits) × Begins front.calls script.calls)
+
+headers_begin : (header : Result Limits LineKind) (lines more : List (List ℕ)) (last rest : List ℕ) → BeginsWith (with_header header (asked_by 2 lines last)) (with_header header (asked_by 2 (lines ++ more) rest))
+headers_begin (Err kind) lines more last rest = inl refl
+headers_begin (Ok limits) lines more last rest = inr (refl, asked_begins 2 lines more last rest)
+
+no_lines_limits : (last : List ℕ) → (no_lines last).limits ≡ None
+no_lines_limits [] = refl
+no_lines_limits (x ∷ last) = refl
+
+scripts_begin : (lines more : List (List ℕ)) (last rest : List ℕ) → BeginsWith (script_by lines last) (script_by (lines ++ more) rest)
+scripts_begin [] more last rest = inl (no_lines_limits last)
+scripts_begin (line ∷ lines) more last rest = headers_begin (header_at line) lines more last rest
+
+pub script_begins : (text rest : List ℕ) → BeginsWith (script_of text) (script_of (text ++ rest))
+unfolding script_of
+script_begins text rest = rw (lines_more [] text rest) (scripts_begin (lines_from [] text) (lines_from (rest_from [] text) rest) (rest_from [] text) (rest_from [] (text ++ rest)))

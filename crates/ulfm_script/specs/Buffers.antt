@@ -21,27 +21,27 @@ unread remaining input reader = prepend_known (pending input) (remaining reader)
 -- bytes are pending, if there are any more
 abbrev pub Fills : Option (List ℕ) → Option (List ℕ) → List ℕ → Result (Unit {0}) RunFault → Type 0
 Fills old new bytes (Ok done) = Keeps old new × (bytes ≡ [] → IsAtEnd new)
-Fills old new bytes (Err fault) = Keeps old new × (fault ≡ Read)
+Fills old new bytes (Err fault) = Keeps old new × (bytes ≡ []) × (fault ≡ Read)
 
--- a byte was taken, if there is one
-abbrev pub TakesByte : Option (List ℕ) → Option (List ℕ) → Result (Option ℕ) RunFault → Type 0
-TakesByte old new (Ok None) = Keeps old new × IsAtEnd new
-TakesByte old new (Ok (Some byte)) = Consumes old new (byte ∷ [])
-TakesByte old new (Err fault) = Keeps old new × (fault ≡ Read)
+-- a byte was taken, if there is one; these bytes are pending then
+abbrev pub TakesByte : Option (List ℕ) → Option (List ℕ) → List ℕ → Result (Option ℕ) RunFault → Type 0
+TakesByte old new bytes (Ok None) = Keeps old new × IsAtEnd new
+TakesByte old new bytes (Ok (Some byte)) = Consumes old new (byte ∷ [])
+TakesByte old new bytes (Err fault) = Keeps old new × (bytes ≡ []) × (fault ≡ Read)
 
 -- a line, without its newline
 abbrev pub HasNoNewline : List ℕ → Type 0
 HasNoNewline xs = AllByRecursion (λ x. x ≢ 10) xs
 
--- a line was taken, and its first 65 bytes are kept
-abbrev pub TakesLine : Option (List ℕ) → Option (List ℕ) → List ℕ → Result LineEnd RunFault → Type 0
-TakesLine old new kept (Ok Newline) = (line : List ℕ) × HasNoNewline line × (kept ≡ take 65 line) × Consumes old new (line ++ 10 ∷ [])
-TakesLine old new kept (Ok Cut) = (line : List ℕ) × HasNoNewline line × (0 < length line) × Consumes old new line × IsAtEnd new
-TakesLine old new kept (Ok Done) = Keeps old new × IsAtEnd new
-TakesLine old new kept (Err Read) = (part : List ℕ) × Consumes old new part
-TakesLine old new kept (Err Memory) = (part : List ℕ) × Consumes old new part
-TakesLine old new kept (Err Write) = ⊥
-TakesLine old new kept (Err (Line number kind)) = ⊥
+-- a line was taken, and its first 65 bytes are kept; where the reader failed inside it, nothing is pending
+abbrev pub TakesLine : Option (List ℕ) → Option (List ℕ) → List ℕ → List ℕ → Result LineEnd RunFault → Type 0
+TakesLine old new bytes kept (Ok Newline) = (line : List ℕ) × HasNoNewline line × (kept ≡ take 65 line) × Consumes old new (line ++ 10 ∷ [])
+TakesLine old new bytes kept (Ok Cut) = (line : List ℕ) × HasNoNewline line × (0 < length line) × Consumes old new line × IsAtEnd new
+TakesLine old new bytes kept (Ok Done) = Keeps old new × IsAtEnd new
+TakesLine old new bytes kept (Err Read) = (part : List ℕ) × HasNoNewline part × (bytes ≡ []) × Consumes old new part
+TakesLine old new bytes kept (Err Memory) = (part : List ℕ) × Consumes old new part
+TakesLine old new bytes kept (Err Write) = ⊥
+TakesLine old new bytes kept (Err (Line number kind)) = ⊥
 
 -- what waits to be written
 abbrev pub waiting : {A : Type 0} → Output A → List ℕ

@@ -1,6 +1,6 @@
 -- What running a script writes.
 use Rattle.std.specs.Prelude.{◌≡◌, ℕ, List, [], ◌∷◌, ◌++◌, ⊤, Option, Some, None, IfSome, Result, Ok, Err}
-use Rattle.std.specs.Io.KnownBytes.{Appends, Consumes}
+use Rattle.std.specs.Io.KnownBytes.{Appends, Consumes, IsAtEnd}
 use Rattle.ulfm_laws.specs.declared.flag_and.FlagAnd.{FlagAnd}
 use Rattle.ulfm_laws.specs.Flags.{flag_meld}
 use Rattle.ulfm_model.specs.declared.limits.Limits.{Limits}
@@ -76,31 +76,39 @@ PrintsFrom (Some limits) calls out = (last : ScriptState) × Prints (new_state l
 abbrev pub PrintsSome : Script → List ℕ → Type 0
 PrintsSome script out = (first : List ScriptCall) × Begins first script.calls × PrintsFrom script.limits first out
 
--- where the run of a script ended: the told lines are those of all its calls, and it has no fault; or its first fault, and the
--- lines of all calls before it; or the lines of its first calls, of which the last may be told in part at a failing writer
-abbrev pub Ends : Script → (List ℕ → Type 0) → (List ℕ → Type 0) → Result (Unit {0}) RunFault → Type 0
-Ends script Told ToldInPart (Ok done) = (script.fault ≡ None) × (out : List ℕ) × PrintsFrom script.limits script.calls out × Told out
-Ends script Told ToldInPart (Err (Line number kind)) = (script.fault ≡ Some (number, kind)) × (out : List ℕ) × PrintsFrom script.limits script.calls out × Told out
-Ends script Told ToldInPart (Err Memory) = (out : List ℕ) × PrintsSome script out × Told out
-Ends script Told ToldInPart (Err Read) = (out : List ℕ) × PrintsSome script out × Told out
-Ends script Told ToldInPart (Err Write) = (out : List ℕ) × PrintsSome script out × ToldInPart out
+-- these are the lines of all calls of the script
+abbrev pub PrintsAll : Script → List ℕ → Type 0
+PrintsAll script out = PrintsFrom script.limits script.calls out
 
--- the run wrote so
-abbrev pub Runs : Script → Option (List ℕ) → Option (List ℕ) → Result (Unit {0}) RunFault → Type 0
-Runs script old new result = Ends script (Appends old new) (WritesPart old new) result
+-- How the run of a reader's text ended. At its end, the whole text was read and has no fault, and the lines of all its calls are
+-- told. At the fault of a line, it is the text's first one, and the lines of all calls before it are told. Where the reader
+-- failed, the lines of all calls that it gave whole are told. Where memory was refused, those of the first calls; where the writer
+-- failed, a part of those.
+abbrev pub Ends : Option (List ℕ) → Option (List ℕ) → (List ℕ → Type 0) → (List ℕ → Type 0) → Result (Unit {0}) RunFault → Type 0
+Ends known left Told ToldInPart (Ok done) =
+    (text : List ℕ) × IsTextOf known text × ((script_of text).fault ≡ None) × IsAtEnd left × (out : List ℕ) × PrintsAll (script_of text) out × Told out
+Ends known left Told ToldInPart (Err (Line number kind)) =
+    (text : List ℕ) × IsTextOf known text × ((script_of text).fault ≡ Some (number, kind)) × (out : List ℕ) × PrintsAll (script_of text) out × Told out
+Ends known left Told ToldInPart (Err Read) = (text : List ℕ) × Consumes known left text × (out : List ℕ) × PrintsAll (script_of text) out × Told out
+Ends known left Told ToldInPart (Err Memory) = (text : List ℕ) × IsTextOf known text × (out : List ℕ) × PrintsSome (script_of text) out × Told out
+Ends known left Told ToldInPart (Err Write) = (text : List ℕ) × IsTextOf known text × (out : List ℕ) × PrintsSome (script_of text) out × ToldInPart out
 
--- the run wrote so, but for what waits
-abbrev pub RunsUpTo : Script → Option (List ℕ) → Option (List ℕ) → List ℕ → Result (Unit {0}) RunFault → Type 0
-RunsUpTo script old new waiting result = Ends script (Holds old new waiting) (WritesPart old new) result
+-- the run read and wrote so: what the reader had and has left, what the writer had and has
+abbrev pub Runs : Option (List ℕ) → Option (List ℕ) → Option (List ℕ) → Option (List ℕ) → Result (Unit {0}) RunFault → Type 0
+Runs known left old new result = Ends known left (Appends old new) (WritesPart old new) result
 
--- a machine was opened by the first line, or the text's script has no header
-abbrev pub Opens : {M : Type 0} → (M → ScriptState) → Option (List ℕ) → Option (List ℕ) → Result M RunFault → Type 0
-Opens state old new (Ok machine) =
+-- the same, but for what waits to be written
+abbrev pub RunsUpTo : Option (List ℕ) → Option (List ℕ) → Option (List ℕ) → Option (List ℕ) → List ℕ → Result (Unit {0}) RunFault → Type 0
+RunsUpTo known left old new waiting result = Ends known left (Holds old new waiting) (WritesPart old new) result
+
+-- a machine was opened by the first line, or the text's script has no header; where the reader failed, nothing is pending
+abbrev pub Opens : {M : Type 0} → (M → ScriptState) → Option (List ℕ) → Option (List ℕ) → List ℕ → Result M RunFault → Type 0
+Opens state old new bytes (Ok machine) =
     (line : List ℕ) × (limits : Limits) × HasNoNewline line × (header_at line ≡ Ok limits) × Consumes old new (line ++ 10 ∷ []) × (state machine ≡ new_state limits)
-Opens state old new (Err (Line number kind)) = (text : List ℕ) × IsTextOf old text × (number ≡ 1) × (script_of text ≡ without_header kind)
-Opens state old new (Err Memory) = ⊤
-Opens state old new (Err Read) = ⊤
-Opens state old new (Err Write) = ⊥
+Opens state old new bytes (Err (Line number kind)) = (text : List ℕ) × IsTextOf old text × (number ≡ 1) × (script_of text ≡ without_header kind)
+Opens state old new bytes (Err Memory) = ⊤
+Opens state old new bytes (Err Read) = (text : List ℕ) × (kind : LineKind) × (bytes ≡ []) × Consumes old new text × (script_of text ≡ without_header kind)
+Opens state old new bytes (Err Write) = ⊥
 
 -- a call was answered, and this is the line that it prints
 abbrev pub Answered : ScriptState → ScriptCall → ScriptState → List ℕ → Type 0

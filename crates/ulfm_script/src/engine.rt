@@ -1,9 +1,9 @@
 //! The engine that runs a script, over anything that answers its calls.
-ghost use Rattle.std.specs.Prelude.{◌≡◌, List, ℕ, [], OnOk};
+ghost use Rattle.std.specs.Prelude.{◌≡◌, [], OnOk};
 ghost use Rattle.ulfm_model.specs.Answers.{comm_of};
 ghost use Rattle.ulfm_script.specs.Buffers.{pending, waiting, unread};
-ghost use Rattle.ulfm_script.specs.Runs.{Answered, IsTextOf, Opens, Runs, RunsLine, RunsUpTo};
-ghost use Rattle.ulfm_script.specs.Scripts.{script_of, call_at};
+ghost use Rattle.ulfm_script.specs.Runs.{Answered, Opens, Runs, RunsLine, RunsUpTo};
+ghost use Rattle.ulfm_script.specs.Scripts.{call_at};
 
 use crate::calls::read_call;
 use crate::fault::RunFault;
@@ -34,8 +34,7 @@ pub fn run_script<M: Machine<A>, A: Allocator + Copy, R: Read, W: Write>(
     writer: &mut W,
 ) -> Result<(), RunFault>
     // The text is the reader's, where that is known.
-    ensures { (text : List ℕ) × IsTextOf (R.remaining reader.old) text
-        × Runs (script_of text) (W.contents writer.old) (W.contents writer.new) result }
+    ensures { Runs (R.remaining reader.old) (R.remaining reader.new) (W.contents writer.old) (W.contents writer.new) result }
 {
     let mut input = Input::new(alloc)?;
     let mut output = Output::new(alloc)?;
@@ -61,8 +60,8 @@ fn run_lines<M: Machine<A>, A: Allocator + Copy, R: Read, W: Write>(
 ) -> Result<(), RunFault>
     requires input { pending input.old ≡ [] }
     requires output { waiting output.old ≡ [] }
-    ensures { (text : List ℕ) × IsTextOf (R.remaining reader.old) text
-        × RunsUpTo (script_of text) (W.contents writer.old) (W.contents writer.new) (waiting output.new) result }
+    ensures { RunsUpTo (R.remaining reader.old) (R.remaining reader.new) (W.contents writer.old) (W.contents writer.new)
+        (waiting output.new) result }
 {
     let mut line = Vec::with_capacity(alloc, LONGEST + 1)?;
     let mut text = Vec::with_capacity(alloc, LONGEST)?;
@@ -88,7 +87,7 @@ fn open_machine<M: Machine<A>, A: Allocator + Copy, R: Read>(
     input: &mut Input<A>,
     line: &mut Vec<u8, A>,
 ) -> Result<M, RunFault>
-    ensures { Opens M.state (unread R.remaining input.old reader.old) (unread R.remaining input.new reader.new) result }
+    ensures { Opens M.state (unread R.remaining input.old reader.old) (unread R.remaining input.new reader.new) (pending input.new) result }
 {
     let number = 1;
     let kind = match input.read_line(reader, line)? {

@@ -68,7 +68,7 @@ impl<A: Allocator> Input<A> {
 
     /// Takes the next byte, if there is one.
     fn next_byte<R: Read>(&mut self, reader: &mut R) -> Result<Option<u8>, RunFault>
-        ensures { TakesByte (unread R.remaining self.old reader.old) (unread R.remaining self.new reader.new) result }
+        ensures { TakesByte (unread R.remaining self.old reader.old) (unread R.remaining self.new reader.new) (pending self.new) result }
     {
         if let Err(fault) = self.fill(reader) {
             return Err(fault);
@@ -87,10 +87,11 @@ impl<A: Allocator> Input<A> {
         reader: &mut R,
         line: &mut Vec<u8, A>,
     ) -> Result<LineEnd, RunFault>
-        ensures { TakesLine (unread R.remaining self.old reader.old) (unread R.remaining self.new reader.new) line.new.items result }
+        ensures { TakesLine (unread R.remaining self.old reader.old) (unread R.remaining self.new reader.new) (pending self.new)
+            line.new.items result }
     {
         line.clear();
-        // no text has more bytes than this loop has turns
+        // no line has as many bytes as this loop has turns
         'bytes: for _ in 0..u64::MAX {
             match self.next_byte(reader) {
                 Err(fault) => return Err(fault),
@@ -110,6 +111,6 @@ impl<A: Allocator> Input<A> {
                 }
             }
         }
-        Err(RunFault::Read)
+        Err(RunFault::Memory)
     }
 }

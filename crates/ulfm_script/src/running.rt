@@ -1,7 +1,5 @@
 //! Call scripts over the sequential object.
-ghost use Rattle.std.specs.Prelude.{◌≡◌, List, ℕ};
-ghost use Rattle.ulfm_script.specs.Runs.{IsTextOf, Runs};
-ghost use Rattle.ulfm_script.specs.Scripts.{script_of};
+ghost use Rattle.ulfm_script.specs.Runs.{Runs};
 
 use crate::engine::run_script;
 use crate::fault::RunFault;
@@ -51,8 +49,7 @@ pub fn run_calls<A: Allocator + Copy + Drop, R: Read, W: Write>(
     writer: &mut W,
 ) -> Result<(), RunFault>
     // The text is the reader's, where that is known.
-    ensures { (text : List ℕ) × IsTextOf (R.remaining reader.old) text
-        × Runs (script_of text) (W.contents writer.old) (W.contents writer.new) result }
+    ensures { Runs (R.remaining reader.old) (R.remaining reader.new) (W.contents writer.old) (W.contents writer.new) result }
 {
     run_script::<Object<FlagAnd, A>, A, R, W>(alloc, reader, writer)
 }

@@ -1,11 +1,18 @@
 use Rattle.std.proofs.Common.{arith, refl, ◌<◌, ◌≤◌, length, Ok, Err, []}
-use Rattle.ulfm_script.specs.Buffers.{unread}
+use Rattle.ulfm_script.specs.Buffers.{pending, unread}
 use Rattle.ulfm_script.specs.declared.line_kind.LineKind.TheVariants.{Long}
 use Rattle.ulfm_script.proofs.ByteLemmas.{keeps_nothing}
-use Rattle.ulfm_script.proofs.RunLemmas.{header_long, header_read, unopened_line, whole_text}
+use Rattle.ulfm_script.proofs.RunLemmas.{handed_on, header_long, header_read, unopened_line, unopened_read, whole_text}
 use Rattle.ulfm_script.proofs.ScriptLemmas.{header_cut, no_header}
 use Rattle.ulfm_script.proofs.engine.open_machine.Goals as goal
 use Rattle.ulfm_script.proofs.engine.open_machine.Goals.{in-Done, in-Cut, in-Newline+then-len-gt-LONGEST, in-Newline+else-len-gt-LONGEST+in-Err}
+
+pub returns-in_err-read_line : goal.returns-in_err-read_line
+returns-in_err-read_line g c =
+    let k = g.R.Read.remaining in
+    let fault = c.in_err-read_line.field-0.0 in
+    rw (handed_on c.from_residual.result fault c.from_residual.ensures.1)
+    (unopened_read g.M.Machine.state (unread k c.args.input.now c.args.reader.now) (unread k c.read_line.new.self c.read_line.new.reader) (pending c.read_line.new.self) c.read_line.new.line.items fault c.in_err-read_line.ensures)
 
 pub returns-in-Ok : goal.returns-in-Ok
 returns-in-Ok g c =

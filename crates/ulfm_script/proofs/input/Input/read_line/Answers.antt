@@ -1,6 +1,6 @@
 use Rattle.std.proofs.Common.{vec_len, arith, ◌∷◌, [], ◌++◌, ◌∙◌, sym}
 use Rattle.std.proofs.lemmas.Bool.{eqb-false}
-use Rattle.ulfm_script.specs.Buffers.{unread}
+use Rattle.ulfm_script.specs.Buffers.{pending, unread}
 use Rattle.ulfm_script.proofs.ByteLemmas.{consumes_keeps, consumes_then, no_newline_push, kept_more, kept_full, some_kept, failed_line}
 use Rattle.ulfm_script.proofs.input.Input.read_line.Goals as goal
 use Rattle.ulfm_script.proofs.input.Input.read_line.Goals.{then-len-lt-KEPT+else-is_err, else-len-lt-KEPT}
@@ -9,7 +9,7 @@ pub returns-in-Err : goal.returns-in-Err
 returns-in-Err g c =
     let k = g.R.Read.remaining in
     let i = c.bytes.invariant in
-    failed_line (unread k c.args.self.now c.args.reader.now) (unread k c.bytes.self c.bytes.reader) (unread k c.next_byte.new.self c.next_byte.new.reader) c.bytes.line.items i.0 c.in-Err.fault i.3 c.in-Err.ensures
+    failed_line (unread k c.args.self.now c.args.reader.now) (unread k c.bytes.self c.bytes.reader) (unread k c.next_byte.new.self c.next_byte.new.reader) (pending c.next_byte.new.self) c.bytes.line.items i.0 c.in-Err.fault i.1 i.3 c.in-Err.ensures
 
 pub returns-in-Ok-Some-eq10 : goal.returns-in-Ok-Some-eq10
 returns-in-Ok-Some-eq10 g c =
