@@ -1,13 +1,17 @@
 -- How a script was run, behind an exit status.
-use Rattle.std.specs.Prelude.{ℕ, List, Option, Ok, Err}
-use Rattle.ulfm_script.specs.declared.line_kind.LineKind.{LineKind}
-use Rattle.ulfm_script.specs.declared.fault.RunFault.TheVariants.{Line}
-use Rattle.ulfm_script.specs.{Runs.{IsTextOf, Runs}, Scripts.{script_of}}
+use Rattle.std.specs.Prelude.{◌≡◌, ℕ, List, Option, Result, Ok, Err}
+use Rattle.ulfm_script.specs.declared.fault.RunFault.{RunFault}
+use Rattle.ulfm_script.specs.declared.fault.RunFault.TheVariants.{Line, Memory, Read, Write}
+use Rattle.ulfm_script.specs.Runs.{Runs}
 
--- to its end; the text is the input's, where that is known
-abbrev pub RanToEnd : Option (List ℕ) → Option (List ℕ) → Option (List ℕ) → Type 0
-RanToEnd known old new = (text : List ℕ) × IsTextOf known text × Runs (script_of text) old new (Ok tt)
+-- the exit status of a run that ended so
+abbrev pub status_of : Result (Unit {0}) RunFault → ℕ
+status_of (Ok done) = 0
+status_of (Err (Line number kind)) = 1
+status_of (Err Memory) = 3
+status_of (Err Read) = 3
+status_of (Err Write) = 3
 
--- to a line with a fault
-abbrev pub RanToFault : Option (List ℕ) → Option (List ℕ) → Option (List ℕ) → Type 0
-RanToFault known old new = (text : List ℕ) × (number : ℕ) × (kind : LineKind) × IsTextOf known text × Runs (script_of text) old new (Err (Line number kind))
+-- a script was run, and the status says how it ended: what the input had and has left, what the output had and has
+abbrev pub RanWith : Option (List ℕ) → Option (List ℕ) → Option (List ℕ) → Option (List ℕ) → ℕ → Type 0
+RanWith known left old new status = (result : Result (Unit {0}) RunFault) × (status ≡ status_of result) × Runs known left old new result

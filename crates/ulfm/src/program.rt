@@ -1,10 +1,12 @@
 //! What a command line asks for, and the exit status that it ends with.
-ghost use Rattle.std.specs.Prelude.{◌≡◌, ◌≤◌, ◌⊎◌};
+ghost use Rattle.std.specs.Prelude.{◌≡◌, ◌≤◌, ◌⊎◌, map};
 ghost use Rattle.std.specs.Io.KnownBytes.{Keeps};
-ghost use Rattle.ulfm.specs.Statuses.{RanToEnd, RanToFault};
+ghost use Rattle.clap.specs.Words.{FailsBy, fault_of};
+ghost use Rattle.ulfm.specs.CommandLines.{AsksHelp, AsksRun, IsAskedBy, IsBad, ulfm};
+ghost use Rattle.ulfm.specs.Statuses.{RanWith};
 
 use clap::error::ErrorKind;
-use clap::{Command, Error};
+use clap::{ArgMatches, Command, Error};
 use std::alloc::{Allocator, Global};
 use std::io::{Read, Write};
 use ulfm_script::{RunFault, run_calls};
@@ -39,12 +41,13 @@ pub fn answer<A: Allocator + Copy + Drop, R: Read, W: Write, E: Write>(
     errors: &mut E,
 ) -> u8
     ensures status { result ≤ 3 }
-    // A script was run to its end, or only help was asked for.
-    ensures done { result ≡ 0 → RanToEnd (R.remaining input.old) (W.contents output.old) (W.contents output.new)
-        ⊎ Keeps (R.remaining input.old) (R.remaining input.new) }
-    ensures fault { result ≡ 1 → RanToFault (R.remaining input.old) (W.contents output.old) (W.contents output.new) }
-    // A bad command line is found before anything is read or written.
-    ensures bad { result ≡ 2 → Keeps (R.remaining input.old) (R.remaining input.new)
+    ensures run { AsksRun (map (λ word. word.now) words.now) → RanWith (R.remaining input.old) (R.remaining input.new)
+        (W.contents output.old) (W.contents output.new) result }
+    // Nothing else reads the input.
+    ensures other { (AsksRun (map (λ word. word.now) words.now) → ⊥) → Keeps (R.remaining input.old) (R.remaining input.new) }
+    ensures help { AsksHelp (map (λ word. word.now) words.now) → (result ≡ 0) ⊎ (result ≡ 3) }
+    // 3 where memory was refused.
+    ensures bad { IsBad (map (λ word. word.now) words.now) → ((result ≡ 2) ⊎ (result ≡ 3))
         × Keeps (W.contents output.old) (W.contents output.new) }
 {
     match read_words(global, words) {
@@ -81,10 +84,12 @@ fn print_help<W: Write, E: Write>(help: &Error, output: &mut W, errors: &mut E) 
     0
 }
 
-fn read_words(global: Global, words: &[&str]) -> Asked {
+/// What the words ask for.
+fn read_words<'a>(global: Global, words: &'a [&'a str]) -> Asked
+    ensures { IsAskedBy (map (λ word. word.now) words.now) result }
+{
     match parse(global, words) {
-        Ok(true) => Asked::Run,
-        Ok(false) => Asked::Bad,
+        Ok(_) => Asked::Run,
         Err(error) => match error.kind() {
             ErrorKind::DisplayHelp => Asked::Help(error),
             ErrorKind::OutOfMemory => Asked::Memory,
@@ -93,8 +98,10 @@ fn read_words(global: Global, words: &[&str]) -> Asked {
     }
 }
 
-/// Whether the words ask for a run.
-fn parse(global: Global, words: &[&str]) -> Result<bool, Error> {
+/// Reads the words as those of a run, the one thing that can be asked for beside help.
+fn parse<'a>(global: Global, words: &'a [&'a str]) -> Result<ArgMatches<'a>, Error>
+    ensures { FailsBy (fault_of ulfm (map (λ word. word.now) words.now)) result }
+{
     let run = Command::new(global, "run")
         .about("Runs the call script on standard input, and prints a line for each call")
         .after_help(EXAMPLE);
@@ -102,6 +109,5 @@ fn parse(global: Global, words: &[&str]) -> Result<bool, Error> {
         .about("A fault tolerant agreement core, driven by scripts")
         .subcommand_required(true)
         .subcommand(run)?;
-    let matches = command.try_get_matches_from(words)?;
-    Ok(matches.subcommand_name() == Some("run"))
+    command.try_get_matches_from(words)
 }
