@@ -1,6 +1,7 @@
 //! The worked rows through the program, and devices and memory that fail at each call in turn.
 use crate::program::answer;
 use linked_list_allocator::LocalHeap;
+use std::alloc::Global;
 use std::io;
 use std::io::{ErrorKind, Read, Write};
 use std::test::Fail;
@@ -262,73 +263,138 @@ impl Write for Taken {
     }
 }
 
+/// A condition that a test wants.
+fn require(holds: bool) -> Result<(), Fail> {
+    if holds {
+        return Ok(());
+    }
+    Err(Fail::from("a condition doesn't hold"))
+}
+
+/// A script and its output, both longer than the buffers that they go through.
+fn long_texts(alloc: Global) -> Result<(Vec<u8>, Vec<u8>), Fail> {
+    let mut script = Vec::from_slice(alloc, b"ulfm 1 1 1 1\n")?;
+    let mut output = Vec::new(alloc);
+    for _ in 0..1250 {
+        script.extend_from_slice(b"fail 9\n")?;
+        output.extend_from_slice(b"refused 13 no-such-rank\n")?;
+    }
+    Ok((script, output))
+}
+
+/// The first lines of a text.
+fn first_lines(text: &[u8], count: usize) -> &[u8] {
+    let mut left = count;
+    for (at, byte) in text.iter().enumerate() {
+        if left == 0 {
+            return &text[..at];
+        }
+        if *byte == b'\n' {
+            left -= 1;
+        }
+    }
+    text
+}
+
+fn count_lines(text: &[u8]) -> usize {
+    text.iter().filter(|byte| **byte == b'\n').count()
+}
+
+/// One read after another fails, and the output is that of the lines that were given whole before.
+fn fail_each_read(alloc: Global, script: &[u8], output: &[u8], most: usize) -> Result<(), Fail> {
+    for failing in 1..20_000u32 {
+        let mut input = Pieces {
+            text: script,
+            most,
+            calls: 0,
+            failing,
+        };
+        let mut written = Vec::new(alloc);
+        let mut errors = Vec::new(alloc);
+        let status = answer(
+            alloc,
+            alloc,
+            &["ulfm", "run"],
+            &mut input,
+            &mut written,
+            &mut errors,
+        );
+        if input.calls < failing {
+            require(written.as_slice() == output)?;
+            require(status == 0)?;
+            return Ok(());
+        }
+        let given = script.len().saturating_sub(input.text.len());
+        let calls = count_lines(&script[..given.min(script.len())]).saturating_sub(1);
+        require(written.as_slice() == first_lines(output, calls))?;
+        require(errors.as_slice() == b"ulfm: read failed\n".as_slice())?;
+        require(status == 3)?;
+    }
+    Err(Fail::from("a read never failed"))
+}
+
 #[test]
 fn each_read_fails(rt: HostRuntime) -> Result<(), Fail> {
+    let alloc = rt.alloc();
+    let (script, output) = long_texts(alloc)?;
     for most in [1, 7, 10_000] {
-        'calls: for failing in 1..1000u32 {
-            let mut input = Pieces {
-                text: SCRIPT.as_bytes(),
-                most,
-                calls: 0,
-                failing,
-            };
-            let mut output = Vec::new(rt.alloc());
-            let mut errors = Vec::new(rt.alloc());
-            let status = answer(
-                rt.alloc(),
-                rt.alloc(),
-                &["ulfm", "run"],
-                &mut input,
-                &mut output,
-                &mut errors,
-            );
-            assert!(rt; OUTPUT.as_bytes().starts_with(output.as_slice()));
-            if input.calls < failing {
-                assert_eq!(rt; output.as_slice(), OUTPUT.as_bytes());
-                assert_eq!(rt; status, 0);
-                break 'calls;
-            }
-            assert_eq!(rt; errors.as_slice(), b"ulfm: read failed\n".as_slice());
-            assert_eq!(rt; status, 3);
-        }
+        fail_each_read(alloc, SCRIPT.as_bytes(), OUTPUT.as_bytes(), most)?;
+        fail_each_read(alloc, &script, &output, most)?;
     }
     Ok(())
 }
 
+/// One write after another fails, and what was taken before is a beginning of the output.
+fn fail_each_write(
+    alloc: Global,
+    script: &[u8],
+    output: &[u8],
+    most: usize,
+    how: Failing,
+) -> Result<(), Fail> {
+    for failing in 1..40_000u32 {
+        let mut input = script;
+        let mut taken = Taken {
+            bytes: Vec::new(alloc),
+            most,
+            calls: 0,
+            failing,
+            how,
+        };
+        let mut errors = Vec::new(alloc);
+        let status = answer(
+            alloc,
+            alloc,
+            &["ulfm", "run"],
+            &mut input,
+            &mut taken,
+            &mut errors,
+        );
+        if taken.calls < failing {
+            require(taken.bytes.as_slice() == output)?;
+            require(status == 0)?;
+            return Ok(());
+        }
+        require(output.starts_with(taken.bytes.as_slice()))?;
+        require(errors.as_slice() == b"ulfm: write failed\n".as_slice())?;
+        require(status == 3)?;
+    }
+    Err(Fail::from("a write never failed"))
+}
+
 #[test]
 fn each_write_fails(rt: HostRuntime) -> Result<(), Fail> {
+    let alloc = rt.alloc();
+    let (script, output) = long_texts(alloc)?;
     for how in [Failing::ByError, Failing::ByNothing] {
         for most in [1, 7, 10_000] {
-            'calls: for failing in 1..1000u32 {
-                let mut input = SCRIPT.as_bytes();
-                let mut output = Taken {
-                    bytes: Vec::new(rt.alloc()),
-                    most,
-                    calls: 0,
-                    failing,
-                    how,
-                };
-                let mut errors = Vec::new(rt.alloc());
-                let status = answer(
-                    rt.alloc(),
-                    rt.alloc(),
-                    &["ulfm", "run"],
-                    &mut input,
-                    &mut output,
-                    &mut errors,
-                );
-                assert!(rt; OUTPUT.as_bytes().starts_with(output.bytes.as_slice()));
-                if output.calls < failing {
-                    assert_eq!(rt; output.bytes.as_slice(), OUTPUT.as_bytes());
-                    assert_eq!(rt; status, 0);
-                    break 'calls;
-                }
-                assert_eq!(rt; errors.as_slice(), b"ulfm: write failed\n".as_slice());
-                assert_eq!(rt; status, 3);
-            }
+            fail_each_write(alloc, SCRIPT.as_bytes(), OUTPUT.as_bytes(), most, how)?;
+        }
+        for most in [7, 10_000] {
+            fail_each_write(alloc, &script, &output, most, how)?;
         }
     }
-    Ok(())
+    fail_each_write(alloc, &script, &output, 1, Failing::ByError)
 }
 
 /// A flush that fails is a failing write, at the end of a run, at a line fault, and after help.
@@ -390,33 +456,93 @@ fn errors_fail(rt: HostRuntime) -> Result<(), Fail> {
     Ok(())
 }
 
-/// Each want of memory ends the run, with a beginning of the output.
+/// What a run in a heap of some bytes writes, and its status; a refusal is told.
+fn run_in(alloc: Global, size: usize, script: &[u8]) -> Result<(Vec<u8>, u8), Fail> {
+    let heap = LocalHeap::new(alloc, size)?;
+    let mut input = script;
+    let mut output = Vec::new(alloc);
+    let mut errors = Vec::new(alloc);
+    let status = answer(
+        &heap,
+        alloc,
+        &["ulfm", "run"],
+        &mut input,
+        &mut output,
+        &mut errors,
+    );
+    let told: &[u8] = if status == 3 {
+        b"ulfm: out of memory\n"
+    } else {
+        b""
+    };
+    require(errors.as_slice() == told)?;
+    Ok((output, status))
+}
+
+/// Each want of memory ends the run, behind exactly the output of the lines before the one that it came at.
 #[test]
 fn each_growth_is_refused(rt: HostRuntime) -> Result<(), Fail> {
-    let mut refused = 0u32;
-    'sizes: for size in 1..4000usize {
-        let heap = LocalHeap::new(rt.alloc(), size.wrapping_mul(16))?;
-        let mut input = SCRIPT.as_bytes();
+    let mut furthest = 0;
+    for step in 1..4000usize {
+        let size = step.wrapping_mul(16);
+        let (output, status) = run_in(rt.alloc(), size, SCRIPT.as_bytes())?;
+        if status == 0 {
+            assert_eq!(rt; output.as_slice(), OUTPUT.as_bytes());
+            assert!(rt; furthest > 5);
+            return Ok(());
+        }
+        assert_eq!(rt; status, 3);
+        let calls = count_lines(&output);
+        assert!(rt; output.as_slice() == first_lines(OUTPUT.as_bytes(), calls));
+        furthest = furthest.max(calls);
+        if calls > 0 {
+            let before = first_lines(SCRIPT.as_bytes(), calls.wrapping_add(1));
+            let (same, status) = run_in(rt.alloc(), size, before)?;
+            assert_eq!(rt; status, 0);
+            assert_eq!(rt; same.as_slice(), output.as_slice());
+            let with = first_lines(SCRIPT.as_bytes(), calls.wrapping_add(2));
+            let (_, status) = run_in(rt.alloc(), size, with)?;
+            assert_eq!(rt; status, 3);
+        }
+    }
+    Err(Fail::from("memory was refused at each size"))
+}
+
+/// Each kind of line fault is told by its name.
+#[test]
+fn each_kind_is_told(rt: HostRuntime) -> Result<(), Fail> {
+    let mut many = Vec::from_slice(rt.alloc(), b"ulfm 1 1 1 1\n")?;
+    for _ in 0..100_000 {
+        many.extend_from_slice(b"fail 9\n")?;
+    }
+    let rows: [(&[u8], &[u8]); 9] = [
+        (b"ulfm 1 1 1 1\nfail 0", b"ulfm: line 2: cut\n"),
+        (
+            b"ulfm 1 1 1 1\nfail 0000000000000000000000000000000000000000000000000000000000000\n",
+            b"ulfm: line 2: long\n",
+        ),
+        (&many, b"ulfm: line 100001: lines\n"),
+        (b"ulfm 2 1 1 1\n", b"ulfm: line 1: header\n"),
+        (b"ulfm 1 1025 1 1\n", b"ulfm: line 1: limits\n"),
+        (b"ulfm 1 1 1 1\n\n", b"ulfm: line 2: verb\n"),
+        (b"ulfm 1 1 1 1\nfail\n", b"ulfm: line 2: words\n"),
+        (b"ulfm 1 1 1 1\nfail -1\n", b"ulfm: line 2: number\n"),
+        (b"ulfm 1 1 1 1\nagree 0 0 1\n", b"ulfm: line 2: flag\n"),
+    ];
+    for (script, wanted) in rows {
+        let mut input = script;
         let mut output = Vec::new(rt.alloc());
         let mut errors = Vec::new(rt.alloc());
         let status = answer(
-            &heap,
+            rt.alloc(),
             rt.alloc(),
             &["ulfm", "run"],
             &mut input,
             &mut output,
             &mut errors,
         );
-        if status == 0 {
-            assert_eq!(rt; output.as_slice(), OUTPUT.as_bytes());
-            break 'sizes;
-        }
-        assert!(rt; OUTPUT.as_bytes().starts_with(output.as_slice()));
-        assert_eq!(rt; errors.as_slice(), b"ulfm: out of memory\n".as_slice());
-        assert_eq!(rt; status, 3);
-        refused = refused.wrapping_add(1);
+        assert_eq!(rt; errors.as_slice(), wanted);
+        assert_eq!(rt; status, 1);
     }
-    assert!(rt; refused > 100);
-    assert!(rt; refused < 3999);
     Ok(())
 }

@@ -26,14 +26,13 @@ const LAST_LINE: u32 = 100_000;
 
 /// Runs the script that the reader gives on a new machine, writes a line for each call, and flushes the writer.
 ///
-/// The faults of lines are tested in the order of [`LineKind`]; at the first one all earlier lines' output is written. Where
-/// memory is refused or the reader fails, all output of the lines before is written; where the writer fails, a beginning of it.
+/// It reads and writes as [`crate::run_calls`] does, of which this is the engine: whatever answers as the sequential object does
+/// can stand in the object's place.
 pub fn run_script<M: Machine<A>, A: Allocator + Copy, R: Read, W: Write>(
     alloc: A,
     reader: &mut R,
     writer: &mut W,
 ) -> Result<(), RunFault>
-    // The text is the reader's, where that is known.
     ensures { Runs (R.remaining reader.old) (R.remaining reader.new) (W.contents writer.old) (W.contents writer.new) result }
 {
     let mut input = Input::new(alloc)?;
