@@ -30,6 +30,6 @@ IsBad words = (AsksRun words → ⊥) × (IsAmong DisplayHelp (fault_of ulfm wor
 -- the words were read as asking for this
 abbrev pub IsAskedBy : Words → Asked → Type 0
 IsAskedBy words Run = AsksRun words
-IsAskedBy words (Help error) = IsAmong DisplayHelp (fault_of ulfm words)
+IsAskedBy words (Help text) = IsAmong DisplayHelp (fault_of ulfm words)
 IsAskedBy words Bad = (AsksRun words → ⊥) × (AsksHelp words → ⊥)
 IsAskedBy words Memory = ⊤

@@ -1,6 +1,6 @@
 //! What a command line asks for, and the exit status that it ends with.
 ghost use Rattle.std.specs.Prelude.{◌≡◌, ◌≤◌, ◌⊎◌, map};
-ghost use Rattle.std.specs.Io.KnownBytes.{Keeps};
+ghost use Rattle.std.specs.Io.KnownBytes.{Appends, Keeps};
 ghost use Rattle.clap.specs.Words.{FailsBy, fault_of};
 ghost use Rattle.ulfm.specs.CommandLines.{AsksHelp, AsksRun, IsAskedBy, IsBad, ulfm};
 ghost use Rattle.ulfm.specs.Statuses.{RanWith};
@@ -11,18 +11,21 @@ use std::alloc::{Allocator, Global};
 use std::io::{Read, Write};
 use ulfm_script::{RunFault, run_calls};
 
-/// What the help of `ulfm run` shows.
+/// The example that help shows.
 const EXAMPLE: &str =
-    "Example: a world of 3 ranks, 1 communicator and 4 rounds, in which rank 0 agrees alone and asks for the reply:
+    "Example: in a world of one rank, the rank contributes a flag and asks for the reply.
 
-    ulfm 1 3 1 4
-    agree 0 0 0000000f
-    poll 0 0";
+    printf 'ulfm 1 1 1 2\\nagree 0 0 000000ff\\npoll 0 0\\n' | ulfm run
+
+prints
+
+    started
+    agreed 000000ff failed 0 clean";
 
 /// What a command line asks for.
 enum Asked {
     Run,
-    Help(Error),
+    Help(String),
     Bad,
     Memory,
 }
@@ -61,7 +64,7 @@ pub fn answer<A: Allocator + Copy + Drop, R: Read, W: Write, E: Write>(
                 }
             }
         },
-        Asked::Help(help) => print_help(&help, output, errors),
+        Asked::Help(text) => print_help(&text, output, errors),
         Asked::Bad => {
             let _ = writeln!(errors, "ulfm: bad command line");
             2
@@ -73,11 +76,12 @@ pub fn answer<A: Allocator + Copy + Drop, R: Read, W: Write, E: Write>(
     }
 }
 
-/// Prints the text of help.
-fn print_help<W: Write, E: Write>(help: &Error, output: &mut W, errors: &mut E) -> u8
-    ensures { (result ≡ 0) ⊎ (result ≡ 3) }
+/// Prints the text of help. At 0 all of it was written.
+fn print_help<W: Write, E: Write>(text: &str, output: &mut W, errors: &mut E) -> u8
+    ensures status { (result ≡ 0) ⊎ (result ≡ 3) }
+    ensures shown { result ≡ 0 → Appends (W.contents output.old) (W.contents output.new) text.now }
 {
-    if write!(output, "{help}").is_err() || output.flush().is_err() {
+    if output.write_all(text.as_bytes()).is_err() || output.flush().is_err() {
         let _ = writeln!(errors, "ulfm: {}", RunFault::Write);
         return 3;
     }
@@ -91,7 +95,10 @@ fn read_words<'a>(global: Global, words: &'a [&'a str]) -> Asked
     match parse(global, words) {
         Ok(_) => Asked::Run,
         Err(error) => match error.kind() {
-            ErrorKind::DisplayHelp => Asked::Help(error),
+            ErrorKind::DisplayHelp => match format!(in global; "{error}") {
+                Ok(text) => Asked::Help(text),
+                Err(_) => Asked::Memory,
+            },
             ErrorKind::OutOfMemory => Asked::Memory,
             _ => Asked::Bad,
         },
@@ -107,6 +114,7 @@ fn parse<'a>(global: Global, words: &'a [&'a str]) -> Result<ArgMatches<'a>, Err
         .after_help(EXAMPLE);
     let command = Command::new(global, "ulfm")
         .about("A fault tolerant agreement core, driven by scripts")
+        .after_help(EXAMPLE)
         .subcommand_required(true)
         .subcommand(run)?;
     command.try_get_matches_from(words)
