@@ -1,0 +1,121 @@
+#!/usr/bin/env python3
+"""Times the built program on call scripts of 25,000, 50,000 and 100,000 lines, and as ratios to native programs.
+
+    bench/measure.py [--native FILE.rs] [--kinds KIND,..] [--sizes LINES,..] [--repeats N]
+
+Each kind of script is made here. A native program, if one is given as a Rust source that does the same work, is built in a
+temporary folder and runs in turn with ours, so that the ratio is of one run; its output must be the same bytes.
+"""
+import argparse
+import os
+import shutil
+import statistics
+import subprocess
+import sys
+import tempfile
+
+HERE = os.path.dirname(os.path.abspath(__file__))
+PROGRAM = os.path.join(HERE, "..", "crates", "ulfm", "out", "ulfm")
+
+
+def text(lines):
+    """Calls of a rank that the world doesn't have: the object answers at once, so what is timed is the text."""
+    calls = ["fail 9", "get 9 0", "ack 9 0 12", "agree 9 0 0123abcd", "poll 9 0"]
+    return ["ulfm 1 1 1 1"] + [calls[i % len(calls)] for i in range(lines - 1)]
+
+
+def rounds(ranks, lines):
+    """One agree after another: each rank contributes, then each asks for the reply."""
+    script = [f"ulfm 1 {ranks} 1 4096"]
+    turn = 0
+    while len(script) < lines:
+        for rank in range(ranks):
+            script.append(f"agree {rank} 0 {0xFFFFFFFF ^ 1 << (rank + turn) % 32:08x}")
+        script.extend(f"poll {rank} 0" for rank in range(ranks))
+        turn += 1
+    return script[:lines]
+
+
+def looks(lines):
+    """500 failures, and then calls that look at them: each get prints all of them."""
+    script = ["ulfm 1 512 1 2"] + [f"fail {rank}" for rank in range(12, 512)]
+    turn = 0
+    while len(script) < lines:
+        script.append(f"ack {turn % 12} 0 500" if turn % 8 else f"get {turn % 12} 0")
+        turn += 1
+    return script[:lines]
+
+
+KINDS = {
+    "text": text,
+    "rounds16": lambda lines: rounds(16, lines),
+    "looks": looks,
+}
+
+
+def processor_time(command, script, output):
+    """The processor time of one run, in seconds."""
+    with open(script, "rb") as source, open(output, "wb") as target:
+        process = subprocess.Popen(command, stdin=source, stdout=target)
+        _, status, usage = os.wait4(process.pid, 0)
+        process.returncode = os.waitstatus_to_exitcode(status)
+    if process.returncode != 0:
+        sys.exit(f"{command[0]} ended with status {process.returncode}")
+    return usage.ru_utime + usage.ru_stime
+
+
+def same(one, other):
+    with open(one, "rb") as a, open(other, "rb") as b:
+        return a.read() == b.read()
+
+
+def measure(kind, size, commands, repeats, folder):
+    """The median of each command's times, run in turn on one script."""
+    script = os.path.join(folder, "script")
+    with open(script, "w") as file:
+        file.write("\n".join(KINDS[kind](size)) + "\n")
+    times = [[] for _ in commands]
+    for _ in range(repeats):
+        for place, command in enumerate(commands):
+            times[place].append(processor_time(command, script, os.path.join(folder, f"output{place}")))
+    for place in range(1, len(commands)):
+        if not same(os.path.join(folder, "output0"), os.path.join(folder, f"output{place}")):
+            sys.exit(f"{kind} of {size} lines: the outputs differ")
+    return [statistics.median(each) for each in times]
+
+
+def build(source, folder):
+    if not shutil.which("rustc"):
+        sys.exit("the native program is built by rustc, which isn't on the PATH")
+    program = os.path.join(folder, "native")
+    subprocess.run(["rustc", "-O", "--edition", "2021", source, "-o", program], check=True, stderr=subprocess.DEVNULL)
+    return program
+
+
+def main():
+    words = argparse.ArgumentParser(description=__doc__, formatter_class=argparse.RawDescriptionHelpFormatter)
+    words.add_argument("--native", metavar="FILE.rs", help="a native program of the same work")
+    words.add_argument("--kinds", default=",".join(KINDS))
+    words.add_argument("--sizes", default="25000,50000,100000")
+    words.add_argument("--repeats", type=int, default=5)
+    asked = words.parse_args()
+    if not os.path.exists(PROGRAM):
+        sys.exit("build the program first: ./ulfm --help")
+    with tempfile.TemporaryDirectory() as folder:
+        commands = [[PROGRAM, "run"]]
+        if asked.native:
+            commands.append([build(asked.native, folder)])
+        print(f"{'script':<10} {'lines':>7} {'ulfm, s':>9} {'growth':>7}" + ("  native, s   ratio" if asked.native else ""))
+        for kind in asked.kinds.split(","):
+            before = None
+            for size in map(int, asked.sizes.split(",")):
+                found = measure(kind, size, commands, asked.repeats, folder)
+                growth = f"{found[0] / before:.1f}" if before else "-"
+                line = f"{kind:<10} {size:>7} {found[0]:>9.3f} {growth:>7}"
+                if asked.native:
+                    line += f"  {found[1]:>9.3f} {found[0] / found[1]:>7.2f}"
+                print(line, flush=True)
+                before = found[0]
+
+
+main()

@@ -1,0 +1,550 @@
+//! The worked rows through the program, and devices and memory that fail at each call in turn.
+use crate::program::answer;
+use linked_list_allocator::LocalHeap;
+use std::alloc::Global;
+use std::io;
+use std::io::{ErrorKind, Read, Write};
+use std::test::Fail;
+
+/// A script, and what the program gives.
+struct Row {
+    name: &'static str,
+    script: &'static str,
+    output: &'static str,
+    errors: &'static str,
+    status: u8,
+}
+
+const ROWS: [Row; 16] = [
+    Row {
+        name: "acknowledged_by_all",
+        script: "ulfm 1 3 1 4\nfail 2\nack 0 0 1\nack 1 0 1\nagree 0 0 0000000f\nagree 1 0 0000003c\npoll 0 0\npoll 1 0\n",
+        output: "declared\nacked 1\nacked 1\nstarted\nstarted\nagreed 0000000c failed 1 clean\nagreed 0000000c failed 1 clean\n",
+        errors: "",
+        status: 0,
+    },
+    Row {
+        name: "acknowledged_by_one",
+        script: "ulfm 1 3 1 4\nfail 2\nack 0 0 1\nagree 0 0 0000000f\nagree 1 0 0000003c\npoll 0 0\npoll 1 0\n",
+        output: "declared\nacked 1\nstarted\nstarted\nagreed 0000000c failed 1 raised\nagreed 0000000c failed 1 raised\n",
+        errors: "",
+        status: 0,
+    },
+    Row {
+        name: "acknowledged_too_late",
+        script: "ulfm 1 2 1 4\nfail 1\nagree 0 0 00000001\nack 0 0 1\npoll 0 0\n",
+        output: "declared\nstarted\nacked 1\nagreed 00000001 failed 1 raised\n",
+        errors: "",
+        status: 0,
+    },
+    Row {
+        name: "acknowledgements_count",
+        script: "ulfm 1 3 1 2\nget 0 0\nfail 1\nfail 2\nack 0 0 0\nack 0 0 1\nack 0 0 9\nack 0 0 1\nget 0 0\nfail 1\nfail 7\n",
+        output: "failed none\ndeclared\ndeclared\nacked 0\nacked 1\nacked 2\nacked 2\nfailed 1 2\nalready-failed\nrefused 13 no-such-rank\n",
+        errors: "",
+        status: 0,
+    },
+    Row {
+        name: "failed_rank_raises",
+        script: "ulfm 1 3 1 4\nfail 2\nagree 0 0 0000000f\nagree 1 0 0000003c\npoll 0 0\npoll 1 0\n",
+        output: "declared\nstarted\nstarted\nagreed 0000000c failed 1 raised\nagreed 0000000c failed 1 raised\n",
+        errors: "",
+        status: 0,
+    },
+    Row {
+        name: "fails_after_contributing",
+        script: "ulfm 1 3 1 4\nagree 0 0 0000000f\nagree 1 0 0000003c\nagree 2 0 00000004\nfail 2\npoll 0 0\npoll 1 0\npoll 2 0\n",
+        output: "started\nstarted\nstarted\ndeclared\nagreed 00000004 failed 0 clean\nagreed 00000004 failed 0 clean\nrefused 1 self-failed\n",
+        errors: "",
+        status: 0,
+    },
+    Row {
+        name: "known_to_the_others",
+        script: "ulfm 1 3 1 4\nagree 2 0 00000005\nfail 2\nagree 0 0 0000000f\nagree 1 0 00000007\npoll 0 0\npoll 1 0\n",
+        output: "started\ndeclared\nstarted\nstarted\nagreed 00000005 failed 1 raised\nagreed 00000005 failed 1 raised\n",
+        errors: "",
+        status: 0,
+    },
+    Row {
+        name: "line_faults_a",
+        script: "ulfm 1 2 1 4\nagree 0 0 0000000f\npoll 0",
+        output: "started\n",
+        errors: "ulfm: line 3: cut\n",
+        status: 1,
+    },
+    Row {
+        name: "line_faults_b",
+        script: "",
+        output: "",
+        errors: "ulfm: line 1: header\n",
+        status: 1,
+    },
+    Row {
+        name: "line_faults_c",
+        script: "ulfm 1 2 1 4\nagree 0 0 00000000f\n",
+        output: "",
+        errors: "ulfm: line 2: flag\n",
+        status: 1,
+    },
+    Row {
+        name: "line_faults_d",
+        script: "ulfm 1 2 1 4\nfail 1024\n",
+        output: "",
+        errors: "ulfm: line 2: number\n",
+        status: 1,
+    },
+    Row {
+        name: "line_faults_e",
+        script: "ulfm 1 1024 1 2048\n",
+        output: "",
+        errors: "ulfm: line 1: limits\n",
+        status: 1,
+    },
+    Row {
+        name: "line_faults_f",
+        script: "ulfm 1 1024 1 2047\n",
+        output: "",
+        errors: "",
+        status: 0,
+    },
+    Row {
+        name: "one_rank",
+        script: "ulfm 1 1 1 2\nagree 0 0 000000ff\npoll 0 0\n",
+        output: "started\nagreed 000000ff failed 0 clean\n",
+        errors: "",
+        status: 0,
+    },
+    Row {
+        name: "pending_then_decided",
+        script: "ulfm 1 3 1 4\nagree 0 0 0000000f\nagree 1 0 0000003c\npoll 0 0\nagree 2 0 00000004\npoll 0 0\n",
+        output: "started\nstarted\npending\nstarted\nagreed 00000004 failed 0 clean\n",
+        errors: "",
+        status: 0,
+    },
+    Row {
+        name: "three_flags",
+        script: "ulfm 1 3 1 4\nagree 0 0 0000000f\nagree 1 0 0000003c\nagree 2 0 ffffffff\npoll 0 0\npoll 1 0\npoll 2 0\n",
+        output: "started\nstarted\nstarted\nagreed 0000000c failed 0 clean\nagreed 0000000c failed 0 clean\nagreed 0000000c failed 0 clean\n",
+        errors: "",
+        status: 0,
+    },
+];
+
+/// A script with a reply of each form, for devices and memory that fail.
+const SCRIPT: &str =
+    "ulfm 1 3 1 4\nget 0 0\nfail 2\nagree 0 0 0000000f\nagree 1 0 0000003c\nget 0 0\nack 0 0 1\npoll 0 0\npoll 1 0\npoll 2 0\n";
+
+const OUTPUT: &str =
+    "failed none\ndeclared\nstarted\nstarted\nfailed 2\nacked 1\nagreed 0000000c failed 1 raised\nagreed 0000000c failed 1 raised\nrefused 1 self-failed\n";
+
+#[test]
+fn worked_rows(rt: HostRuntime) -> Result<(), Fail> {
+    for row in &ROWS {
+        let mut input = row.script.as_bytes();
+        let mut output = Vec::new(rt.alloc());
+        let mut errors = Vec::new(rt.alloc());
+        let status = answer(
+            rt.alloc(),
+            rt.alloc(),
+            &["ulfm", "run"],
+            &mut input,
+            &mut output,
+            &mut errors,
+        );
+        assert_eq!(rt; output.as_slice(), row.output.as_bytes(), "{}", row.name);
+        assert_eq!(rt; errors.as_slice(), row.errors.as_bytes(), "{}", row.name);
+        assert_eq!(rt; status, row.status, "{}", row.name);
+    }
+    Ok(())
+}
+
+/// Nothing is read where only help is asked for or the command line is bad.
+#[test]
+fn command_lines(rt: HostRuntime) -> Result<(), Fail> {
+    let rows: [(&[&str], u8); 8] = [
+        (&["ulfm", "--help"], 0),
+        (&["ulfm", "run", "--help"], 0),
+        (&["ulfm", "help", "run"], 0),
+        (&["ulfm"], 2),
+        (&["ulfm", "check"], 2),
+        (&["ulfm", "run", "--steps"], 2),
+        (&["ulfm", "run", "script"], 2),
+        (&[], 2),
+    ];
+    for (words, wanted) in rows {
+        let mut input = SCRIPT.as_bytes();
+        let mut output = Vec::new(rt.alloc());
+        let mut errors = Vec::new(rt.alloc());
+        let status = answer(
+            rt.alloc(),
+            rt.alloc(),
+            words,
+            &mut input,
+            &mut output,
+            &mut errors,
+        );
+        assert_eq!(rt; status, wanted);
+        assert_eq!(rt; input.len(), SCRIPT.len());
+        let told: &[u8] = if wanted == 2 {
+            b"ulfm: bad command line\n"
+        } else {
+            b""
+        };
+        assert_eq!(rt; errors.as_slice(), told);
+        assert_eq!(rt; output.is_empty(), wanted == 2);
+        let text = str::from_utf8(&output).unwrap_or("");
+        assert_eq!(rt; text.contains("agreed 000000ff failed 0 clean"), wanted == 0);
+    }
+    Ok(())
+}
+
+/// Gives a text in pieces, and fails at one call.
+#[derive(Drop)]
+struct Pieces<'a> {
+    text: &'a [u8],
+    most: usize,
+    calls: u32,
+    failing: u32,
+}
+
+impl Read for Pieces<'_> {
+    fn read(&mut self, buf: &mut [u8]) -> io::Result<usize> {
+        self.calls = self.calls.wrapping_add(1);
+        if self.calls == self.failing {
+            return Err(io::Error::from(ErrorKind::Interrupted));
+        }
+        let most = self.most.min(buf.len());
+        let mut rest = self.text;
+        let count = rest.read(&mut buf[..most])?;
+        self.text = rest;
+        if count > most {
+            return Ok(0);
+        }
+        Ok(count)
+    }
+}
+
+/// How a writer fails.
+#[derive(Clone, Copy, Debug, PartialEq, Eq)]
+enum Failing {
+    ByError,
+    ByNothing,
+    AtFlush,
+}
+
+/// Takes a few bytes a call, and fails at one call, or at a flush.
+#[derive(Drop)]
+struct Taken {
+    bytes: Vec<u8>,
+    most: usize,
+    calls: u32,
+    failing: u32,
+    how: Failing,
+}
+
+impl Write for Taken {
+    fn write(&mut self, buf: &[u8]) -> io::Result<usize> {
+        self.calls = self.calls.wrapping_add(1);
+        if self.calls == self.failing {
+            match self.how {
+                Failing::ByError => return Err(io::Error::from(ErrorKind::Interrupted)),
+                Failing::ByNothing => return Ok(0),
+                Failing::AtFlush => {}
+            }
+        }
+        let count = self.most.min(buf.len());
+        self.bytes.extend_from_slice(&buf[..count])?;
+        Ok(count)
+    }
+
+    fn flush(&mut self) -> io::Result<()> {
+        if self.how == Failing::AtFlush {
+            return Err(io::Error::from(ErrorKind::Interrupted));
+        }
+        Ok(())
+    }
+}
+
+/// A condition that a test wants.
+fn require(holds: bool) -> Result<(), Fail> {
+    if holds {
+        return Ok(());
+    }
+    Err(Fail::from("a condition doesn't hold"))
+}
+
+/// A script and its output, both longer than the buffers that they go through.
+fn long_texts(alloc: Global) -> Result<(Vec<u8>, Vec<u8>), Fail> {
+    let mut script = Vec::from_slice(alloc, b"ulfm 1 1 1 1\n")?;
+    let mut output = Vec::new(alloc);
+    for _ in 0..1250 {
+        script.extend_from_slice(b"fail 9\n")?;
+        output.extend_from_slice(b"refused 13 no-such-rank\n")?;
+    }
+    Ok((script, output))
+}
+
+/// The first lines of a text.
+fn first_lines(text: &[u8], count: usize) -> &[u8] {
+    let mut left = count;
+    for (at, byte) in text.iter().enumerate() {
+        if left == 0 {
+            return &text[..at];
+        }
+        if *byte == b'\n' {
+            left -= 1;
+        }
+    }
+    text
+}
+
+fn count_lines(text: &[u8]) -> usize {
+    text.iter().filter(|byte| **byte == b'\n').count()
+}
+
+/// One read after another fails, and the output is that of the lines that were given whole before.
+fn fail_each_read(alloc: Global, script: &[u8], output: &[u8], most: usize) -> Result<(), Fail> {
+    for failing in 1..20_000u32 {
+        let mut input = Pieces {
+            text: script,
+            most,
+            calls: 0,
+            failing,
+        };
+        let mut written = Vec::new(alloc);
+        let mut errors = Vec::new(alloc);
+        let status = answer(
+            alloc,
+            alloc,
+            &["ulfm", "run"],
+            &mut input,
+            &mut written,
+            &mut errors,
+        );
+        if input.calls < failing {
+            require(written.as_slice() == output)?;
+            require(status == 0)?;
+            return Ok(());
+        }
+        let given = script.len().saturating_sub(input.text.len());
+        let calls = count_lines(&script[..given.min(script.len())]).saturating_sub(1);
+        require(written.as_slice() == first_lines(output, calls))?;
+        require(errors.as_slice() == b"ulfm: read failed\n".as_slice())?;
+        require(status == 3)?;
+    }
+    Err(Fail::from("a read never failed"))
+}
+
+#[test]
+fn each_read_fails(rt: HostRuntime) -> Result<(), Fail> {
+    let alloc = rt.alloc();
+    let (script, output) = long_texts(alloc)?;
+    for most in [1, 7, 10_000] {
+        fail_each_read(alloc, SCRIPT.as_bytes(), OUTPUT.as_bytes(), most)?;
+        fail_each_read(alloc, &script, &output, most)?;
+    }
+    Ok(())
+}
+
+/// One write after another fails, and what was taken before is a beginning of the output.
+fn fail_each_write(
+    alloc: Global,
+    script: &[u8],
+    output: &[u8],
+    most: usize,
+    how: Failing,
+) -> Result<(), Fail> {
+    for failing in 1..40_000u32 {
+        let mut input = script;
+        let mut taken = Taken {
+            bytes: Vec::new(alloc),
+            most,
+            calls: 0,
+            failing,
+            how,
+        };
+        let mut errors = Vec::new(alloc);
+        let status = answer(
+            alloc,
+            alloc,
+            &["ulfm", "run"],
+            &mut input,
+            &mut taken,
+            &mut errors,
+        );
+        if taken.calls < failing {
+            require(taken.bytes.as_slice() == output)?;
+            require(status == 0)?;
+            return Ok(());
+        }
+        require(output.starts_with(taken.bytes.as_slice()))?;
+        require(errors.as_slice() == b"ulfm: write failed\n".as_slice())?;
+        require(status == 3)?;
+    }
+    Err(Fail::from("a write never failed"))
+}
+
+#[test]
+fn each_write_fails(rt: HostRuntime) -> Result<(), Fail> {
+    let alloc = rt.alloc();
+    let (script, output) = long_texts(alloc)?;
+    for how in [Failing::ByError, Failing::ByNothing] {
+        for most in [1, 7, 10_000] {
+            fail_each_write(alloc, SCRIPT.as_bytes(), OUTPUT.as_bytes(), most, how)?;
+        }
+        for most in [7, 10_000] {
+            fail_each_write(alloc, &script, &output, most, how)?;
+        }
+    }
+    fail_each_write(alloc, &script, &output, 1, Failing::ByError)
+}
+
+/// A flush that fails is a failing write, at the end of a run, at a line fault, and after help.
+#[test]
+fn flush_fails(rt: HostRuntime) -> Result<(), Fail> {
+    let rows: [(&str, &str); 3] = [
+        ("run", SCRIPT),
+        ("run", "ulfm 1 1 1 1\n?\n"),
+        ("--help", ""),
+    ];
+    for (word, script) in rows {
+        let mut input = script.as_bytes();
+        let mut output = Taken {
+            bytes: Vec::new(rt.alloc()),
+            most: 10_000,
+            calls: 0,
+            failing: 0,
+            how: Failing::AtFlush,
+        };
+        let mut errors = Vec::new(rt.alloc());
+        let status = answer(
+            rt.alloc(),
+            rt.alloc(),
+            &["ulfm", word],
+            &mut input,
+            &mut output,
+            &mut errors,
+        );
+        assert_eq!(rt; errors.as_slice(), b"ulfm: write failed\n".as_slice());
+        assert_eq!(rt; status, 3);
+    }
+    Ok(())
+}
+
+/// A fault of the error stream is passed over.
+#[test]
+fn errors_fail(rt: HostRuntime) -> Result<(), Fail> {
+    let rows: [(&str, &str, u8); 2] = [("run", "", 1), ("walk", "", 2)];
+    for (word, script, wanted) in rows {
+        let mut input = script.as_bytes();
+        let mut output = Vec::new(rt.alloc());
+        let mut errors = Taken {
+            bytes: Vec::new(rt.alloc()),
+            most: 1,
+            calls: 0,
+            failing: 1,
+            how: Failing::ByError,
+        };
+        let status = answer(
+            rt.alloc(),
+            rt.alloc(),
+            &["ulfm", word],
+            &mut input,
+            &mut output,
+            &mut errors,
+        );
+        assert_eq!(rt; status, wanted);
+    }
+    Ok(())
+}
+
+/// What a run in a heap of some bytes writes, and its status; a refusal is told.
+fn run_in(alloc: Global, size: usize, script: &[u8]) -> Result<(Vec<u8>, u8), Fail> {
+    let heap = LocalHeap::new(alloc, size)?;
+    let mut input = script;
+    let mut output = Vec::new(alloc);
+    let mut errors = Vec::new(alloc);
+    let status = answer(
+        &heap,
+        alloc,
+        &["ulfm", "run"],
+        &mut input,
+        &mut output,
+        &mut errors,
+    );
+    let told: &[u8] = if status == 3 {
+        b"ulfm: out of memory\n"
+    } else {
+        b""
+    };
+    require(errors.as_slice() == told)?;
+    Ok((output, status))
+}
+
+/// Each want of memory ends the run, behind exactly the output of the lines before the one that it came at.
+#[test]
+fn each_growth_is_refused(rt: HostRuntime) -> Result<(), Fail> {
+    let mut furthest = 0;
+    for step in 1..4000usize {
+        let size = step.wrapping_mul(16);
+        let (output, status) = run_in(rt.alloc(), size, SCRIPT.as_bytes())?;
+        if status == 0 {
+            assert_eq!(rt; output.as_slice(), OUTPUT.as_bytes());
+            assert!(rt; furthest > 5);
+            return Ok(());
+        }
+        assert_eq!(rt; status, 3);
+        let calls = count_lines(&output);
+        assert!(rt; output.as_slice() == first_lines(OUTPUT.as_bytes(), calls));
+        furthest = furthest.max(calls);
+        if calls > 0 {
+            let before = first_lines(SCRIPT.as_bytes(), calls.wrapping_add(1));
+            let (same, status) = run_in(rt.alloc(), size, before)?;
+            assert_eq!(rt; status, 0);
+            assert_eq!(rt; same.as_slice(), output.as_slice());
+            let with = first_lines(SCRIPT.as_bytes(), calls.wrapping_add(2));
+            let (_, status) = run_in(rt.alloc(), size, with)?;
+            assert_eq!(rt; status, 3);
+        }
+    }
+    Err(Fail::from("memory was refused at each size"))
+}
+
+/// Each kind of line fault is told by its name.
+#[test]
+fn each_kind_is_told(rt: HostRuntime) -> Result<(), Fail> {
+    let mut many = Vec::from_slice(rt.alloc(), b"ulfm 1 1 1 1\n")?;
+    for _ in 0..100_000 {
+        many.extend_from_slice(b"fail 9\n")?;
+    }
+    let rows: [(&[u8], &[u8]); 9] = [
+        (b"ulfm 1 1 1 1\nfail 0", b"ulfm: line 2: cut\n"),
+        (
+            b"ulfm 1 1 1 1\nfail 0000000000000000000000000000000000000000000000000000000000000\n",
+            b"ulfm: line 2: long\n",
+        ),
+        (&many, b"ulfm: line 100001: lines\n"),
+        (b"ulfm 2 1 1 1\n", b"ulfm: line 1: header\n"),
+        (b"ulfm 1 1025 1 1\n", b"ulfm: line 1: limits\n"),
+        (b"ulfm 1 1 1 1\n\n", b"ulfm: line 2: verb\n"),
+        (b"ulfm 1 1 1 1\nfail\n", b"ulfm: line 2: words\n"),
+        (b"ulfm 1 1 1 1\nfail -1\n", b"ulfm: line 2: number\n"),
+        (b"ulfm 1 1 1 1\nagree 0 0 1\n", b"ulfm: line 2: flag\n"),
+    ];
+    for (script, wanted) in rows {
+        let mut input = script;
+        let mut output = Vec::new(rt.alloc());
+        let mut errors = Vec::new(rt.alloc());
+        let status = answer(
+            rt.alloc(),
+            rt.alloc(),
+            &["ulfm", "run"],
+            &mut input,
+            &mut output,
+            &mut errors,
+        );
+        assert_eq!(rt; errors.as_slice(), wanted);
+        assert_eq!(rt; status, 1);
+    }
+    Ok(())
+}

@@ -1,0 +1,61 @@
+-- What is read and not yet taken, and what is still to be written.
+use Rattle.std.specs.Prelude.{◌≡◌, ◌≢◌, ℕ, ◌<◌, List, [], ◌∷◌, ◌++◌, length, take, slice_range, Option, Some, None, Result, Ok, Err}
+use Rattle.std.specs.List.{AllByRecursion}
+use Rattle.std.specs.Io.KnownBytes.{Keeps, Appends, Consumes, IsAtEnd, prepend_known}
+use Rattle.ulfm_script.specs.Written.{WritesPart}
+use Rattle.ulfm_script.specs.declared.input.Input.{Input}
+use Rattle.ulfm_script.specs.declared.input.LineEnd.{LineEnd}
+use Rattle.ulfm_script.specs.declared.input.LineEnd.TheVariants.{Newline, Cut, Done}
+use Rattle.ulfm_script.specs.declared.output.Output.{Output}
+use Rattle.ulfm_script.specs.declared.fault.RunFault.{RunFault}
+use Rattle.ulfm_script.specs.declared.fault.RunFault.TheVariants.{Line, Memory, Read, Write}
+
+-- what was read and not yet taken
+abbrev pub pending : {A : Type 0} → Input A → List ℕ
+pending input = slice_range input.bytes.items input.start input.end
+
+-- what is still to be taken, where that is known
+abbrev pub unread : {A R : Type 0} → (R → Option (List ℕ)) → Input A → R → Option (List ℕ)
+unread remaining input reader = prepend_known (pending input) (remaining reader)
+
+-- bytes are pending, if there are any more
+abbrev pub Fills : Option (List ℕ) → Option (List ℕ) → List ℕ → Result (Unit {0}) RunFault → Type 0
+Fills old new bytes (Ok done) = Keeps old new × (bytes ≡ [] → IsAtEnd new)
+Fills old new bytes (Err fault) = Keeps old new × (bytes ≡ []) × (fault ≡ Read)
+
+-- a byte was taken, if there is one; these bytes are pending then
+abbrev pub TakesByte : Option (List ℕ) → Option (List ℕ) → List ℕ → Result (Option ℕ) RunFault → Type 0
+TakesByte old new bytes (Ok None) = Keeps old new × IsAtEnd new
+TakesByte old new bytes (Ok (Some byte)) = Consumes old new (byte ∷ [])
+TakesByte old new bytes (Err fault) = Keeps old new × (bytes ≡ []) × (fault ≡ Read)
+
+-- a line, without its newline
+abbrev pub HasNoNewline : List ℕ → Type 0
+HasNoNewline xs = AllByRecursion (λ x. x ≢ 10) xs
+
+-- a line was taken, and its first 65 bytes are kept; where the reader failed inside it, nothing is pending
+abbrev pub TakesLine : Option (List ℕ) → Option (List ℕ) → List ℕ → List ℕ → Result LineEnd RunFault → Type 0
+TakesLine old new bytes kept (Ok Newline) = (line : List ℕ) × HasNoNewline line × (kept ≡ take 65 line) × Consumes old new (line ++ 10 ∷ [])
+TakesLine old new bytes kept (Ok Cut) = (line : List ℕ) × HasNoNewline line × (0 < length line) × Consumes old new line × IsAtEnd new
+TakesLine old new bytes kept (Ok Done) = Keeps old new × IsAtEnd new
+TakesLine old new bytes kept (Err Read) = (part : List ℕ) × HasNoNewline part × (bytes ≡ []) × Consumes old new part
+TakesLine old new bytes kept (Err Memory) = (part : List ℕ) × Consumes old new part
+TakesLine old new bytes kept (Err Write) = ⊥
+TakesLine old new bytes kept (Err (Line number kind)) = ⊥
+
+-- what waits to be written
+abbrev pub waiting : {A : Type 0} → Output A → List ℕ
+waiting output = output.bytes.items
+
+-- all that waited was written, or the writer failed
+abbrev pub Drains : List ℕ → Option (List ℕ) → List ℕ → Option (List ℕ) → Result (Unit {0}) RunFault → Type 0
+Drains bytes old rest new (Ok done) = (rest ≡ []) × Appends old new bytes
+Drains bytes old rest new (Err fault) = (fault ≡ Write) × WritesPart old new bytes
+
+-- a text was put behind what waits; some of it may be written
+abbrev pub Puts : List ℕ → Option (List ℕ) → List ℕ → List ℕ → Option (List ℕ) → Result (Unit {0}) RunFault → Type 0
+Puts bytes old text rest new (Ok done) = (part : List ℕ) × (bytes ++ text ≡ part ++ rest) × Appends old new part
+Puts bytes old text rest new (Err Memory) = (part : List ℕ) × (bytes ≡ part ++ rest) × Appends old new part
+Puts bytes old text rest new (Err Write) = WritesPart old new bytes
+Puts bytes old text rest new (Err Read) = ⊥
+Puts bytes old text rest new (Err (Line number kind)) = ⊥

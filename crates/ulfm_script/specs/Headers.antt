@@ -1,0 +1,38 @@
+-- The first line of a script, which gives the limits of its world.
+use Rattle.std.specs.Prelude.{ℕ, List, codes, Option, Bool, ◌&&◌, nat_lt, nat_le, Result, Ok, Err, if◌then◌else◌}
+use Rattle.std.specs.Str.{bytes_eq}
+use Rattle.ulfm_model.specs.declared.limits.Limits.{Limits}
+use Rattle.ulfm_model.specs.Words.{size_of}
+use Rattle.ulfm_script.specs.declared.line_kind.LineKind.{LineKind}
+use Rattle.ulfm_script.specs.declared.line_kind.LineKind.TheVariants.{Header, Limits as BadLimits}
+use Rattle.ulfm_script.specs.Digits.{number_of}
+use Rattle.ulfm_script.specs.Steps.{◌>>=◌, with_fault}
+use Rattle.ulfm_script.specs.Words.{word_of, four_of}
+
+-- whether a world of these limits may be opened
+abbrev pub may_open : Limits → Bool
+may_open limits =
+    nat_lt 0 limits.ranks && nat_le limits.ranks 1024 && (nat_lt 0 limits.comms && nat_le limits.comms 256) && (nat_lt 0 limits.rounds && nat_le limits.rounds 4096)
+    && nat_le (size_of limits) 4194304
+
+-- the limits that three words give
+abbrev pub numbers_of : List ℕ × List ℕ × List ℕ → Result Limits LineKind
+numbers_of words = do
+  ranks ← number_of words.0
+  comms ← number_of words.1
+  rounds ← number_of words.2
+  Ok (record { ranks = ranks; comms = comms; rounds = rounds })
+
+-- behind the name of the format stands its version, and then the limits
+unfoldable pub limits_of : Option (List ℕ) → Result Limits LineKind
+limits_of fields = do
+  words ← four_of fields
+  if bytes_eq words.0 (codes "1") then numbers_of (words.1, words.2, words.3) else Err Header
+
+-- a name, and the text behind it; whatever is wrong with its form is the one fault
+abbrev pub form_from : List ℕ × Option (List ℕ) → Result Limits LineKind
+form_from first = if bytes_eq first.0 (codes "ulfm") then with_fault Header (limits_of first.1) else Err Header
+
+-- the limits that a header gives
+unfoldable pub header_of : List ℕ → Result Limits LineKind
+header_of line = form_from (word_of line) >>= λ limits. if may_open limits then Ok limits else Err BadLimits

@@ -1,0 +1,116 @@
+//! A buffer over a reader, and its lines.
+ghost use Rattle.std.specs.Prelude.{◌≡◌, ◌≤◌, ◌<◌, [], length, IfOk};
+
+use crate::fault::RunFault;
+use std::alloc::{AllocError, Allocator};
+use std::io::Read;
+
+/// How many bytes are read at once.
+const SIZE: usize = 8192;
+
+/// How much of a line is kept: one byte more than a line may have.
+const KEPT: usize = 65;
+
+/// The bytes that were read, from `start` to `end` those that are not yet taken.
+#[derive(Drop)]
+pub(crate) struct Input<A: Allocator> {
+    bytes: Vec<u8, A>,
+    start: usize,
+    end: usize,
+    ghost ordered: { start ≤ end },
+    ghost within: { end ≤ length bytes.items },
+    ghost room: { 0 < length bytes.items },
+}
+
+/// How a line ends.
+#[derive(Clone, Copy, PartialEq, Eq)]
+pub(crate) enum LineEnd {
+    /// With a newline, which is taken too.
+    Newline,
+    /// With the end of the text, inside the line.
+    Cut,
+    /// The text ended before; there is no further line.
+    Done,
+}
+
+impl<A: Allocator> Input<A> {
+    ghost use Rattle.ulfm_script.specs.Buffers.{pending, unread, Fills, TakesByte, TakesLine};
+
+    /// Nothing is read yet.
+    pub(crate) fn new(alloc: A) -> Result<Input<A>, AllocError>
+        ensures { IfOk result (λ input. pending input ≡ []) }
+    {
+        let bytes = vec![in alloc; 0; SIZE]?;
+        Ok(Input {
+            bytes,
+            start: 0,
+            end: 0,
+        })
+    }
+
+    /// Reads where no byte is left to take. Any error of the reader is a fault, of whatever kind.
+    #[tactic(auto, using(crate::proofs::ByteLemmas::filled, crate::proofs::ByteLemmas::none_pending))]
+    fn fill<R: Read>(&mut self, reader: &mut R) -> Result<(), RunFault>
+        ensures { Fills (unread R.remaining self.old reader.old) (unread R.remaining self.new reader.new) (pending self.new) result }
+    {
+        if self.start < self.end {
+            return Ok(());
+        }
+        match reader.read(self.bytes.as_mut_slice()) {
+            Ok(count) => {
+                self.start = 0;
+                self.end = count;
+                Ok(())
+            }
+            Err(_) => Err(RunFault::Read),
+        }
+    }
+
+    /// Takes the next byte, if there is one.
+    fn next_byte<R: Read>(&mut self, reader: &mut R) -> Result<Option<u8>, RunFault>
+        ensures { TakesByte (unread R.remaining self.old reader.old) (unread R.remaining self.new reader.new) (pending self.new) result }
+    {
+        if let Err(fault) = self.fill(reader) {
+            return Err(fault);
+        }
+        if self.start == self.end {
+            return Ok(None);
+        }
+        let byte = self.bytes[self.start];
+        self.start += 1;
+        Ok(Some(byte))
+    }
+
+    /// Takes a line up to its newline, and keeps the first 65 bytes of it.
+    pub(crate) fn read_line<R: Read>(
+        &mut self,
+        reader: &mut R,
+        line: &mut Vec<u8, A>,
+    ) -> Result<LineEnd, RunFault>
+        ensures { TakesLine (unread R.remaining self.old reader.old) (unread R.remaining self.new reader.new) (pending self.new)
+            line.new.items result }
+    {
+        line.clear();
+        // no line has as many bytes as this loop has turns
+        'bytes: for _ in 0..u64::MAX {
+            match self.next_byte(reader) {
+                Err(fault) => return Err(fault),
+                Ok(Some(b'\n')) => return Ok(LineEnd::Newline),
+                Ok(Some(byte)) => {
+                    if line.len() < KEPT {
+                        if line.push(byte).is_err() {
+                            return Err(RunFault::Memory);
+                        }
+                    }
+                }
+                Ok(None) => {
+                    if line.is_empty() {
+                        return Ok(LineEnd::Done);
+                    }
+                    return Ok(LineEnd::Cut);
+                }
+            }
+        }
+        Err(RunFault::Memory)
+    }
+}
