@@ -3,15 +3,23 @@ use Rattle.std.specs.Prelude.{◌≡◌, ℕ, List, [], ◌∷◌, ◌++◌, ⊤
 use Rattle.std.specs.Io.KnownBytes.{Appends, Consumes, IsAtEnd}
 use Rattle.ulfm_laws.specs.declared.flag_and.FlagAnd.{FlagAnd}
 use Rattle.ulfm_laws.specs.Flags.{flag_meld}
+use Rattle.ulfm_model.specs.declared.call.Call.{Call}
 use Rattle.ulfm_model.specs.declared.limits.Limits.{Limits}
 use Rattle.ulfm_model.specs.declared.reply.Reply.{Reply}
 use Rattle.ulfm_model.specs.declared.reply.Reply.TheVariants.{Started, Pending, Agreed, Shrunk, Done, FailedGroup, Acked, Declared, AlreadyFailed, Revoked, AlreadyRevoked, Standing, Freed, Refused}
-use Rattle.ulfm_model.specs.{Answers.{traits_of}, History.{failed, members}, Runs.{AreReplies, IsStep, State, new_state}}
+use Rattle.ulfm_model.specs.{Answers.{traits_of}, History.{failed, members}, Runs.{IsStep, State, new_state}}
 use Rattle.ulfm_model.proofs.Terms.{comm_of}
 use Rattle.ulfm_script.specs.declared.line_kind.LineKind.{LineKind}
 use Rattle.ulfm_script.specs.declared.fault.RunFault.{RunFault}
 use Rattle.ulfm_script.specs.declared.fault.RunFault.TheVariants.{Line, Memory, Read, Write}
 use Rattle.ulfm_script.specs.{Buffers.{HasNoNewline}, Calls.{ScriptCall}, Printed.{reply_text}, Scripts.{Script, header_at, script_of, without_header}, Written.{Begins, Holds, WritesPart}}
+
+-- the replies of calls one after another, each by its own caller
+abbrev pub AreReplies : {P : Type 0} → (P → P → P) → State P → List (Call P) → List (Reply P) → Type 0
+AreReplies meld state [] [] = Unit {0}
+AreReplies meld state [] (reply ∷ replies) = ⊥
+AreReplies meld state (asked ∷ calls) [] = ⊥
+AreReplies {P} meld state (asked ∷ calls) (reply ∷ replies) = (next : State P) × IsStep meld state (traits_of asked).by asked reply next × AreReplies meld next calls replies
 
 -- the state of the object behind a script
 abbrev pub ScriptState : Type 0
