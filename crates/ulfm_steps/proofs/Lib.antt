@@ -1,0 +1,8 @@
+pub mod Looking
+pub mod Settling
+pub mod Groups
+pub mod Reading
+pub mod Marking
+pub mod Appending
+pub mod Welcome
+pub mod Spawning

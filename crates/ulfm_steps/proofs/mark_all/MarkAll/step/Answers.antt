@@ -1,0 +1,38 @@
+use Rattle.std.proofs.Common.{◌≡◌, ◌+◌, ◌≤◌, length, ap, arith, rules}
+use Rattle.std.specs.List.{slice_index}
+use Rattle.ulfm_model.specs.declared.contribution.MarkCount.{MarkCount}
+use Rattle.ulfm_steps.specs.Marks.{members_in}
+use Rattle.ulfm_steps.proofs.{Groups.{round_rises}, Marking.{count_fits, may_mark, marks_try}, Reading.{member_within}}
+use Rattle.ulfm_steps.proofs.mark_all.MarkAll.step.Goals as goal
+
+pub overflow_add-self : goal.overflow_add-self
+overflow_add-self g c =
+    let fits = count_fits g.P.Meld.meld (g.W.Words.name c.args.words.now).limits (g.W.Words.sight c.args.pass.now).seen c.args.group.now c.args.declared.now c.args.self.now.next c.requires.of.legal c.requires.of.may_open c.requires.may.begins c.requires.more in
+    let small : c.args.self.now.known + 1 ≤ 1024 = omega (arith, fits, c.requires.at.counted) in
+    search rules
+
+pub invariant_of-put : goal.invariant_of-put
+invariant_of-put g c =
+    let fits = count_fits g.P.Meld.meld (g.W.Words.name c.args.words.now).limits (g.W.Words.sight c.args.pass.now).seen c.args.group.now c.args.declared.now c.args.self.now.next c.requires.of.legal c.requires.of.may_open c.requires.may.begins c.requires.more in
+    record { in_range = omega (arith, fits, c.requires.at.counted) }
+
+pub set_slot-requires-clause-within : goal.set_slot-requires-clause-within
+set_slot-requires-clause-within g c =
+    member_within (g.W.Words.name c.args.words.now).limits g.P.Meld.meld (g.W.Words.sight c.args.pass.now).seen c.args.self.now.comm c.args.self.now.round (slice_index c.args.declared.now c.args.self.now.next) c.args.group.now
+    c.requires.of.legal c.requires.of.may_open c.requires.may.round (c.requires.at.member c.requires.more)
+
+pub set_slot-requires-clause-may : goal.set_slot-requires-clause-may
+set_slot-requires-clause-may g c =
+    let counted : c.args.self.now.known + 1 ≡ length (members_in c.args.group.now c.args.declared.now c.args.self.now.next) + 1 = ap (λ n. n + 1) c.requires.at.counted in
+    let fits = count_fits g.P.Meld.meld (g.W.Words.name c.args.words.now).limits (g.W.Words.sight c.args.pass.now).seen c.args.group.now c.args.declared.now c.args.self.now.next c.requires.of.legal c.requires.of.may_open c.requires.may.begins c.requires.more in
+    let mark : MarkCount = record { known = record { count = c.args.self.now.known + 1; in_range = omega (arith, fits, counted) }; counted = omega arith } in
+    may_mark g.P.Meld.meld (g.W.Words.name c.args.words.now).limits (g.W.Words.sight c.args.pass.now).seen c.args.self.now.comm c.args.self.now.round c.args.group.now c.args.declared.now c.args.self.now.next mark c.requires.may c.requires.more
+    (c.requires.at.member c.requires.more) counted
+
+pub returns-clause-marks : goal.returns-clause-marks
+returns-clause-marks g c =
+    marks_try g.W.Words.alone c.args.self.now.rank c.args.self.now.comm c.args.self.now.round g.P.Meld.meld g.P.Packed.pack (g.W.Words.name c.args.words.now) (slice_index c.args.declared.now c.args.self.now.next) _ c.set_slot.result (g.W.Words.sight c.args.pass.now) (g.W.Words.sight c.set_slot.new.pass)
+    c.set_slot.ensures.tries c.set_slot.ensures.stands
+
+pub next_member-self-requires-clause-rises : goal.next_member-self-requires-clause-rises
+next_member-self-requires-clause-rises g c = round_rises (g.W.Words.name c.args.words.now).limits (g.W.Words.sight c.args.pass.now).seen c.args.self.now.comm c.args.self.now.round c.args.group.now c.requires.may.round

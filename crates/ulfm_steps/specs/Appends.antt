@@ -1,0 +1,59 @@
+-- Appending to one of the two lists that fill from the front.
+use Rattle.std.specs.Prelude.{◌≡◌, ◌≢◌, ℕ, ◌+◌, ◌-◌, ◌<◌, ◌≤◌, Bool, List, [], length, map, Some, None, slice_get}
+use mathlib.Core.List.{IsPrefix}
+use Rattle.ulfm_model.specs.declared.{event.Caller.{Caller}, event.Event.{Event}, event.Event.TheVariants.{Fail, Spawn}, limits.Limits.{Limits}, place.Place.{Place}, place.Place.TheVariants.{List as ListAt, Comm as CommAt}}
+use Rattle.ulfm_model.specs.{History.{History, IsLegal, MayFollow, failures, spawns}, Runs.{Did}}
+use Rattle.ulfm_words.specs.{Steps.{IsAdded, IsOf, Name, Sight}, Tries.{entry}}
+use Rattle.ulfm_steps.specs.declared.{append.Appended.{Appended}, append.Appended.TheVariants.{Won, Found, Full}, item.Item.{Item}, item.Item.TheVariants.{Failure, Comm}}
+
+-- the list in which an item stands, in order
+abbrev pub items : {P : Type 0} → Item → History P → List Item
+items (Failure rank) h = map (λ r. Failure r) (failures h)
+items (Comm parent round) h = map (λ made. Comm made.0 made.1) (spawns h)
+
+-- how many places that list has; the world's own communicator has none
+abbrev pub room : Item → Limits → ℕ
+room (Failure rank) limits = limits.ranks
+room (Comm parent round) limits = limits.comms - 1
+
+-- its i-th place, from 0
+abbrev pub place_at : Item → ℕ → Place
+place_at (Failure rank) i = ListAt i
+place_at (Comm parent round) i = CommAt (i + 1)
+
+-- the event that puts the item there
+abbrev pub event_at : {P : Type 0} → Item → ℕ → Event P
+event_at (Failure rank) i = Fail rank
+event_at (Comm parent round) i = Spawn (i + 1) parent round
+
+-- in each legal history that goes on from what was seen, while the list has no such place yet, the item may stand there
+abbrev pub MayAdd : {P : Type 0} → (P → P → P) → Limits → History P → Item → ℕ → Type 0
+MayAdd {P} meld limits seen item i = (more : History P) → IsPrefix seen more → IsLegal meld limits more → slice_get (items item more) i ≡ None
+    → MayFollow meld limits more (event_at item i) × (length (items item more) ≡ i)
+
+-- .. whose list has room and not this item, the item may come next
+abbrev pub MayAppend : {P : Type 0} → (P → P → P) → Limits → History P → Item → Type 0
+MayAppend {P} meld limits seen item = (more : History P) → IsPrefix seen more → IsLegal meld limits more → ((j : ℕ) → slice_get (items item more) j ≢ Some item)
+    → length (items item more) < room item limits → MayFollow meld limits more (event_at item (length (items item more)))
+
+-- the first places of the list, so many, have other items
+abbrev pub Passed : {P : Type 0} → History P → Item → ℕ → Type 0
+Passed h item n = (j : ℕ) → j < n → (x : Item) × (slice_get (items item h) j ≡ Some x) × (x ≢ item)
+
+-- the next place is the caller's; or the item stands at this place; or all places have other items
+abbrev pub AppendIs : {P : Type 0} → Bool → Limits → Item → Caller → History P → History P → Appended → Type 0
+AppendIs alone limits item by old new (Won i) = IsAdded alone (entry by (event_at item i)) old new × (slice_get (items item new) i ≡ Some item)
+AppendIs alone limits item by old new (Found i) = Did alone [] old new × (slice_get (items item new) i ≡ Some item)
+AppendIs alone limits item by old new Full = Did alone [] old new × Passed new item (room item limits)
+
+-- so many atomic steps at most led to this end
+pub record Appends {P : Type 0} (meld : P → P → P) (alone : Bool) (name : Name) (item : Item) (by : Caller) (most : ℕ) (old : Sight P) (result : Appended) (new : Sight P) : Type 0 where
+  pub of : IsOf meld name new
+  pub outcome : AppendIs alone name.limits item by old.seen new.seen result
+  pub onward : old.steps ≤ new.steps
+  pub steps : new.steps ≤ old.steps + most
+
+-- a communicator's round is one that there is
+abbrev pub HasRound : Limits → Item → Type 0
+HasRound limits (Failure rank) = Unit {0}
+HasRound limits (Comm parent round) = round < limits.rounds

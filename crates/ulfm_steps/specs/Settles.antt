@@ -1,0 +1,9 @@
+-- What settling one's own place asks for.
+use Rattle.std.specs.Prelude.{ℕ, ◌≤◌, length}
+use Rattle.ulfm_model.specs.declared.{contribution.Contribution.{Contribution}, limits.Limits.{Limits}}
+use Rattle.ulfm_model.specs.History.{History, IsPlace, failed}
+
+-- a contribution that may be made as long as its place is empty
+pub record MayGive {P : Type 0} (limits : Limits) (h : History P) (c k r : ℕ) (given : Contribution P) : Type 0 where
+  pub place : IsPlace limits h c k r
+  pub known : given.known.count ≤ length (failed limits.ranks h c)

@@ -1,0 +1,115 @@
+// Appending an item to a list that fills from the front, unless it is there: at each place a load and, where nothing stands,
+// an exchange. A place that was passed has another item for good, so the first place that is empty is the next one.
+ghost use Rattle.std.specs.Prelude.{◌≡◌, ◌<◌, ◌≤◌, ◌+◌, ◌*◌, ◌-◌, false, MatchOption};
+ghost use Rattle.ulfm_words.specs.Steps.{IsOf, Goes};
+ghost use Rattle.ulfm_steps.specs.Appends.{room, HasRound, MayAppend, Passed, Appends};
+ghost use Rattle.ulfm_steps.specs.Turns.{turns_left};
+
+use crate::item::Item;
+use crate::items::{load_item, room_for, set_item};
+use std::alloc::Allocator;
+use ulfm_laws::meld::Packed;
+use ulfm_model::event::Caller;
+use ulfm_words::Words;
+
+/// How an appending ended.
+#[derive(Clone, Copy, Debug, PartialEq, Eq)]
+pub enum Appended {
+    /// The item was put at this place, the next one, by this call.
+    Won(u16),
+    /// The item stands at this place.
+    Found(u16),
+    /// All places have other items.
+    Full,
+}
+
+/// An appending that is under way.
+#[derive(Clone, Copy, Debug, PartialEq, Eq)]
+pub struct Append {
+    pub item: Item,
+    /// In whose name.
+    pub by: Caller,
+    /// The place that is tried. Those before it have other items.
+    pub index: u16,
+    /// Whether its load found nothing, so that an exchange comes next.
+    pub empty: bool,
+}
+
+impl Append {
+    /// An appending that has tried no place yet.
+    pub fn new(item: Item, by: Caller) -> Append
+        ensures { result ≡ record { item = item; by = by; index = 0; empty = false } }
+    {
+        Append {
+            item,
+            by,
+            index: 0,
+            empty: false,
+        }
+    }
+
+    /// One load or one exchange, at the place that is tried: how the appending ended, if it did.
+    pub fn step<P: Packed, A: Allocator, W: Words<P, A>>(
+        &mut self,
+        words: &W,
+        pass: &mut W::Pass,
+    ) -> Option<Appended>
+        requires of { IsOf P.meld (W.name words.now) (W.sight pass.old) }
+        requires may { MayAppend P.meld (W.name words.now).limits (W.sight pass.old).seen self.old.item }
+        requires round { HasRound (W.name words.now).limits self.old.item }
+        requires passed { Passed (W.sight pass.old).seen self.old.item self.old.index }
+        requires more { self.old.index < room self.old.item (W.name words.now).limits }
+        ensures same { (self.new.item ≡ self.old.item) × (self.new.by ≡ self.old.by) }
+        ensures goes { MatchOption result (Goes P.meld W.alone (W.name words.now) 1 (W.sight pass.old) (W.sight pass.new)) (λ a. Appends P.meld W.alone (W.name words.now) self.old.item self.old.by 1 (W.sight pass.old) a (W.sight pass.new)) }
+        ensures one { (W.sight pass.new).steps ≡ (W.sight pass.old).steps + 1 }
+        ensures passed { MatchOption result (Passed (W.sight pass.new).seen self.old.item self.new.index) (λ _. Unit {0}) }
+        ensures turns { MatchOption result (turns_left (room self.old.item (W.name words.now).limits) self.new + 1 ≤ turns_left (room self.old.item (W.name words.now).limits) self.old) (λ _. Unit {0}) }
+        ensures within { MatchOption result (self.new.index < room self.old.item (W.name words.now).limits) (λ _. Unit {0}) }
+    {
+        let standing = if self.empty {
+            match set_item(words, pass, self.by, self.item, self.index) {
+                Ok(()) => return Some(Appended::Won(self.index)),
+                Err(other) => other,
+            }
+        } else {
+            match load_item(words, pass, self.item, self.index) {
+                None => {
+                    self.empty = true;
+                    return None;
+                }
+                Some(other) => other,
+            }
+        };
+        if standing == self.item {
+            return Some(Appended::Found(self.index));
+        }
+        self.empty = false;
+        self.index += 1;
+        if self.index == room_for(self.item, words.limits()) {
+            return Some(Appended::Full);
+        }
+        None
+    }
+
+    /// All steps that are left. It takes two steps at most for each place of the list.
+    pub fn finish<P: Packed, A: Allocator, W: Words<P, A>>(
+        &mut self,
+        words: &W,
+        pass: &mut W::Pass,
+    ) -> Appended
+        requires of { IsOf P.meld (W.name words.now) (W.sight pass.old) }
+        requires may { MayAppend P.meld (W.name words.now).limits (W.sight pass.old).seen self.old.item }
+        requires round { HasRound (W.name words.now).limits self.old.item }
+        requires passed { Passed (W.sight pass.old).seen self.old.item self.old.index }
+        requires within { self.old.index ≤ room self.old.item (W.name words.now).limits }
+        ensures { Appends P.meld W.alone (W.name words.now) self.old.item self.old.by (2 * room self.old.item (W.name words.now).limits) (W.sight pass.old) result (W.sight pass.new) }
+    {
+        let places = room_for(self.item, words.limits());
+        while self.index < places {
+            if let Some(end) = self.step(words, pass) {
+                return end;
+            }
+        }
+        Appended::Full
+    }
+}

@@ -1,0 +1,72 @@
+// Words of the tests' own: plain words whose pass counts the loads and exchanges that are made.
+ghost use Rattle.std.specs.Prelude.{[], true, false};
+ghost use Rattle.ulfm_words.specs.Pass.{plain_name};
+
+use std::alloc::{AllocError, Allocator, Global};
+use ulfm_laws::meld::Packed;
+use ulfm_model::limits::Limits;
+use ulfm_model::place::Place;
+use ulfm_words::{PlainPass, PlainTold, PlainWords, Step, Words};
+
+#[derive(Drop)]
+pub(crate) struct Counted<P: Packed> {
+    pub plain: PlainWords<P>,
+}
+
+#[derive(Drop)]
+pub(crate) struct CountedPass<P: Packed, A: Allocator = Global> {
+    pub plain: PlainPass<P, A>,
+    pub loads: u32,
+    pub exchanges: u32,
+}
+
+impl<P: Packed, A: Allocator + Copy + Drop> Words<P, A> for Counted<P> {
+    type Pass = CountedPass<P, A>;
+
+    type Told = PlainTold;
+
+    ghost name = { λ w. plain_name w.plain.limits };
+
+    ghost alone = { true };
+
+    ghost tells_all = { false };
+
+    ghost sight = { λ p. p.plain };
+
+    ghost heard = { λ t. record { name = plain_name t.limits; seen = [] } };
+
+    fn limits(&self) -> Limits {
+        self.plain.limits
+    }
+
+    fn pass(&self, alloc: A) -> Result<CountedPass<P, A>, AllocError> {
+        let plain = PlainPass::new(alloc, self.plain.limits)?;
+        Ok(CountedPass {
+            plain,
+            loads: 0,
+            exchanges: 0,
+        })
+    }
+
+    fn load(&self, pass: &mut CountedPass<P, A>, place: Place) -> u64 {
+        pass.loads = pass.loads.saturating_add(1);
+        pass.plain.load(place)
+    }
+
+    fn set_once(&self, pass: &mut CountedPass<P, A>, step: Step) -> Result<(), u64> {
+        pass.exchanges = pass.exchanges.saturating_add(1);
+        pass.plain.set_once(step)
+    }
+
+    fn told(&self, _pass: &CountedPass<P, A>) -> PlainTold {
+        PlainTold {
+            limits: self.plain.limits,
+        }
+    }
+
+    fn learn(&self, _pass: &mut CountedPass<P, A>, _told: &PlainTold) {}
+
+    fn known_legal(&self, pass: &CountedPass<P, A>) {
+        pass.plain.known_legal();
+    }
+}

@@ -1,0 +1,26 @@
+//! Machines that take one atomic step at a time, over any words. None of them takes memory.
+#![tactic(auto)]
+
+pub mod append;
+pub mod group;
+pub mod intruder;
+pub mod item;
+pub mod items;
+pub mod look;
+pub mod mark_all;
+pub mod read_round;
+pub mod settle;
+pub mod summary;
+
+pub use append::{Append, Appended};
+pub use intruder::{Intruder, IntruderPass};
+pub use item::Item;
+pub use look::Look;
+pub use mark_all::MarkAll;
+pub use read_round::ReadRound;
+pub use settle::Settle;
+
+#[cfg(test)]
+mod counted;
+#[cfg(test)]
+mod tests;

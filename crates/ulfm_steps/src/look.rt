@@ -1,0 +1,77 @@
+// A look at the list of failures, from its start to its first empty place. What it has found begins the list from the load
+// on that found it; at its end the list is that and no more.
+ghost use Rattle.std.specs.Prelude.{◌≡◌, ◌+◌, ◌≤◌, [], false, true, vec_capacity, vec_len};
+ghost use Rattle.ulfm_model.specs.History.{failures};
+ghost use Rattle.ulfm_words.specs.Steps.{IsOf, Goes};
+ghost use Rattle.ulfm_steps.specs.Looks.{LookIs};
+
+use std::alloc::Allocator;
+use ulfm_laws::meld::Packed;
+use ulfm_words::{Words, load_failure};
+
+/// A look that is under way. What it has found stands in a vector of the caller's, with room for all ranks.
+#[derive(Drop)]
+pub struct Look {
+    /// Whether it has come to its end.
+    pub done: bool,
+}
+
+impl Look {
+    /// A look that has found nothing yet: the vector is emptied, and keeps its room.
+    pub fn new<B: Allocator>(found: &mut Vec<u16, B>) -> Look
+        ensures going { result.done ≡ false }
+        ensures found { found.new.items ≡ [] }
+        ensures room { vec_capacity found.old ≤ vec_capacity found.new }
+    {
+        found.clear();
+        Look { done: false }
+    }
+
+    /// One load, of the next place.
+    pub fn step<P: Packed, A: Allocator, W: Words<P, A>, B: Allocator>(
+        &mut self,
+        words: &W,
+        pass: &mut W::Pass,
+        found: &mut Vec<u16, B>,
+    )
+        requires of { IsOf P.meld (W.name words.now) (W.sight pass.old) }
+        requires going { self.old.done ≡ false }
+        requires look { LookIs (W.name words.now).limits false found.old.items (W.sight pass.old).seen }
+        requires room { (W.name words.now).limits.ranks ≤ vec_capacity found.old }
+        ensures goes { Goes P.meld W.alone (W.name words.now) 1 (W.sight pass.old) (W.sight pass.new) }
+        ensures one { (W.sight pass.new).steps ≡ (W.sight pass.old).steps + 1 }
+        ensures look { LookIs (W.name words.now).limits self.new.done found.new.items (W.sight pass.new).seen }
+        ensures further { self.new.done ≡ false → vec_len found.new ≡ vec_len found.old + 1 }
+        ensures room { vec_capacity found.old ≤ vec_capacity found.new }
+    {
+        let ranks = words.limits().ranks;
+        match load_failure(words, pass, found.len() as u16) {
+            None => self.done = true,
+            Some(rank) => {
+                let _ = found.push(rank);
+                self.done = found.len() == ranks as usize;
+            }
+        }
+    }
+
+    /// All steps that are left. The vector then has the list as it was at the last load.
+    pub fn finish<P: Packed, A: Allocator, W: Words<P, A>, B: Allocator>(
+        &mut self,
+        words: &W,
+        pass: &mut W::Pass,
+        found: &mut Vec<u16, B>,
+    )
+        requires of { IsOf P.meld (W.name words.now) (W.sight pass.old) }
+        requires going { self.old.done ≡ false }
+        requires look { LookIs (W.name words.now).limits false found.old.items (W.sight pass.old).seen }
+        requires room { (W.name words.now).limits.ranks ≤ vec_capacity found.old }
+        ensures goes { Goes P.meld W.alone (W.name words.now) (W.name words.now).limits.ranks (W.sight pass.old) (W.sight pass.new) }
+        ensures done { self.new.done ≡ true }
+        ensures found { found.new.items ≡ failures (W.sight pass.new).seen }
+        ensures room { vec_capacity found.old ≤ vec_capacity found.new }
+    {
+        while !self.done {
+            self.step(words, pass, found);
+        }
+    }
+}

@@ -1,0 +1,128 @@
+// Marking a round's declared members, in the order of their failures: one exchange for each. Whoever is settled, by the mark
+// or before it, stays as it is.
+ghost use Rattle.std.specs.Prelude.{◌≡◌, ◌<◌, ◌≤◌, ◌+◌, ◌++◌, ◌∷◌, [], length, filter, slice_index};
+ghost use Rattle.std.specs.List.Sorted.{IsStrictlyIncreasing};
+ghost use Rattle.ulfm_model.specs.History.{has};
+ghost use Rattle.ulfm_words.specs.Steps.{IsOf};
+ghost use Rattle.ulfm_steps.specs.Marks.{HasMarked, MarkSteps, MayMarkAll, members_in, IsNext, IsAt};
+
+use crate::group::is_member;
+use std::alloc::Allocator;
+use ulfm_laws::known::Known;
+use ulfm_laws::meld::Packed;
+use ulfm_model::contribution::{MarkCount, Slot};
+use ulfm_model::event::Caller;
+use ulfm_words::{Words, set_slot};
+
+/// A marking that is under way, in a rank's name.
+#[derive(Clone, Copy, Debug, PartialEq, Eq)]
+pub struct MarkAll {
+    pub rank: u16,
+    pub comm: u16,
+    pub round: u16,
+    /// Where the next member to be marked stands among the declared ranks; their number where none is left.
+    pub next: usize,
+    /// How many members stand before it.
+    pub known: u16,
+}
+
+/// Where the next member stands among the declared ranks, from a place on.
+pub fn next_member(group: &[u16], declared: &[u16], start: usize) -> usize
+    requires within { start ≤ length declared.now }
+    requires rises { IsStrictlyIncreasing group.now }
+    ensures { IsNext group.now declared.now start result }
+{
+    for at in start..declared.len() {
+        if is_member(group, declared[at]) {
+            return at;
+        }
+    }
+    declared.len()
+}
+
+impl MarkAll {
+    /// A marking that has marked nobody yet, of a group whose ranks rise, as the members of each communicator do.
+    pub fn new(rank: u16, comm: u16, round: u16, group: &[u16], declared: &[u16]) -> MarkAll
+        requires rises { IsStrictlyIncreasing group.now }
+        ensures rank { result.rank ≡ rank }
+        ensures comm { result.comm ≡ comm }
+        ensures round { result.round ≡ round }
+        ensures at { IsAt group.now declared.now result.next result.known }
+        ensures first { members_in group.now declared.now result.next ≡ [] }
+    {
+        MarkAll {
+            rank,
+            comm,
+            round,
+            next: next_member(group, declared, 0),
+            known: 0,
+        }
+    }
+
+    /// One exchange, of the next member's place.
+    pub fn step<P: Packed, A: Allocator, W: Words<P, A>>(
+        &mut self,
+        words: &W,
+        pass: &mut W::Pass,
+        group: &[u16],
+        declared: &[u16],
+    )
+        requires of { IsOf P.meld (W.name words.now) (W.sight pass.old) }
+        requires may { MayMarkAll (W.name words.now).limits (W.sight pass.old).seen self.old.comm self.old.round group.now declared.now }
+        requires at { IsAt group.now declared.now self.old.next self.old.known }
+        requires more { self.old.next < length declared.now }
+        ensures one { (W.sight pass.new).steps ≡ (W.sight pass.old).steps + 1 }
+        ensures rank { self.new.rank ≡ self.old.rank }
+        ensures comm { self.new.comm ≡ self.old.comm }
+        ensures round { self.new.round ≡ self.old.round }
+        ensures at { IsAt group.now declared.now self.new.next self.new.known }
+        ensures onward { self.old.next < self.new.next }
+        ensures further { members_in group.now declared.now self.new.next ≡ members_in group.now declared.now self.old.next ++ slice_index declared.now self.old.next ∷ [] }
+        ensures marks { MarkSteps P.meld W.alone (W.name words.now) self.old.rank self.old.comm self.old.round (slice_index declared.now self.old.next ∷ []) (W.sight pass.old) (W.sight pass.new) }
+    {
+        let rank = declared[self.next];
+        self.known += 1;
+        let put = Slot::Mark(MarkCount {
+            known: Known { count: self.known },
+        });
+        let by = Caller::Rank(self.rank);
+        let _ = set_slot(words, pass, by, self.comm, self.round, rank, put);
+        self.next = next_member(group, declared, self.next + 1);
+    }
+
+    /// All steps that are left: afterwards each declared member is settled.
+    pub fn finish<P: Packed, A: Allocator, W: Words<P, A>>(
+        &mut self,
+        words: &W,
+        pass: &mut W::Pass,
+        group: &[u16],
+        declared: &[u16],
+    )
+        requires of { IsOf P.meld (W.name words.now) (W.sight pass.old) }
+        requires may { MayMarkAll (W.name words.now).limits (W.sight pass.old).seen self.old.comm self.old.round group.now declared.now }
+        requires at { IsAt group.now declared.now self.old.next self.old.known }
+        ensures done { self.new.next ≡ length declared.now }
+        ensures marks { HasMarked P.meld W.alone (W.name words.now) self.old group.now declared.now (length declared.now) (W.sight pass.old) (W.sight pass.new) }
+    {
+        while self.next < declared.len() {
+            self.step(words, pass, group, declared);
+        }
+    }
+}
+
+/// Marks each declared member of a round that isn't settled, in a rank's name.
+pub fn mark_all<P: Packed, A: Allocator, W: Words<P, A>>(
+    words: &W,
+    pass: &mut W::Pass,
+    rank: u16,
+    comm: u16,
+    round: u16,
+    group: &[u16],
+    declared: &[u16],
+)
+    requires of { IsOf P.meld (W.name words.now) (W.sight pass.old) }
+    requires may { MayMarkAll (W.name words.now).limits (W.sight pass.old).seen comm round group.now declared.now }
+    ensures marks { MarkSteps P.meld W.alone (W.name words.now) rank comm round (filter (has group.now) declared.now) (W.sight pass.old) (W.sight pass.new) }
+{
+    MarkAll::new(rank, comm, round, group, declared).finish(words, pass, group, declared);
+}

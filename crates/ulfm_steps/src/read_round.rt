@@ -1,0 +1,90 @@
+// Reading a round, in the order of its members, up to the first who isn't settled. A member that was found settled stays so
+// and says the same; that one is missing holds at its load alone.
+ghost use Rattle.std.specs.Prelude.{◌≡◌, ◌+◌, ◌≤◌, ◌<◌, ◌-◌, length, take, MatchBool, MatchOption};
+ghost use Rattle.ulfm_laws.specs.Summaries.{summary_unit};
+ghost use Rattle.ulfm_words.specs.Steps.{IsOf, Goes};
+ghost use Rattle.ulfm_steps.specs.Rounds.{IsRoundOf, IsSummed, IsMissing};
+
+use crate::summary::summary_from;
+use std::alloc::Allocator;
+use ulfm_laws::meld::{Meld, Packed};
+use ulfm_laws::summary::Summary;
+use ulfm_words::{Words, load_slot};
+
+/// A reading that is under way.
+#[derive(Drop)]
+pub struct ReadRound<P: Packed> {
+    pub comm: u16,
+    pub round: u16,
+    /// How many members were found settled, the first of the communicator's.
+    pub read: usize,
+    /// What these say together.
+    pub all: Summary<P>,
+}
+
+impl<P: Packed> ReadRound<P> {
+    /// A reading that has read nothing yet.
+    pub fn new(comm: u16, round: u16) -> ReadRound<P>
+        ensures { result ≡ record { comm = comm; round = round; read = 0; all = summary_unit } }
+    {
+        ReadRound {
+            comm,
+            round,
+            read: 0,
+            all: Summary::unit(),
+        }
+    }
+
+    /// One load, of the next member's place: whether the member is settled.
+    pub fn step<A: Allocator, W: Words<P, A>>(
+        &mut self,
+        words: &W,
+        pass: &mut W::Pass,
+        group: &[u16],
+    ) -> bool
+        requires of { IsOf P.meld (W.name words.now) (W.sight pass.old) }
+        requires round { IsRoundOf (W.name words.now).limits (W.sight pass.old).seen self.old.comm self.old.round group.now }
+        requires more { self.old.read < length group.now }
+        requires read { IsSummed P.meld (W.sight pass.old).seen self.old.comm self.old.round (take self.old.read group.now) self.old.all }
+        ensures goes { Goes P.meld W.alone (W.name words.now) 1 (W.sight pass.old) (W.sight pass.new) }
+        ensures one { (W.sight pass.new).steps ≡ (W.sight pass.old).steps + 1 }
+        ensures comm { self.new.comm ≡ self.old.comm }
+        ensures round { self.new.round ≡ self.old.round }
+        ensures further { MatchBool result (self.new.read ≡ self.old.read + 1) (self.new.read ≡ self.old.read) }
+        ensures read { IsSummed P.meld (W.sight pass.new).seen self.old.comm self.old.round (take self.new.read group.now) self.new.all }
+        ensures missing { MatchBool result (Unit {0}) (IsMissing (W.sight pass.new).last (W.sight pass.new).seen self.old.comm self.old.round group.now) }
+    {
+        let rank = group[self.read];
+        match load_slot(words, pass, self.comm, self.round, rank) {
+            None => false,
+            Some(slot) => {
+                self.all = self.all.meld(&summary_from(&slot));
+                self.read += 1;
+                true
+            }
+        }
+    }
+
+    /// All steps that are left: what all members say together, where each is settled.
+    pub fn finish<A: Allocator, W: Words<P, A>>(
+        &mut self,
+        words: &W,
+        pass: &mut W::Pass,
+        group: &[u16],
+    ) -> Option<Summary<P>>
+        requires of { IsOf P.meld (W.name words.now) (W.sight pass.old) }
+        requires round { IsRoundOf (W.name words.now).limits (W.sight pass.old).seen self.old.comm self.old.round group.now }
+        requires within { self.old.read ≤ length group.now }
+        requires read { IsSummed P.meld (W.sight pass.old).seen self.old.comm self.old.round (take self.old.read group.now) self.old.all }
+        ensures goes { Goes P.meld W.alone (W.name words.now) (length group.now - self.old.read) (W.sight pass.old) (W.sight pass.new) }
+        ensures loaded { MatchOption result ((W.sight pass.old).steps < (W.sight pass.new).steps) (λ _. Unit {0}) }
+        ensures read { MatchOption result (IsMissing (W.sight pass.new).last (W.sight pass.new).seen self.old.comm self.old.round group.now) (IsSummed P.meld (W.sight pass.new).seen self.old.comm self.old.round group.now) }
+    {
+        while self.read < group.len() {
+            if !self.step(words, pass, group) {
+                return None;
+            }
+        }
+        Some(self.all)
+    }
+}

@@ -1,0 +1,50 @@
+-- How the words and the journal of a plain pass are tied.
+use Rattle.std.specs.Prelude.{◌≡◌, ◌≢◌, ℕ, ◌+◌, ◌≤◌, ◌==◌, Bool, List, [], ◌∷◌, length, count_by, slice_index, filter_map, Option, Some, None}
+use Rattle.std.specs.List.{AllByRecursion}
+use Rattle.ulfm_model.specs.declared.{event.Entry.{Entry}, limits.Limits.{Limits}, place.Place.{Place}}
+use Rattle.ulfm_model.specs.{History.{History, IsLegal}, Words.{MayOpen, size_of, word_at}}
+use Rattle.ulfm_words.specs.declared.{pass.Setting.{Setting}, step.Last.{Last}}
+use Rattle.ulfm_words.specs.{Entries.{entry_of}, Places.{IsWithin, key_in}, Steps.{Name, Sight}}
+
+-- plain words are told apart by their limits alone
+abbrev pub plain_name : Limits → Name
+plain_name limits = record { number = 0; log = 0; cells = 0; limits = limits }
+
+-- the last step of a trail
+abbrev pub last_of : List (Last × Bool) → Option Last
+last_of [] = None
+last_of (step ∷ []) = Some step.0
+last_of (step ∷ next ∷ steps) = last_of (next ∷ steps)
+
+-- a word that was not set
+abbrev pub is_zero : ℕ → Bool
+is_zero word = word == 0
+
+module _ {P : Type 0} (unpack : ℕ → Option P) (limits : Limits) where
+  -- the event of a setting, whose word stands among the words
+  abbrev pub entry_at : List ℕ → Setting → Option (Entry P)
+  entry_at words setting = entry_of unpack (record { place = setting.place; word = slice_index words (key_in limits setting.place); by = setting.by })
+
+  -- the history of a journal
+  abbrev pub entries : List ℕ → List Setting → History P
+  entries words journal = filter_map (entry_at words) journal
+
+  -- the world has the place, its word was set, and it is an event's
+  pub record IsMade (words : List ℕ) (setting : Setting) : Type 0 where
+    pub within : IsWithin limits setting.place
+    pub set : slice_index words (key_in limits setting.place) ≢ 0
+    pub entry : Entry P
+    pub is_entry : entry_at words setting ≡ Some entry
+
+  -- what contracts see of a plain pass
+  abbrev pub sight_of : List ℕ → List Setting → List (Last × Bool) → Sight P
+  sight_of words journal trail = record { name = plain_name limits; seen = entries words journal; steps = length trail; last = last_of trail }
+
+-- the words are those of the journal's history, which is legal, and the journal has room for all that are not set
+pub record IsTied {P : Type 0} (meld : P → P → P) (pack : P → ℕ) (unpack : ℕ → Option P) (limits : Limits) (words : List ℕ) (journal : List Setting) (capacity : ℕ) : Type 0 where
+  pub may_open : MayOpen limits
+  pub size : length words ≡ size_of limits
+  pub made : AllByRecursion (IsMade unpack limits words) journal
+  pub same : (p : Place) → IsWithin limits p → slice_index words (key_in limits p) ≡ word_at pack (entries unpack limits words journal) p
+  pub legal : IsLegal meld limits (entries unpack limits words journal)
+  pub room : length journal + count_by is_zero words ≤ capacity

@@ -1,0 +1,18 @@
+//! Laws of places and of the words of slots. Each function does nothing: what it ensures is a law.
+ghost use Rattle.ulfm_model.specs.declared.limits.Limits.{Limits};
+ghost use Rattle.ulfm_words.specs.Places.{HaveWords};
+ghost use Rattle.ulfm_words.specs.Slots.{HaveOneWord};
+
+use ulfm_laws::flag_and::FlagAnd;
+use ulfm_laws::meld::Packed;
+
+/// Each place has a word of its own: it stands in the row of all words, and that of no other place stands there.
+pub fn places_have_words()
+    ensures { (limits : Limits) → HaveWords limits }
+{}
+
+/// With flags of 32 bits each slot has one word: every word that is read as a slot is the one that `slot_word` gives. Marks
+/// and masks have one word whatever the flags are; `read_slot` says so.
+pub fn slots_have_one_word()
+    ensures { HaveOneWord ⟦<FlagAnd as Packed>⟧.pack ⟦<FlagAnd as Packed>⟧.unpack }
+{}

@@ -1,0 +1,24 @@
+//! Words that are set at most once: where they stand, what they mean, and what each step on them does.
+#![tactic(auto)]
+
+pub mod laws;
+pub mod loads;
+pub mod pass;
+pub mod places;
+pub mod plain;
+pub mod sets;
+pub mod slots;
+pub mod step;
+pub mod words;
+
+pub use loads::{load_arrival, load_comm, load_failure, load_revocation, load_slot};
+pub use pass::PlainPass;
+pub use places::{is_within, key_of};
+pub use plain::{PlainTold, PlainWords};
+pub use sets::{set_arrival, set_comm, set_failure, set_revocation, set_slot};
+pub use slots::{read_slot, read_written, slot_word};
+pub use step::{Last, Step};
+pub use words::Words;
+
+#[cfg(test)]
+mod tests;

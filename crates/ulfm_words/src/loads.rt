@@ -1,0 +1,97 @@
+// Loads, and what they read as.
+ghost use Rattle.std.specs.Prelude.{◌≡◌, ◌<◌, slice_get, IfSome};
+ghost use Rattle.ulfm_model.specs.History.{failures, has_arrived, is_revoked, slot};
+ghost use Rattle.ulfm_model.proofs.Terms.{made_at};
+ghost use Rattle.ulfm_model.specs.declared.place.Place.TheVariants.{List as ListAt, Comm as CommAt, Revoked as RevokedAt, Slot as SlotAt, Arrival as ArrivalAt};
+ghost use Rattle.ulfm_words.specs.Places.{IsCell, IsWithin};
+ghost use Rattle.ulfm_words.specs.Steps.{IsOf, Loads};
+
+use crate::slots::read_slot;
+use crate::words::Words;
+use std::alloc::Allocator;
+use ulfm_laws::meld::Packed;
+use ulfm_model::contribution::Slot;
+use ulfm_model::place::Place;
+
+/// One load of an entry of the list of failures: the rank that is declared there, if one is.
+pub fn load_failure<P: Packed, A: Allocator, W: Words<P, A>>(
+    words: &W,
+    pass: &mut W::Pass,
+    index: u16,
+) -> Option<u16>
+    requires of { IsOf P.meld (W.name words.now) (W.sight pass.old) }
+    requires within { index < (W.name words.now).limits.ranks }
+    ensures loads { Loads P.meld P.pack W.alone (W.name words.now) (ListAt index) (W.sight pass.old) (W.sight pass.new) }
+    ensures rank { result ≡ slice_get (failures (W.sight pass.new).seen) index }
+    ensures below { IfSome result (λ r. r < (W.name words.now).limits.ranks) }
+{
+    let word = words.load(pass, Place::List { index });
+    if word == 0 {
+        return None;
+    }
+    Some((word - 1) as u16)
+}
+
+/// One load of a member's place in an agreement round: what settles it, if something does.
+pub fn load_slot<P: Packed, A: Allocator, W: Words<P, A>>(
+    words: &W,
+    pass: &mut W::Pass,
+    comm: u16,
+    round: u16,
+    rank: u16,
+) -> Option<Slot<P>>
+    requires of { IsOf P.meld (W.name words.now) (W.sight pass.old) }
+    requires within { IsCell (W.name words.now).limits comm round rank }
+    ensures loads { Loads P.meld P.pack W.alone (W.name words.now) (SlotAt comm round rank) (W.sight pass.old) (W.sight pass.new) }
+    ensures slot { result ≡ slot (W.sight pass.new).seen comm round rank }
+{
+    read_slot(words.load(pass, Place::Slot { comm, round, rank }))
+}
+
+/// One load of an entry of the list of communicators: the parent and the round that it was made of, if it was made.
+pub fn load_comm<P: Packed, A: Allocator, W: Words<P, A>>(
+    words: &W,
+    pass: &mut W::Pass,
+    comm: u16,
+) -> Option<(u16, u16)>
+    requires of { IsOf P.meld (W.name words.now) (W.sight pass.old) }
+    requires within { IsWithin (W.name words.now).limits (CommAt comm) }
+    ensures loads { Loads P.meld P.pack W.alone (W.name words.now) (CommAt comm) (W.sight pass.old) (W.sight pass.new) }
+    ensures made { result ≡ made_at (W.sight pass.new).seen comm }
+{
+    let word = words.load(pass, Place::Comm { comm });
+    if word == 0 {
+        return None;
+    }
+    Some((((word - 1) / 4096) as u16, ((word - 1) % 4096) as u16))
+}
+
+/// One load of whether a communicator is revoked.
+pub fn load_revocation<P: Packed, A: Allocator, W: Words<P, A>>(
+    words: &W,
+    pass: &mut W::Pass,
+    comm: u16,
+) -> bool
+    requires of { IsOf P.meld (W.name words.now) (W.sight pass.old) }
+    requires within { comm < (W.name words.now).limits.comms }
+    ensures loads { Loads P.meld P.pack W.alone (W.name words.now) (RevokedAt comm) (W.sight pass.old) (W.sight pass.new) }
+    ensures revoked { result ≡ is_revoked (W.sight pass.new).seen comm }
+{
+    words.load(pass, Place::Revoked { comm }) != 0
+}
+
+/// One load of whether a member has arrived in a barrier round.
+pub fn load_arrival<P: Packed, A: Allocator, W: Words<P, A>>(
+    words: &W,
+    pass: &mut W::Pass,
+    comm: u16,
+    round: u16,
+    rank: u16,
+) -> bool
+    requires of { IsOf P.meld (W.name words.now) (W.sight pass.old) }
+    requires within { IsCell (W.name words.now).limits comm round rank }
+    ensures loads { Loads P.meld P.pack W.alone (W.name words.now) (ArrivalAt comm round rank) (W.sight pass.old) (W.sight pass.new) }
+    ensures arrived { result ≡ has_arrived (W.sight pass.new).seen comm round rank }
+{
+    words.load(pass, Place::Arrival { comm, round, rank }) != 0
+}

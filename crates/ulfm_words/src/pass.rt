@@ -1,0 +1,119 @@
+ghost use Rattle.std.specs.Prelude.{◌≡◌, ◌<◌, ◌≤◌, true, IfOk, MatchOption, length, slice_get};
+ghost use Rattle.ulfm_model.specs.Words.{MayOpen};
+ghost use Rattle.ulfm_model.specs.Words.{word_at};
+ghost use Rattle.ulfm_words.specs.Entries.{entry_of};
+ghost use Rattle.ulfm_words.specs.Pass.{plain_name};
+ghost use Rattle.ulfm_words.specs.Places.{IsWithin};
+ghost use Rattle.ulfm_words.specs.Steps.{IsOf, IsNew, Loads, MaySet, Sets};
+
+use crate::places::key_of;
+use crate::step::{Last, Step};
+use http_server::Log;
+use std::alloc::{AllocError, Allocator, Global};
+use std::marker::{Model, PhantomData};
+use ulfm_laws::meld::Packed;
+use ulfm_model::event::Caller;
+use ulfm_model::limits::Limits;
+use ulfm_model::place::Place;
+
+/// A place that was set, and in whose name.
+#[derive(Clone, Copy)]
+pub(crate) struct Setting {
+    pub place: Place,
+    pub by: Caller,
+}
+
+/// The words of one owner, and the journal of what was set. Contracts see it as a `Sight`.
+#[derive(Drop)]
+pub struct PlainPass<P: Packed, A: Allocator = Global> {
+    limits: Limits,
+    // One for each place, by its key.
+    words: Vec<u64, A>,
+    // In the order of setting. It has room for each word that is still 0.
+    journal: Vec<Setting, A>,
+    // The steps so far. It takes no memory, and only contracts read it.
+    trail: Log<Last, bool>,
+    flags: PhantomData<P>,
+}
+
+impl<P: Packed, A: Allocator> Model for PlainPass<P, A> {
+    ghost use Rattle.ulfm_words.specs.Steps.{Sight};
+    ghost use Rattle.std.specs.Prelude.{vec_capacity};
+    ghost use Rattle.ulfm_words.specs.Pass.{sight_of, IsTied};
+
+    ghost Value = { Sight P };
+
+    ghost view = { λ a. sight_of P.unpack a.limits a.words.items a.journal.items a.trail.items };
+
+    ghost invariant = { λ a. IsTied P.meld P.pack P.unpack a.limits a.words.items a.journal.items (vec_capacity a.journal) };
+}
+
+impl<P: Packed, A: Allocator + Copy> PlainPass<P, A> {
+    /// Words that are all 0. All memory that later steps need is taken here.
+    pub fn new(alloc: A, limits: Limits) -> Result<PlainPass<P, A>, AllocError>
+        requires { MayOpen limits }
+        ensures { IfOk result (λ p. IsNew P.meld (plain_name limits) p) }
+    {
+        let size = limits.size() as usize;
+        let words = vec![in alloc; 0; size]?;
+        let journal = Vec::with_capacity(alloc, size)?;
+        Ok(PlainPass {
+            limits,
+            words,
+            journal,
+            trail: Log::new(),
+            flags: PhantomData,
+        })
+    }
+
+    /// The step that was set as the `i`-th, counted from 0; none past the last. It is no atomic step and takes no memory.
+    pub fn nth(&self, i: usize) -> Option<Step>
+        ensures { MatchOption result (length self.now.seen ≤ i) (λ s. (i < length self.now.seen) × (slice_get self.now.seen i ≡ entry_of P.unpack s)) }
+    {
+        let setting = *self.journal.get(i)?;
+        let word = self.words[key_of(setting.place, self.limits)];
+        Some(Step {
+            place: setting.place,
+            word,
+            by: setting.by,
+        })
+    }
+
+    /// What was seen is legal. It does nothing.
+    pub fn known_legal(&self)
+        ensures { IsOf P.meld self.now.name self.now }
+    {
+        let _ = &self.limits;
+    }
+
+    /// The word at a place.
+    pub fn load(&mut self, place: Place) -> u64
+        requires { IsWithin self.old.name.limits place }
+        ensures loads { Loads P.meld P.pack true self.old.name place self.old self.new }
+        ensures word { result ≡ word_at P.pack self.new.seen place }
+    {
+        let word = self.words[key_of(place, self.limits)];
+        let load = true;
+        self.trail = self.trail.and(&Last { place, word, load }, &load);
+        word
+    }
+
+    /// Sets a word that is 0, or gives the word that stands. It takes no memory.
+    pub fn set_once(&mut self, step: Step) -> Result<(), u64>
+        requires within { IsWithin self.old.name.limits step.place }
+        requires may { MaySet P.meld P.pack P.unpack self.old.name.limits self.old.seen step }
+        ensures { Sets P.meld P.pack P.unpack true self.old.name step self.old result self.new }
+    {
+        let place = step.place;
+        let index = key_of(place, self.limits);
+        let word = self.words[index];
+        let load = false;
+        self.trail = self.trail.and(&Last { place, word, load }, &load);
+        if word != 0 {
+            return Err(word);
+        }
+        self.words[index] = step.word;
+        let _ = self.journal.push(Setting { place, by: step.by });
+        Ok(())
+    }
+}

@@ -1,0 +1,47 @@
+ghost use Rattle.std.specs.Prelude.{◌≡◌, ◌↔◌, IsTrue};
+ghost use Rattle.ulfm_model.specs.Words.{MayOpen};
+ghost use Rattle.ulfm_words.specs.Places.{IsWithin, key_in};
+
+use ulfm_model::limits::Limits;
+use ulfm_model::place::Place;
+
+/// Whether a world of these limits has this place: list entries are numbered from 0 and spawned communicators from 1;
+/// communicators, rounds and ranks are below their limits.
+pub fn is_within(place: Place, limits: Limits) -> bool
+    ensures { IsTrue result ↔ IsWithin limits place }
+{
+    match place {
+        Place::List { index } => index < limits.ranks,
+        Place::Comm { comm } => 0 < comm && comm < limits.comms,
+        Place::Revoked { comm } => comm < limits.comms,
+        Place::Slot { comm, round, rank } | Place::Arrival { comm, round, rank } => {
+            comm < limits.comms && round < limits.rounds && rank < limits.ranks
+        }
+    }
+}
+
+/// Where the word of this place stands in the row of all words. Two places have two keys, all below the world's size.
+pub fn key_of(place: Place, limits: Limits) -> usize
+    requires open { MayOpen limits }
+    requires within { IsWithin limits place }
+    ensures { result ≡ key_in limits place }
+{
+    let ranks = limits.ranks as usize;
+    let comms = limits.comms as usize;
+    let rounds = limits.rounds as usize;
+    let lists = ranks + 2 * comms;
+    match place {
+        Place::List { index } => index as usize,
+        Place::Comm { comm } => ranks + comm as usize,
+        Place::Revoked { comm } => ranks + comms + comm as usize,
+        Place::Slot { comm, round, rank } => {
+            lists + (comm as usize * rounds + round as usize) * ranks + rank as usize
+        }
+        Place::Arrival { comm, round, rank } => {
+            lists
+                + comms * rounds * ranks
+                + (comm as usize * rounds + round as usize) * ranks
+                + rank as usize
+        }
+    }
+}

@@ -1,0 +1,142 @@
+// Exchanges, each for one event, and what stands where they are lost.
+ghost use Rattle.std.specs.Prelude.{◌≡◌, ◌<◌, Some, IsTrue, is_ok, slice_get, MatchResult};
+ghost use Rattle.ulfm_model.specs.History.{failures, has_arrived, is_revoked, slot};
+ghost use Rattle.ulfm_model.proofs.Terms.{made_at};
+ghost use Rattle.ulfm_model.specs.declared.event.Event.TheVariants.{Fail, Spawn, Arrive, Revoke};
+ghost use Rattle.ulfm_model.specs.declared.place.Place.TheVariants.{List as ListAt, Comm as CommAt, Revoked as RevokedAt, Slot as SlotAt, Arrival as ArrivalAt};
+ghost use Rattle.ulfm_words.specs.Entries.{put_of};
+ghost use Rattle.ulfm_words.specs.Places.{IsCell, IsWithin};
+ghost use Rattle.ulfm_words.specs.Steps.{IsOf};
+ghost use Rattle.ulfm_words.specs.Tries.{Tries, entry, MayDeclare, MayPut, MayMake, MayCome, MayEnd};
+
+use crate::slots::{read_slot, slot_word};
+use crate::step::Step;
+use crate::words::Words;
+use std::alloc::Allocator;
+use ulfm_laws::meld::Packed;
+use ulfm_model::contribution::Slot;
+use ulfm_model::event::Caller;
+use ulfm_model::place::Place;
+
+/// One exchange of an entry of the list of failures: the rank is declared there, or the one that stands is given.
+pub fn set_failure<P: Packed, A: Allocator, W: Words<P, A>>(
+    words: &W,
+    pass: &mut W::Pass,
+    by: Caller,
+    index: u16,
+    rank: u16,
+) -> Result<(), u16>
+    requires of { IsOf P.meld (W.name words.now) (W.sight pass.old) }
+    requires within { index < (W.name words.now).limits.ranks }
+    requires may { MayDeclare P.meld (W.name words.now).limits (W.sight pass.old).seen index rank }
+    ensures tries { Tries P.meld P.pack W.alone (W.name words.now) (ListAt index) (entry by (Fail rank)) (is_ok result) (W.sight pass.old) (W.sight pass.new) }
+    ensures stands { MatchResult result (λ _. slice_get (failures (W.sight pass.new).seen) index ≡ Some rank) (λ r. slice_get (failures (W.sight pass.new).seen) index ≡ Some r) }
+{
+    let step = Step {
+        place: Place::List { index },
+        word: u64::from(rank) + 1,
+        by,
+    };
+    match words.set_once(pass, step) {
+        Ok(()) => Ok(()),
+        Err(word) => Err((word - 1) as u16),
+    }
+}
+
+/// One exchange of a member's place in an agreement round: it is settled so, or what settles it is given.
+pub fn set_slot<P: Packed, A: Allocator, W: Words<P, A>>(
+    words: &W,
+    pass: &mut W::Pass,
+    by: Caller,
+    comm: u16,
+    round: u16,
+    rank: u16,
+    put: Slot<P>,
+) -> Result<(), Slot<P>>
+    requires of { IsOf P.meld (W.name words.now) (W.sight pass.old) }
+    requires within { IsCell (W.name words.now).limits comm round rank }
+    requires may { MayPut P.meld (W.name words.now).limits (W.sight pass.old).seen comm round rank put }
+    ensures tries { Tries P.meld P.pack W.alone (W.name words.now) (SlotAt comm round rank) (entry by (put_of comm round rank put)) (is_ok result) (W.sight pass.old) (W.sight pass.new) }
+    ensures stands { MatchResult result (λ _. slot (W.sight pass.new).seen comm round rank ≡ Some put) (λ s. slot (W.sight pass.new).seen comm round rank ≡ Some s) }
+{
+    let step = Step {
+        place: Place::Slot { comm, round, rank },
+        word: slot_word(&put),
+        by,
+    };
+    match words.set_once(pass, step) {
+        Ok(()) => Ok(()),
+        Err(word) => Err(read_slot(word).unwrap()),
+    }
+}
+
+/// One exchange of an entry of the list of communicators: it is made of this round, or what it was made of is given.
+pub fn set_comm<P: Packed, A: Allocator, W: Words<P, A>>(
+    words: &W,
+    pass: &mut W::Pass,
+    by: Caller,
+    comm: u16,
+    parent: u16,
+    round: u16,
+) -> Result<(), (u16, u16)>
+    requires of { IsOf P.meld (W.name words.now) (W.sight pass.old) }
+    requires within { IsWithin (W.name words.now).limits (CommAt comm) }
+    requires round { round < (W.name words.now).limits.rounds }
+    requires may { MayMake P.meld (W.name words.now).limits (W.sight pass.old).seen comm parent round }
+    ensures tries { Tries P.meld P.pack W.alone (W.name words.now) (CommAt comm) (entry by (Spawn comm parent round)) (is_ok result) (W.sight pass.old) (W.sight pass.new) }
+    ensures stands { MatchResult result (λ _. made_at (W.sight pass.new).seen comm ≡ Some (parent, round)) (λ m. made_at (W.sight pass.new).seen comm ≡ Some m) }
+{
+    let step = Step {
+        place: Place::Comm { comm },
+        word: 1 + u64::from(parent) * 4096 + u64::from(round),
+        by,
+    };
+    match words.set_once(pass, step) {
+        Ok(()) => Ok(()),
+        Err(word) => Err((((word - 1) / 4096) as u16, ((word - 1) % 4096) as u16)),
+    }
+}
+
+/// One exchange of a member's place in a barrier round: whether this call set it. It stands afterwards.
+pub fn set_arrival<P: Packed, A: Allocator, W: Words<P, A>>(
+    words: &W,
+    pass: &mut W::Pass,
+    by: Caller,
+    comm: u16,
+    round: u16,
+    rank: u16,
+) -> bool
+    requires of { IsOf P.meld (W.name words.now) (W.sight pass.old) }
+    requires within { IsCell (W.name words.now).limits comm round rank }
+    requires may { MayCome P.meld (W.name words.now).limits (W.sight pass.old).seen comm round rank }
+    ensures tries { Tries P.meld P.pack W.alone (W.name words.now) (ArrivalAt comm round rank) (entry by (Arrive comm round rank)) result (W.sight pass.old) (W.sight pass.new) }
+    ensures stands { IsTrue (has_arrived (W.sight pass.new).seen comm round rank) }
+{
+    let arrival = Step {
+        place: Place::Arrival { comm, round, rank },
+        word: 1,
+        by,
+    };
+    words.set_once(pass, arrival).is_ok()
+}
+
+/// One exchange of a communicator's revocation: whether this call set it. It stands afterwards.
+pub fn set_revocation<P: Packed, A: Allocator, W: Words<P, A>>(
+    words: &W,
+    pass: &mut W::Pass,
+    by: Caller,
+    comm: u16,
+) -> bool
+    requires of { IsOf P.meld (W.name words.now) (W.sight pass.old) }
+    requires within { comm < (W.name words.now).limits.comms }
+    requires may { MayEnd P.meld (W.name words.now).limits (W.sight pass.old).seen comm }
+    ensures tries { Tries P.meld P.pack W.alone (W.name words.now) (RevokedAt comm) (entry by (Revoke comm)) result (W.sight pass.old) (W.sight pass.new) }
+    ensures stands { IsTrue (is_revoked (W.sight pass.new).seen comm) }
+{
+    let revocation = Step {
+        place: Place::Revoked { comm },
+        word: 1,
+        by,
+    };
+    words.set_once(pass, revocation).is_ok()
+}

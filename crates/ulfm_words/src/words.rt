@@ -1,0 +1,73 @@
+ghost use Rattle.std.specs.Prelude.{◌≡◌, Bool, IfOk};
+ghost use Rattle.ulfm_model.specs.Words.{MayOpen};
+ghost use Rattle.ulfm_model.specs.Words.{word_at};
+ghost use Rattle.ulfm_words.specs.Places.{IsWithin};
+ghost use Rattle.ulfm_words.specs.Steps.{Name, Sight, Heard, IsOf, IsNew, Loads, MaySet, Sets, Tells, Learns};
+
+use crate::step::Step;
+use std::alloc::{AllocError, Allocator};
+use ulfm_laws::meld::Packed;
+use ulfm_model::limits::Limits;
+use ulfm_model::place::Place;
+
+/// Words that start as 0 and are set at most once. A pass is one caller's view of them: it has seen a legal history, which
+/// only grows. What one pass has seen is told by it and learned by another.
+pub trait Words<P: Packed, A: Allocator> {
+    type Pass: Drop;
+
+    type Told: Drop;
+
+    /// Which words these are, and the limits that they were opened with.
+    ghost name: { Self → Name };
+
+    /// Whether nothing comes in between the steps of one pass. No code can ask for it.
+    ghost alone: { Bool };
+
+    /// Whether a told value has all that its pass had seen.
+    ghost tells_all: { Bool };
+
+    /// What contracts see of a pass. Steps are counted, and the last one is kept, for contracts alone.
+    ghost sight: { Self.Pass → Sight P };
+
+    /// What contracts see of a told value.
+    ghost heard: { Self.Told → Heard P };
+
+    /// The limits that they were opened with.
+    fn limits(&self) -> Limits
+        ensures limits { result ≡ (name self.now).limits }
+        ensures may_open { MayOpen result };
+
+    /// A pass that has seen nothing.
+    fn pass(&self, alloc: A) -> Result<Self::Pass, AllocError>
+        ensures { IfOk result (λ p. IsNew P.meld (name self.now) (sight p)) };
+
+    /// One atomic load: the word that stands in what is then seen, 0 where no event of it sets the place.
+    fn load(&self, pass: &mut Self::Pass, place: Place) -> u64
+        requires of { IsOf P.meld (name self.now) (sight pass.old) }
+        requires within { IsWithin (name self.now).limits place }
+        ensures loads { Loads P.meld P.pack alone (name self.now) place (sight pass.old) (sight pass.new) }
+        ensures word { result ≡ word_at P.pack (sight pass.new).seen place };
+
+    /// One compare-exchange from 0: the step's event comes once, or the word that stands is given.
+    fn set_once(&self, pass: &mut Self::Pass, step: Step) -> Result<(), u64>
+        requires of { IsOf P.meld (name self.now) (sight pass.old) }
+        requires within { IsWithin (name self.now).limits step.place }
+        requires may { MaySet P.meld P.pack P.unpack (name self.now).limits (sight pass.old).seen step }
+        ensures { Sets P.meld P.pack P.unpack alone (name self.now) step (sight pass.old) result (sight pass.new) };
+
+    /// What this pass has seen, to be handed to another.
+    fn told(&self, pass: &Self::Pass) -> Self::Told
+        requires of { IsOf P.meld (name self.now) (sight pass.now) }
+        ensures { Tells tells_all (name self.now) (sight pass.now) (heard result) };
+
+    /// From now on the pass has seen what was told, too.
+    fn learn(&self, pass: &mut Self::Pass, told: &Self::Told)
+        requires of { IsOf P.meld (name self.now) (sight pass.old) }
+        requires told { (heard told.now).name ≡ name self.now }
+        ensures { Learns P.meld alone (name self.now) (heard told.now) (sight pass.old) (sight pass.new) };
+
+    /// What a pass of these words has seen is legal. It does nothing.
+    fn known_legal(&self, pass: &Self::Pass)
+        requires { (sight pass.now).name ≡ name self.now }
+        ensures { IsOf P.meld (name self.now) (sight pass.now) };
+}
