@@ -1,12 +1,11 @@
 -- Where communicators were made, and who their members are by that.
-use Rattle.std.proofs.Common.{◌≡◌, ℕ, ◌+◌, ◌<◌, ◌≤◌, Bool, true, false, cond, if◌then◌else◌, ◌==◌, List, [], ◌∷◌, ◌++◌, length, take, drop, get_or, reverse, Option, Some, None, refl, ap, ap₂, sym, ◌∙◌, subst, arith, inl, inr, append_assoc, append-nil, length-append}
-use Rattle.std.specs.Prelude.{◌⊎◌}
+use Rattle.std.proofs.Common.{◌≡◌, ℕ, ◌+◌, ◌<◌, Bool, false, if◌then◌else◌, ◌==◌, List, [], ◌∷◌, ◌++◌, length, take, drop, get_or, reverse, Option, Some, None, refl, ap, sym, ◌∙◌, subst, arith, inl, inr, length-append}
 use Rattle.std.specs.List.{cons_option}
-use Rattle.std.proofs.lemmas.Bool.{ne_eqb, eq-eqb}
+use Rattle.std.proofs.lemmas.Bool.{ne_eqb}
 use Rattle.std.proofs.lemmas.List.{reverse-append, reverse-reverse, take-append-drop, take_more}
 use mathlib.Core.List.{IsPrefix}
 use Rattle.ulfm_model.specs.declared.event.Entry.{Entry}
-use Rattle.ulfm_model.specs.History.{Exists, History, first_ranks, members, members_after, members_by, says, spawns, without}
+use Rattle.ulfm_model.specs.History.{Exists, History, first_ranks, members, members_after, members_by, spawns, without}
 use Rattle.ulfm_model.proofs.Terms.{group_among}
 use Rattle.ulfm_history.specs.Walked.{IsMissing, IsOrigin}
 use Rattle.ulfm_model.proofs.Says.{made_by}

@@ -36,20 +36,14 @@ pub fn failures<P: Copy, A: Allocator + Copy>(
 ) -> Result<Vec<u16, A>, AllocError>
     ensures { IfOk result (λ ranks. ranks.items ≡ failures history.now) }
 {
-    history
-        .iter()
-        .filter_map(declared)
-        .collect(alloc)
+    history.iter().filter_map(declared).collect(alloc)
 }
 
 /// Whether a rank is declared.
 pub fn is_declared<P: Copy>(history: &[Entry<P>], rank: u16) -> bool
     ensures { result ≡ has (failures history.now) rank }
 {
-    history
-        .iter()
-        .filter_map(declared)
-        .any(|x| x == rank)
+    history.iter().filter_map(declared).any(|x| x == rank)
 }
 
 /// What settles a rank in an agreement round of a communicator, if anything does.
@@ -78,20 +72,14 @@ pub fn has_arrived<P: Copy>(history: &[Entry<P>], comm: u16, round: u16, rank: u
 pub fn is_revoked<P: Copy>(history: &[Entry<P>], comm: u16) -> bool
     ensures { result ≡ is_revoked history.now comm }
 {
-    history
-        .iter()
-        .filter_map(revoked)
-        .any(|x| x == comm)
+    history.iter().filter_map(revoked).any(|x| x == comm)
 }
 
 /// How many communicators were made.
 pub fn count_made<P: Copy>(history: &[Entry<P>]) -> usize
     ensures { result ≡ length (spawns history.now) }
 {
-    history
-        .iter()
-        .filter_map(made)
-        .count()
+    history.iter().filter_map(made).count()
 }
 
 /// Whether a communicator was made of a round.

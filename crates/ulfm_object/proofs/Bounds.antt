@@ -1,11 +1,11 @@
 -- How many there may be.
-use Rattle.std.proofs.Common.{◌≡◌, ℕ, zero, suc, ◌+◌, ◌<◌, ◌≤◌, Bool, true, false, cond, not, ◌==◌, if◌then◌else◌, List, [], ◌∷◌, ◌++◌, length, filter_map, take, get_or, Option, Some, None, refl, ap, ap₂, sym, ◌∙◌, arith, length-append, filter, append-nil}
+use Rattle.std.proofs.Common.{◌≡◌, ℕ, zero, suc, ◌+◌, ◌<◌, ◌≤◌, Bool, true, false, cond, not, ◌==◌, if◌then◌else◌, List, [], ◌∷◌, ◌++◌, length, filter_map, take, get_or, Option, Some, None, refl, ap, ◌∙◌, arith, length-append}
 use Rattle.std.specs.List.{cons_option, enumerate_from, list_any, position_from}
 use Rattle.std.proofs.lemmas.List.{take_more}
 use Rattle.std.proofs.lemmas.List.Elements.{filter_map-append}
 use Rattle.std.proofs.lemmas.List.FromFn.{get_or-enumerate_from, length-enumerate_from}
 use Rattle.ulfm_model.specs.declared.event.Entry.{Entry}
-use Rattle.ulfm_model.specs.History.{History, decision, failed, failed_among, failures, first_ranks, has, known_of, members, members_after, members_by, round, says, spawns, without}
+use Rattle.ulfm_model.specs.History.{History, decision, failed, failures, first_ranks, has, known_of, members, members_after, members_by, round, spawns, without}
 use Rattle.ulfm_model.proofs.Terms.{group_among}
 use Rattle.ulfm_model.proofs.Lists.{length-filter-le}
 use Rattle.ulfm_model.proofs.Says.{made_by}

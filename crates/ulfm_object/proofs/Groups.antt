@@ -1,5 +1,5 @@
 -- Who is in a communicator that doesn't exist: nobody.
-use Rattle.std.proofs.Common.{◌≡◌, ℕ, ◌<◌, ◌==◌, Bool, List, [], ◌∷◌, filter, length, refl, ap, ◌∙◌, arith, inl, inr, if◌then◌else◌, Result, Ok, Err}
+use Rattle.std.proofs.Common.{◌≡◌, ℕ, Bool, List, [], ◌∷◌, filter, length, refl, ap, ◌∙◌, arith, inl, inr, if◌then◌else◌, Result, Ok, Err}
 use Rattle.std.specs.Prelude.{IfOk}
 use Rattle.std.proofs.lemmas.Bool.{cases_lt, ne_eqb}
 use Rattle.ulfm_model.specs.History.{Exists, History, failed, failed_among, failures, first_ranks, has, members, spawns}

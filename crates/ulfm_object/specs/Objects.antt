@@ -1,5 +1,5 @@
 -- What the program of the sequential object keeps, as the definitions see it.
-use Rattle.std.specs.{Prelude.{◌≡◌, ℕ, ◌<◌, ◌≤◌, List, length, map}}
+use Rattle.std.specs.{Prelude.{◌≡◌, ◌<◌, ◌≤◌, List, length, map}}
 use Rattle.ulfm_model.specs.declared.{call.Call.{Call}, limits.Limits.{Limits}, reply.Reply.{Reply}}
 use Rattle.ulfm_record.specs.declared.record.RankRecord.{RankRecord}
 use Rattle.ulfm_model.specs.{Answers.{traits_of}, History.{History, failures, spawns}, Runs.{IsStep, State}}

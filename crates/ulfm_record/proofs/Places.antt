@@ -1,5 +1,5 @@
 -- The first element that passes a test, found by its place in a vector.
-use Rattle.std.proofs.Common.{◌≡◌, ℕ, zero, suc, ◌<◌, ◌≤◌, Bool, true, false, cond, ◌==◌, ◌||◌, not, List, [], ◌∷◌, ◌++◌, map, filter, length, nat_lt, Option, Some, None, slice_get, get_or, set, refl, ap, ap₂, sym, ◌∙◌, arith}
+use Rattle.std.proofs.Common.{◌≡◌, ℕ, zero, suc, ◌<◌, ◌≤◌, Bool, true, false, cond, ◌==◌, ◌||◌, List, [], ◌∷◌, ◌++◌, map, filter, length, nat_lt, Some, None, slice_get, get_or, set, refl, ap, sym, ◌∙◌, arith}
 use Rattle.std.specs.List.{find, list_any, position, position_or_len}
 use Rattle.std.proofs.lemmas.List.{get_or_append_left, map-append, set-append_left}
 use Rattle.std.proofs.lemmas.List.Quantifiers.{position-Some}

@@ -1,4 +1,4 @@
-use Rattle.std.proofs.Common.{◌≡◌, ◌++◌, ◌∷◌, [], sym, ap, ap₂, ◌∙◌, append-nil}
+use Rattle.std.proofs.Common.{◌≡◌, ◌++◌, [], sym, ap, ap₂, ◌∙◌, append-nil}
 use Rattle.std.specs.List.{cons_option}
 use Rattle.ulfm_model.specs.History.{entries_by}
 use Rattle.ulfm_model.proofs.Computed.{marks_of, spawn_of}

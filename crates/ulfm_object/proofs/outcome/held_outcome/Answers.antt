@@ -1,4 +1,4 @@
-use Rattle.std.proofs.Common.{arith, ap, ◌∙◌}
+use Rattle.std.proofs.Common.{arith, ◌∙◌}
 use Rattle.ulfm_model.proofs.Computed.{added}
 use Rattle.ulfm_record.specs.Kept.{held_of, record_of}
 use Rattle.ulfm_object.proofs.Added.{few_added}
@@ -21,4 +21,5 @@ returns-clause-reply g c =
     same_reply g.P.Meld.meld c.args.limits h own x c.args.asked.now c.deref-2.result.now (added g.P.Meld.meld c.args.limits h own x c.args.asked.now)
     (c.deref-2.ensures.value ∙ same_after h c.args.own.now.number _ _ _ _ c.in_ok-after.ensures c.deref.ensures.value c.in_ok-events.ensures)
     c.in_ok-reply.reply (c.in_ok-reply.ensures (added g.P.Meld.meld c.args.limits h own x c.args.asked.now))
+
 -- x

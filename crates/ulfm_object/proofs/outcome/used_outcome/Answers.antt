@@ -1,7 +1,7 @@
-use Rattle.std.proofs.Common.{◌≡◌, ◌==◌, Some, None, sym, ap, append-nil, ◌∙◌, arith}
-use Rattle.ulfm_model.specs.{Answers.{refusal_of}, Records.{Held, held_at}}
+use Rattle.std.proofs.Common.{◌==◌, Some, sym, ap, append-nil, ◌∙◌, arith}
+use Rattle.ulfm_model.specs.{Records.{Held}}
 use Rattle.ulfm_model.proofs.Terms.{comm_of}
-use Rattle.ulfm_record.specs.Kept.{held_of, record_of}
+use Rattle.ulfm_record.specs.Kept.{held_of}
 use Rattle.ulfm_record.specs.declared.record.HeldComm.{HeldComm}
 use Rattle.ulfm_record.proofs.Places.{find_no_place, find_place, place_below}
 use Rattle.ulfm_object.proofs.outcome.used_outcome.Goals as goal

@@ -1,4 +1,4 @@
-use Rattle.std.proofs.Common.{refl, sym, ◌∙◌, None}
+use Rattle.std.proofs.Common.{refl, sym, ◌∙◌}
 use Rattle.ulfm_model.specs.Records.{Held}
 use Rattle.ulfm_record.specs.Kept.{held_of}
 use Rattle.ulfm_record.proofs.Places.{change_no_place, change_place}

@@ -1,4 +1,4 @@
-use Rattle.std.proofs.Common.{◌==◌, sym, subst, ◌∙◌, ap}
+use Rattle.std.proofs.Common.{◌==◌, sym, subst, ◌∙◌}
 use Rattle.ulfm_model.specs.{Answers.{opened, traits_of}, Records.{Held}}
 use Rattle.ulfm_model.proofs.Terms.{comm_of}
 use Rattle.ulfm_record.specs.Kept.{FitsNext, held_of}

@@ -1,4 +1,4 @@
-use Rattle.std.proofs.Common.{◌==◌, None, ap, sym, ◌∙◌}
+use Rattle.std.proofs.Common.{None, ap, sym, ◌∙◌}
 use Rattle.ulfm_model.specs.Records.{Held}
 use Rattle.ulfm_record.specs.Kept.{held_of}
 use Rattle.ulfm_record.proofs.Places.{change_then_push, push_no_place}

@@ -1,4 +1,4 @@
-use Rattle.std.proofs.Common.{◌==◌, Some, None, sym, ap, ◌∙◌}
+use Rattle.std.proofs.Common.{◌==◌, Some, sym, ap, ◌∙◌}
 use Rattle.ulfm_model.specs.{Answers.{refusal_on}, Records.{Held}}
 use Rattle.ulfm_model.proofs.Terms.{comm_of}
 use Rattle.ulfm_record.specs.Kept.{held_of, record_of}
