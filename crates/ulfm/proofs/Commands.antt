@@ -1,7 +1,7 @@
 -- What the command lines of the program ask for.
 use Rattle.std.proofs.Common.{◌≡◌, refl, codes, true, List, [], ◌∷◌, ℕ}
 use Rattle.clap.specs.Words.{fault_of, is_simple_and_free}
-use Rattle.clap.specs.declared.error.kind.ErrorKind.TheVariants.{DisplayHelp, MissingSubcommand, UnknownArgument, InvalidSubcommand}
+use Rattle.clap.specs.declared.error.kind.ErrorKind.TheVariants.{MissingSubcommand, UnknownArgument, InvalidSubcommand}
 use Rattle.clap.proofs.OnLiterals.{clap_on_literals}
 use Rattle.ulfm.specs.CommandLines.{AsksHelp, AsksRun, ulfm}
 
