@@ -1,0 +1,78 @@
+-- What a call promises, by its run.
+use Rattle.std.proofs.Common.{◌≡◌, Bool, true, false, [], None, refl, ap, sym, ◌∙◌, subst, append-nil, inl, IsTrue}
+use Rattle.ulfm_model.specs.declared.{call.Call.{Call}, refusal.Refusal.TheVariants.{NoSuchComm, SelfFailed}, reply.Reply.{Reply}, reply.Reply.TheVariants.{Refused}}
+use Rattle.ulfm_model.specs.{Answers.{Sees, polled_by, refusal_of}, History.{failures, has}, Records.{Fits, Record, held_at, is_shrink}, Runs.{Did}}
+use Rattle.ulfm_model.proofs.Terms.{comm_of}
+use Rattle.ulfm_model.proofs.{LeftFits.{fits_seen}, LeftRuns.{call_fits}, Stable.{fits_stays}}
+use Rattle.ulfm_words.specs.Steps.{IsOf, Name, Sight}
+use Rattle.ulfm_words.proofs.Trails.{did_none, did_prefix}
+use Rattle.ulfm_comm.specs.{Calls.{Calls, RunsOut}, Ends.{IsEndRun}, Looked.{Looked}}
+use Rattle.ulfm_comm.proofs.Replying.{alone_of, call_of, refused_missing, sees_look, self_failed, view_at}
+
+module _ {P : Type 0} (meld : P → P → P) (alone : Bool) (name : Name) (before after : Sight P) where
+  -- a call with its point at its end
+  pub calls_is : (asked : Call P) (old : Record) (reply : Reply P) (new : Record) → IsOf meld name after → Fits meld name.limits before.seen old
+      → IsEndRun meld name.limits alone before.seen after.seen old asked reply new → Calls meld alone name asked old before reply new after
+  calls_is asked old reply new of fits ended =
+      let called = call_of meld name.limits alone before.seen after.seen old asked reply new ended in
+      record {
+        of = of;
+        fits = call_fits meld name.limits alone before.seen after.seen old asked reply new fits called;
+        run = called;
+        run_alone = alone_of meld name.limits alone before.seen after.seen old asked reply new ended;
+        no_step = λ refused. absurd (cc (refused, ended.run.in_use));
+      }
+
+  -- a rank that its look finds declared
+  pub calls_declared : (asked : Call P) (old new : Record) → IsOf meld name after → Fits meld name.limits before.seen old → old.refused ≡ false → Did alone [] before.seen after.seen
+      → IsTrue (has (failures after.seen) old.number) → new ≡ record old { seen = failures after.seen; refused = true } → Calls meld alone name asked old before (Refused SelfFailed) new after
+  calls_declared asked old new of fits in_use did declared is =
+      calls_is asked old (Refused SelfFailed) new of fits (self_failed meld name.limits alone before.seen after.seen old after.seen asked new in_use did (did_none alone after.seen) of.legal declared is)
+
+  -- a rank that goes on after its look
+  pub looked_fits : (old mid : Record) → IsOf meld name after → Fits meld name.limits before.seen old → Looked alone before.seen after.seen old mid → Fits meld name.limits after.seen mid
+  looked_fits old mid of fits looked =
+      let still = fits_stays meld name.limits before.seen after.seen old (did_prefix alone [] before.seen after.seen looked.did) of.legal fits in
+      subst (Fits meld name.limits after.seen) (sym looked.record_is) (fits_seen meld name.limits after.seen old (failures after.seen) still ([], append-nil (failures after.seen)))
+
+  -- a call on a communicator that the rank doesn't hold
+  pub calls_missing : (asked : Call P) (old mid : Record) → IsOf meld name after → Fits meld name.limits before.seen old → Looked alone before.seen after.seen old mid → held_at mid (comm_of asked) ≡ None
+      → Calls meld alone name asked old before (Refused NoSuchComm) mid after
+  calls_missing asked old mid of fits looked missing =
+      calls_is asked old (Refused NoSuchComm) mid of fits (refused_missing meld name.limits alone before.seen after.seen old mid looked asked mid of.legal missing refl)
+
+  -- a call that ran out of memory right after its look
+  pub runs_out : (asked : Call P) (old mid : Record) → IsOf meld name after → Fits meld name.limits before.seen old → Looked alone before.seen after.seen old mid → refusal_of old asked ≡ None
+      → RunsOut meld alone name asked old before mid after
+  runs_out asked old mid of fits looked passed =
+      let seen : mid.seen ≡ failures after.seen = ap (λ (w : Record). w.seen) looked.record_is in
+      let view = view_at meld name.limits alone before.seen after.seen old after.seen [] in
+      record {
+        of = of;
+        fits = looked_fits old mid of fits looked;
+        run_out = record {
+          in_use = looked.in_use;
+          span = record {
+            look = after.seen;
+            point = after.seen;
+            own = [];
+            looked = looked.did;
+            did = did_none alone after.seen;
+            point_begins = did_prefix alone [] before.seen after.seen looked.did;
+            point_ends = ([], append-nil after.seen);
+            legal = of.legal;
+          };
+          not_declared = looked.not_declared;
+          not_refused = passed;
+          own = tt;
+          makes_none = refl;
+          sees = subst (Sees (is_shrink (polled_by old asked)) view) (sym seen) (sees_look (is_shrink (polled_by old asked)) view ([], append-nil (failures after.seen)));
+          record_is = looked.record_is ∙ ap (λ s. record old { seen = s }) (sym seen);
+        };
+      }
+
+module _ {P : Type 0} (meld : P → P → P) (alone : Bool) (name : Name) (pass : Sight P) where
+  -- a rank that was refused for good before
+  pub calls_refused : (asked : Call P) (old : Record) → IsOf meld name pass → Fits meld name.limits pass.seen old → IsTrue old.refused → Calls meld alone name asked old pass (Refused SelfFailed) old pass
+  calls_refused asked old of fits refused =
+      record { of = of; fits = fits; run = inl (refused, refl, refl, refl); run_alone = λ here. inl (refused, refl, refl, refl); no_step = λ same. refl }

@@ -1,0 +1,55 @@
+-- The communicators that a rank holds, by their places.
+use Rattle.std.proofs.Common.{◌≡◌, ℕ, zero, suc, ◌<◌, ◌≤◌, ◌==◌, Bool, true, false, cond, List, [], ◌∷◌, length, Some, None, slice_get, slice_index_or, slice_set, refl, ap, sym, ◌∙◌, arith}
+use Rattle.std.specs.List.{AllByRecursion, find, position, position_or_len}
+use Rattle.std.proofs.lemmas.List.Quantifiers.{position-Some}
+use Rattle.std.proofs.lemmas.List.Folds.{find_at}
+use Rattle.std.proofs.lemmas.Grind.{common_steps}
+use Rattle.ulfm_model.specs.Records.{Held, change_at}
+use Rattle.ulfm_comm.proofs.InOrder.{found_at}
+
+-- whether a communicator has this number
+abbrev pub is_of : ℕ → Held → Bool
+is_of c x = x.comm == c
+
+changed_at : (xs : List Held) (c i : ℕ) (d y : Held) (f : Held → Held) → i < length xs → is_of c (slice_index_or xs i d) ≡ true → ((k : ℕ) → k < i → is_of c (slice_index_or xs k d) ≡ false) → y ≡ f (slice_index_or xs i d)
+    → slice_set xs i y ≡ change_at c f xs
+changed_at [] c i d y f below is before same = absurd (omega arith)
+changed_at (x ∷ xs) c zero d y f below is before same = ap (λ z. z ∷ xs) same ∙ sym (ap (λ b. cond b (f x ∷ xs) (x ∷ change_at c f xs)) is)
+changed_at (x ∷ xs) c (suc i) d y f below is before same =
+    ap (λ zs. x ∷ zs) (changed_at xs c i d y f (omega arith) is (λ k le. before (suc k) (omega arith)) same) ∙ sym (ap (λ b. cond b (f x ∷ xs) (x ∷ change_at c f xs)) (before 0 (omega arith)))
+
+-- the first of a number is the one that is found
+pub find_is : (xs : List Held) (c i : ℕ) (d : Held) → position (is_of c) xs ≡ Some i → find (is_of c) xs ≡ Some (slice_index_or xs i d)
+find_is xs c i d at = let p = position-Some (is_of c) xs i d at in found_at (is_of c) xs i d p.0 p.1 p.2
+
+-- and it is the one that is changed
+pub change_is : (xs : List Held) (c i : ℕ) (d y : Held) (f : Held → Held) → position (is_of c) xs ≡ Some i → y ≡ f (slice_index_or xs i d) → slice_set xs i y ≡ change_at c f xs
+change_is xs c i d y f at same = let p = position-Some (is_of c) xs i d at in changed_at xs c i d y f p.0 p.1 p.2 same
+
+past : (xs : List Held) (n : ℕ) → length xs ≤ n → slice_get xs n ≡ None
+past [] n le = refl
+past (x ∷ xs) zero le = absurd (omega arith)
+past (x ∷ xs) (suc n) le = past xs n (omega arith)
+
+-- there is none of this number
+pub find_missing : (xs : List Held) (c : ℕ) → position (is_of c) xs ≡ None → find (is_of c) xs ≡ None
+find_missing xs c e = let far : length xs ≤ position_or_len (is_of c) xs = grind (arith, common_steps) in find_at (is_of c) xs ∙ past xs (position_or_len (is_of c) xs) far
+
+unchanged : (xs : List Held) (c : ℕ) (f : Held → Held) → find (is_of c) xs ≡ None → xs ≡ change_at c f xs
+unchanged [] c f e = refl
+unchanged (x ∷ xs) c f e = go (is_of c x) e (λ less. unchanged xs c f less)
+  where
+    go : (b : Bool) → cond b (Some x) (find (is_of c) xs) ≡ None → (find (is_of c) xs ≡ None → xs ≡ change_at c f xs) → x ∷ xs ≡ cond b (f x ∷ xs) (x ∷ change_at c f xs)
+    go true e rest = absurd (cc e)
+    go false e rest = ap (λ zs. x ∷ zs) (rest e)
+
+-- so nothing is changed
+pub change_missing : (xs : List Held) (c : ℕ) (f : Held → Held) → position (is_of c) xs ≡ None → xs ≡ change_at c f xs
+change_missing xs c f e = unchanged xs c f (find_missing xs c e)
+
+-- what holds of each, and is kept by the change, holds of each afterwards
+pub each_changed : (Q : Held → Type 0) (c : ℕ) (f : Held → Held) → ((y : Held) → Q y → Q (f y)) → (xs : List Held) → AllByRecursion Q xs → AllByRecursion Q (change_at c f xs)
+each_changed Q c f keeps [] all = tt
+each_changed Q c f keeps (x ∷ xs) all =
+    let rest = each_changed Q c f keeps xs all.1 in
+    elim (is_of c x) as (λ b. AllByRecursion Q (cond b (f x ∷ xs) (x ∷ change_at c f xs))) [ true ↦ (keeps x all.0, all.1) | false ↦ (all.0, rest) ]

@@ -1,0 +1,114 @@
+-- A world, all its ranks and one pass, in one hand: what each call is of the whole.
+use Rattle.std.proofs.Common.{◌≡◌, ℕ, ◌<◌, ◌≤◌, ◌==◌, Bool, true, false, List, [], map, get_or, set, length, Option, Some, refl, ap, ap₂, sym, ◌∙◌, subst, arith, append-nil, inl, inr, IsTrue, if◌then◌else◌}
+use Rattle.std.specs.List.{AllByRecursion}
+use Rattle.std.proofs.Math.Seq.{map-set_same}
+use Rattle.std.proofs.lemmas.List.{set-get_or}
+use mathlib.Core.List.{IsPrefix}
+use Rattle.ulfm_model.specs.declared.{call.Call.{Call}, event.Caller.{Caller}, event.Caller.TheVariants.{Outside, Rank}, refusal.Refusal.{Refusal}, reply.Reply.{Reply}, reply.Reply.TheVariants.{Refused}}
+use Rattle.ulfm_model.specs.declared.call.Call.TheVariants.{Fail}
+use Rattle.ulfm_model.specs.declared.refusal.Refusal.TheVariants.{SelfFailed, NoSuchComm, Busy, ShrinkOpen, RoundsUsedUp, Idle, Mismatch, NoContext, NoRoom, IsRevoked, ProcFailed, WorldKept, NoSuchRank, OutOfMemory, Twice}
+use Rattle.ulfm_model.specs.{Answers.{traits_of}, Records.{Fits, Record, new_record}, Runs.{IsFailRun, IsRankStep, IsSound, IsStep, State}}
+use Rattle.ulfm_model.proofs.{LeftRuns.{call_legal, call_number, fail_fits, fail_legal, span_begins}, Lists.{each_from}, Stable.{fits_stays}}
+use Rattle.ulfm_words.specs.Steps.{IsOf, Name, Sight}
+use Rattle.ulfm_comm.specs.{Calls.{Calls, EndsBy, RunsOut, is_out_of_memory}, Ends.{IsAloneCall}, Fails.{Fails}, Jobs.{IsJob, StepsBy, state_of}}
+use Rattle.ulfm_comm.proofs.InOrder.{count_is, each_set, number_at, rank_changed, rank_found, rank_missing}
+
+module _ {P : Type 0} (meld : P → P → P) (alone : Bool) (name : Name) (before : Sight P) (ranks : List Record) (job : IsJob meld name before ranks) where
+  -- the record of a rank has changed
+  job_after : (i : ℕ) (d new : Record) (after : Sight P) → IsOf meld name after → Fits meld name.limits after.seen new → new.number ≡ (get_or ranks i d).number → IsPrefix before.seen after.seen → IsJob meld name after (set ranks i new)
+  job_after i d new after of fits number begins =
+      let still = each_from (Fits meld name.limits before.seen) (Fits meld name.limits after.seen) (λ x was. fits_stays meld name.limits before.seen after.seen x begins of.legal was) ranks job.sound.fits in
+      record {
+        of = of;
+        sound = record {
+          legal = of.legal;
+          numbers = map-set_same (λ (x : Record). x.number) ranks i new d number ∙ job.sound.numbers;
+          fits = each_set (Fits meld name.limits after.seen) ranks i new still fits;
+        };
+      }
+
+  module _ (i : ℕ) (d : Record) (below : i < length ranks) (new : Record) (after : Sight P) where
+    -- where nobody else steps, its call is one step
+    step_of : (asked : Call P) (reply : Reply P) → IsAloneCall meld name.limits before.seen after.seen (get_or ranks i d) asked reply new
+        → IsRankStep meld (state_of name before ranks) i (Some (get_or ranks i d)) asked reply (state_of name after (set ranks i new))
+    step_of asked reply (inl (refused, same, reply_is, kept)) =
+        let with_both : _ → List Record → State P = λ h rs. record { limits = name.limits; history = h; records = rs } in
+        inl (refused, reply_is, ap₂ with_both same (ap (set ranks i) kept ∙ set-get_or ranks i d))
+    step_of asked reply (inr run) =
+        let with_records : List Record → State P = λ rs. record { limits = name.limits; history = after.seen; records = rs } in
+        inr (after.seen, new, run, ap with_records (rank_changed name.limits.ranks ranks job.sound.numbers i d new below))
+
+    -- a call of a rank
+    pub calls_step : (asks : ℕ → Call P) (reply : Reply P) → (traits_of (asks i)).by ≡ Rank i → Calls meld alone name (asks (get_or ranks i d).number) (get_or ranks i d) before reply new after
+        → StepsBy meld alone name (asks i) before ranks reply after (set ranks i new)
+    calls_step asks reply by made =
+        let asked = asks i in
+        let calls = subst (λ r. Calls meld alone name (asks r) (get_or ranks i d) before reply new after) (number_at name.limits.ranks ranks job.sound.numbers i d below) made in
+        let begins = (call_legal meld name.limits alone before.seen after.seen (get_or ranks i d) asked reply new job.sound.legal calls.run).0 in
+        record {
+          job = job_after i d new after calls.of calls.fits (call_number meld name.limits alone before.seen after.seen (get_or ranks i d) asked reply new calls.run) begins;
+          begins = begins;
+          step = λ here.
+              subst (λ caller. IsStep meld (state_of name before ranks) caller asked reply (state_of name after (set ranks i new))) (sym by)
+              (subst (λ own. IsRankStep meld (state_of name before ranks) i own asked reply (state_of name after (set ranks i new))) (sym (rank_found name.limits.ranks ranks job.sound.numbers i d below))
+              (step_of asked reply (calls.run_alone here)));
+        }
+
+    -- a call that ran out of memory
+    pub out_begins : (asked : Call P) → RunsOut meld alone name asked (get_or ranks i d) before new after → IsPrefix before.seen after.seen
+    out_begins asked out = span_begins meld name.limits alone before.seen after.seen (Rank (get_or ranks i d).number) out.run_out.span
+
+    pub out_job : (asked : Call P) → RunsOut meld alone name asked (get_or ranks i d) before new after → IsJob meld name after (set ranks i new)
+    out_job asked out = job_after i d new after out.of out.fits (ap (λ (w : Record). w.number) out.run_out.record_is) (out_begins asked out)
+
+    -- a call that is refused for any other reason
+    pub refused_step : (asks : ℕ → Call P) (refusal : Refusal) → (traits_of (asks i)).by ≡ Rank i → (refusal ≡ OutOfMemory → ⊥)
+        → EndsBy meld alone name (asks (get_or ranks i d).number) (get_or ranks i d) before refusal (is_out_of_memory refusal) new after
+        → StepsBy meld alone name (asks i) before ranks (Refused refusal) after (set ranks i new)
+    refused_step asks SelfFailed by other ends = calls_step asks (Refused SelfFailed) by ends
+    refused_step asks NoSuchComm by other ends = calls_step asks (Refused NoSuchComm) by ends
+    refused_step asks Busy by other ends = calls_step asks (Refused Busy) by ends
+    refused_step asks ShrinkOpen by other ends = calls_step asks (Refused ShrinkOpen) by ends
+    refused_step asks RoundsUsedUp by other ends = calls_step asks (Refused RoundsUsedUp) by ends
+    refused_step asks Idle by other ends = calls_step asks (Refused Idle) by ends
+    refused_step asks Mismatch by other ends = calls_step asks (Refused Mismatch) by ends
+    refused_step asks NoContext by other ends = calls_step asks (Refused NoContext) by ends
+    refused_step asks NoRoom by other ends = calls_step asks (Refused NoRoom) by ends
+    refused_step asks IsRevoked by other ends = calls_step asks (Refused IsRevoked) by ends
+    refused_step asks ProcFailed by other ends = calls_step asks (Refused ProcFailed) by ends
+    refused_step asks WorldKept by other ends = calls_step asks (Refused WorldKept) by ends
+    refused_step asks NoSuchRank by other ends = calls_step asks (Refused NoSuchRank) by ends
+    refused_step asks OutOfMemory by other ends = absurd (other refl)
+    refused_step asks Twice by other ends = calls_step asks (Refused Twice) by ends
+
+  -- a call of a rank that the world doesn't have
+  pub missing_step : (asked : Call P) (i : ℕ) → (traits_of asked).by ≡ Rank i → length ranks ≤ i → StepsBy meld alone name asked before ranks (Refused NoSuchRank) before ranks
+  missing_step asked i by above =
+      let count = count_is name.limits.ranks ranks job.sound.numbers in
+      record {
+        job = job;
+        begins = ([], append-nil before.seen);
+        step = λ here.
+            subst (λ caller. IsStep meld (state_of name before ranks) caller asked (Refused NoSuchRank) (state_of name before ranks)) (sym by)
+            (subst (λ own. IsRankStep meld (state_of name before ranks) i own asked (Refused NoSuchRank) (state_of name before ranks)) (sym (rank_missing name.limits.ranks ranks job.sound.numbers i (new_record name.limits 0) (omega (arith, above, count)))) (refl, refl));
+      }
+
+  -- a declaration
+  pub fails_step : (rank : ℕ) (reply : Reply P) (after : Sight P) → Fails meld alone name rank before reply after → StepsBy meld alone name (Fail rank) before ranks reply after ranks
+  fails_step rank reply after fails =
+      record {
+        job = record {
+          of = fails.of;
+          sound = record {
+            legal = fails.of.legal;
+            numbers = job.sound.numbers;
+            fits = each_from (Fits meld name.limits before.seen) (Fits meld name.limits after.seen) (λ x was. fail_fits meld name.limits alone before.seen after.seen x rank reply fails.run was) ranks job.sound.fits;
+          };
+        };
+        begins = (fail_legal meld name.limits alone before.seen after.seen rank reply fails.run).0;
+        step = λ here. by_alone alone here fails.run fails.at_end;
+      }
+    where
+      by_alone : (b : Bool) → IsTrue b → (run : IsFailRun meld name.limits b before.seen after.seen rank reply) → run.span.point ≡ after.seen → IsStep meld (state_of name before ranks) Outside (Fail rank) reply (state_of name after ranks)
+      by_alone true here run at_end = (rank, refl, after.seen, run, at_end, refl)
+      by_alone false here run at_end = absurd (cc here)

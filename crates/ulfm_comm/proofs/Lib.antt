@@ -1,0 +1,12 @@
+pub mod Acks
+pub mod Agrees
+pub mod Calling
+pub mod Failing
+pub mod Helds
+pub mod Holding
+pub mod InOrder
+pub mod Jobs
+pub mod Opening
+pub mod Passing
+pub mod Polls
+pub mod Replying

@@ -1,0 +1,50 @@
+use Rattle.std.proofs.Common.{◌≡◌, ◌*◌, ◌<◌, refl, ap, sym, subst, arith}
+use Rattle.ulfm_steps.specs.{Appends.{MayAppend}}
+use Rattle.ulfm_steps.proofs.Welcome.{may_fail}
+use Rattle.ulfm_comm.proofs.Failing.{fail_found, fail_full, fail_missing, fail_won}
+use Rattle.ulfm_comm.proofs.world.World.fail.Goals as goal
+use Rattle.ulfm_comm.proofs.world.World.fail.Goals.{After-finish}
+
+pub returns-then-rank-limits : goal.returns-then-rank-limits
+returns-then-rank-limits g c =
+    let pass = g.W.Words.sight c.args.pass.now in
+    let ranks : c.limits.result.ranks ≡ (g.W.Words.name c.args.self.now.words).limits.ranks = ap (λ l. l.ranks) c.limits.ensures.limits in
+    fail_missing g.P.Meld.meld g.W.Words.alone (g.W.Words.name c.args.self.now.words) c.args.rank pass pass c.requires.of (omega (arith, c.if-rank-limits.true)) refl
+
+pub finish-requires-clause-may : goal.finish-requires-clause-may
+finish-requires-clause-may g c =
+    let limits = (g.W.Words.name c.args.self.now.words).limits in
+    let seen = (g.W.Words.sight c.args.pass.now).seen in
+    let ranks : c.limits.result.ranks ≡ limits.ranks = ap (λ l. l.ranks) c.limits.ensures.limits in
+    let below : c.args.rank < limits.ranks = omega (arith, c.if-rank-limits.false) in
+    subst (λ a. MayAppend g.P.Meld.meld limits seen a.item) (sym c.new-append.ensures) (may_fail g.P.Meld.meld limits seen c.args.rank below)
+
+pub returns-in-Won : goal.returns-in-Won
+returns-in-Won g c =
+    let name = g.W.Words.name c.args.self.now.words in
+    let old = g.W.Words.sight c.args.pass.now in
+    let new = g.W.Words.sight c.finish.new.pass in
+    let ranks : c.limits.result.ranks ≡ name.limits.ranks = ap (λ l. l.ranks) c.limits.ensures.limits in
+    let below : c.args.rank < name.limits.ranks = omega (arith, c.if-rank-limits.false) in
+    fail_won g.P.Meld.meld g.W.Words.alone name c.args.rank old new c.in-Won.field-0 below
+    (rw c.new-append.ensures at c.in-Won.ensures)
+
+pub returns-in-Found : goal.returns-in-Found
+returns-in-Found g c =
+    let name = g.W.Words.name c.args.self.now.words in
+    let old = g.W.Words.sight c.args.pass.now in
+    let new = g.W.Words.sight c.finish.new.pass in
+    let ranks : c.limits.result.ranks ≡ name.limits.ranks = ap (λ l. l.ranks) c.limits.ensures.limits in
+    let below : c.args.rank < name.limits.ranks = omega (arith, c.if-rank-limits.false) in
+    fail_found g.P.Meld.meld g.W.Words.alone name c.args.rank old new c.in-Found.field-0 below
+    (rw c.new-append.ensures at c.in-Found.ensures)
+
+pub returns-in-Full : goal.returns-in-Full
+returns-in-Full g c =
+    let name = g.W.Words.name c.args.self.now.words in
+    let old = g.W.Words.sight c.args.pass.now in
+    let new = g.W.Words.sight c.finish.new.pass in
+    let ranks : c.limits.result.ranks ≡ name.limits.ranks = ap (λ l. l.ranks) c.limits.ensures.limits in
+    let below : c.args.rank < name.limits.ranks = omega (arith, c.if-rank-limits.false) in
+    fail_full g.P.Meld.meld g.W.Words.alone name c.args.rank old new below
+    (rw c.new-append.ensures at c.in-Full.ensures)

@@ -1,0 +1,55 @@
+-- What a call of a rank promises.
+use Rattle.std.specs.Prelude.{◌≡◌, ℕ, Bool, ◌==◌, true, false, [], None, IsTrue, IsFalse, Result, Ok, Err}
+use Rattle.std.specs.List.{AllByRecursion}
+use Rattle.ulfm_model.specs.declared.{call.Call.{Call}, event.Caller.TheVariants.{Rank}, limits.Limits.{Limits}, refusal.Refusal.{Refusal}, reply.Reply.{Reply}, reply.Reply.TheVariants.{FailedGroup, Refused}}
+use Rattle.ulfm_model.specs.{Answers.{MayOwn, Sees, polled_by, printed, refusal_of}, History.{History, entries_by, failures, has, spawns}, Records.{Fits, Record, is_shrink}, Runs.{IsCall, IsSpan}}
+use Rattle.ulfm_model.proofs.Terms.{view_of}
+use Rattle.ulfm_words.specs.Steps.{IsOf, Name, Sight}
+use Rattle.ulfm_comm.specs.Ends.{IsAloneCall}
+
+-- the reply that a result stands for
+abbrev pub reply_of : {P X : Type 0} → (X → Reply P) → Result X Refusal → Reply P
+reply_of reply (Ok x) = reply x
+reply_of reply (Err refusal) = Refused refusal
+
+-- A call of a rank: the pass is of these words still, the record fits what it has seen, and the call is one of the sequential
+-- object, among the steps of others; where nobody else steps, it is one of the sequential object alone. A rank that was refused
+-- for good makes no step.
+pub record Calls {P : Type 0} (meld : P → P → P) (alone : Bool) (name : Name) (asked : Call P) (old : Record) (before : Sight P) (reply : Reply P) (new : Record) (after : Sight P) : Type 0 where
+  pub of : IsOf meld name after
+  pub fits : Fits meld name.limits after.seen new
+  pub run : IsCall meld name.limits alone before.seen after.seen old asked reply new
+  pub run_alone : IsTrue alone → IsAloneCall meld name.limits before.seen after.seen old asked reply new
+  pub no_step : IsTrue old.refused → after ≡ before
+
+-- A call that ran out of memory is a run but for its reply: its rank isn't declared at the look, its record doesn't refuse it,
+-- it has made no communicator, and of the record only what was seen is new.
+pub record IsRunOut {P : Type 0} (meld : P → P → P) (limits : Limits) (alone : Bool) (before after : History P) (old : Record) (asked : Call P) (new : Record) : Type 0 where
+  pub in_use : IsFalse old.refused
+  pub span : IsSpan meld limits alone before after (Rank old.number)
+  pub not_declared : IsFalse (has (failures span.look) old.number)
+  pub not_refused : refusal_of old asked ≡ None
+  pub own : AllByRecursion (MayOwn (failures span.look) old asked) span.own
+  pub makes_none : spawns (entries_by (Rank old.number) span.own) ≡ []
+  pub sees : Sees (is_shrink (polled_by old asked)) (view_of span) new.seen
+  pub record_is : new ≡ record old { seen = new.seen }
+
+-- the same of a call that ran out of memory
+pub record RunsOut {P : Type 0} (meld : P → P → P) (alone : Bool) (name : Name) (asked : Call P) (old : Record) (before : Sight P) (new : Record) (after : Sight P) : Type 0 where
+  pub of : IsOf meld name after
+  pub fits : Fits meld name.limits after.seen new
+  pub run_out : IsRunOut meld name.limits alone before.seen after.seen old asked new
+
+-- whether a call ran out of memory, by the refusal's number
+abbrev pub is_out_of_memory : Refusal → Bool
+is_out_of_memory refusal = (printed refusal).0 == 14
+
+-- a call that is refused, or that ran out of memory
+abbrev pub EndsBy : {P : Type 0} → (P → P → P) → Bool → Name → Call P → Record → Sight P → Refusal → Bool → Record → Sight P → Type 0
+EndsBy meld alone name asked old before refusal true new after = RunsOut meld alone name asked old before new after
+EndsBy meld alone name asked old before refusal false new after = Calls meld alone name asked old before (Refused refusal) new after
+
+-- a query of the failed group, which puts so many ranks into a vector
+abbrev pub Gets : {P : Type 0} → (P → P → P) → Bool → Name → Call P → Record → Sight P → ℕ → Result (Unit {0}) Refusal → Record → Sight P → Type 0
+Gets meld alone name asked old before count (Ok _) new after = Calls meld alone name asked old before (FailedGroup count) new after
+Gets meld alone name asked old before count (Err refusal) new after = EndsBy meld alone name asked old before refusal (is_out_of_memory refusal) new after

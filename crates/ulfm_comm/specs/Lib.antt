@@ -1,0 +1,7 @@
+pub mod Looked
+pub mod Ends
+pub mod Ranks
+pub mod Calls
+pub mod Polls
+pub mod Fails
+pub mod Jobs

@@ -1,0 +1,137 @@
+// Calls of ranks that stand in one hand, each answered as the object replies.
+ghost use Rattle.std.specs.Prelude.{IfOk};
+ghost use mathlib.Core.List.{IsPrefix};
+ghost use Rattle.ulfm_model.specs.declared.call.Call.TheVariants.{Fail as FailAsked, GetFailed as GetAsked, Ack as AckAsked, Agree as AgreeAsked, Poll as PollAsked};
+ghost use Rattle.ulfm_comm.specs.Jobs.{IsJob, StepsBy};
+
+use crate::polled::Polled;
+use crate::rank::Rank;
+use crate::world::World;
+use std::alloc::{AllocError, Allocator};
+use ulfm_laws::meld::Packed;
+use ulfm_model::refusal::Refusal;
+use ulfm_model::reply::Reply;
+use ulfm_words::Words;
+
+// The outside declares a rank.
+pub(crate) fn fail_by<P: Packed, A: Allocator + Copy, W: Words<P, A>>(
+    world: &World<W, P, A>,
+    pass: &mut W::Pass,
+    ranks: &[Rank<P, A>],
+    rank: u16,
+) -> Reply<P>
+    requires { IsJob P.meld (W.name world.now.words) (W.sight pass.old) ranks.now }
+    ensures { StepsBy P.meld W.alone (W.name world.now.words) (FailAsked rank) (W.sight pass.old) ranks.now result (W.sight pass.new) ranks.now }
+{
+    let _ = ranks;
+    match world.fail(pass, rank) {
+        Ok(true) => Reply::Declared,
+        Ok(false) => Reply::AlreadyFailed,
+        Err(refusal) => Reply::Refused(refusal),
+    }
+}
+
+// A rank asks for a failed group.
+pub(crate) fn get_by<P: Packed, A: Allocator, W: Words<P, A>>(
+    world: &World<W, P, A>,
+    pass: &mut W::Pass,
+    ranks: &mut [Rank<P, A>],
+    rank: u16,
+    comm: u16,
+    found: &mut Vec<u16, A>,
+) -> Result<Reply<P>, AllocError>
+    requires { IsJob P.meld (W.name world.now.words) (W.sight pass.old) ranks.old }
+    ensures step { IfOk result (λ reply. StepsBy P.meld W.alone (W.name world.now.words) (GetAsked rank comm) (W.sight pass.old) ranks.old reply (W.sight pass.new) ranks.new) }
+    ensures job { IsJob P.meld (W.name world.now.words) (W.sight pass.new) ranks.new }
+    ensures begins { IsPrefix (W.sight pass.old).seen (W.sight pass.new).seen }
+{
+    if rank as usize >= ranks.len() {
+        return Ok(Reply::Refused(Refusal::NoSuchRank));
+    }
+    let own = &mut ranks[rank as usize];
+    match own.get_failed(world, pass, comm, found) {
+        Ok(()) => Ok(Reply::FailedGroup {
+            count: found.as_slice().len() as u16,
+        }),
+        Err(refusal) => match refusal {
+            Refusal::OutOfMemory => Err(AllocError),
+            _ => Ok(Reply::Refused(refusal)),
+        },
+    }
+}
+
+// A rank acknowledges failures.
+pub(crate) fn ack_by<P: Packed, A: Allocator, W: Words<P, A>>(
+    world: &World<W, P, A>,
+    pass: &mut W::Pass,
+    ranks: &mut [Rank<P, A>],
+    rank: u16,
+    comm: u16,
+    count: u16,
+) -> Reply<P>
+    requires { IsJob P.meld (W.name world.now.words) (W.sight pass.old) ranks.old }
+    ensures { StepsBy P.meld W.alone (W.name world.now.words) (AckAsked rank comm count) (W.sight pass.old) ranks.old result (W.sight pass.new) ranks.new }
+{
+    if rank as usize >= ranks.len() {
+        return Reply::Refused(Refusal::NoSuchRank);
+    }
+    let own = &mut ranks[rank as usize];
+    match own.ack_failed(world, pass, comm, count) {
+        Ok(count) => Reply::Acked { count },
+        Err(refusal) => Reply::Refused(refusal),
+    }
+}
+
+// A rank starts an agree.
+pub(crate) fn agree_by<P: Packed, A: Allocator, W: Words<P, A>>(
+    world: &World<W, P, A>,
+    pass: &mut W::Pass,
+    ranks: &mut [Rank<P, A>],
+    rank: u16,
+    comm: u16,
+    value: P,
+) -> Reply<P>
+    requires { IsJob P.meld (W.name world.now.words) (W.sight pass.old) ranks.old }
+    ensures { StepsBy P.meld W.alone (W.name world.now.words) (AgreeAsked rank comm value) (W.sight pass.old) ranks.old result (W.sight pass.new) ranks.new }
+{
+    if rank as usize >= ranks.len() {
+        return Reply::Refused(Refusal::NoSuchRank);
+    }
+    let own = &mut ranks[rank as usize];
+    match own.iagree(world, pass, comm, value) {
+        Ok(()) => Reply::Started,
+        Err(refusal) => Reply::Refused(refusal),
+    }
+}
+
+// A rank polls.
+pub(crate) fn poll_by<P: Packed, A: Allocator, W: Words<P, A>>(
+    world: &World<W, P, A>,
+    pass: &mut W::Pass,
+    ranks: &mut [Rank<P, A>],
+    rank: u16,
+    comm: u16,
+) -> Reply<P>
+    requires { IsJob P.meld (W.name world.now.words) (W.sight pass.old) ranks.old }
+    ensures { StepsBy P.meld W.alone (W.name world.now.words) (PollAsked rank comm) (W.sight pass.old) ranks.old result (W.sight pass.new) ranks.new }
+{
+    if rank as usize >= ranks.len() {
+        return Reply::Refused(Refusal::NoSuchRank);
+    }
+    let own = &mut ranks[rank as usize];
+    match own.poll(world, pass, comm) {
+        Ok(Polled::Pending) => Reply::Pending,
+        Ok(
+            Polled::Agreed {
+                value,
+                failed,
+                raised,
+            },
+        ) => Reply::Agreed {
+            value,
+            failed,
+            raised,
+        },
+        Err(refusal) => Reply::Refused(refusal),
+    }
+}

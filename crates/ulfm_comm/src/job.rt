@@ -1,0 +1,112 @@
+ghost use Rattle.std.specs.Prelude.{ℕ, ◌≡◌, ◌≤◌, ◌==◌, Some, find, IsTrue, IfOk, OnErr, MatchOption, MatchResult};
+ghost use mathlib.Core.List.{IsPrefix};
+ghost use Rattle.ulfm_model.specs.Answers.{traits_of};
+ghost use Rattle.ulfm_model.specs.Runs.{IsStep, new_state};
+ghost use Rattle.ulfm_model.specs.declared.call.Call.TheVariants.{GetFailed as GetAsked};
+ghost use Rattle.ulfm_model.specs.declared.limits.OpenFault.TheVariants.{OutOfMemory};
+ghost use Rattle.ulfm_comm.specs.Jobs.{IsAnswered};
+
+use crate::answers::{ack_by, agree_by, fail_by, get_by, poll_by};
+use crate::rank::Rank;
+use crate::world::World;
+use std::alloc::{AllocError, Allocator};
+use std::marker::Model;
+use ulfm_laws::meld::Packed;
+use ulfm_model::call::Call;
+use ulfm_model::limits::OpenFault;
+use ulfm_model::reply::Reply;
+use ulfm_words::Words;
+
+/// A world, all its ranks and one pass, in one hand: it answers one call after another. Contracts see it as the state of
+/// the sequential object.
+#[derive(Drop)]
+pub struct Job<W, P: Packed, A: Allocator>
+where
+    W: Words<P, A>,
+{
+    world: World<W, P, A>,
+    pass: W::Pass,
+    // In the order of their numbers.
+    ranks: Vec<Rank<P, A>, A>,
+    // The failed group that was asked for last.
+    found: Vec<u16, A>,
+}
+
+impl<W, P: Packed, A: Allocator> Model for Job<W, P, A>
+where
+    W: Words<P, A>,
+{
+    ghost use Rattle.ulfm_model.specs.Runs.{State};
+    ghost use Rattle.ulfm_comm.specs.Jobs.{IsJob, state_of};
+
+    ghost Value = { State P };
+
+    ghost view = { λ a. state_of (W.name a.world.words) (W.sight a.pass) a.ranks.items };
+
+    ghost invariant = { λ a. IsJob P.meld (W.name a.world.words) (W.sight a.pass) a.ranks.items };
+}
+
+impl<W, P: Packed, A: Allocator + Copy> Job<W, P, A>
+where
+    W: Words<P, A>,
+{
+    /// A world over new words, its ranks, and a pass that has seen nothing. Memory is the only thing that it may lack.
+    pub fn open(alloc: A, words: W) -> Result<Job<W, P, A>, OpenFault>
+    where
+        W: Drop,
+        ensures { MatchResult result (λ job. job ≡ new_state (W.name words).limits) (λ fault. fault ≡ OutOfMemory) }
+    {
+        let (world, ranks) = World::open(alloc, words)?;
+        let Ok(pass) = world.pass(alloc) else {
+            return Err(OpenFault::OutOfMemory);
+        };
+        Ok(Job {
+            world,
+            pass,
+            ranks,
+            found: Vec::new(alloc),
+        })
+    }
+
+    /// A rank of the world, if there is one of this number.
+    pub fn rank(&self, number: u16) -> Option<&Rank<P, A>>
+        ensures { MatchOption result (self.now.limits.ranks ≤ number) (λ own. find (λ x. x.number == number) self.now.records ≡ Some own.now) }
+    {
+        let ranks = self.ranks.as_slice();
+        if number as usize >= ranks.len() {
+            return None;
+        }
+        Some(&ranks[number as usize])
+    }
+
+    /// Answers a call. Where nobody else steps, it is one step of the sequential object. Memory alone can be refused, to a
+    /// query of the failed group.
+    pub fn apply(&mut self, asked: &Call<P>) -> Result<Reply<P>, AllocError>
+        requires { IsAnswered asked.now }
+        ensures step { IfOk result (λ reply. IsTrue W.alone → IsStep P.meld self.old (traits_of asked.now).by asked.now reply self.new) }
+        ensures memory { OnErr result ((rank : ℕ) × (comm : ℕ) × (asked.now ≡ GetAsked rank comm)) }
+        ensures begins { IsPrefix self.old.history self.new.history }
+    {
+        let world = &self.world;
+        let pass = &mut self.pass;
+        match *asked {
+            Call::Fail { rank } => Ok(fail_by(world, pass, &self.ranks, rank)),
+            Call::GetFailed { rank, comm } => get_by(
+                world,
+                pass,
+                &mut self.ranks,
+                rank,
+                comm,
+                &mut self.found,
+            ),
+            Call::Ack { rank, comm, count } => {
+                Ok(ack_by(world, pass, &mut self.ranks, rank, comm, count))
+            }
+            Call::Agree { rank, comm, value } => {
+                Ok(agree_by(world, pass, &mut self.ranks, rank, comm, value))
+            }
+            Call::Poll { rank, comm } => Ok(poll_by(world, pass, &mut self.ranks, rank, comm)),
+            _ => unreachable!(),
+        }
+    }
+}

@@ -1,0 +1,169 @@
+ghost use Rattle.std.specs.Prelude.{◌≡◌, ◌+◌, ◌<◌, ◌^◌, true, Some, None, MatchOption, IfSome, IfOk};
+ghost use Rattle.ulfm_model.specs.Records.{Held, held_at, new_record, with_held};
+ghost use Rattle.ulfm_model.specs.History.{failures, first_ranks, has};
+ghost use Rattle.ulfm_model.specs.Words.{MayOpen};
+ghost use Rattle.ulfm_model.specs.Answers.{closed, opened};
+ghost use Rattle.ulfm_words.specs.Steps.{IsOf, Goes};
+ghost use Rattle.ulfm_comm.specs.Ranks.{IsAgree};
+ghost use Rattle.ulfm_model.specs.declared.call.Request.TheVariants.{Agree as AgreeOpen};
+
+use crate::groups::has_rank;
+use crate::held::{self, HeldComm, place_of};
+use std::alloc::{AllocError, Allocator};
+use std::marker::{Model, PhantomData};
+use ulfm_laws::meld::Packed;
+use ulfm_model::call::Request;
+use ulfm_model::limits::Limits;
+use ulfm_steps::Look;
+use ulfm_words::Words;
+
+/// A rank of a world. Contracts see it as its record.
+#[derive(Drop)]
+pub struct Rank<P: Packed, A: Allocator> {
+    number: u16,
+    limits: Limits,
+    held: Vec<HeldComm<A>, A>,
+    // All failures that it has seen, in order. It has room for all ranks.
+    seen: Vec<u16, A>,
+    refused: bool,
+    flags: PhantomData<P>,
+}
+
+impl<P: Packed, A: Allocator> Model for Rank<P, A> {
+    ghost use Rattle.ulfm_model.specs.Records.{Record};
+    ghost use Rattle.std.specs.Prelude.{vec_capacity};
+    ghost use Rattle.ulfm_comm.specs.Ranks.{HasRoom};
+
+    ghost Value = { Record };
+
+    ghost view = { λ a. record { number = a.number; limits = a.limits; held = a.held.items; seen = a.seen.items; refused = a.refused } };
+
+    ghost invariant = { λ a. HasRoom a.limits (vec_capacity a.seen) a.held.items };
+}
+
+impl<P: Packed, A: Allocator + Copy> Rank<P, A> {
+    // A new rank of a world, whose ranks these are.
+    pub(crate) fn new(
+        alloc: A,
+        limits: Limits,
+        number: u16,
+        ranks: &[u16],
+    ) -> Result<Rank<P, A>, AllocError>
+        requires may_open { MayOpen limits }
+        requires ranks { ranks.now ≡ first_ranks limits.ranks }
+        ensures { IfOk result (λ r. r ≡ new_record limits number) }
+    {
+        let group = ranks.to_vec(alloc)?;
+        let seen = Vec::with_capacity(alloc, limits.ranks as usize)?;
+        let mut held = Vec::with_capacity(alloc, 1)?;
+        held.push(HeldComm {
+            comm: 0,
+            group,
+            context: 0,
+            acked: 0,
+            next_agreement: 0,
+            next_barrier: 0,
+            request: None,
+        })?;
+        Ok(Rank {
+            number,
+            limits,
+            held,
+            seen,
+            refused: false,
+            flags: PhantomData,
+        })
+    }
+}
+
+impl<P: Packed, A: Allocator> Rank<P, A> {
+    /// Its number, from 0.
+    pub fn number(&self) -> u16
+        ensures { result ≡ self.now.number }
+    {
+        self.number
+    }
+
+    /// All failures that it has seen, in order. It is no step.
+    pub fn failures(&self) -> &[u16]
+        ensures { result.now ≡ self.now.seen }
+    {
+        &self.seen
+    }
+
+    /// The communicator of this number, if the rank holds it.
+    pub(crate) fn held(&self, comm: u16) -> Option<&HeldComm<A>>
+        ensures held { MatchOption result (held_at self.now comm ≡ None) (λ x. held_at self.now comm ≡ Some x.now) }
+        ensures agree { IfSome result (λ x. IsAgree x.now.request) }
+    {
+        match place_of(&self.held, comm) {
+            Some(i) => Some(&self.held[i]),
+            None => None,
+        }
+    }
+
+    /// The members of a communicator that it holds, in order. It is no step.
+    pub fn members(&self, comm: u16) -> Option<&[u16]>
+        ensures { MatchOption result (held_at self.now comm ≡ None) (λ group. (x : Held) × (held_at self.now comm ≡ Some x) × (group.now ≡ x.group)) }
+    {
+        let x = self.held(comm)?;
+        Some(&x.group)
+    }
+
+    /// The context id of a communicator that it holds, 0 to 31. It is no step.
+    pub fn context(&self, comm: u16) -> Option<u8>
+        ensures { MatchOption result (held_at self.now comm ≡ None) (λ id. (x : Held) × (held_at self.now comm ≡ Some x) × (id ≡ x.context)) }
+    {
+        let x = self.held(comm)?;
+        Some(x.context)
+    }
+
+    // Whether it was refused for good.
+    pub(crate) fn is_refused(&self) -> bool
+        ensures { result ≡ self.now.refused }
+    {
+        self.refused
+    }
+
+    // Looks at the list of failures: whether the rank is declared.
+    pub(crate) fn look<W: Words<P, A>>(&mut self, words: &W, pass: &mut W::Pass) -> bool
+        requires of { IsOf P.meld (W.name words.now) (W.sight pass.old) }
+        requires limits { self.old.limits ≡ (W.name words.now).limits }
+        ensures goes { Goes P.meld W.alone (W.name words.now) (W.name words.now).limits.ranks (W.sight pass.old) (W.sight pass.new) }
+        ensures seen { self.new ≡ record self.old { seen = failures (W.sight pass.new).seen } }
+        ensures found { result ≡ has (failures (W.sight pass.new).seen) self.old.number }
+    {
+        let mut look = Look::new(&mut self.seen);
+        look.finish(words, pass, &mut self.seen);
+        has_rank(&self.seen, self.number)
+    }
+
+    // From now on it is refused.
+    pub(crate) fn refuse(&mut self)
+        ensures { self.new ≡ record self.old { refused = true } }
+    {
+        self.refused = true;
+    }
+
+    // So many failures of a communicator are acknowledged now.
+    pub(crate) fn acknowledge(&mut self, comm: u16, count: u16)
+        ensures { self.new ≡ with_held self.old comm (λ y. record y { acked = count }) }
+    {
+        held::acknowledge(&mut self.held, comm, count);
+    }
+
+    // An agree is open on a communicator, and its round is used up.
+    pub(crate) fn open_agree(&mut self, comm: u16)
+        requires { IfSome (held_at self.old comm) (λ x. x.next_agreement + 1 < 2 ^ 16) }
+        ensures { self.new ≡ with_held self.old comm (λ y. opened y (Some (AgreeOpen y.next_agreement))) }
+    {
+        held::open_agree(&mut self.held, comm);
+    }
+
+    // No request is open on a communicator.
+    pub(crate) fn close(&mut self, comm: u16)
+        ensures { self.new ≡ closed self.old comm }
+    {
+        held::close(&mut self.held, comm);
+    }
+}

@@ -1,0 +1,322 @@
+// Worked scripts over plain words, memory that is refused, and others' events that come in between.
+ghost use Rattle.ulfm_comm.specs.Jobs.{IsAnswered};
+ghost use Rattle.ulfm_model.specs.Records.{Fits};
+ghost use Rattle.ulfm_words.specs.Steps.{IsOf};
+
+use crate::{Job, Rank, World};
+use linked_list_allocator::LocalHeap;
+use std::alloc::{Allocator, Global};
+use std::process::Abort;
+use std::test::Fail;
+use ulfm_laws::acked::Acked;
+use ulfm_laws::flag_and::FlagAnd;
+use ulfm_laws::known::Known;
+use ulfm_laws::meld::Packed;
+use ulfm_model::call::Call;
+use ulfm_model::contribution::{Contribution, Offer};
+use ulfm_model::event::{Caller, Entry, Event};
+use ulfm_model::limits::Limits;
+use ulfm_model::refusal::Refusal;
+use ulfm_model::reply::Reply;
+use ulfm_steps::Intruder;
+use ulfm_words::{PlainWords, Words};
+
+/// A call on the world's own communicator, but for a get on any.
+#[derive(Clone, Copy, Debug)]
+enum Asked {
+    Fail(u16),
+    Get(u16, u16),
+    Ack(u16, u16),
+    Agree(u16, u32),
+    Poll(u16),
+}
+
+fn call(asked: Asked) -> Call<FlagAnd>
+    ensures { IsAnswered result }
+{
+    let comm = 0;
+    match asked {
+        Asked::Fail(rank) => Call::Fail { rank },
+        Asked::Get(rank, comm) => Call::GetFailed { rank, comm },
+        Asked::Ack(rank, count) => Call::Ack { rank, comm, count },
+        Asked::Agree(rank, bits) => Call::Agree {
+            rank,
+            comm,
+            value: FlagAnd { bits },
+        },
+        Asked::Poll(rank) => Call::Poll { rank, comm },
+    }
+}
+
+fn agreed(bits: u32, failed: u16, raised: bool) -> Reply<FlagAnd> {
+    let value = FlagAnd { bits };
+    Reply::Agreed {
+        value,
+        failed,
+        raised,
+    }
+}
+
+/// A job over plain words that has answered a script as it should.
+fn run(
+    rt: &impl Abort,
+    alloc: Global,
+    ranks: u16,
+    rounds: u16,
+    script: &[(Asked, Reply<FlagAnd>)],
+) -> Result<Job<PlainWords<FlagAnd>, FlagAnd, Global>, Fail> {
+    let limits = Limits {
+        ranks,
+        comms: 1,
+        rounds,
+    };
+    let mut job = Job::open(alloc, PlainWords::open(limits)?)?;
+    for line in script {
+        let reply = job.apply(&call(line.0))?;
+        assert!(rt; reply == line.1, "{:?} is answered {reply:?}", line.0);
+    }
+    Ok(job)
+}
+
+#[test]
+fn one_rank(rt: HostRuntime) -> Result<(), Fail> {
+    let script = [
+        (Asked::Agree(0, 0xff), Reply::Started),
+        (Asked::Poll(0), agreed(0xff, 0, false)),
+    ];
+    run(&rt, rt.alloc(), 1, 2, &script)?;
+    Ok(())
+}
+
+#[test]
+fn three_flags(rt: HostRuntime) -> Result<(), Fail> {
+    let script = [
+        (Asked::Agree(0, 0xf), Reply::Started),
+        (Asked::Agree(1, 0x3c), Reply::Started),
+        (Asked::Agree(2, 0xffff_ffff), Reply::Started),
+        (Asked::Poll(0), agreed(0xc, 0, false)),
+        (Asked::Poll(1), agreed(0xc, 0, false)),
+        (Asked::Poll(2), agreed(0xc, 0, false)),
+    ];
+    run(&rt, rt.alloc(), 3, 4, &script)?;
+    Ok(())
+}
+
+#[test]
+fn pending_then_decided(rt: HostRuntime) -> Result<(), Fail> {
+    let script = [
+        (Asked::Agree(0, 0xf), Reply::Started),
+        (Asked::Agree(1, 0x3c), Reply::Started),
+        (Asked::Poll(0), Reply::Pending),
+        (Asked::Agree(2, 0x4), Reply::Started),
+        (Asked::Poll(0), agreed(0x4, 0, false)),
+    ];
+    run(&rt, rt.alloc(), 3, 4, &script)?;
+    Ok(())
+}
+
+#[test]
+fn failed_rank_raises(rt: HostRuntime) -> Result<(), Fail> {
+    let script = [
+        (Asked::Fail(2), Reply::Declared),
+        (Asked::Agree(0, 0xf), Reply::Started),
+        (Asked::Agree(1, 0x3c), Reply::Started),
+        (Asked::Poll(0), agreed(0xc, 1, true)),
+        (Asked::Poll(1), agreed(0xc, 1, true)),
+    ];
+    run(&rt, rt.alloc(), 3, 4, &script)?;
+    Ok(())
+}
+
+#[test]
+fn acknowledged_by_all(rt: HostRuntime) -> Result<(), Fail> {
+    let script = [
+        (Asked::Fail(2), Reply::Declared),
+        (Asked::Ack(0, 1), Reply::Acked { count: 1 }),
+        (Asked::Ack(1, 1), Reply::Acked { count: 1 }),
+        (Asked::Agree(0, 0xf), Reply::Started),
+        (Asked::Agree(1, 0x3c), Reply::Started),
+        (Asked::Poll(0), agreed(0xc, 1, false)),
+        (Asked::Poll(1), agreed(0xc, 1, false)),
+    ];
+    run(&rt, rt.alloc(), 3, 4, &script)?;
+    Ok(())
+}
+
+#[test]
+fn acknowledged_by_one(rt: HostRuntime) -> Result<(), Fail> {
+    let script = [
+        (Asked::Fail(2), Reply::Declared),
+        (Asked::Ack(0, 1), Reply::Acked { count: 1 }),
+        (Asked::Agree(0, 0xf), Reply::Started),
+        (Asked::Agree(1, 0x3c), Reply::Started),
+        (Asked::Poll(0), agreed(0xc, 1, true)),
+        (Asked::Poll(1), agreed(0xc, 1, true)),
+    ];
+    run(&rt, rt.alloc(), 3, 4, &script)?;
+    Ok(())
+}
+
+#[test]
+fn fails_after_contributing(rt: HostRuntime) -> Result<(), Fail> {
+    let script = [
+        (Asked::Agree(0, 0xf), Reply::Started),
+        (Asked::Agree(1, 0x3c), Reply::Started),
+        (Asked::Agree(2, 0x4), Reply::Started),
+        (Asked::Fail(2), Reply::Declared),
+        (Asked::Poll(0), agreed(0x4, 0, false)),
+        (Asked::Poll(1), agreed(0x4, 0, false)),
+        (Asked::Poll(2), Reply::Refused(Refusal::SelfFailed)),
+    ];
+    run(&rt, rt.alloc(), 3, 4, &script)?;
+    Ok(())
+}
+
+#[test]
+fn known_to_the_others(rt: HostRuntime) -> Result<(), Fail> {
+    let script = [
+        (Asked::Agree(2, 0x5), Reply::Started),
+        (Asked::Fail(2), Reply::Declared),
+        (Asked::Agree(0, 0xf), Reply::Started),
+        (Asked::Agree(1, 0x7), Reply::Started),
+        (Asked::Poll(0), agreed(0x5, 1, true)),
+        (Asked::Poll(1), agreed(0x5, 1, true)),
+    ];
+    run(&rt, rt.alloc(), 3, 4, &script)?;
+    Ok(())
+}
+
+#[test]
+fn acknowledgements_count(rt: HostRuntime) -> Result<(), Fail> {
+    let script = [
+        (Asked::Get(0, 0), Reply::FailedGroup { count: 0 }),
+        (Asked::Fail(1), Reply::Declared),
+        (Asked::Fail(2), Reply::Declared),
+        (Asked::Ack(0, 0), Reply::Acked { count: 0 }),
+        (Asked::Ack(0, 1), Reply::Acked { count: 1 }),
+        (Asked::Ack(0, 9), Reply::Acked { count: 2 }),
+        (Asked::Ack(0, 1), Reply::Acked { count: 2 }),
+        (Asked::Fail(1), Reply::AlreadyFailed),
+        (Asked::Fail(7), Reply::Refused(Refusal::NoSuchRank)),
+        (Asked::Get(0, 0), Reply::FailedGroup { count: 2 }),
+    ];
+    let job = run(&rt, rt.alloc(), 3, 2, &script)?;
+    let own = job.rank(0).expect(&rt, "rank 0");
+    assert_eq!(rt; own.failures(), [1, 2].as_slice());
+    Ok(())
+}
+
+#[test]
+fn acknowledged_too_late(rt: HostRuntime) -> Result<(), Fail> {
+    let script = [
+        (Asked::Fail(1), Reply::Declared),
+        (Asked::Agree(0, 0x1), Reply::Started),
+        (Asked::Ack(0, 1), Reply::Acked { count: 1 }),
+        (Asked::Poll(0), agreed(0x1, 1, true)),
+    ];
+    run(&rt, rt.alloc(), 2, 4, &script)?;
+    Ok(())
+}
+
+#[test]
+fn first_refusal_is_answered(rt: HostRuntime) -> Result<(), Fail> {
+    let script = [
+        (Asked::Get(0, 1), Reply::Refused(Refusal::NoSuchComm)),
+        (Asked::Poll(0), Reply::Refused(Refusal::Idle)),
+        (Asked::Agree(0, 0x1), Reply::Started),
+        (Asked::Agree(0, 0x1), Reply::Refused(Refusal::Busy)),
+        (Asked::Poll(0), agreed(0x1, 0, false)),
+        (Asked::Agree(0, 0x1), Reply::Refused(Refusal::RoundsUsedUp)),
+        (Asked::Poll(1), Reply::Refused(Refusal::NoSuchRank)),
+        (Asked::Fail(0), Reply::Declared),
+        (Asked::Get(0, 1), Reply::Refused(Refusal::SelfFailed)),
+    ];
+    run(&rt, rt.alloc(), 1, 2, &script)?;
+    Ok(())
+}
+
+const THREE: Limits = Limits {
+    ranks: 3,
+    comms: 1,
+    rounds: 4,
+};
+
+// Declares a rank, while another's record fits.
+fn declare<P: Packed, A: Allocator + Copy, W: Words<P, A>>(
+    world: &World<W, P, A>,
+    pass: &mut W::Pass,
+    own: &Rank<P, A>,
+    rank: u16,
+) -> Result<bool, Refusal>
+    requires of { IsOf P.meld (W.name world.now.words) (W.sight pass.old) }
+    requires fits { Fits P.meld (W.name world.now.words).limits (W.sight pass.old).seen own.now }
+    ensures of { IsOf P.meld (W.name world.now.words) (W.sight pass.new) }
+    ensures fits { Fits P.meld (W.name world.now.words).limits (W.sight pass.new).seen own.now }
+{
+    let _ = own;
+    world.fail(pass, rank)
+}
+
+#[test]
+fn refused_memory_leaves_the_record(rt: HostRuntime) -> Result<(), Fail> {
+    let words = PlainWords::<FlagAnd>::open(THREE)?;
+    let (world, mut ranks) = World::open(rt.alloc(), words)?;
+    let mut pass = world.pass(rt.alloc())?;
+    let heap = LocalHeap::new(rt.alloc(), 16)?;
+    let all_of_it = Vec::<u8, &LocalHeap>::with_capacity(&heap, 16)?;
+    let mut found = Vec::new(&heap);
+    assert!(rt; ranks.len() == 3);
+    let own = &mut ranks[0];
+    assert!(rt; declare(&world, &mut pass, own, 1) == Ok(true));
+    let refused = own.get_failed(&world, &mut pass, 0, &mut found);
+    assert!(rt; refused == Err(Refusal::OutOfMemory));
+    assert!(rt; found.is_empty());
+    assert_eq!(rt; own.failures(), [1].as_slice());
+    assert!(rt; own.members(0) == Some([0, 1, 2].as_slice()));
+    assert!(rt; own.context(0) == Some(0));
+    drop(all_of_it);
+    Ok(())
+}
+
+#[test]
+fn lost_fail_is_not_claimed(rt: HostRuntime) -> Result<(), Fail> {
+    let plain = PlainWords::<FlagAnd>::open(THREE)?;
+    let guest = Entry {
+        by: Caller::Outside,
+        event: Event::Fail { rank: 1 },
+    };
+    let (world, _) = World::open(rt.alloc(), Intruder { plain, guest })?;
+    let mut pass = world.pass(rt.alloc())?;
+    // Just before the exchange, which is the second step.
+    pass.wait(1);
+    assert!(rt; world.fail(&mut pass, 1) == Ok(false));
+    Ok(())
+}
+
+#[test]
+fn own_place_is_taken(rt: HostRuntime) -> Result<(), Fail> {
+    let plain = PlainWords::<FlagAnd>::open(THREE)?;
+    let given = Contribution {
+        offer: Offer::Flag(FlagAnd { bits: 0x1 }),
+        known: Known { count: 0 },
+        acked: Acked { count: 0 },
+    };
+    let guest = Entry {
+        by: Caller::Rank(0),
+        event: Event::Settle {
+            comm: 0,
+            round: 0,
+            rank: 0,
+            given,
+        },
+    };
+    let (world, mut ranks) = World::open(rt.alloc(), Intruder { plain, guest })?;
+    let mut pass = world.pass(rt.alloc())?;
+    assert!(rt; ranks.len() == 3);
+    let own = &mut ranks[0];
+    // Just before the exchange: the look makes one load.
+    pass.wait(1);
+    let refused = own.iagree(&world, &mut pass, 0, FlagAnd { bits: 0x3 });
+    assert!(rt; refused == Err(Refusal::Twice));
+    Ok(())
+}

@@ -1,0 +1,101 @@
+ghost use Rattle.std.specs.Prelude.{◌≡◌, [], map, MatchResult, IfOk};
+ghost use Rattle.std.specs.List.{AllByRecursion};
+ghost use Rattle.ulfm_model.specs.History.{first_ranks as all_below};
+ghost use Rattle.ulfm_model.specs.Words.{MayOpen};
+ghost use Rattle.ulfm_model.specs.Records.{Fits, new_record};
+ghost use Rattle.ulfm_model.specs.declared.limits.OpenFault.TheVariants.{OutOfMemory};
+ghost use Rattle.ulfm_words.specs.Steps.{IsOf, IsNew, Tells, Learns};
+
+use crate::rank::Rank;
+use std::alloc::{AllocError, Allocator};
+use std::marker::PhantomData;
+use ulfm_laws::meld::Packed;
+use ulfm_model::limits::{Limits, OpenFault};
+use ulfm_words::Words;
+
+/// A world over words. Its ranks are given out once, when it is opened.
+#[derive(Drop)]
+pub struct World<W, P, A> {
+    /// The words. Each atomic step of a call is one of theirs.
+    pub words: W,
+    flags: PhantomData<P>,
+    memory: PhantomData<A>,
+}
+
+impl<W, P: Packed, A: Allocator + Copy> World<W, P, A>
+where
+    W: Words<P, A>,
+{
+    /// A world over new words, and one rank of each number, in order. Memory is the only thing that it may lack.
+    pub fn open(alloc: A, words: W) -> Result<(World<W, P, A>, Vec<Rank<P, A>, A>), OpenFault>
+    where
+        W: Drop,
+        ensures world { IfOk result (λ o. o.0.words ≡ words) }
+        ensures ranks { MatchResult result (λ o. o.1.items ≡ map (new_record (W.name words).limits) (all_below (W.name words).limits.ranks)) (λ fault. fault ≡ OutOfMemory) }
+        ensures fits { IfOk result (λ o. AllByRecursion (Fits P.meld (W.name words).limits []) o.1.items) }
+    {
+        let limits = words.limits();
+        match ranks_of(alloc, limits) {
+            Ok(ranks) => Ok((
+                World {
+                    words,
+                    flags: PhantomData,
+                    memory: PhantomData,
+                },
+                ranks,
+            )),
+            Err(_) => Err(OpenFault::OutOfMemory),
+        }
+    }
+
+    /// A pass that has seen nothing.
+    pub fn pass(&self, alloc: A) -> Result<W::Pass, AllocError>
+        ensures { IfOk result (λ p. IsNew P.meld (W.name self.now.words) (W.sight p)) }
+    {
+        self.words.pass(alloc)
+    }
+
+    /// What a pass has seen, to be handed to another. It is no step.
+    pub fn told(&self, pass: &W::Pass) -> W::Told
+        requires of { IsOf P.meld (W.name self.now.words) (W.sight pass.now) }
+        ensures { Tells W.tells_all (W.name self.now.words) (W.sight pass.now) (W.heard result) }
+    {
+        self.words.told(pass)
+    }
+
+    /// From now on the pass has seen what was told, too. It is no step.
+    pub fn learn(&self, pass: &mut W::Pass, told: &W::Told)
+        requires of { IsOf P.meld (W.name self.now.words) (W.sight pass.old) }
+        requires told { (W.heard told.now).name ≡ W.name self.now.words }
+        ensures { Learns P.meld W.alone (W.name self.now.words) (W.heard told.now) (W.sight pass.old) (W.sight pass.new) }
+    {
+        self.words.learn(pass, told)
+    }
+}
+
+// One rank of each number, in order.
+fn ranks_of<P: Packed, A: Allocator + Copy>(
+    alloc: A,
+    limits: Limits,
+) -> Result<Vec<Rank<P, A>, A>, AllocError>
+    requires { MayOpen limits }
+    ensures { IfOk result (λ ranks. ranks.items ≡ map (new_record limits) (all_below limits.ranks)) }
+{
+    let group = first_ranks(alloc, limits.ranks)?;
+    let mut ranks = Vec::with_capacity(alloc, limits.ranks as usize)?;
+    for number in 0..limits.ranks {
+        ranks.push(Rank::new(alloc, limits, number, &group)?)?;
+    }
+    Ok(ranks)
+}
+
+// All ranks below a number, in order.
+fn first_ranks<A: Allocator + Copy>(alloc: A, ranks: u16) -> Result<Vec<u16, A>, AllocError>
+    ensures { IfOk result (λ group. group.items ≡ all_below ranks) }
+{
+    let mut group = Vec::with_capacity(alloc, ranks as usize)?;
+    for rank in 0..ranks {
+        group.push(rank)?;
+    }
+    Ok(group)
+}
