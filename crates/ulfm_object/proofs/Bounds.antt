@@ -48,12 +48,6 @@ place_within p n (x ∷ xs) i e =
     elim (p x) as (λ b. cond b (Some n) (position_from p (n + 1) xs) ≡ Some i → i < n + length (x ∷ xs))
     [ true ↦ λ e. (let same : n ≡ i = cc e in omega (arith, same)) | false ↦ λ e. omega (arith, place_within p (n + 1) xs i e) ] e
 
-pub length-filter_map-le : {X Y : Type 0} (f : X → Option Y) (xs : List X) → length (filter_map f xs) ≤ length xs
-length-filter_map-le f [] = omega arith
-length-filter_map-le f (x ∷ xs) =
-    let rest = length-filter_map-le f xs in
-    elim (f x) as (λ o. length (cons_option o (filter_map f xs)) ≤ length (x ∷ xs)) [ None ↦ omega (arith, rest) | Some y ↦ omega (arith, rest) ]
-
 -- one more of the numbered elements, where they are counted from 1
 pub numbered_more : {Y : Type 0} (f : ℕ × ℕ → Option Y) (xs : List ℕ) (i : ℕ) → i < length xs
     → filter_map f (take (i + 1) (enumerate_from 1 xs)) ≡ filter_map f (take i (enumerate_from 1 xs)) ++ cons_option (f (i + 1, get_or xs i 0)) []

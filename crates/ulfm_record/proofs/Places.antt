@@ -1,6 +1,6 @@
 -- The first element that passes a test, found by its place in a vector.
-use Rattle.std.proofs.Common.{◌≡◌, ℕ, zero, suc, ◌<◌, ◌≤◌, Bool, true, false, cond, ◌==◌, ◌||◌, List, [], ◌∷◌, ◌++◌, map, filter, length, nat_lt, Some, None, slice_get, get_or, set, refl, ap, sym, ◌∙◌, arith}
-use Rattle.std.specs.List.{find, list_any, position, position_or_len}
+use Rattle.std.proofs.Common.{◌≡◌, ℕ, zero, suc, ◌<◌, ◌≤◌, Bool, true, false, cond, ◌==◌, List, [], ◌∷◌, ◌++◌, map, filter, length, nat_lt, Some, None, slice_get, get_or, set, refl, ap, sym, ◌∙◌, arith}
+use Rattle.std.specs.List.{find, position, position_or_len}
 use Rattle.std.proofs.lemmas.List.{get_or_append_left, map-append, set-append_left}
 use Rattle.std.proofs.lemmas.List.Quantifiers.{position-Some}
 use Rattle.std.proofs.lemmas.List.Folds.{find_at}
@@ -35,10 +35,6 @@ map_filter p v (x ∷ xs) =
     let rest = map_filter p v xs in
     elim (p (v x)) as (λ b. map v (cond b (x ∷ filter (λ x. p (v x)) xs) (filter (λ x. p (v x)) xs)) ≡ cond b (v x ∷ filter p (map v xs)) (filter p (map v xs)))
     [ true ↦ ap (λ ys. v x ∷ ys) rest | false ↦ rest ]
-
-pub any_map : {X Y : Type 0} (p : Y → Bool) (v : X → Y) (xs : List X) → list_any p (map v xs) ≡ list_any (λ x. p (v x)) xs
-any_map p v [] = refl
-any_map p v (x ∷ xs) = ap (λ b. p (v x) || b) (any_map p v xs)
 
 module _ {X Y : Type 0} (v : X → Y) (p : Y → Bool) where
   found_at : (xs : List X) (i : ℕ) (d : X) → i < length xs → p (v (get_or xs i d)) ≡ true → ((k : ℕ) → k < i → p (v (get_or xs k d)) ≡ false) → find p (map v xs) ≡ Some (v (get_or xs i d))
