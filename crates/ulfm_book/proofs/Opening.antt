@@ -1,0 +1,36 @@
+-- The words as they are opened.
+use Rattle.std.proofs.Common.{◌≡◌, ℕ, zero, suc, ◌<◌, true, false, List, [], ◌∷◌, get_or, replicate, slice_get, Some, refl, ap, sym, ◌∙◌, arith}
+use Rattle.std.proofs.lemmas.List.{get_or-replicate, length-replicate}
+use Rattle.logbook.specs.Pages.{Book, Cell, Named}
+use Rattle.ulfm_model.specs.declared.{limits.Limits.{Limits}, place.Place.{Place}, place.Place.TheVariants.{List as ListAt, Comm as CommAt, Revoked as RevokedAt, Slot as SlotAt, Arrival as ArrivalAt}}
+use Rattle.ulfm_model.specs.Words.{size_of, word_at}
+use Rattle.ulfm_words.specs.Places.{key_in}
+use Rattle.ulfm_words.proofs.Keys.{key_lt}
+use Rattle.ulfm_book.specs.{Logs.{log_of}, Rules.{IsKept, word_named}}
+
+-- at first each word is 0
+zero_at : {P : Type 0} (pack : P → ℕ) (p : Place) → word_at pack [] p ≡ 0
+zero_at pack (ListAt i) = refl
+zero_at pack (CommAt zero) = refl
+zero_at pack (CommAt (suc j)) = refl
+zero_at pack (RevokedAt c) = refl
+zero_at pack (SlotAt c k r) = refl
+zero_at pack (ArrivalAt c k r) = refl
+
+-- zeros are the words of the log that has no event
+pub opened_kept : {P : Type 0} (meld : P → P → P) (pack : P → ℕ) (limits : Limits) (size : ℕ) → size ≡ size_of limits → IsKept meld pack (replicate size (0, true)) (log_of limits [])
+opened_kept meld pack limits size is = record {
+  is_log = record { log_is = refl; legal = tt };
+  size = length-replicate size (0, true) ∙ is;
+  words = λ p within.
+      get_or-replicate size (key_in limits p) (0, true) (0, false) (omega (arith, is, key_lt limits p within)) ∙ ap (λ n. let c : Cell = (n, true) in c) (sym (zero_at pack p));
+}
+
+-- the word under a key of the row is the book's
+pub word_in : (words : List Named) (book : Book) (size key : ℕ) (word : Named) → ((k : ℕ) → k < size → slice_get words k ≡ Some (word_named book k)) → key < size → get_or words key word ≡ word_named book key
+word_in words book size key word all lt = got words key word (word_named book key) (all key lt)
+  where
+    got : {X : Type 0} (xs : List X) (k : ℕ) (d x : X) → slice_get xs k ≡ Some x → get_or xs k d ≡ x
+    got [] k d x e = absurd cc
+    got (y ∷ xs) zero d x e = cc
+    got (y ∷ xs) (suc k) d x e = got xs k d x e

@@ -1,0 +1,131 @@
+-- What each step tells a pass.
+use Rattle.std.proofs.Common.{◌≡◌, ◌≢◌, ℕ, ◌+◌, ◌==◌, MatchBool, Bool, true, false, List, [], ◌∷◌, ◌++◌, length, Option, Some, Ok, Err, refl, ap, ap₂, sym, ◌∙◌, subst, arith, length-append}
+use Rattle.std.proofs.lemmas.Bool.{eq-eqb, ne_eqb}
+use mathlib.Core.List.{IsPrefix}
+use Rattle.logbook.specs.Pages.{Book}
+use Rattle.ulfm_model.specs.declared.{event.Entry.{Entry}, place.Place.{Place}}
+use Rattle.ulfm_model.specs.{History.{History, IsLegal}, Runs.{Did}, Words.{MayOpen, word_at}}
+use Rattle.ulfm_words.specs.declared.{step.Last.{Last}, step.Step.{Step}}
+use Rattle.ulfm_words.specs.{Entries.{entry_of}, Pass.{last_of}, Places.{IsWithin, key_in}, Steps.{Heard, IsOf, Learns, Loads, Sets, Sight}}
+use Rattle.ulfm_words.proofs.Telling.{last_of-push}
+use Rattle.ulfm_book.specs.declared.{line.Line.{Line}, line.Line.TheVariants.{Made}}
+use Rattle.ulfm_book.specs.{Logs.{IsLog, history_in, limits_in}, Rules.{IsFound, IsLast, Sees, heard_of, name_of, sight_of}}
+use Rattle.ulfm_book.proofs.Growing.{history_in-append, sees}
+
+-- others' events may have come
+others : {P : Type 0} (old new : History P) → IsPrefix old new → Did false [] old new
+others old new begins = record { since = begins.0; goes_on = begins.1; stands = tt; quiet = λ no. absurd cc }
+
+module _ {P : Type 0} (meld : P → P → P) (pack : P → ℕ) where
+  -- a step, as a pass keeps it
+  abbrev made : Place → ℕ → Bool → Last × Bool
+  made p found load = (record { place = p; word = found; load = load }, load)
+
+  -- what was found under a place's key is the place's word
+  found_at : (old new : List (Line P)) (p : Place) (k found : ℕ) → Sees meld old new → IsWithin (limits_in old) p → k ≡ key_in (limits_in old) p → IsFound pack k found new → word_at pack (history_in new) p ≡ found
+  found_at old new p k found s within key is = is p (subst (λ n. IsWithin n p) (sym s.limits) within) (key ∙ ap (λ n. key_in n p) (sym s.limits))
+
+  module _ (b b' : Book) (old new : List (Line P)) (trail trail' : List (Last × Bool)) where
+    -- the pass is still of these words
+    still : b' ≡ b → MayOpen (limits_in old) → Sees meld old new → IsOf meld (name_of b (limits_in old)) (sight_of b' new trail')
+    still same may s = record {
+      name_is = ap₂ (λ book n. name_of book n) same s.limits;
+      may_open = may;
+      legal = subst (λ n. IsLegal meld n (history_in new)) s.limits s.is_log.legal;
+    }
+
+    one_more : (step : Last × Bool) → trail' ≡ trail ++ step ∷ [] → length trail' ≡ length trail + 1
+    one_more step is = ap length is ∙ length-append trail (step ∷ [])
+
+    last_is : (step : Last × Bool) → trail' ≡ trail ++ step ∷ [] → last_of trail' ≡ Some step.0
+    last_is step is = ap last_of is ∙ last_of-push trail step
+
+    abbrev LoadTells : Place → ℕ → ℕ → Sight P → Type 0
+    LoadTells p k found pass =
+        IsOf meld pass.name pass → IsWithin pass.name.limits p → k ≡ key_in pass.name.limits p → b' ≡ b → Sees meld old new × IsFound pack k found new → trail' ≡ trail ++ made p found true ∷ []
+        → Loads meld pack false pass.name p pass (sight_of b' new trail')
+
+    -- a load
+    pub load_tells : (p : Place) (k found : ℕ) (pass : Sight P) → sight_of b old trail ≡ pass → LoadTells p k found pass
+    load_tells p k found pass e =
+        subst (LoadTells p k found) e (λ of within key same looks is.
+        let s = looks.0 in
+        let word : found ≡ word_at pack (history_in new) p = sym (found_at old new p k found s within key looks.1) in
+        record {
+          of = still same of.may_open s;
+          did = others (history_in old) (history_in new) s.history;
+          steps = one_more (made p found true) is;
+          last = last_is (made p found true) is ∙ ap (λ n. Some (made p n true).0) word;
+        })
+
+    -- what an exchange of this step sees and finds, where it asked for this line
+    abbrev Finds : Step → ℕ → ℕ → Line P → Type 0
+    Finds s k found ask = Sees meld old new × MatchBool (found == 0) (IsLast meld ask old new × IsFound pack k s.word new) (IsFound pack k found new)
+
+    abbrev WonTells : (ℕ → Option P) → Step → ℕ → ℕ → Line P → Entry P → Sight P → Type 0
+    WonTells unpack s k found ask entry pass =
+        IsOf meld pass.name pass → IsWithin pass.name.limits s.place → k ≡ key_in pass.name.limits s.place → b' ≡ b → Finds s k found ask → trail' ≡ trail ++ made s.place found false ∷ []
+        → entry_of unpack s ≡ Some entry → ask ≡ Made entry → found ≡ 0 → Sets meld pack unpack false pass.name s pass (Ok tt) (sight_of b' new trail')
+
+    -- an exchange that was won
+    pub won_tells : (unpack : ℕ → Option P) (s : Step) (k found : ℕ) (ask : Line P) (entry : Entry P) (pass : Sight P) → sight_of b old trail ≡ pass → WonTells unpack s k found ask entry pass
+    won_tells unpack s k found ask entry pass e =
+        subst (WonTells unpack s k found ask entry) e (λ of within key same finds is is_entry asks zero.
+        let won : IsLast meld ask old new × IsFound pack k s.word new = rw (eq-eqb found 0 zero) at finds.1 in
+        let stamped : trail' ≡ trail ++ made s.place 0 false ∷ [] = is ∙ ap (λ n. trail ++ made s.place n false ∷ []) zero in
+        record {
+          of = still same of.may_open finds.0;
+          outcome = record {
+            entry = entry;
+            is_entry = is_entry;
+            added = record {
+              before = history_in won.0.before;
+              did = others (history_in old) (history_in won.0.before) won.0.sees.history;
+              is = ap history_in won.0.is ∙ (ap (λ (line : Line P). history_in (won.0.before ++ line ∷ [])) asks ∙ history_in-append won.0.before (Made entry ∷ []));
+            };
+            stands = found_at old new s.place k s.word finds.0 within key won.1;
+          };
+          steps = one_more (made s.place 0 false) stamped;
+          last = last_is (made s.place 0 false) stamped;
+        })
+
+    abbrev LostTells : (ℕ → Option P) → Step → ℕ → ℕ → Line P → Sight P → Type 0
+    LostTells unpack s k found ask pass =
+        IsOf meld pass.name pass → IsWithin pass.name.limits s.place → k ≡ key_in pass.name.limits s.place → b' ≡ b → Finds s k found ask → trail' ≡ trail ++ made s.place found false ∷ []
+        → found ≢ 0 → Sets meld pack unpack false pass.name s pass (Err found) (sight_of b' new trail')
+
+    -- an exchange that was lost
+    pub lost_tells : (unpack : ℕ → Option P) (s : Step) (k found : ℕ) (ask : Line P) (pass : Sight P) → sight_of b old trail ≡ pass → LostTells unpack s k found ask pass
+    lost_tells unpack s k found ask pass e =
+        subst (LostTells unpack s k found ask) e (λ of within key same finds is some.
+        let stands : IsFound pack k found new = rw (ne_eqb found 0 some) at finds.1 in
+        record {
+          of = still same of.may_open finds.0;
+          outcome = record {
+            some = omega (arith, some);
+            stands = found_at old new s.place k found finds.0 within key stands;
+            did = others (history_in old) (history_in new) finds.0.history;
+          };
+          steps = one_more (made s.place found false) is;
+          last = last_is (made s.place found false) is;
+        })
+
+  module _ (b b' t : Book) (old told new : List (Line P)) (trail : List (Last × Bool)) where
+    abbrev LearnTells : Heard P → Sight P → Type 0
+    LearnTells heard pass = IsOf meld pass.name pass → b' ≡ b → IsLog meld old → IsPrefix old new → IsPrefix told new → IsLog meld new → Learns meld false pass.name heard pass (sight_of b' new trail)
+
+    -- what was told is seen
+    pub learn_tells : (heard : Heard P) (pass : Sight P) → heard_of t told ≡ heard → sight_of b old trail ≡ pass → LearnTells heard pass
+    learn_tells heard pass f e =
+        subst (LearnTells heard) e (λ of same is begins from after.
+        let s = sees meld old new is after begins in
+        record {
+          of = still b b' old new trail trail same of.may_open s;
+          did = others (history_in old) (history_in new) s.history;
+          hears = subst (λ (h : Heard P). IsPrefix h.seen (history_in new)) f (sees_told from);
+          steps = refl;
+          last = refl;
+        })
+      where
+        sees_told : IsPrefix told new → IsPrefix (history_in told) (history_in new)
+        sees_told from = (history_in from.0, sym (history_in-append told from.0) ∙ ap history_in from.1)

@@ -1,0 +1,67 @@
+-- The one rule over all words, and what each step tells.
+use Rattle.std.specs.Prelude.{◌≡◌, ℕ, ◌==◌, Bool, true, List, ◌∷◌, [], ◌++◌, length, MatchBool}
+use mathlib.Core.List.{IsPrefix}
+use Rattle.logbook.specs.Pages.{Book, Cell, Named, Step as Ask, View, cell}
+use Rattle.ulfm_model.specs.declared.{limits.Limits.{Limits}, limits.OpenFault.{OpenFault}, limits.OpenFault.TheVariants.{OutOfRange, TooLarge, OutOfMemory}, place.Place.{Place}}
+use Rattle.ulfm_model.specs.Words.{IsUnfit, MayOpen, size_of, word_at}
+use Rattle.ulfm_words.specs.declared.step.Last.{Last}
+use Rattle.ulfm_words.specs.{Pass.{last_of}, Places.{IsWithin, key_in}, Steps.{Heard, Name, Sight}}
+use Rattle.ulfm_book.specs.declared.line.Line.{Line}
+use Rattle.ulfm_book.specs.Logs.{IsLog, history_in, limits_in}
+
+-- The one rule: the log is legal, there is a word for each place of its limits, and each is the word that the log's history
+-- has at its place. That word is 0 exactly where no event of the history sets it, and otherwise is that event's word; the
+-- i-th failure sets place i of the list, and the spawn of communicator j sets place j of the communicators.
+pub record IsKept {P : Type 0} (meld : P → P → P) (pack : P → ℕ) (cells : List Cell) (log : List (Line P)) : Type 0 where
+  pub is_log : IsLog meld log
+  pub size : length cells ≡ size_of (limits_in log)
+  pub words : (p : Place) → IsWithin (limits_in log) p → cell cells (key_in (limits_in log) p) ≡ (word_at pack (history_in log) p, true)
+
+-- the name of the words of a book, and the book of such a name
+abbrev pub name_of : Book → Limits → Name
+name_of book limits = record { number = book.number; log = book.log_name; cells = book.cells_name; limits = limits }
+
+abbrev pub book_of : Name → Book
+book_of name = record { number = name.number; log_name = name.log; cells_name = name.cells }
+
+-- the word of a book that has this key
+abbrev pub word_named : Book → ℕ → Named
+word_named book key = record { tracked = true; key = key; book = book }
+
+-- what contracts see of a pass, and of a told value
+abbrev pub sight_of : {P : Type 0} → Book → List (Line P) → List (Last × Bool) → Sight P
+sight_of book log trail = record { name = name_of book (limits_in log); seen = history_in log; steps = length trail; last = last_of trail }
+
+abbrev pub heard_of : {P : Type 0} → Book → List (Line P) → Heard P
+heard_of book log = record { name = name_of book (limits_in log); seen = history_in log }
+
+-- a log that goes on from what was seen
+pub record Sees {P : Type 0} (meld : P → P → P) (old new : List (Line P)) : Type 0 where
+  pub limits : limits_in new ≡ limits_in old
+  pub history : IsPrefix (history_in old) (history_in new)
+  pub is_log : IsLog meld new
+
+-- the word found under a key is that of the log's history
+abbrev pub IsFound : {P : Type 0} → (P → ℕ) → ℕ → ℕ → List (Line P) → Type 0
+IsFound pack key found log = (p : Place) → IsWithin (limits_in log) p → key ≡ key_in (limits_in log) p → word_at pack (history_in log) p ≡ found
+
+-- a load sees the log, and the word that its history has
+abbrev pub Looks : {P : Type 0} → (P → P → P) → (P → ℕ) → Ask (Line P) → View (Line P) ℕ → ℕ → View (Line P) ℕ → Type 0
+Looks meld pack ask old found new = Sees meld old.0 new.0 × IsFound pack ask.key found new.0
+
+-- the line came last, in a log that goes on from what was seen
+pub record IsLast {P : Type 0} (meld : P → P → P) (line : Line P) (old new : List (Line P)) : Type 0 where
+  pub before : List (Line P)
+  pub sees : Sees meld old before
+  pub is : new ≡ before ++ line ∷ []
+
+-- an exchange sees the log; it was won where it found 0, and its event came last; or it sees the word that stands
+abbrev pub Adds : {P : Type 0} → (P → P → P) → (P → ℕ) → Ask (Line P) → View (Line P) ℕ → ℕ → View (Line P) ℕ → Type 0
+Adds meld pack ask old found new =
+    Sees meld old.0 new.0 × MatchBool (found == 0) (IsLast meld ask.ask old.0 new.0 × IsFound pack ask.key ask.new new.0) (IsFound pack ask.key found new.0)
+
+-- a fault of opening: the first that the limits have, or that memory was refused to limits that have none
+abbrev pub IsFault : Limits → OpenFault → Type 0
+IsFault limits OutOfMemory = MayOpen limits
+IsFault limits OutOfRange = IsUnfit limits OutOfRange
+IsFault limits TooLarge = IsUnfit limits TooLarge

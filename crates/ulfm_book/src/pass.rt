@@ -1,0 +1,158 @@
+ghost use Rattle.std.specs.Prelude.{◌≡◌, [], false};
+ghost use Rattle.ulfm_model.specs.History.{IsLegal};
+ghost use Rattle.ulfm_model.specs.Words.{word_at};
+ghost use Rattle.ulfm_words.specs.Places.{IsWithin, key_in};
+ghost use Rattle.ulfm_words.specs.Steps.{IsOf, Loads, MaySet, Sets, Learns};
+ghost use Rattle.ulfm_book.specs.Logs.{IsLog};
+ghost use Rattle.ulfm_book.specs.Rules.{book_of, sight_of, word_named};
+
+use crate::line::Line;
+use crate::rule::{Add, Law, Look, Nothing};
+use http_server::Log;
+use logbook::{Offer, Seen, Word};
+use std::marker::Model;
+use ulfm_laws::meld::Packed;
+use ulfm_model::event::Caller;
+use ulfm_model::place::Place;
+use ulfm_words::{Last, Step};
+
+/// What one caller has seen of shared words. It has no bytes, and may go to another thread. Contracts see it as a `Sight`.
+#[derive(Drop)]
+pub struct BookPass<P: Packed> {
+    seen: Seen<Line<P>, u64, Law<P>>,
+    // The steps so far.
+    trail: Log<Last, bool>,
+}
+
+impl<P: Packed> Model for BookPass<P> {
+    ghost use Rattle.ulfm_words.specs.Steps.{Sight};
+    ghost use Rattle.ulfm_book.specs.Logs.{IsLog};
+    ghost use Rattle.ulfm_book.specs.Rules.{sight_of};
+
+    ghost Value = { Sight P };
+
+    ghost view = { λ p. sight_of p.seen.book p.seen.log p.trail.items };
+
+    ghost invariant = { λ p. IsLog P.meld p.seen.log };
+}
+
+/// All that a pass had seen when it told it. It has no bytes, and may go to another thread. Contracts see it as a `Heard`.
+#[derive(Drop)]
+pub struct BookTold<P: Packed> {
+    seen: Seen<Line<P>, u64, Law<P>>,
+}
+
+impl<P: Packed> Model for BookTold<P> {
+    ghost use Rattle.ulfm_words.specs.Steps.{Heard};
+    ghost use Rattle.ulfm_book.specs.Logs.{IsLog};
+    ghost use Rattle.ulfm_book.specs.Rules.{heard_of};
+
+    ghost Value = { Heard P };
+
+    ghost view = { λ t. heard_of t.seen.book t.seen.log };
+
+    ghost invariant = { λ t. IsLog P.meld t.seen.log };
+}
+
+impl<P: Packed> BookPass<P> {
+    // A pass that goes on from here.
+    pub(crate) fn new(start: &Seen<Line<P>, u64, Law<P>>) -> BookPass<P>
+        requires { IsLog P.meld start.now.log }
+        ensures { result ≡ sight_of start.now.book start.now.log [] }
+    {
+        BookPass {
+            seen: start.again(),
+            trail: Log::new(),
+        }
+    }
+
+    // The word of this place is loaded.
+    pub(crate) fn load(&mut self, word: &Word<Line<P>, u64, Law<P>>, place: Place) -> u64
+        requires of { IsOf P.meld self.old.name self.old }
+        requires within { IsWithin self.old.name.limits place }
+        requires word { word.now ≡ word_named (book_of self.old.name) (key_in self.old.name.limits place) }
+        ensures loads { Loads P.meld P.pack false self.old.name place self.old self.new }
+        ensures found { result ≡ word_at P.pack self.new.seen place }
+    {
+        let nothing = Step {
+            place,
+            word: 0,
+            by: Caller::Outside,
+        };
+        let mut offer: Offer<Line<P>, u64, Law<P>, Nothing> = self
+            .seen
+            .plain::<Nothing, Step, Add<P>>(&nothing);
+        let found = word.load::<Look<P>, Nothing>(&mut self.seen, &mut offer);
+        let load = true;
+        self.trail = self.trail.and(
+            &Last {
+                place,
+                word: found,
+                load,
+            },
+            &load,
+        );
+        found
+    }
+
+    // The word of the step's place is set, if it is 0.
+    pub(crate) fn set_once(
+        &mut self,
+        word: &Word<Line<P>, u64, Law<P>>,
+        step: Step,
+    ) -> Result<(), u64>
+        requires of { IsOf P.meld self.old.name self.old }
+        requires within { IsWithin self.old.name.limits step.place }
+        requires word { word.now ≡ word_named (book_of self.old.name) (key_in self.old.name.limits step.place) }
+        requires may { MaySet P.meld P.pack P.unpack self.old.name.limits self.old.seen step }
+        ensures { Sets P.meld P.pack P.unpack false self.old.name step self.old result self.new }
+    {
+        let mut offer: Offer<Line<P>, u64, Law<P>, Nothing> = self
+            .seen
+            .plain::<Nothing, Step, Add<P>>(&step);
+        let mut pen = self.seen.no_pen();
+        let found = word.compare_exchange::<Add<P>, Nothing>(
+            0,
+            step.word,
+            &mut self.seen,
+            &mut offer,
+            &mut pen,
+        );
+        let load = false;
+        self.trail = self.trail.and(
+            &Last {
+                place: step.place,
+                word: found,
+                load,
+            },
+            &load,
+        );
+        if found == 0 { Ok(()) } else { Err(found) }
+    }
+
+    // All that was seen.
+    pub(crate) fn told(&self) -> BookTold<P>
+        ensures name { result.name ≡ self.now.name }
+        ensures seen { result.seen ≡ self.now.seen }
+    {
+        BookTold {
+            seen: self.seen.again(),
+        }
+    }
+
+    // What was told is seen, too.
+    pub(crate) fn learn(&mut self, told: &BookTold<P>)
+        requires of { IsOf P.meld self.old.name self.old }
+        requires told { told.now.name ≡ self.old.name }
+        ensures { Learns P.meld false self.old.name told.now self.old self.new }
+    {
+        self.seen.learn(&told.seen);
+    }
+
+    // What was seen is legal. It does nothing.
+    pub(crate) fn known_legal(&self)
+        ensures { IsLegal P.meld self.now.name.limits self.now.seen }
+    {
+        let _ = &self.seen;
+    }
+}

@@ -1,0 +1,128 @@
+ghost use Rattle.std.specs.Prelude.{◌≡◌, true, false, IfOk, IfErr};
+ghost use Rattle.ulfm_model.specs.Words.{MayOpen, size_of};
+ghost use Rattle.ulfm_words.specs.Places.{IsWithin, key_in};
+ghost use Rattle.ulfm_book.specs.Rules.{IsFault, book_of, word_named};
+
+use crate::line::Line;
+use crate::pass::{BookPass, BookTold};
+use crate::rule::{Law, Opens};
+use logbook::{Seen, Start, Word};
+use std::alloc::{AllocError, Allocator, Global};
+use std::marker::Model;
+use ulfm_laws::meld::Packed;
+use ulfm_model::limits::{Limits, OpenFault};
+use ulfm_model::place::Place;
+use ulfm_words::{Step, Words, key_of};
+
+/// The words of a world, shared by threads: eight bytes each. All passes have seen beginnings of one history. Contracts see
+/// the words as their name.
+#[derive(Drop)]
+pub struct BookWords<P: Packed, A: Allocator = Global> {
+    // One for each place, by its key.
+    words: Vec<Word<Line<P>, u64, Law<P>>, A>,
+    limits: Limits,
+    // The log as it was opened, from which new passes go on.
+    start: Seen<Line<P>, u64, Law<P>>,
+}
+
+impl<P: Packed, A: Allocator> Model for BookWords<P, A> {
+    ghost use Rattle.std.specs.Prelude.{◌≡◌, ◌*◌, ◌<◌, ℕ, [], slice_get, vec_len, Some};
+    ghost use Rattle.ulfm_model.specs.Words.{MayOpen, size_of};
+    ghost use Rattle.ulfm_words.specs.Steps.{Name};
+    ghost use Rattle.ulfm_book.specs.Logs.{log_of};
+    ghost use Rattle.ulfm_book.specs.Rules.{name_of, word_named};
+
+    ghost Value = { Name };
+
+    ghost view = { λ w. name_of w.start.book w.limits };
+
+    ghost invariant = { λ w. MayOpen w.limits × (w.start.log ≡ log_of w.limits []) × (vec_len w.words ≡ size_of w.limits) × ((key : ℕ) → key < size_of w.limits → slice_get w.words.items key ≡ Some (word_named w.start.book key)) };
+}
+
+impl<P: Packed, A: Allocator> BookWords<P, A> {
+    /// Words of these limits, each 0. `OutOfRange` and `TooLarge` are the first fault that the limits have, found before any
+    /// memory is asked for; `OutOfMemory` comes where the limits have none and eight bytes a word were refused.
+    pub fn open(alloc: A, limits: Limits) -> Result<BookWords<P, A>, OpenFault>
+        ensures opened { IfOk result (λ w. w.limits ≡ limits) }
+        ensures may_open { IfOk result (λ w. MayOpen limits) }
+        ensures fault { IfErr result (IsFault limits) }
+    {
+        limits.check()?;
+        match BookWords::in_row(alloc, limits) {
+            Ok(words) => Ok(words),
+            Err(AllocError) => Err(OpenFault::OutOfMemory),
+        }
+    }
+
+    // The row of words.
+    fn in_row(alloc: A, limits: Limits) -> Result<BookWords<P, A>, AllocError>
+        requires { MayOpen limits }
+        ensures { IfOk result (λ w. w.limits ≡ limits) }
+    {
+        let size = limits.size() as usize;
+        let (start, mut pens) = Seen::open_row::<Limits, Opens>(&limits, Start::alone(), size);
+        let mut words = Vec::with_capacity(alloc, size)?;
+        for _i in 0..size {
+            let mut pen = pens.take();
+            words.push(Word::tracked(0, &mut pen))?;
+        }
+        Ok(BookWords {
+            words,
+            limits,
+            start,
+        })
+    }
+
+    // The word of a place.
+    fn word(&self, place: Place) -> &Word<Line<P>, u64, Law<P>>
+        requires { IsWithin self.now.limits place }
+        ensures { result.now ≡ word_named (book_of self.now) (key_in self.now.limits place) }
+    {
+        &self.words[key_of(place, self.limits)]
+    }
+}
+
+impl<P: Packed, A: Allocator + Copy + Drop> Words<P, A> for BookWords<P, A> {
+    type Pass = BookPass<P>;
+
+    type Told = BookTold<P>;
+
+    ghost name = { λ w. w };
+
+    ghost alone = { false };
+
+    ghost tells_all = { true };
+
+    ghost sight = { λ p. p };
+
+    ghost heard = { λ t. t };
+
+    fn limits(&self) -> Limits {
+        self.limits
+    }
+
+    fn pass(&self, _alloc: A) -> Result<BookPass<P>, AllocError> {
+        Ok(BookPass::new(&self.start))
+    }
+
+    fn load(&self, pass: &mut BookPass<P>, place: Place) -> u64 {
+        pass.load(self.word(place), place)
+    }
+
+    fn set_once(&self, pass: &mut BookPass<P>, step: Step) -> Result<(), u64> {
+        pass.set_once(self.word(step.place), step)
+    }
+
+    fn told(&self, pass: &BookPass<P>) -> BookTold<P> {
+        pass.told()
+    }
+
+    fn learn(&self, pass: &mut BookPass<P>, told: &BookTold<P>) {
+        pass.learn(told);
+    }
+
+    fn known_legal(&self, pass: &BookPass<P>) {
+        let _ = &self.start;
+        pass.known_legal();
+    }
+}
