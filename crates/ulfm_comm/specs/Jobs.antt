@@ -1,5 +1,5 @@
 -- A world, all its ranks and one pass, in one hand.
-use Rattle.std.specs.Prelude.{◌≡◌, ℕ, ⊤, Bool, List, IsTrue}
+use Rattle.std.specs.Prelude.{⊤, Bool, List, IsTrue}
 use mathlib.Core.List.{IsPrefix}
 use Rattle.ulfm_model.specs.declared.{call.Call.{Call}, reply.Reply.{Reply}}
 use Rattle.ulfm_model.specs.declared.call.Call.TheVariants as call
@@ -22,7 +22,7 @@ pub record StepsBy {P : Type 0} (meld : P → P → P) (alone : Bool) (name : Na
   pub begins : IsPrefix before.seen after.seen
   pub step : IsTrue alone → IsStep meld (state_of name before old) (traits_of asked).by asked reply (state_of name after new)
 
--- the calls that a world answers so far
+-- the calls that a job answers
 abbrev pub IsAnswered : {P : Type 0} → Call P → Type 0
 IsAnswered (call.Fail rank) = ⊤
 IsAnswered (call.GetFailed rank c) = ⊤

@@ -4,7 +4,7 @@ use Rattle.std.specs.List.{AllByRecursion}
 use Rattle.ulfm_model.specs.declared.{call.Request.{Request}, call.Request.TheVariants.{Agree, Shrink, Barrier}, limits.Limits.{Limits}}
 use Rattle.ulfm_model.specs.{Records.{Held}, Words.{MayOpen}}
 
--- an open request is an agree: no other is started yet
+-- an open request is an agree
 abbrev pub IsAgree : Option Request → Type 0
 IsAgree None = ⊤
 IsAgree (Some (Agree k)) = ⊤

@@ -50,16 +50,8 @@ fn start_then_poll<'a, R: Threads>(
     mut starter: Member<'a, FlagAnd>,
     mut reader: Member<'a, FlagAnd>,
 ) -> (Result<(), Refusal>, Reply) {
-    let (started, _) = join(
-        rt,
-        move || starter.start(all_but(0)),
-        || (),
-    );
-    let (reply, _) = join(
-        rt,
-        move || reader.poll(),
-        || (),
-    );
+    let (started, _) = join(rt, move || starter.start(all_but(0)), || ());
+    let (reply, _) = join(rt, move || reader.poll(), || ());
     (started, reply)
 }
 

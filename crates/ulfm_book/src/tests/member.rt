@@ -61,7 +61,8 @@ impl<'a, P: Packed> Member<'a, P> {
     /// The failed group of all ranks.
     pub(crate) fn failed_group(&mut self, alloc: Global) -> Result<Vec<u16>, Refusal> {
         let mut found = Vec::new(alloc);
-        self.rank.get_failed(self.world, &mut self.pass, 0, &mut found)?;
+        self.rank
+            .get_failed(self.world, &mut self.pass, 0, &mut found)?;
         Ok(found)
     }
 

@@ -1,4 +1,3 @@
-use Rattle.std.proofs.Common.{sym, ◌∙◌}
 use Rattle.ulfm_model.proofs.LeftSound.{new_sound}
 use Rattle.ulfm_comm.proofs.job.Job.open.Goals as goal
 

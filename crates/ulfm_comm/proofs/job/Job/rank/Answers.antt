@@ -1,4 +1,4 @@
-use Rattle.std.proofs.Common.{◌≡◌, map, Some, ap, sym, ◌∙◌, subst, arith}
+use Rattle.std.proofs.Common.{◌≡◌, map, Some, ap, sym, ◌∙◌, arith}
 use Rattle.ulfm_model.specs.{History.{first_ranks}, Records.{Record}}
 use Rattle.ulfm_comm.proofs.InOrder.{count_is, rank_found}
 use Rattle.ulfm_comm.proofs.job.Job.rank.Goals as goal

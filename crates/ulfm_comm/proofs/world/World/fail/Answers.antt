@@ -1,4 +1,4 @@
-use Rattle.std.proofs.Common.{◌≡◌, ◌*◌, ◌<◌, refl, ap, sym, subst, arith}
+use Rattle.std.proofs.Common.{◌≡◌, ◌<◌, refl, ap, sym, subst, arith}
 use Rattle.ulfm_steps.specs.{Appends.{MayAppend}}
 use Rattle.ulfm_steps.proofs.Welcome.{may_fail}
 use Rattle.ulfm_comm.proofs.Failing.{fail_found, fail_full, fail_missing, fail_won}
