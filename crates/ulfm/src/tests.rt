@@ -193,7 +193,10 @@ fn command_lines(rt: HostRuntime) -> Result<(), Fail> {
         assert_eq!(rt; errors.as_slice(), told);
         assert_eq!(rt; output.is_empty(), wanted == 2);
         let text = str::from_utf8(&output).unwrap_or("");
-        assert_eq!(rt; text.contains("agreed 000000ff failed 0 clean"), wanted == 0);
+        assert_eq!(rt;
+            text.contains("agreed 000000ff failed 0 clean"),
+            wanted == 0
+        );
     }
     Ok(())
 }
