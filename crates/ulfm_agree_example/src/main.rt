@@ -70,11 +70,7 @@ fn agree_and_declare<'a, R: Threads + Wait + Sync>(
 }
 
 /// Declares a rank failed, in the name of the outside: whether this call did it.
-fn declare(
-    world: &Shared<FlagAnd>,
-    mut pass: BookPass<FlagAnd>,
-    rank: u16,
-) -> Result<bool, Refusal>
+fn declare(world: &Shared<FlagAnd>, mut pass: BookPass<FlagAnd>, rank: u16) -> Result<bool, Refusal>
     requires { IsOf ⟦<FlagAnd as Meld>⟧.meld world.now.words pass }
 {
     world.fail(&mut pass, rank)
@@ -86,10 +82,7 @@ fn is_one_reply(replies: &[Reply]) -> bool {
         return false;
     };
     let refused = Err(Refusal::SelfFailed);
-    replies
-        .iter()
-        .enumerate()
-        .all(|(rank, reply)| reply == first || rank == 3 && *reply == refused)
+    replies.iter().enumerate().all(|(rank, reply)| reply == first || rank == 3 && *reply == refused)
 }
 
 fn main(rt: HostRuntime) -> anyhow::Result<()> {
@@ -102,10 +95,11 @@ fn main(rt: HostRuntime) -> anyhow::Result<()> {
     let (replies, declared) = agree_and_declare(&rt, &world, all, outside);
     let replies = replies?;
     match replies.first() {
-        Some(Ok(Polled::Agreed { value, .. })) if is_one_reply(&replies) && declared == Ok(true) => {
-            println!(rt; "ranks 0, 1 and 2 agreed on {:04b}", value.bits)?;
-            println!(rt; "rank 3 was declared failed, and got the same reply or none")?;
-        }
+        Some(Ok(Polled::Agreed { value, .. })) if is_one_reply(&replies) && declared == Ok(true) =>
+            {
+                println!(rt; "ranks 0, 1 and 2 agreed on {:04b}", value.bits)?;
+                println!(rt; "rank 3 was declared failed, and got the same reply or none")?;
+            }
         _ => println!(rt; "no one reply: {replies:?}, {declared:?}")?,
     }
     Ok(())
