@@ -36,6 +36,7 @@ impl<P: Packed> ReadRound<P> {
     }
 
     /// One load, of the next member's place: whether the member is settled.
+    #[inline(always)]
     pub fn step<A: Allocator, W: Words<P, A>>(
         &mut self,
         words: &W,
@@ -66,6 +67,7 @@ impl<P: Packed> ReadRound<P> {
     }
 
     /// All steps that are left: what all members say together, where each is settled.
+    #[inline(always)]
     pub fn finish<A: Allocator, W: Words<P, A>>(
         &mut self,
         words: &W,

@@ -14,6 +14,7 @@ use ulfm_model::contribution::Slot;
 use ulfm_model::place::Place;
 
 /// One load of an entry of the list of failures: the rank that is declared there, if one is.
+#[inline(always)]
 pub fn load_failure<P: Packed, A: Allocator, W: Words<P, A>>(
     words: &W,
     pass: &mut W::Pass,
@@ -33,6 +34,7 @@ pub fn load_failure<P: Packed, A: Allocator, W: Words<P, A>>(
 }
 
 /// One load of a member's place in an agreement round: what settles it, if something does.
+#[inline(always)]
 pub fn load_slot<P: Packed, A: Allocator, W: Words<P, A>>(
     words: &W,
     pass: &mut W::Pass,

@@ -10,6 +10,7 @@ use ulfm_model::contribution::{Contribution, MarkCount, Offer, Slot};
 
 /// The word of a slot: bit 0 is 1; bits 1 and 2 tell a mark, a flag and a mask of context ids apart; bits 3 to 13 are how
 /// many failures it knows of; bits 14 to 24 how many of them are acknowledged, 2047 in a mark; bits 25 to 56 the payload.
+#[inline(always)]
 pub fn slot_word<P: Packed>(slot: &Slot<P>) -> u64
     ensures { result ≡ word_of_slot P.pack slot.now }
 {
@@ -27,6 +28,7 @@ pub fn slot_word<P: Packed>(slot: &Slot<P>) -> u64
 
 /// What stands in a slot with this word: none exactly where no slot has the word. A mark with a payload, more failures
 /// acknowledged than known, more than 1024 known and a flag that doesn't unpack are no slot's.
+#[inline(always)]
 pub fn read_slot<P: Packed>(word: u64) -> Option<Slot<P>>
     ensures slot { result ≡ slot_in P.unpack word }
     ensures exactly { IsSome result ↔ IsSlotWord P.unpack word }
