@@ -44,6 +44,7 @@ pub fn print_reply<A: Allocator>(
 }
 
 /// A number in decimal, digit by digit: it has few.
+#[inline(always)]
 fn print_number<A: Allocator>(text: &mut Vec<u8, A>, number: u16) -> Result<(), AllocError>
     ensures { OnOk result (text.new.items ≡ text.old.items ++ decimal number) }
 {
@@ -56,6 +57,7 @@ fn print_number<A: Allocator>(text: &mut Vec<u8, A>, number: u16) -> Result<(), 
 }
 
 /// Each rank behind a space.
+#[inline(never)]
 fn print_ranks<A: Allocator>(text: &mut Vec<u8, A>, group: &[u16]) -> Result<(), AllocError>
     ensures { OnOk result (text.new.items ≡ text.old.items ++ ranks_text group.now) }
 {

@@ -11,7 +11,7 @@ pub mod slots;
 pub mod step;
 pub mod words;
 
-pub use loads::{load_arrival, load_comm, load_failure, load_revocation, load_slot};
+pub use loads::{load_arrival, load_comm, load_failure, load_revocation, load_slot, load_summary};
 pub use pass::PlainPass;
 pub use places::{is_within, key_of};
 pub use plain::{PlainTold, PlainWords};
