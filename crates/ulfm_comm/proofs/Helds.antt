@@ -1,10 +1,13 @@
 -- The communicators that a rank holds, by their places.
-use Rattle.std.proofs.Common.{◌≡◌, ℕ, zero, suc, ◌<◌, ◌≤◌, ◌==◌, Bool, true, false, cond, List, [], ◌∷◌, length, Some, None, slice_get, slice_index_or, slice_set, refl, ap, sym, ◌∙◌, arith}
-use Rattle.std.specs.List.{AllByRecursion, find, position, position_or_len}
+use Rattle.std.proofs.Common.{◌≡◌, ℕ, zero, suc, ◌<◌, ◌≤◌, ◌==◌, Bool, true, false, cond, List, [], ◌∷◌, length, nat_eq, Some, None, slice_get, slice_index_or, slice_set, refl, ap, sym, ◌∙◌, subst, arith}
+use Rattle.std.specs.List.{AllByRecursion, IsDistinct, find, position, position_or_len}
 use Rattle.std.proofs.lemmas.List.Quantifiers.{position-Some}
 use Rattle.std.proofs.lemmas.List.Folds.{find_at}
 use Rattle.std.proofs.lemmas.Grind.{common_steps}
+use Rattle.ulfm_model.specs.declared.limits.Limits.{Limits}
 use Rattle.ulfm_model.specs.Records.{Held, change_at}
+use Rattle.ulfm_model.proofs.Terms.{contexts_of}
+use Rattle.ulfm_comm.specs.Ranks.{HasRoom, IsAgreement}
 use Rattle.ulfm_comm.proofs.InOrder.{found_at}
 
 -- whether a communicator has this number
@@ -53,3 +56,22 @@ each_changed Q c f keeps [] all = tt
 each_changed Q c f keeps (x ∷ xs) all =
     let rest = each_changed Q c f keeps xs all.1 in
     elim (is_of c x) as (λ b. AllByRecursion Q (cond b (f x ∷ xs) (x ∷ change_at c f xs))) [ true ↦ (keeps x all.0, all.1) | false ↦ (all.0, rest) ]
+
+-- a change that keeps each context id keeps all of them
+contexts_changed : (c : ℕ) (f : Held → Held) → ((y : Held) → (f y).context ≡ y.context) → (xs : List Held) → contexts_of (change_at c f xs) ≡ contexts_of xs
+contexts_changed c f same [] = refl
+contexts_changed c f same (x ∷ xs) =
+    let rest = contexts_changed c f same xs in
+    elim (is_of c x) as (λ b. contexts_of (cond b (f x ∷ xs) (x ∷ change_at c f xs)) ≡ x.context ∷ contexts_of xs)
+    [ true ↦ ap (λ i. i ∷ contexts_of xs) (same x) | false ↦ ap (λ ids. x.context ∷ ids) rest ]
+
+-- a change that leaves an agree or a shrink open, or nothing, and keeps the context id, keeps what a rank keeps
+pub room_changed : (limits : Limits) (capacity c : ℕ) (f : Held → Held) (xs new : List Held) → HasRoom limits capacity xs → ((y : Held) → IsAgreement y.request → IsAgreement (f y).request) → ((y : Held) → (f y).context ≡ y.context) → new ≡ change_at c f xs
+    → HasRoom limits capacity new
+room_changed limits capacity c f xs new old requests contexts is =
+    subst (HasRoom limits capacity) (sym is) (record {
+      may_open = old.may_open;
+      room = old.room;
+      requests = each_changed (λ x. IsAgreement x.request) c f requests xs old.requests;
+      contexts = subst (IsDistinct nat_eq) (sym (contexts_changed c f contexts xs)) old.contexts;
+    })

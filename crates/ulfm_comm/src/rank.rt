@@ -4,7 +4,7 @@ ghost use Rattle.ulfm_model.specs.History.{failures, first_ranks, has};
 ghost use Rattle.ulfm_model.specs.Words.{MayOpen};
 ghost use Rattle.ulfm_model.specs.Answers.{closed, opened};
 ghost use Rattle.ulfm_words.specs.Steps.{IsOf, Goes};
-ghost use Rattle.ulfm_comm.specs.Ranks.{IsAgree};
+ghost use Rattle.ulfm_comm.specs.Ranks.{IsAgreement};
 ghost use Rattle.ulfm_model.specs.declared.call.Request.TheVariants.{Agree as AgreeOpen};
 
 use crate::groups::has_rank;
@@ -94,7 +94,7 @@ impl<P: Packed, A: Allocator> Rank<P, A> {
     /// The communicator of this number, if the rank holds it.
     pub(crate) fn held(&self, comm: u16) -> Option<&HeldComm<A>>
         ensures held { MatchOption result (held_at self.now comm ≡ None) (λ x. held_at self.now comm ≡ Some x.now) }
-        ensures agree { IfSome result (λ x. IsAgree x.now.request) }
+        ensures agreement { IfSome result (λ x. IsAgreement x.now.request) }
     {
         match place_of(&self.held, comm) {
             Some(i) => Some(&self.held[i]),
