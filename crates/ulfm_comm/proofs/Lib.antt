@@ -1,6 +1,6 @@
 pub mod Acks
-pub mod Agrees
 pub mod Calling
+pub mod Contexts
 pub mod Failing
 pub mod Helds
 pub mod Holding
@@ -10,3 +10,5 @@ pub mod Opening
 pub mod Passing
 pub mod Polls
 pub mod Replying
+pub mod Starts
+pub mod Tested

@@ -1,6 +1,0 @@
-use Rattle.std.proofs.Common.{refl}
-use Rattle.ulfm_comm.proofs.Helds.{room_changed}
-use Rattle.ulfm_comm.proofs.rank.Rank.open_agree.Goals as goal
-
-pub invariant_of-self : goal.invariant_of-self
-invariant_of-self g c = room_changed _ _ c.args.comm _ c.self.inside.held.items _ c.self.invariant (λ y is. tt) (λ y. refl) c.open_agree.ensures
