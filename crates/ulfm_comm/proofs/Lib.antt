@@ -2,6 +2,7 @@ pub mod Acks
 pub mod Calling
 pub mod Contexts
 pub mod Failing
+pub mod Freeing
 pub mod Helds
 pub mod Holding
 pub mod InOrder
