@@ -1,12 +1,12 @@
 -- The start of an agree or of a shrink.
-use Rattle.std.proofs.Common.{◌≡◌, ℕ, ◌+◌, ◌<◌, ◌≤◌, ◌-◌, Bool, true, false, [], ◌∷◌, length, filter, Some, None, Result, Ok, Err, is_ok, refl, ap, sym, ◌∙◌, subst, arith, inl, inr, IsTrue, MatchBool, MatchResult}
-use Rattle.ulfm_model.specs.declared.{call.Call.{Call}, call.Request.{Request}, contribution.Contribution.{Contribution}, contribution.MarkCount.{MarkCount}, contribution.Offer.{Offer}, contribution.Slot.{Slot}, contribution.Slot.TheVariants.{Given, Mark as Marked}, event.Caller.TheVariants.{Rank}, event.Event.TheVariants.{Settle}, limits.Limits.{Limits}, refusal.Refusal.{Refusal}, refusal.Refusal.TheVariants.{SelfFailed, Twice}, reply.Reply.{Reply}, reply.Reply.TheVariants.{Refused, Started}}
-use Rattle.ulfm_model.specs.{Answers.{CallAdds, Replies, StartReplies, View, first_refusal, left_by, opened, traits_of}, History.{History, IsLegal, IsPlace, failed, failures, has, members, slot}, Records.{Fits, Held, Record, held_at}, Runs.{Did}}
+use Rattle.std.proofs.Common.{◌≡◌, ℕ, ◌<◌, ◌≤◌, ◌-◌, Bool, true, false, [], ◌∷◌, length, filter, Some, None, Result, Ok, Err, is_ok, refl, ap, sym, ◌∙◌, subst, arith, inl, inr, IsTrue, MatchBool, MatchResult}
+use Rattle.ulfm_model.specs.declared.{call.Call.{Call}, call.Request.{Request}, contribution.Contribution.{Contribution}, contribution.MarkCount.{MarkCount}, contribution.Offer.{Offer}, contribution.Slot.{Slot}, contribution.Slot.TheVariants.{Given, Mark as Marked}, event.Caller.TheVariants.{Rank}, event.Event.TheVariants.{Settle}, limits.Limits.{Limits}, refusal.Refusal.{Refusal}, refusal.Refusal.TheVariants.{Twice}, reply.Reply.{Reply}, reply.Reply.TheVariants.{Refused, Started}}
+use Rattle.ulfm_model.specs.{Answers.{CallAdds, Replies, StartReplies, View, first_refusal, opened, traits_of}, History.{History, IsLegal, IsPlace, failed, failures, has, members, slot}, Records.{Fits, Held, Record, held_at}, Runs.{Did}}
 use Rattle.ulfm_model.proofs.Terms.{comm_of, tests_of}
 use Rattle.ulfm_model.proofs.{Decisions.{slot_stands}, Marking.{failed_few}, Lists.{has_at, has_filter}}
 use Rattle.ulfm_words.specs.Steps.{IsAdded, IsOf, Name, Sight}
 use Rattle.ulfm_words.proofs.Trails.{did_added}
-use Rattle.ulfm_comm.specs.{Calls.{Calls, reply_of}, Ends.{IsEndRun}, Looked.{Looked}, Starts.{HasGiven, Settles, WasSettled, start_leaves, start_result}}
+use Rattle.ulfm_comm.specs.{Calls.{Calls, reply_of}, Ends.{IsEndRun}, Looked.{Looked}, Starts.{Settles, start_leaves, start_result}}
 use Rattle.ulfm_comm.proofs.{Calling.{calls_is}, Helds.{change_alike}, Holding.{comm_is, exists_is, failed_is, group_is, holds}, Replying.{held_before, replied, self_failed}, Tested.{by_tests}}
 
 -- a rank whose place is marked is declared

@@ -1,4 +1,4 @@
-use Rattle.std.proofs.Common.{◌≡◌, ◌+◌, take, ap, ap₂, sym, ◌∙◌}
+use Rattle.std.proofs.Common.{◌≡◌, ◌+◌, take, ap, ap₂, ◌∙◌}
 use Rattle.ulfm_laws.specs.Masks.{mask_meld}
 use Rattle.ulfm_model.specs.Records.{Held, all_but, free_ids}
 use Rattle.ulfm_comm.proofs.Contexts.{one_more_taken}
