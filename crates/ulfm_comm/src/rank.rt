@@ -1,5 +1,5 @@
-ghost use Rattle.std.specs.Prelude.{◌≡◌, ◌==◌, true, filter, not, Some, None, MatchOption, IfSome, IfOk};
-ghost use Rattle.std.specs.List.{list_any};
+ghost use Rattle.std.specs.Prelude.{◌≡◌, ◌==◌, true, filter, map, nat_eq, not, Some, None, MatchOption, IfSome, IfOk};
+ghost use Rattle.std.specs.List.{IsDistinct, list_any};
 ghost use Rattle.ulfm_model.specs.Records.{Held, free_ids, held_at, is_shrink, new_record, with_held};
 ghost use Rattle.ulfm_model.specs.History.{failures, first_ranks, has};
 ghost use Rattle.ulfm_model.specs.Words.{MayOpen};
@@ -98,6 +98,7 @@ impl<P: Packed, A: Allocator> Rank<P, A> {
     pub(crate) fn held(&self, comm: u16) -> Option<&HeldComm<A>>
         ensures held { MatchOption result (held_at self.now comm ≡ None) (λ x. held_at self.now comm ≡ Some x.now) }
         ensures agreement { IfSome result (λ x. IsAgreement x.now.request) }
+        ensures contexts { IsDistinct nat_eq (map (λ x. x.context) self.now.held) }
     {
         match place_of(&self.held, comm) {
             Some(i) => Some(&self.held[i]),
@@ -113,9 +114,10 @@ impl<P: Packed, A: Allocator> Rank<P, A> {
         Some(&x.group)
     }
 
-    /// The context id of a communicator that it holds, 0 to 31. It is no step.
+    /// The context id of a communicator that it holds, 0 to 31. No two that it holds have the same. It is no step.
     pub fn context(&self, comm: u16) -> Option<u8>
-        ensures { MatchOption result (held_at self.now comm ≡ None) (λ id. (x : Held) × (held_at self.now comm ≡ Some x) × (id ≡ x.context)) }
+        ensures distinct { IsDistinct nat_eq (map (λ x. x.context) self.now.held) }
+        ensures id { MatchOption result (held_at self.now comm ≡ None) (λ id. (x : Held) × (held_at self.now comm ≡ Some x) × (id ≡ x.context)) }
     {
         let x = self.held(comm)?;
         Some(x.context)
