@@ -1,6 +1,7 @@
 pub mod Acks
 pub mod Calling
 pub mod Contexts
+pub mod Excluding
 pub mod Failing
 pub mod Freeing
 pub mod Helds

@@ -1,8 +1,10 @@
+ghost use Rattle.std.specs.Prelude.{IfOk};
 ghost use Rattle.ulfm_model.specs.Records.{Fits};
 ghost use Rattle.ulfm_model.specs.declared.call.Call.TheVariants.{Shrink as Asked};
 ghost use Rattle.ulfm_model.specs.declared.reply.Reply.TheVariants.{Started};
 ghost use Rattle.ulfm_words.specs.Steps.{IsOf};
 ghost use Rattle.ulfm_comm.specs.Calls.{Calls, reply_of};
+ghost use Rattle.ulfm_comm.specs.Excludes.{Excludes};
 
 use crate::rank::Rank;
 use crate::world::World;
@@ -32,7 +34,8 @@ impl<P: Packed, A: Allocator> Rank<P, A> {
     ) -> Result<(), Refusal>
         requires of { IsOf P.meld (W.name world.now.words) (W.sight pass.old) }
         requires fits { Fits P.meld (W.name world.now.words).limits (W.sight pass.old).seen self.old }
-        ensures { Calls P.meld W.alone (W.name world.now.words) (Asked self.old.number comm) self.old (W.sight pass.old) (reply_of (λ _. Started) result) self.new (W.sight pass.new) }
+        ensures calls { Calls P.meld W.alone (W.name world.now.words) (Asked self.old.number comm) self.old (W.sight pass.old) (reply_of (λ _. Started) result) self.new (W.sight pass.new) }
+        ensures excludes { IfOk result (λ _. Excludes P.meld (W.name world.now.words).limits (W.sight pass.old).seen (W.sight pass.new).seen self.old comm) }
     {
         self.begin(world, pass)?;
         let Some(x) = self.held(comm) else {
