@@ -31,6 +31,7 @@ impl<P: Packed, A: Allocator> Rank<P, A> {
     /// Functions, `MPI_COMM_ACK_FAILED`).
     ///
     /// `SelfFailed` where the rank is declared, `NoSuchComm` where it doesn't hold the communicator.
+    #[inline(never)]
     pub fn ack_failed<W: Words<P, A>>(
         &mut self,
         world: &World<W, P, A>,

@@ -22,6 +22,7 @@ impl<P: Packed, A: Allocator> Rank<P, A> {
     /// is open on it, `RoundsUsedUp` where no round is left but the last, which is kept for a shrink. Then `SelfFailed`
     /// where another rank's mark came before the contribution, and `Twice` where another contribution stands at the rank's
     /// place. After a refusal no request was started.
+    #[inline(never)]
     pub fn iagree<W: Words<P, A>>(
         &mut self,
         world: &World<W, P, A>,

@@ -5,7 +5,7 @@ ghost use Rattle.ulfm_model.specs.declared.call.Call.TheVariants.{GetFailed as A
 ghost use Rattle.ulfm_words.specs.Steps.{IsOf};
 ghost use Rattle.ulfm_comm.specs.Calls.{Gets};
 
-use crate::groups::{count_in, put_in};
+use crate::groups::{make_room, put_in};
 use crate::rank::Rank;
 use crate::world::World;
 use std::alloc::Allocator;
@@ -20,6 +20,7 @@ impl<P: Packed, A: Allocator> Rank<P, A> {
     ///
     /// `SelfFailed` where the rank is declared, `NoSuchComm` where it doesn't hold the communicator, `OutOfMemory` where
     /// the vector has too little room and its growth is refused. After a refusal the vector is as it was.
+    #[inline(never)]
     pub fn get_failed<W: Words<P, A>, B: Allocator>(
         &mut self,
         world: &World<W, P, A>,
@@ -37,8 +38,7 @@ impl<P: Packed, A: Allocator> Rank<P, A> {
         let Some(x) = self.held(comm) else {
             return Err(Refusal::NoSuchComm);
         };
-        let count = count_in(&x.group, self.failures());
-        if found.reserve(count.saturating_sub(found.len())).is_err() {
+        if make_room(&x.group, self.failures(), found).is_err() {
             return Err(Refusal::OutOfMemory);
         }
         found.clear();

@@ -1,19 +1,25 @@
 // Groups of ranks, and which of their members are declared.
-ghost use Rattle.std.specs.Prelude.{◌≡◌, ◌++◌, ◌+◌, ◌≤◌, [], filter, length, vec_len, vec_capacity};
+ghost use Rattle.std.specs.Prelude.{◌≡◌, ◌++◌, ◌+◌, ◌≤◌, [], OnOk, filter, length, vec_len, vec_capacity};
 ghost use Rattle.std.specs.List.Sorted.{IsStrictlyIncreasing};
 ghost use Rattle.ulfm_model.specs.History.{has};
 
-use std::alloc::Allocator;
+use std::alloc::{AllocError, Allocator};
 use ulfm_steps::group::is_member;
 
-// Whether a rank is among these, which stand in any order.
+// Whether a rank is among these, which stand in any order. Each is compared, whatever was found before: such a loop runs over
+// many ranks at once.
 pub(crate) fn has_rank(ranks: &[u16], rank: u16) -> bool
     ensures { result ≡ has ranks.now rank }
 {
-    ranks.iter().any(|x| *x == rank)
+    let mut found = false;
+    for x in ranks {
+        found |= *x == rank;
+    }
+    found
 }
 
 // How many of these ranks are in the group, whose ranks rise.
+#[inline(never)]
 pub(crate) fn count_in(group: &[u16], ranks: &[u16]) -> usize
     requires { IsStrictlyIncreasing group.now }
     ensures { result ≡ length (filter (has group.now) ranks.now) }
@@ -21,7 +27,26 @@ pub(crate) fn count_in(group: &[u16], ranks: &[u16]) -> usize
     ranks.iter().filter(|rank| is_member(group, **rank)).count()
 }
 
+// Makes room in a vector for those of these ranks that are in the group, whose ranks rise. Where it has room for all of them,
+// nobody is counted.
+pub(crate) fn make_room<B: Allocator>(
+    group: &[u16],
+    ranks: &[u16],
+    found: &mut Vec<u16, B>,
+) -> Result<(), AllocError>
+    requires { IsStrictlyIncreasing group.now }
+    ensures kept { found.new.items ≡ found.old.items }
+    ensures room { OnOk result (length (filter (has group.now) ranks.now) ≤ vec_capacity found.new) }
+{
+    if ranks.len() <= found.capacity() {
+        return Ok(());
+    }
+    let count = count_in(group, ranks);
+    found.reserve(count.saturating_sub(found.len()))
+}
+
 // Puts those of these ranks into a vector that are in the group, whose ranks rise, in their order. It has room for them.
+#[inline(never)]
 pub(crate) fn put_in<B: Allocator>(group: &[u16], ranks: &[u16], found: &mut Vec<u16, B>)
     requires rises { IsStrictlyIncreasing group.now }
     requires empty { found.old.items ≡ [] }

@@ -40,6 +40,7 @@ impl<P: Packed, A: Allocator> Rank<P, A> {
     ///
     /// `SelfFailed` where the rank is declared, `NoSuchComm` where it doesn't hold the communicator, `Idle` where no request
     /// is open on it. `Mismatch` where some agreed and others shrank in one round; it ends the request.
+    #[inline(never)]
     pub fn poll<W: Words<P, A>>(
         &mut self,
         world: &World<W, P, A>,

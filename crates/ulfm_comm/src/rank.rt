@@ -131,6 +131,7 @@ impl<P: Packed, A: Allocator> Rank<P, A> {
     }
 
     // Looks at the list of failures: whether the rank is declared.
+    #[inline(never)]
     pub(crate) fn look<W: Words<P, A>>(&mut self, words: &W, pass: &mut W::Pass) -> bool
         requires of { IsOf P.meld (W.name words.now) (W.sight pass.old) }
         requires limits { self.old.limits ≡ (W.name words.now).limits }

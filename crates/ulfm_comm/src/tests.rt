@@ -72,8 +72,9 @@ fn run(
         rounds,
     };
     let mut job = Job::open(alloc, PlainWords::open(limits)?)?;
+    let mut group = Vec::new(alloc);
     for line in script {
-        let reply = job.apply(&call(line.0))?;
+        let reply = job.apply(&call(line.0), &mut group)?;
         assert!(rt; reply == line.1, "{:?} is answered {reply:?}", line.0);
     }
     Ok(job)

@@ -43,15 +43,21 @@ pub fn print_reply<A: Allocator>(
     }
 }
 
-/// A number in decimal.
+/// A number in decimal, digit by digit: it has few.
+#[inline(always)]
 fn print_number<A: Allocator>(text: &mut Vec<u8, A>, number: u16) -> Result<(), AllocError>
     ensures { OnOk result (text.new.items ≡ text.old.items ++ decimal number) }
 {
     let mut buffer = Buffer::new();
-    text.extend_from_slice(buffer.format(number).as_bytes())
+    let digits = buffer.format(number).as_bytes();
+    for digit in digits {
+        text.push(*digit)?;
+    }
+    Ok(())
 }
 
 /// Each rank behind a space.
+#[inline(never)]
 fn print_ranks<A: Allocator>(text: &mut Vec<u8, A>, group: &[u16]) -> Result<(), AllocError>
     ensures { OnOk result (text.new.items ≡ text.old.items ++ ranks_text group.now) }
 {

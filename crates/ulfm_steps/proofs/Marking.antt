@@ -1,6 +1,6 @@
 -- Marking a round's declared members.
-use Rattle.std.proofs.Common.{◌≡◌, ℕ, zero, suc, ◌+◌, ◌-◌, ◌<◌, ◌≤◌, ◌==◌, Bool, true, false, cond, not, ◌||◌, ◌&&◌, List, [], ◌∷◌, ◌++◌, length, map, filter, filter_map, take, slice_index_or, slice_get, Some, None, is_some, Result, Ok, Err, IsTrue, nat_eq, refl, ap, ap₂, sym, ◌∙◌, subst, arith, append-nil, length-append, if◌then◌else◌}
-use Rattle.std.specs.Prelude.{is_ok, MatchResult}
+use Rattle.std.proofs.Common.{◌≡◌, ℕ, zero, suc, ◌+◌, ◌-◌, ◌<◌, ◌≤◌, ◌==◌, Bool, true, false, cond, not, ◌||◌, ◌&&◌, List, [], ◌∷◌, ◌++◌, length, map, filter, filter_map, take, slice_index_or, slice_get, Some, None, is_some, IsTrue, nat_eq, refl, ap, ap₂, sym, ◌∙◌, subst, arith, append-nil, length-append, if◌then◌else◌}
+use Rattle.std.specs.Prelude.{MatchBool}
 use Rattle.std.specs.List.{slice_index, cons_option, AllByRecursion, IsDistinct}
 use Rattle.std.proofs.lemmas.Bool.{eq-eqb, or_left, or_right, or_parts, or_from}
 use Rattle.std.proofs.lemmas.List.{map-append}
@@ -195,13 +195,13 @@ module _ {P : Type 0} (alone : Bool) (number c k : ℕ) where
       is_false false e = refl
 
   -- one exchange of a member's place
-  pub marks_try : (meld : P → P → P) (pack : P → ℕ) (name : Name) (r : ℕ) (mark : MarkCount) (result : Result (Unit {0}) (Slot P)) (old new : Sight P)
-      → Tries meld pack alone name (SlotAt c k r) (entry (ByRank number) (Mark c k r mark)) (is_ok result) old new
-      → MatchResult result (λ _. slot new.seen c k r ≡ Some (Marked mark)) (λ s. slot new.seen c k r ≡ Some s) → MarkSteps meld alone name number c k (r ∷ []) old new
-  marks_try meld pack name r mark (Ok x) old new tries stands =
+  pub marks_try : (meld : P → P → P) (pack : P → ℕ) (name : Name) (r : ℕ) (mark : MarkCount) (won : Bool) (old new : Sight P)
+      → Tries meld pack alone name (SlotAt c k r) (entry (ByRank number) (Mark c k r mark)) won old new
+      → MatchBool won (slot new.seen c k r ≡ Some (Marked mark)) ((s : Slot P) × (slot new.seen c k r ≡ Some s)) → MarkSteps meld alone name number c k (r ∷ []) old new
+  marks_try meld pack name r mark true old new tries stands =
       record { of = tries.of; marks = marks_won meld name.limits r mark (Marked mark) old.seen new.seen tries.outcome tries.of.legal stands; onward = omega (arith, tries.steps); steps = omega (arith, tries.steps) }
-  marks_try meld pack name r mark (Err s) old new tries stands =
-      record { of = tries.of; marks = marks_lost r s old.seen new.seen tries.outcome stands; onward = omega (arith, tries.steps); steps = omega (arith, tries.steps) }
+  marks_try meld pack name r mark false old new tries stands =
+      record { of = tries.of; marks = marks_lost r stands.0 old.seen new.seen tries.outcome stands.1; onward = omega (arith, tries.steps); steps = omega (arith, tries.steps) }
 
 -- what may be marked may be marked later
 pub may_stays : {P : Type 0} (limits : Limits) (h longer : History P) (c k : ℕ) (group declared : List ℕ) → IsPrefix h longer → MayMarkAll limits h c k group declared → MayMarkAll limits longer c k group declared

@@ -10,7 +10,6 @@ pub mod look;
 pub mod mark_all;
 pub mod read_round;
 pub mod settle;
-pub mod summary;
 
 pub use append::{Append, Appended};
 pub use intruder::{Intruder, IntruderPass};

@@ -28,6 +28,7 @@ impl Look {
     }
 
     /// One load, of the next place.
+    #[inline(always)]
     pub fn step<P: Packed, A: Allocator, W: Words<P, A>, B: Allocator>(
         &mut self,
         words: &W,
@@ -55,6 +56,7 @@ impl Look {
     }
 
     /// All steps that are left. The vector then has the list as it was at the last load.
+    #[inline(always)]
     pub fn finish<P: Packed, A: Allocator, W: Words<P, A>, B: Allocator>(
         &mut self,
         words: &W,

@@ -12,7 +12,7 @@ use ulfm_laws::known::Known;
 use ulfm_laws::meld::Packed;
 use ulfm_model::contribution::{MarkCount, Slot};
 use ulfm_model::event::Caller;
-use ulfm_words::{Words, set_slot};
+use ulfm_words::{Words, put_slot};
 
 /// A marking that is under way, in a rank's name.
 #[derive(Clone, Copy, Debug, PartialEq, Eq)]
@@ -27,6 +27,7 @@ pub struct MarkAll {
 }
 
 /// Where the next member stands among the declared ranks, from a place on.
+#[inline(always)]
 pub fn next_member(group: &[u16], declared: &[u16], start: usize) -> usize
     requires within { start ≤ length declared.now }
     requires rises { IsStrictlyIncreasing group.now }
@@ -60,6 +61,7 @@ impl MarkAll {
     }
 
     /// One exchange, of the next member's place.
+    #[inline(always)]
     pub fn step<P: Packed, A: Allocator, W: Words<P, A>>(
         &mut self,
         words: &W,
@@ -86,11 +88,12 @@ impl MarkAll {
             known: Known { count: self.known },
         });
         let by = Caller::Rank(self.rank);
-        let _ = set_slot(words, pass, by, self.comm, self.round, rank, put);
+        let _ = put_slot(words, pass, by, self.comm, self.round, rank, put);
         self.next = next_member(group, declared, self.next + 1);
     }
 
     /// All steps that are left: afterwards each declared member is settled.
+    #[inline(always)]
     pub fn finish<P: Packed, A: Allocator, W: Words<P, A>>(
         &mut self,
         words: &W,
@@ -111,6 +114,7 @@ impl MarkAll {
 }
 
 /// Marks each declared member of a round that isn't settled, in a rank's name.
+#[inline(never)]
 pub fn mark_all<P: Packed, A: Allocator, W: Words<P, A>>(
     words: &W,
     pass: &mut W::Pass,

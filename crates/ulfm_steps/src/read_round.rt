@@ -5,11 +5,10 @@ ghost use Rattle.ulfm_laws.specs.Summaries.{summary_unit};
 ghost use Rattle.ulfm_words.specs.Steps.{IsOf, Goes};
 ghost use Rattle.ulfm_steps.specs.Rounds.{IsRoundOf, IsSummed, IsMissing};
 
-use crate::summary::summary_from;
 use std::alloc::Allocator;
 use ulfm_laws::meld::{Meld, Packed};
 use ulfm_laws::summary::Summary;
-use ulfm_words::{Words, load_slot};
+use ulfm_words::{Words, load_summary};
 
 /// A reading that is under way.
 #[derive(Drop)]
@@ -36,6 +35,7 @@ impl<P: Packed> ReadRound<P> {
     }
 
     /// One load, of the next member's place: whether the member is settled.
+    #[inline(always)]
     pub fn step<A: Allocator, W: Words<P, A>>(
         &mut self,
         words: &W,
@@ -55,10 +55,10 @@ impl<P: Packed> ReadRound<P> {
         ensures missing { MatchBool result (Unit {0}) (IsMissing (W.sight pass.new).last (W.sight pass.new).seen self.old.comm self.old.round group.now) }
     {
         let rank = group[self.read];
-        match load_slot(words, pass, self.comm, self.round, rank) {
+        match load_summary(words, pass, self.comm, self.round, rank) {
             None => false,
-            Some(slot) => {
-                self.all = self.all.meld(&summary_from(&slot));
+            Some(said) => {
+                self.all = self.all.meld(&said);
                 self.read += 1;
                 true
             }
@@ -66,6 +66,7 @@ impl<P: Packed> ReadRound<P> {
     }
 
     /// All steps that are left: what all members say together, where each is settled.
+    #[inline(always)]
     pub fn finish<A: Allocator, W: Words<P, A>>(
         &mut self,
         words: &W,

@@ -1,4 +1,5 @@
 pub mod SlotWords
+pub mod SummaryWords
 pub mod Keys
 pub mod Trails
 pub mod Growing

@@ -75,12 +75,12 @@ some_is : {X : Type 0} (x y : X) → (let o : Option X = Some x in o) ≡ Some y
 some_is x y e = cc
 
 module _ {P : Type 0} (unpack : ℕ → Option P) where
-  abbrev OfferIn : ℕ → Offer P → Type 0
+  abbrev pub OfferIn : ℕ → Offer P → Type 0
   OfferIn w (Flag flag) = (tag_in w ≡ 1) × (unpack (payload_in w) ≡ Some flag)
   OfferIn w (Ctx mask) = (tag_in w ≡ 2) × (mask.bits ≡ payload_in w)
 
   -- the parts of a word are those of the slot
-  abbrev Reads : ℕ → Slot P → Type 0
+  abbrev pub Reads : ℕ → Slot P → Type 0
   Reads w (Marked mark) = IsMarkWord w × (mark.known.count ≡ known_in w)
   Reads w (Given given) = (given.known.count ≡ known_in w) × (given.acked.count ≡ acked_in w) × OfferIn w given.offer
 

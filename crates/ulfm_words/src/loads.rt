@@ -1,19 +1,23 @@
 // Loads, and what they read as.
-ghost use Rattle.std.specs.Prelude.{◌≡◌, ◌<◌, slice_get, IfSome};
+ghost use Rattle.std.specs.Prelude.{◌≡◌, ◌<◌, None, Some, slice_get, IfSome, MatchOption};
 ghost use Rattle.ulfm_model.specs.History.{failures, has_arrived, is_revoked, slot};
+ghost use Rattle.ulfm_model.specs.Laws.{summary_of};
+ghost use Rattle.ulfm_model.specs.declared.contribution.Slot.{Slot};
 ghost use Rattle.ulfm_model.proofs.Terms.{made_at};
 ghost use Rattle.ulfm_model.specs.declared.place.Place.TheVariants.{List as ListAt, Comm as CommAt, Revoked as RevokedAt, Slot as SlotAt, Arrival as ArrivalAt};
 ghost use Rattle.ulfm_words.specs.Places.{IsCell, IsWithin};
 ghost use Rattle.ulfm_words.specs.Steps.{IsOf, Loads};
 
-use crate::slots::read_slot;
+use crate::slots::{read_slot, summary_in};
 use crate::words::Words;
 use std::alloc::Allocator;
 use ulfm_laws::meld::Packed;
+use ulfm_laws::summary::Summary;
 use ulfm_model::contribution::Slot;
 use ulfm_model::place::Place;
 
 /// One load of an entry of the list of failures: the rank that is declared there, if one is.
+#[inline(always)]
 pub fn load_failure<P: Packed, A: Allocator, W: Words<P, A>>(
     words: &W,
     pass: &mut W::Pass,
@@ -33,6 +37,7 @@ pub fn load_failure<P: Packed, A: Allocator, W: Words<P, A>>(
 }
 
 /// One load of a member's place in an agreement round: what settles it, if something does.
+#[inline(always)]
 pub fn load_slot<P: Packed, A: Allocator, W: Words<P, A>>(
     words: &W,
     pass: &mut W::Pass,
@@ -46,6 +51,27 @@ pub fn load_slot<P: Packed, A: Allocator, W: Words<P, A>>(
     ensures slot { result ≡ slot (W.sight pass.new).seen comm round rank }
 {
     read_slot(words.load(pass, Place::Slot { comm, round, rank }))
+}
+
+/// One load of a member's place in an agreement round: what its slot says of the round, if the member is settled.
+#[inline(always)]
+pub fn load_summary<P: Packed, A: Allocator, W: Words<P, A>>(
+    words: &W,
+    pass: &mut W::Pass,
+    comm: u16,
+    round: u16,
+    rank: u16,
+) -> Option<Summary<P>>
+    requires of { IsOf P.meld (W.name words.now) (W.sight pass.old) }
+    requires within { IsCell (W.name words.now).limits comm round rank }
+    ensures loads { Loads P.meld P.pack W.alone (W.name words.now) (SlotAt comm round rank) (W.sight pass.old) (W.sight pass.new) }
+    ensures summary { MatchOption result (slot (W.sight pass.new).seen comm round rank ≡ None) (λ all. (s : Slot P) × (slot (W.sight pass.new).seen comm round rank ≡ Some s) × (all ≡ summary_of s)) }
+{
+    let word = words.load(pass, Place::Slot { comm, round, rank });
+    if word == 0 {
+        return None;
+    }
+    Some(summary_in(word))
 }
 
 /// One load of an entry of the list of communicators: the parent and the round that it was made of, if it was made.

@@ -87,6 +87,7 @@ impl<P: Packed, A: Allocator + Copy> PlainPass<P, A> {
     }
 
     /// The word at a place.
+    #[inline(always)]
     pub fn load(&mut self, place: Place) -> u64
         requires { IsWithin self.old.name.limits place }
         ensures loads { Loads P.meld P.pack true self.old.name place self.old self.new }
@@ -99,6 +100,7 @@ impl<P: Packed, A: Allocator + Copy> PlainPass<P, A> {
     }
 
     /// Sets a word that is 0, or gives the word that stands. It takes no memory.
+    #[inline(always)]
     pub fn set_once(&mut self, step: Step) -> Result<(), u64>
         requires within { IsWithin self.old.name.limits step.place }
         requires may { MaySet P.meld P.pack P.unpack self.old.name.limits self.old.seen step }

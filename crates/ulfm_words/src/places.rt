@@ -21,6 +21,7 @@ pub fn is_within(place: Place, limits: Limits) -> bool
 }
 
 /// Where the word of this place stands in the row of all words. Two places have two keys, all below the world's size.
+#[inline(always)]
 pub fn key_of(place: Place, limits: Limits) -> usize
     requires open { MayOpen limits }
     requires within { IsWithin limits place }

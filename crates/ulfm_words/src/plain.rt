@@ -63,10 +63,12 @@ impl<P: Packed, A: Allocator + Copy + Drop> Words<P, A> for PlainWords<P> {
         PlainPass::new(alloc, self.limits)
     }
 
+    #[inline(always)]
     fn load(&self, pass: &mut PlainPass<P, A>, place: Place) -> u64 {
         pass.load(place)
     }
 
+    #[inline(always)]
     fn set_once(&self, pass: &mut PlainPass<P, A>, step: Step) -> Result<(), u64> {
         pass.set_once(step)
     }

@@ -1,11 +1,13 @@
 // Exchanges, each for one event, and what stands where they are lost.
-ghost use Rattle.std.specs.Prelude.{◌≡◌, ◌<◌, Some, IsTrue, is_ok, slice_get, MatchResult};
+ghost use Rattle.std.specs.Prelude.{◌≡◌, ◌<◌, Some, IsTrue, is_ok, slice_get, MatchBool, MatchResult};
 ghost use Rattle.ulfm_model.specs.History.{failures, has_arrived, is_revoked, slot};
 ghost use Rattle.ulfm_model.proofs.Terms.{made_at};
 ghost use Rattle.ulfm_model.specs.declared.event.Event.TheVariants.{Fail, Spawn, Arrive, Revoke};
 ghost use Rattle.ulfm_model.specs.declared.place.Place.TheVariants.{List as ListAt, Comm as CommAt, Revoked as RevokedAt, Slot as SlotAt, Arrival as ArrivalAt};
+ghost use Rattle.ulfm_model.specs.declared.contribution.Slot.{Slot};
 ghost use Rattle.ulfm_words.specs.Entries.{put_of};
 ghost use Rattle.ulfm_words.specs.Places.{IsCell, IsWithin};
+ghost use Rattle.ulfm_words.specs.Slots.{slot_in};
 ghost use Rattle.ulfm_words.specs.Steps.{IsOf};
 ghost use Rattle.ulfm_words.specs.Tries.{Tries, entry, MayDeclare, MayPut, MayMake, MayCome, MayEnd};
 
@@ -43,6 +45,34 @@ pub fn set_failure<P: Packed, A: Allocator, W: Words<P, A>>(
     }
 }
 
+// One exchange of a member's place in an agreement round. Where it is lost, the word that stands is given.
+#[inline(always)]
+fn try_slot<P: Packed, A: Allocator, W: Words<P, A>>(
+    words: &W,
+    pass: &mut W::Pass,
+    by: Caller,
+    comm: u16,
+    round: u16,
+    rank: u16,
+    put: Slot<P>,
+) -> Result<(), u64>
+    requires of { IsOf P.meld (W.name words.now) (W.sight pass.old) }
+    requires within { IsCell (W.name words.now).limits comm round rank }
+    requires may { MayPut P.meld (W.name words.now).limits (W.sight pass.old).seen comm round rank put }
+    ensures tries { Tries P.meld P.pack W.alone (W.name words.now) (SlotAt comm round rank) (entry by (put_of comm round rank put)) (is_ok result) (W.sight pass.old) (W.sight pass.new) }
+    ensures stands { MatchResult result (λ _. slot (W.sight pass.new).seen comm round rank ≡ Some put) (λ word. (s : Slot P) × (slot_in P.unpack word ≡ Some s) × (slot (W.sight pass.new).seen comm round rank ≡ Some s)) }
+{
+    let step = Step {
+        place: Place::Slot { comm, round, rank },
+        word: slot_word(&put),
+        by,
+    };
+    match words.set_once(pass, step) {
+        Ok(()) => Ok(()),
+        Err(word) => Err(word),
+    }
+}
+
 /// One exchange of a member's place in an agreement round: it is settled so, or what settles it is given.
 pub fn set_slot<P: Packed, A: Allocator, W: Words<P, A>>(
     words: &W,
@@ -59,14 +89,32 @@ pub fn set_slot<P: Packed, A: Allocator, W: Words<P, A>>(
     ensures tries { Tries P.meld P.pack W.alone (W.name words.now) (SlotAt comm round rank) (entry by (put_of comm round rank put)) (is_ok result) (W.sight pass.old) (W.sight pass.new) }
     ensures stands { MatchResult result (λ _. slot (W.sight pass.new).seen comm round rank ≡ Some put) (λ s. slot (W.sight pass.new).seen comm round rank ≡ Some s) }
 {
-    let step = Step {
-        place: Place::Slot { comm, round, rank },
-        word: slot_word(&put),
-        by,
-    };
-    match words.set_once(pass, step) {
+    match try_slot(words, pass, by, comm, round, rank, put) {
         Ok(()) => Ok(()),
         Err(word) => Err(read_slot(word).unwrap()),
+    }
+}
+
+/// One exchange of a member's place in an agreement round: whether this call settled it so. It is settled afterwards.
+#[inline(always)]
+pub fn put_slot<P: Packed, A: Allocator, W: Words<P, A>>(
+    words: &W,
+    pass: &mut W::Pass,
+    by: Caller,
+    comm: u16,
+    round: u16,
+    rank: u16,
+    put: Slot<P>,
+) -> bool
+    requires of { IsOf P.meld (W.name words.now) (W.sight pass.old) }
+    requires within { IsCell (W.name words.now).limits comm round rank }
+    requires may { MayPut P.meld (W.name words.now).limits (W.sight pass.old).seen comm round rank put }
+    ensures tries { Tries P.meld P.pack W.alone (W.name words.now) (SlotAt comm round rank) (entry by (put_of comm round rank put)) result (W.sight pass.old) (W.sight pass.new) }
+    ensures stands { MatchBool result (slot (W.sight pass.new).seen comm round rank ≡ Some put) ((s : Slot P) × (slot (W.sight pass.new).seen comm round rank ≡ Some s)) }
+{
+    match try_slot(words, pass, by, comm, round, rank, put) {
+        Ok(()) => true,
+        Err(_) => false,
     }
 }
 

@@ -1,15 +1,20 @@
 ghost use Rattle.std.specs.Prelude.{◌≡◌, ◌↔◌, ◌≤◌, Some, IsSome, IfSome, IfOk, refl};
 ghost use Rattle.ulfm_model.specs.Words.{packed as word_from, slot_word as word_of_slot};
+ghost use Rattle.ulfm_model.specs.Laws.{summary_of};
+ghost use Rattle.ulfm_model.specs.declared.contribution.Slot.{Slot};
 ghost use Rattle.ulfm_words.specs.Slots.{slot_in, IsSlotWord, IsFlag, IsExact, given_if, are_counts, mark_if, is_mark_word};
 
 use ulfm_laws::acked::Acked;
+use ulfm_laws::body::Body;
 use ulfm_laws::ctx_mask::CtxMask;
 use ulfm_laws::known::Known;
 use ulfm_laws::meld::Packed;
+use ulfm_laws::summary::Summary;
 use ulfm_model::contribution::{Contribution, MarkCount, Offer, Slot};
 
 /// The word of a slot: bit 0 is 1; bits 1 and 2 tell a mark, a flag and a mask of context ids apart; bits 3 to 13 are how
 /// many failures it knows of; bits 14 to 24 how many of them are acknowledged, 2047 in a mark; bits 25 to 56 the payload.
+#[inline(always)]
 pub fn slot_word<P: Packed>(slot: &Slot<P>) -> u64
     ensures { result ≡ word_of_slot P.pack slot.now }
 {
@@ -27,6 +32,7 @@ pub fn slot_word<P: Packed>(slot: &Slot<P>) -> u64
 
 /// What stands in a slot with this word: none exactly where no slot has the word. A mark with a payload, more failures
 /// acknowledged than known, more than 1024 known and a flag that doesn't unpack are no slot's.
+#[inline(always)]
 pub fn read_slot<P: Packed>(word: u64) -> Option<Slot<P>>
     ensures slot { result ≡ slot_in P.unpack word }
     ensures exactly { IsSome result ↔ IsSlotWord P.unpack word }
@@ -43,6 +49,31 @@ pub fn read_slot<P: Packed>(word: u64) -> Option<Slot<P>>
         1 => given_from(Offer::Flag(P::unpack(payload)?), known, acked),
         2 => given_from(Offer::Ctx(CtxMask { bits: payload }), known, acked),
         _ => None,
+    }
+}
+
+/// What a slot's word says of its round. A mark says nothing, and has acknowledged everyone. Nothing of the word is tested: it
+/// is a slot's.
+#[inline(always)]
+pub(crate) fn summary_in<P: Packed>(word: u64) -> Summary<P>
+    requires { IsSlotWord P.unpack word }
+    ensures { (s : Slot P) → slot_in P.unpack word ≡ Some s → result ≡ summary_of s }
+{
+    let known = (word / 8 % 2048) as u16;
+    let acked = (word / 16_384 % 2048) as u16;
+    let payload = (word / 33_554_432) as u32;
+    let tag = word / 2 % 4;
+    let body = if tag == 0 {
+        Body::Unit
+    } else if tag == 1 {
+        Body::Flag(P::unpack(payload).unwrap())
+    } else {
+        Body::Ctx(CtxMask { bits: payload })
+    };
+    Summary {
+        body,
+        known: Known { count: known },
+        acked: Acked { count: acked },
     }
 }
 

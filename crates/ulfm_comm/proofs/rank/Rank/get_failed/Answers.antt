@@ -41,8 +41,8 @@ returns-clause-group g c =
     found g (goal.at.returns-clause-group g c).After-put_in
     ∙ failed_is g.P.Meld.meld (g.W.Words.name c.args.world.now.words).limits (g.W.Words.sight c.begin.new.pass).seen c.begin.new.self c.args.comm c.in-Some.x.now c.begin.ensures.fits c.in-Some.ensures.held
 
-pub count_in-count-requires : goal.count_in-count-requires
-count_in-count-requires g c =
+pub make_room-requires : goal.make_room-requires
+make_room-requires g c =
     let limits = (g.W.Words.name c.args.world.now.words).limits in
     let look = (g.W.Words.sight c.begin.new.pass).seen in
     subst IsStrictlyIncreasing (sym c.deref.ensures.value) (group_rises g.P.Meld.meld limits look c.begin.new.self c.args.comm _ c.begin.ensures.fits (c.in-Some.ensures.held ∙ ap Some (sym c.x.view_is)))

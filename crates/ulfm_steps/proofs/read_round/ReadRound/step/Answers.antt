@@ -5,8 +5,8 @@ use Rattle.ulfm_words.proofs.Trails.{did_prefix}
 use Rattle.ulfm_steps.proofs.Reading.{has_at, member_within, summed_later, summed_push, take_one_more}
 use Rattle.ulfm_steps.proofs.read_round.ReadRound.step.Goals as goal
 
-pub load_slot-requires-clause-within : goal.load_slot-requires-clause-within
-load_slot-requires-clause-within g c =
+pub load_summary-requires-clause-within : goal.load_summary-requires-clause-within
+load_summary-requires-clause-within g c =
     let old = (g.W.Words.sight c.args.pass.now).seen in
     member_within (g.W.Words.name c.args.words.now).limits g.P.Meld.meld old c.args.self.now.comm c.args.self.now.round (slice_index_or c.args.group.now c.args.self.now.read 0) c.args.group.now
     c.requires.of.legal c.requires.of.may_open c.requires.round (has_at c.args.group.now c.args.self.now.read 0 c.requires.more)
@@ -14,18 +14,19 @@ load_slot-requires-clause-within g c =
 pub returns-in-None-clause-read : goal.returns-in-None-clause-read
 returns-in-None-clause-read g c =
     let old = (g.W.Words.sight c.args.pass.now).seen in
-    let new = (g.W.Words.sight c.load_slot.new.pass).seen in
-    summed_later g.P.Meld.meld old new c.args.self.now.comm c.args.self.now.round (take c.args.self.now.read c.args.group.now) c.args.self.now.all (did_prefix g.W.Words.alone _ old new c.load_slot.ensures.loads.did) c.requires.read
+    let new = (g.W.Words.sight c.load_summary.new.pass).seen in
+    summed_later g.P.Meld.meld old new c.args.self.now.comm c.args.self.now.round (take c.args.self.now.read c.args.group.now) c.args.self.now.all (did_prefix g.W.Words.alone _ old new c.load_summary.ensures.loads.did) c.requires.read
 
 pub returns-in-Some-clause-read : goal.returns-in-Some-clause-read
 returns-in-Some-clause-read g c =
     let old = (g.W.Words.sight c.args.pass.now).seen in
-    let new = (g.W.Words.sight c.load_slot.new.pass).seen in
+    let new = (g.W.Words.sight c.load_summary.new.pass).seen in
     let comm = c.args.self.now.comm in
     let round = c.args.self.now.round in
     let done = take c.args.self.now.read c.args.group.now in
     let r = slice_index_or c.args.group.now c.args.self.now.read 0 in
-    let later = summed_later g.P.Meld.meld old new comm round done c.args.self.now.all (did_prefix g.W.Words.alone _ old new c.load_slot.ensures.loads.did) c.requires.read in
-    let more = summed_push g.P.Meld.meld g.met.P.Meld.lawful new comm round done c.args.self.now.all r c.in-Some.slot later (sym c.load_slot.ensures.slot ∙ c.in-Some.is) in
-    let is : c.meld-self.result ≡ summary_meld g.P.Meld.meld c.args.self.now.all (summary_of c.in-Some.slot) = c.meld-self.ensures ∙ ap (summary_meld g.P.Meld.meld c.args.self.now.all) c.summary_from.ensures in
+    let later = summed_later g.P.Meld.meld old new comm round done c.args.self.now.all (did_prefix g.W.Words.alone _ old new c.load_summary.ensures.loads.did) c.requires.read in
+    let slot = c.in-Some.ensures.summary in
+    let more = summed_push g.P.Meld.meld g.met.P.Meld.lawful new comm round done c.args.self.now.all r slot.0 later slot.1 in
+    let is : c.meld-self.result ≡ summary_meld g.P.Meld.meld c.args.self.now.all (summary_of slot.0) = c.meld-self.ensures ∙ ap (summary_meld g.P.Meld.meld c.args.self.now.all) slot.2 in
     rw (is, take_one_more c.args.group.now c.args.self.now.read 0 c.requires.more) more
