@@ -18,6 +18,7 @@ impl<P: Packed, A: Allocator> Rank<P, A> {
     ///
     /// `SelfFailed` where the rank is declared, `NoSuchComm` where it doesn't hold the communicator, `WorldKept` where it is
     /// the world's own, `Busy` where a request is open on it.
+    #[inline(never)]
     pub fn free<W: Words<P, A>>(
         &mut self,
         world: &World<W, P, A>,

@@ -26,6 +26,7 @@ impl<P: Packed, A: Allocator> Rank<P, A> {
     /// ids to one shrink at a time, `RoundsUsedUp` where no round is left. Then `SelfFailed` where another rank's mark came
     /// before the contribution, and `Twice` where another contribution stands at the rank's place. After a refusal no
     /// request was started.
+    #[inline(never)]
     pub fn ishrink<W: Words<P, A>>(
         &mut self,
         world: &World<W, P, A>,
