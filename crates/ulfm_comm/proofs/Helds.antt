@@ -1,10 +1,15 @@
 -- The communicators that a rank holds, by their places.
-use Rattle.std.proofs.Common.{◌≡◌, ℕ, zero, suc, ◌<◌, ◌≤◌, ◌==◌, Bool, true, false, cond, List, [], ◌∷◌, length, Some, None, slice_get, slice_index_or, slice_set, refl, ap, sym, ◌∙◌, arith}
-use Rattle.std.specs.List.{AllByRecursion, find, position, position_or_len}
+use Rattle.std.proofs.Common.{◌≡◌, ℕ, zero, suc, ◌<◌, ◌≤◌, ◌==◌, Bool, true, false, cond, List, [], ◌∷◌, filter, length, nat_eq, Some, None, slice_get, slice_index_or, slice_set, refl, ap, sym, ◌∙◌, subst, arith}
+use Rattle.std.specs.List.{AllByRecursion, IsDistinct, find, position, position_or_len}
 use Rattle.std.proofs.lemmas.List.Quantifiers.{position-Some}
 use Rattle.std.proofs.lemmas.List.Folds.{find_at}
 use Rattle.std.proofs.lemmas.Grind.{common_steps}
-use Rattle.ulfm_model.specs.Records.{Held, change_at}
+use Rattle.std.proofs.lemmas.Map.Keys.{IsDistinct-cons}
+use Rattle.ulfm_model.specs.declared.{call.Request.{Request}, call.Request.TheVariants.{Agree, Shrink, Barrier}, limits.Limits.{Limits}}
+use Rattle.ulfm_model.specs.{Answers.{opened}, Records.{Held, change_at}, Words.{MayOpen}}
+use Rattle.ulfm_model.proofs.Terms.{contexts_of}
+use Rattle.ulfm_model.proofs.{LeftHeld.{distinct_kept}, Lists.{each_filter}}
+use Rattle.ulfm_comm.specs.Ranks.{HasRoom, IsAgreement}
 use Rattle.ulfm_comm.proofs.InOrder.{found_at}
 
 -- whether a communicator has this number
@@ -53,3 +58,53 @@ each_changed Q c f keeps [] all = tt
 each_changed Q c f keeps (x ∷ xs) all =
     let rest = each_changed Q c f keeps xs all.1 in
     elim (is_of c x) as (λ b. AllByRecursion Q (cond b (f x ∷ xs) (x ∷ change_at c f xs))) [ true ↦ (keeps x all.0, all.1) | false ↦ (all.0, rest) ]
+
+-- a change that keeps each context id keeps all of them
+contexts_changed : (c : ℕ) (f : Held → Held) → ((y : Held) → (f y).context ≡ y.context) → (xs : List Held) → contexts_of (change_at c f xs) ≡ contexts_of xs
+contexts_changed c f same [] = refl
+contexts_changed c f same (x ∷ xs) =
+    let rest = contexts_changed c f same xs in
+    elim (is_of c x) as (λ b. contexts_of (cond b (f x ∷ xs) (x ∷ change_at c f xs)) ≡ x.context ∷ contexts_of xs)
+    [ true ↦ ap (λ i. i ∷ contexts_of xs) (same x) | false ↦ ap (λ ids. x.context ∷ ids) rest ]
+
+-- a rank that holds one communicator, with no request
+pub room_new : (limits : Limits) (capacity : ℕ) (x : Held) → MayOpen limits → limits.ranks ≤ capacity → x.request ≡ None → HasRoom limits capacity (x ∷ [])
+unfolding IsDistinct
+room_new limits capacity x may_open room idle =
+    record { may_open = may_open; room = room; requests = (subst IsAgreement (sym idle) tt, tt); contexts = IsDistinct-cons nat_eq x.context [] tt tt }
+
+-- a change that leaves an agree or a shrink open, or nothing, and keeps the context id, keeps what a rank keeps
+pub room_changed : (limits : Limits) (capacity c : ℕ) (f : Held → Held) (xs new : List Held) → HasRoom limits capacity xs → ((y : Held) → IsAgreement y.request → IsAgreement (f y).request) → ((y : Held) → (f y).context ≡ y.context) → new ≡ change_at c f xs
+    → HasRoom limits capacity new
+room_changed limits capacity c f xs new old requests contexts is =
+    subst (HasRoom limits capacity) (sym is) (record {
+      may_open = old.may_open;
+      room = old.room;
+      requests = each_changed (λ x. IsAgreement x.request) c f requests xs old.requests;
+      contexts = subst (IsDistinct nat_eq) (sym (contexts_changed c f contexts xs)) old.contexts;
+    })
+
+-- an agree or a shrink is opened
+pub room_opened : (limits : Limits) (capacity c : ℕ) (request : Request) (xs new : List Held) → HasRoom limits capacity xs → IsAgreement (Some request) → new ≡ change_at c (λ y. opened y (Some request)) xs → HasRoom limits capacity new
+room_opened limits capacity c (Agree k) xs new old agreement is = room_changed limits capacity c (λ y. opened y (Some (Agree k))) xs new old (λ y was. tt) (λ y. refl) is
+room_opened limits capacity c (Shrink k) xs new old agreement is = room_changed limits capacity c (λ y. opened y (Some (Shrink k))) xs new old (λ y was. tt) (λ y. refl) is
+room_opened limits capacity c (Barrier k) xs new old agreement is = absurd agreement
+
+-- changes that do the same to the one that is found
+pub change_alike : (xs : List Held) (c : ℕ) (x : Held) (f g : Held → Held) → find (is_of c) xs ≡ Some x → f x ≡ g x → change_at c f xs ≡ change_at c g xs
+change_alike [] c x f g at same = refl
+change_alike (y ∷ xs) c x f g at same = go (is_of c y) at (λ more. change_alike xs c x f g more same)
+  where
+    go : (b : Bool) → cond b (Some y) (find (is_of c) xs) ≡ Some x → (find (is_of c) xs ≡ Some x → change_at c f xs ≡ change_at c g xs) → cond b (f y ∷ xs) (y ∷ change_at c f xs) ≡ cond b (g y ∷ xs) (y ∷ change_at c g xs)
+    go true here rest = let is : y ≡ x = cc here in ap (λ z. z ∷ xs) (subst (λ z. f z ≡ g z) (sym is) same)
+    go false more rest = ap (λ zs. y ∷ zs) (rest more)
+
+-- what a rank keeps is kept where it holds fewer communicators
+pub room_kept : (limits : Limits) (capacity : ℕ) (p : Held → Bool) (xs new : List Held) → HasRoom limits capacity xs → new ≡ filter p xs → HasRoom limits capacity new
+room_kept limits capacity p xs new old is =
+    subst (HasRoom limits capacity) (sym is) (record {
+      may_open = old.may_open;
+      room = old.room;
+      requests = each_filter p (λ x. IsAgreement x.request) xs old.requests;
+      contexts = distinct_kept p xs old.contexts;
+    })

@@ -31,3 +31,7 @@ module _ {P : Type 0} (meld : P → P → P) (limits : Limits) (h : History P) (
   -- the communicator exists
   pub exists_is : Exists h c
   exists_is = subst (Exists h) comm_is holds.exists
+
+  -- it is found by its own number
+  pub found_there : held_at own x.comm ≡ Some x
+  found_there = subst (λ w. held_at own w ≡ Some x) (sym comm_is) held

@@ -1,7 +1,9 @@
 pub mod Acks
-pub mod Agrees
 pub mod Calling
+pub mod Contexts
+pub mod Excluding
 pub mod Failing
+pub mod Freeing
 pub mod Helds
 pub mod Holding
 pub mod InOrder
@@ -10,3 +12,5 @@ pub mod Opening
 pub mod Passing
 pub mod Polls
 pub mod Replying
+pub mod Starts
+pub mod Tested

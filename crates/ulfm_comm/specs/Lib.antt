@@ -2,6 +2,8 @@ pub mod Looked
 pub mod Ends
 pub mod Ranks
 pub mod Calls
+pub mod Starts
+pub mod Excludes
 pub mod Polls
 pub mod Fails
 pub mod Jobs

@@ -1,38 +1,17 @@
-ghost use Rattle.std.specs.Prelude.{◌≡◌, ◌≤◌};
 ghost use Rattle.ulfm_model.specs.Records.{Fits};
 ghost use Rattle.ulfm_model.specs.declared.call.Call.TheVariants.{Agree as Asked};
-ghost use Rattle.ulfm_model.specs.declared.contribution.Offer.TheVariants.{Flag as OfFlag};
 ghost use Rattle.ulfm_model.specs.declared.reply.Reply.TheVariants.{Started};
 ghost use Rattle.ulfm_words.specs.Steps.{IsOf};
 ghost use Rattle.ulfm_comm.specs.Calls.{Calls, reply_of};
 
-use crate::groups::count_in;
 use crate::rank::Rank;
 use crate::world::World;
 use std::alloc::Allocator;
-use ulfm_laws::acked::Acked;
-use ulfm_laws::known::Known;
 use ulfm_laws::meld::Packed;
-use ulfm_model::contribution::{Contribution, Offer, Slot};
+use ulfm_model::call::Request;
+use ulfm_model::contribution::Offer;
 use ulfm_model::refusal::Refusal;
-use ulfm_steps::Settle;
 use ulfm_words::Words;
-
-// A flag with these counts of failures.
-fn contribution<P: Packed>(value: P, known: usize, acked: u16) -> Contribution<P>
-    requires known { known ≤ 1024 }
-    requires acked { acked ≤ known }
-    ensures offer { result.offer ≡ OfFlag value }
-    ensures known { result.known.count ≡ known }
-    ensures acked { result.acked.count ≡ acked }
-{
-    let count = known as u16;
-    Contribution {
-        offer: Offer::Flag(value),
-        known: Known { count },
-        acked: Acked { count: acked },
-    }
-}
 
 impl<P: Packed, A: Allocator> Rank<P, A> {
     /// Starts an agree on a flag, in the rank's next agreement round of the communicator: the rank contributes the flag,
@@ -66,25 +45,7 @@ impl<P: Packed, A: Allocator> Rank<P, A> {
         if u32::from(round) + 1 >= u32::from(world.words.limits().rounds) {
             return Err(Refusal::RoundsUsedUp);
         }
-        let known = count_in(&x.group, self.failures());
-        let given = contribution(value, known, x.acked);
-        let rank = self.number();
-        let settle = Settle {
-            comm,
-            round,
-            rank,
-            given,
-        };
-        match settle.finish(&world.words, pass) {
-            Ok(()) => {
-                self.open_agree(comm);
-                Ok(())
-            }
-            Err(Slot::Mark(_)) => {
-                self.refuse();
-                Err(Refusal::SelfFailed)
-            }
-            Err(Slot::Given(_)) => Err(Refusal::Twice),
-        }
+        let settled = self.contribute(world, pass, x, Offer::Flag(value));
+        self.end_start(comm, Request::Agree { round }, settled)
     }
 }

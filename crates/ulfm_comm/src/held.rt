@@ -1,7 +1,8 @@
-ghost use Rattle.std.specs.Prelude.{◌≡◌, ◌==◌, ◌<◌, ◌^◌, ◌+◌, Some, None, position, find, IfSome};
-ghost use Rattle.ulfm_model.specs.Records.{change_at};
+ghost use Rattle.std.specs.Prelude.{◌≡◌, ◌==◌, Some, None, filter, not, position};
+ghost use Rattle.std.specs.List.{list_any};
+ghost use Rattle.ulfm_model.specs.Records.{change_at, is_shrink};
 ghost use Rattle.ulfm_model.specs.Answers.{opened};
-ghost use Rattle.ulfm_model.specs.declared.call.Request.TheVariants.{Agree as AgreeOpen};
+ghost use Rattle.ulfm_comm.specs.Starts.{HasNext};
 
 use std::alloc::Allocator;
 use std::marker::Model;
@@ -48,16 +49,26 @@ pub(crate) fn acknowledge<A: Allocator>(held: &mut Vec<HeldComm<A>, A>, comm: u1
     }
 }
 
-// An agree is open, and its round is used up.
-pub(crate) fn open_agree<A: Allocator>(held: &mut Vec<HeldComm<A>, A>, comm: u16)
-    requires { IfSome (find (λ x. x.comm == comm) held.old.items) (λ x. x.next_agreement + 1 < 2 ^ 16) }
-    ensures { held.new.items ≡ change_at comm (λ y. opened y (Some (AgreeOpen y.next_agreement))) held.old.items }
+// A request is open on a communicator, and its round is used up.
+fn open_on<A: Allocator>(x: &mut HeldComm<A>, request: Request)
+    requires { HasNext request }
+    ensures { x.new ≡ opened x.old (Some request) }
+{
+    match request {
+        Request::Agree { round } | Request::Shrink { round } => x.next_agreement = round + 1,
+        Request::Barrier { round } => x.next_barrier = round + 1,
+    }
+    x.request = Some(request);
+}
+
+// A request is open, and its round is used up.
+pub(crate) fn open<A: Allocator>(held: &mut Vec<HeldComm<A>, A>, comm: u16, request: Request)
+    requires { HasNext request }
+    ensures { held.new.items ≡ change_at comm (λ y. opened y (Some request)) held.old.items }
 {
     if let Some(i) = place_of(held, comm) {
         let x = &mut held[i];
-        let round = x.next_agreement;
-        x.next_agreement = round + 1;
-        x.request = Some(Request::Agree { round });
+        open_on(x, request);
     }
 }
 
@@ -69,4 +80,28 @@ pub(crate) fn close<A: Allocator>(held: &mut Vec<HeldComm<A>, A>, comm: u16)
         let x = &mut held[i];
         x.request = None;
     }
+}
+
+// Whether a request is a shrink.
+fn is_shrink(request: Option<Request>) -> bool
+    ensures { result ≡ is_shrink request }
+{
+    match request {
+        Some(Request::Shrink { .. }) => true,
+        _ => false,
+    }
+}
+
+// Whether a shrink is open on one of these.
+pub(crate) fn is_shrinking<A: Allocator>(held: &[HeldComm<A>]) -> bool
+    ensures { result ≡ list_any (λ x. is_shrink x.request) held.now }
+{
+    held.iter().any(|x| is_shrink(x.request))
+}
+
+// The communicator of this number isn't held any more.
+pub(crate) fn release<A: Allocator>(held: &mut Vec<HeldComm<A>, A>, comm: u16)
+    ensures { held.new.items ≡ filter (λ x. not (x.comm == comm)) held.old.items }
+{
+    held.retain(|x| x.comm != comm);
 }

@@ -6,13 +6,17 @@ mod agree;
 mod answers;
 mod begin;
 mod fail;
+mod free;
 mod get;
 mod groups;
 mod held;
+mod ids;
 pub mod job;
 mod poll;
 pub mod polled;
 pub mod rank;
+mod shrink;
+mod start;
 pub mod world;
 
 pub use job::Job;

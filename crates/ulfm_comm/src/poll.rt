@@ -5,7 +5,7 @@ ghost use Rattle.ulfm_model.specs.declared.call.Request.TheVariants.{Agree as Ag
 ghost use Rattle.ulfm_words.specs.Steps.{IsOf};
 ghost use Rattle.ulfm_comm.specs.Calls.{Calls, reply_of};
 ghost use Rattle.ulfm_comm.specs.Polls.{polled, EndsIn};
-ghost use Rattle.ulfm_comm.specs.Ranks.{IsAgree};
+ghost use Rattle.ulfm_comm.specs.Ranks.{IsAgreement};
 
 use crate::polled::Polled;
 use crate::rank::Rank;
@@ -21,7 +21,7 @@ use ulfm_words::Words;
 
 // The round of an open agree.
 fn agree_round(request: Option<Request>) -> Option<u16>
-    requires { IsAgree request }
+    requires { IsAgreement request }
     ensures { MatchOption result (request ≡ None) (λ k. request ≡ Some (AgreeOpen k)) }
 {
     match request {

@@ -1,16 +1,19 @@
-ghost use Rattle.std.specs.Prelude.{◌≡◌, ◌+◌, ◌<◌, ◌^◌, true, Some, None, MatchOption, IfSome, IfOk};
-ghost use Rattle.ulfm_model.specs.Records.{Held, held_at, new_record, with_held};
+ghost use Rattle.std.specs.Prelude.{◌≡◌, ◌==◌, true, filter, map, nat_eq, not, Some, None, MatchOption, IfSome, IfOk};
+ghost use Rattle.std.specs.List.{IsDistinct, list_any};
+ghost use Rattle.ulfm_model.specs.Records.{Held, free_ids, held_at, is_shrink, new_record, with_held};
 ghost use Rattle.ulfm_model.specs.History.{failures, first_ranks, has};
 ghost use Rattle.ulfm_model.specs.Words.{MayOpen};
 ghost use Rattle.ulfm_model.specs.Answers.{closed, opened};
 ghost use Rattle.ulfm_words.specs.Steps.{IsOf, Goes};
-ghost use Rattle.ulfm_comm.specs.Ranks.{IsAgree};
-ghost use Rattle.ulfm_model.specs.declared.call.Request.TheVariants.{Agree as AgreeOpen};
+ghost use Rattle.ulfm_comm.specs.Ranks.{IsAgreement};
+ghost use Rattle.ulfm_comm.specs.Starts.{HasNext};
 
 use crate::groups::has_rank;
 use crate::held::{self, HeldComm, place_of};
+use crate::ids::free_ids;
 use std::alloc::{AllocError, Allocator};
 use std::marker::{Model, PhantomData};
+use ulfm_laws::ctx_mask::CtxMask;
 use ulfm_laws::meld::Packed;
 use ulfm_model::call::Request;
 use ulfm_model::limits::Limits;
@@ -94,7 +97,8 @@ impl<P: Packed, A: Allocator> Rank<P, A> {
     /// The communicator of this number, if the rank holds it.
     pub(crate) fn held(&self, comm: u16) -> Option<&HeldComm<A>>
         ensures held { MatchOption result (held_at self.now comm ≡ None) (λ x. held_at self.now comm ≡ Some x.now) }
-        ensures agree { IfSome result (λ x. IsAgree x.now.request) }
+        ensures agreement { IfSome result (λ x. IsAgreement x.now.request) }
+        ensures contexts { IsDistinct nat_eq (map (λ x. x.context) self.now.held) }
     {
         match place_of(&self.held, comm) {
             Some(i) => Some(&self.held[i]),
@@ -110,9 +114,10 @@ impl<P: Packed, A: Allocator> Rank<P, A> {
         Some(&x.group)
     }
 
-    /// The context id of a communicator that it holds, 0 to 31. It is no step.
+    /// The context id of a communicator that it holds, 0 to 31. No two that it holds have the same. It is no step.
     pub fn context(&self, comm: u16) -> Option<u8>
-        ensures { MatchOption result (held_at self.now comm ≡ None) (λ id. (x : Held) × (held_at self.now comm ≡ Some x) × (id ≡ x.context)) }
+        ensures distinct { IsDistinct nat_eq (map (λ x. x.context) self.now.held) }
+        ensures id { MatchOption result (held_at self.now comm ≡ None) (λ id. (x : Held) × (held_at self.now comm ≡ Some x) × (id ≡ x.context)) }
     {
         let x = self.held(comm)?;
         Some(x.context)
@@ -153,12 +158,27 @@ impl<P: Packed, A: Allocator> Rank<P, A> {
         held::acknowledge(&mut self.held, comm, count);
     }
 
-    // An agree is open on a communicator, and its round is used up.
-    pub(crate) fn open_agree(&mut self, comm: u16)
-        requires { IfSome (held_at self.old comm) (λ x. x.next_agreement + 1 < 2 ^ 16) }
-        ensures { self.new ≡ with_held self.old comm (λ y. opened y (Some (AgreeOpen y.next_agreement))) }
+    // Whether it has a shrink open.
+    pub(crate) fn is_shrinking(&self) -> bool
+        ensures { result ≡ list_any (λ x. is_shrink x.request) self.now.held }
     {
-        held::open_agree(&mut self.held, comm);
+        held::is_shrinking(&self.held)
+    }
+
+    // The context ids that none of its communicators has.
+    pub(crate) fn free_ids(&self) -> CtxMask
+        ensures { result ≡ free_ids self.now.held }
+    {
+        free_ids(&self.held)
+    }
+
+    // A request is open on a communicator, and its round is used up.
+    pub(crate) fn open(&mut self, comm: u16, request: Request)
+        requires agreement { IsAgreement (Some request) }
+        requires next { HasNext request }
+        ensures { self.new ≡ with_held self.old comm (λ y. opened y (Some request)) }
+    {
+        held::open(&mut self.held, comm, request);
     }
 
     // No request is open on a communicator.
@@ -166,5 +186,12 @@ impl<P: Packed, A: Allocator> Rank<P, A> {
         ensures { self.new ≡ closed self.old comm }
     {
         held::close(&mut self.held, comm);
+    }
+
+    // It doesn't hold the communicator of this number any more.
+    pub(crate) fn release(&mut self, comm: u16)
+        ensures { self.new ≡ record self.old { held = filter (λ x. not (x.comm == comm)) self.old.held } }
+    {
+        held::release(&mut self.held, comm);
     }
 }

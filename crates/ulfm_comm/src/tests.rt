@@ -16,6 +16,7 @@ use ulfm_model::call::Call;
 use ulfm_model::contribution::{Contribution, Offer};
 use ulfm_model::event::{Caller, Entry, Event};
 use ulfm_model::limits::Limits;
+use ulfm_model::place::Place;
 use ulfm_model::refusal::Refusal;
 use ulfm_model::reply::Reply;
 use ulfm_steps::Intruder;
@@ -319,5 +320,48 @@ fn own_place_is_taken(rt: HostRuntime) -> Result<(), Fail> {
     pass.wait(1);
     let refused = own.iagree(&world, &mut pass, 0, FlagAnd { bits: 0x3 });
     assert!(rt; refused == Err(Refusal::Twice));
+    Ok(())
+}
+
+#[test]
+fn shrink_offers_free_ids(rt: HostRuntime) -> Result<(), Fail> {
+    let words = PlainWords::<FlagAnd>::open(THREE)?;
+    let (world, mut ranks) = World::open(rt.alloc(), words)?;
+    let mut pass = world.pass(rt.alloc())?;
+    assert!(rt; ranks.len() == 3);
+    let own = &mut ranks[0];
+    assert!(rt; declare(&world, &mut pass, own, 1) == Ok(true));
+    assert!(rt; own.ishrink(&world, &mut pass, 1) == Err(Refusal::NoSuchComm));
+    assert!(rt; own.ishrink(&world, &mut pass, 0) == Ok(()));
+    let comm = 0;
+    let round = 0;
+    let rank = 0;
+    let place = Place::Slot { comm, round, rank };
+    // All ids but 0, one failure that is known, and none that is acknowledged.
+    assert_eq!(rt; world.words.load(&mut pass, place), 0x01ff_ffff_fc00_000d);
+    assert!(rt; own.ishrink(&world, &mut pass, 0) == Err(Refusal::Busy));
+    assert!(rt; own.free(&world, &mut pass, 1) == Err(Refusal::NoSuchComm));
+    assert!(rt; own.free(&world, &mut pass, 0) == Err(Refusal::WorldKept));
+    Ok(())
+}
+
+#[test]
+fn last_round_is_kept_for_a_shrink(rt: HostRuntime) -> Result<(), Fail> {
+    let limits = Limits {
+        ranks: 2,
+        comms: 1,
+        rounds: 1,
+    };
+    let words = PlainWords::<FlagAnd>::open(limits)?;
+    let (world, mut ranks) = World::open(rt.alloc(), words)?;
+    let mut pass = world.pass(rt.alloc())?;
+    assert!(rt; ranks.len() == 2);
+    let own = &mut ranks[0];
+    let refused = own.iagree(&world, &mut pass, 0, FlagAnd { bits: 0x3 });
+    assert!(rt; refused == Err(Refusal::RoundsUsedUp));
+    assert!(rt; own.ishrink(&world, &mut pass, 0) == Ok(()));
+    assert!(rt; declare(&world, &mut pass, own, 0) == Ok(true));
+    assert!(rt; own.ishrink(&world, &mut pass, 0) == Err(Refusal::SelfFailed));
+    assert!(rt; own.free(&world, &mut pass, 1) == Err(Refusal::SelfFailed));
     Ok(())
 }

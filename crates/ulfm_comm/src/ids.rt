@@ -1,0 +1,32 @@
+// Context ids that a rank's communicators leave free.
+ghost use Rattle.std.specs.Prelude.{◌≡◌};
+ghost use Rattle.ulfm_model.specs.Records.{all_but, free_ids};
+
+use crate::held::HeldComm;
+use std::alloc::Allocator;
+use ulfm_laws::ctx_mask::CtxMask;
+use ulfm_laws::meld::Meld;
+
+// All context ids but one.
+fn all_but(id: u8) -> CtxMask
+    ensures { result ≡ all_but id }
+{
+    if id < 32 {
+        CtxMask {
+            bits: u32::MAX - (1 << id),
+        }
+    } else {
+        CtxMask { bits: 0 }
+    }
+}
+
+// The context ids that none of these communicators has.
+pub(crate) fn free_ids<A: Allocator>(held: &[HeldComm<A>]) -> CtxMask
+    ensures { result ≡ free_ids held.now }
+{
+    let mut free = CtxMask::unit();
+    for x in held {
+        free = free.meld(&all_but(x.context));
+    }
+    free
+}
