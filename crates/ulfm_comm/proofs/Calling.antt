@@ -1,9 +1,11 @@
 -- What a call promises, by its run.
-use Rattle.std.proofs.Common.{◌≡◌, Bool, true, false, [], None, refl, ap, sym, ◌∙◌, subst, append-nil, inl, IsTrue}
-use Rattle.ulfm_model.specs.declared.{call.Call.{Call}, refusal.Refusal.TheVariants.{NoSuchComm, SelfFailed}, reply.Reply.{Reply}, reply.Reply.TheVariants.{Refused}}
-use Rattle.ulfm_model.specs.{Answers.{Sees, polled_by, refusal_of}, History.{failures, has}, Records.{Fits, Record, held_at, is_shrink}, Runs.{Did}}
+use Rattle.std.proofs.Common.{◌≡◌, Bool, true, false, List, [], None, refl, ap, sym, ◌∙◌, subst, append-nil, inl, IsTrue}
+use Rattle.std.specs.List.{AllByRecursion}
+use mathlib.Core.List.{IsPrefix}
+use Rattle.ulfm_model.specs.declared.{call.Call.{Call}, event.Caller.TheVariants.{Rank}, event.Event.{Event}, refusal.Refusal.TheVariants.{NoSuchComm, SelfFailed}, reply.Reply.{Reply}, reply.Reply.TheVariants.{Refused}}
+use Rattle.ulfm_model.specs.{Answers.{MayOwn, Sees, polled_by, refusal_of}, History.{History, entries_by, failures, has, spawns}, Records.{Fits, Record, held_at, is_shrink}, Runs.{Did}}
 use Rattle.ulfm_model.proofs.Terms.{comm_of}
-use Rattle.ulfm_model.proofs.{LeftFits.{fits_seen}, LeftRuns.{call_fits}, Stable.{fits_stays}}
+use Rattle.ulfm_model.proofs.{LeftFits.{fits_seen}, LeftRuns.{call_fits}, Lists.{prefix_trans}, Stable.{fits_stays}}
 use Rattle.ulfm_words.specs.Steps.{IsOf, Name, Sight}
 use Rattle.ulfm_words.proofs.Trails.{did_none, did_prefix}
 use Rattle.ulfm_comm.specs.{Calls.{Calls, RunsOut}, Ends.{IsEndRun}, Looked.{Looked}}
@@ -41,35 +43,49 @@ module _ {P : Type 0} (meld : P → P → P) (alone : Bool) (name : Name) (befor
   calls_missing asked old mid of fits looked missing =
       calls_is asked old (Refused NoSuchComm) mid of fits (refused_missing meld name.limits alone before.seen after.seen old mid looked asked mid of.legal missing refl)
 
+  -- a call that ran out of memory, of a rank that has then seen so much
+  pub runs_out_after : (asked : Call P) (old new : Record) (look : History P) (own : List (Event P)) → IsOf meld name after → Fits meld name.limits before.seen old → Looked alone before.seen look old (record old { seen = failures look })
+      → Did alone (entries_by (Rank old.number) own) look after.seen → refusal_of old asked ≡ None → AllByRecursion (MayOwn (failures look) old asked) own → spawns (entries_by (Rank old.number) own) ≡ []
+      → Sees (is_shrink (polled_by old asked)) (view_at meld name.limits alone before.seen look old after.seen own) new.seen → IsPrefix new.seen (failures after.seen) → new ≡ record old { seen = new.seen } → RunsOut meld alone name asked old before new after
+  runs_out_after asked old new look own of fits looked did passed may none sees begins is =
+      let to_look = did_prefix alone [] before.seen look looked.did in
+      let to_end = did_prefix alone (entries_by (Rank old.number) own) look after.seen did in
+      let whole = prefix_trans before.seen look after.seen to_look to_end in
+      let still = fits_stays meld name.limits before.seen after.seen old whole of.legal fits in
+      record {
+        of = of;
+        fits = subst (Fits meld name.limits after.seen) (sym is) (fits_seen meld name.limits after.seen old new.seen still begins);
+        run_out = record {
+          in_use = looked.in_use;
+          span = record {
+            look = look;
+            point = after.seen;
+            own = own;
+            looked = looked.did;
+            did = did;
+            point_begins = whole;
+            point_ends = ([], append-nil after.seen);
+            legal = of.legal;
+          };
+          not_declared = looked.not_declared;
+          not_refused = passed;
+          own = may;
+          makes_none = none;
+          sees = sees;
+          record_is = is;
+        };
+      }
+
   -- a call that ran out of memory right after its look
   pub runs_out : (asked : Call P) (old mid : Record) → IsOf meld name after → Fits meld name.limits before.seen old → Looked alone before.seen after.seen old mid → refusal_of old asked ≡ None
       → RunsOut meld alone name asked old before mid after
   runs_out asked old mid of fits looked passed =
       let seen : mid.seen ≡ failures after.seen = ap (λ (w : Record). w.seen) looked.record_is in
       let view = view_at meld name.limits alone before.seen after.seen old after.seen [] in
-      record {
-        of = of;
-        fits = looked_fits old mid of fits looked;
-        run_out = record {
-          in_use = looked.in_use;
-          span = record {
-            look = after.seen;
-            point = after.seen;
-            own = [];
-            looked = looked.did;
-            did = did_none alone after.seen;
-            point_begins = did_prefix alone [] before.seen after.seen looked.did;
-            point_ends = ([], append-nil after.seen);
-            legal = of.legal;
-          };
-          not_declared = looked.not_declared;
-          not_refused = passed;
-          own = tt;
-          makes_none = refl;
-          sees = subst (Sees (is_shrink (polled_by old asked)) view) (sym seen) (sees_look (is_shrink (polled_by old asked)) view ([], append-nil (failures after.seen)));
-          record_is = looked.record_is ∙ ap (λ s. record old { seen = s }) (sym seen);
-        };
-      }
+      let all : IsPrefix (failures after.seen) (failures after.seen) = ([], append-nil (failures after.seen)) in
+      runs_out_after asked old mid after.seen [] of fits (record { in_use = looked.in_use; did = looked.did; not_declared = looked.not_declared; record_is = refl }) (did_none alone after.seen) passed tt refl
+      (subst (Sees (is_shrink (polled_by old asked)) view) (sym seen) (sees_look (is_shrink (polled_by old asked)) view all))
+      (subst (λ s. IsPrefix s (failures after.seen)) (sym seen) all) (looked.record_is ∙ ap (λ s. record old { seen = s }) (sym seen))
 
 module _ {P : Type 0} (meld : P → P → P) (alone : Bool) (name : Name) (pass : Sight P) where
   -- a rank that was refused for good before

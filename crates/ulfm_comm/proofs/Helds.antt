@@ -1,6 +1,7 @@
 -- The communicators that a rank holds, by their places.
-use Rattle.std.proofs.Common.{◌≡◌, ℕ, zero, suc, ◌<◌, ◌≤◌, ◌==◌, Bool, true, false, cond, List, [], ◌∷◌, filter, length, nat_eq, Some, None, slice_get, slice_index_or, slice_set, refl, ap, sym, ◌∙◌, subst, arith}
+use Rattle.std.proofs.Common.{◌≡◌, ℕ, zero, suc, ◌<◌, ◌≤◌, ◌==◌, Bool, true, false, cond, List, [], ◌∷◌, ◌++◌, filter, length, nat_eq, Some, None, slice_get, slice_index_or, slice_set, refl, ap, sym, ◌∙◌, subst, arith}
 use Rattle.std.specs.List.{AllByRecursion, IsDistinct, find, position, position_or_len}
+use Rattle.std.proofs.lemmas.List.{get_or_append_left, set-append_left}
 use Rattle.std.proofs.lemmas.List.Quantifiers.{position-Some}
 use Rattle.std.proofs.lemmas.List.Folds.{find_at}
 use Rattle.std.proofs.lemmas.Grind.{common_steps}
@@ -8,7 +9,7 @@ use Rattle.std.proofs.lemmas.Map.Keys.{IsDistinct-cons}
 use Rattle.ulfm_model.specs.declared.{call.Request.{Request}, call.Request.TheVariants.{Agree, Shrink, Barrier}, limits.Limits.{Limits}}
 use Rattle.ulfm_model.specs.{Answers.{opened}, Records.{Held, change_at}, Words.{MayOpen}}
 use Rattle.ulfm_model.proofs.Terms.{contexts_of}
-use Rattle.ulfm_model.proofs.{LeftHeld.{distinct_kept}, Lists.{each_filter}}
+use Rattle.ulfm_model.proofs.{LeftHeld.{contexts_push, distinct_kept}, Lists.{any_none, distinct_push, each_filter, each_push}}
 use Rattle.ulfm_comm.specs.Ranks.{HasRoom, IsAgreement}
 use Rattle.ulfm_comm.proofs.InOrder.{found_at}
 
@@ -107,4 +108,31 @@ room_kept limits capacity p xs new old is =
       room = old.room;
       requests = each_filter p (λ x. IsAgreement x.request) xs old.requests;
       contexts = distinct_kept p xs old.contexts;
+    })
+
+-- one communicator is changed, and one more is held
+pub change_pushed : (xs pushed : List Held) (made : Held) (c i : ℕ) (d y : Held) (f : Held → Held) → position (is_of c) xs ≡ Some i → pushed ≡ xs ++ made ∷ [] → y ≡ f (slice_index_or pushed i d) → slice_set pushed i y ≡ change_at c f xs ++ made ∷ []
+change_pushed xs pushed made c i d y f at more same =
+    let p = position-Some (is_of c) xs i d in
+    let here = p at in
+    let old : y ≡ f (slice_index_or xs i d) = same ∙ (ap (λ zs. f (slice_index_or zs i d)) more ∙ ap f (get_or_append_left xs (made ∷ []) d i here.0)) in
+    ap (λ zs. slice_set zs i y) more ∙ (set-append_left xs (made ∷ []) i y here.0 ∙ ap (λ zs. zs ++ made ∷ []) (change_is xs c i d y f at old))
+
+-- none is changed, and one more is held
+pub push_missing : (xs pushed : List Held) (made : Held) (c : ℕ) (f : Held → Held) → position (is_of c) xs ≡ None → pushed ≡ xs ++ made ∷ [] → pushed ≡ change_at c f xs ++ made ∷ []
+push_missing xs pushed made c f none more = more ∙ ap (λ zs. zs ++ made ∷ []) (change_missing xs c f none)
+
+-- one communicator more, with a context id that none has
+pub room_pushed : (limits : Limits) (capacity c : ℕ) (f : Held → Held) (made : Held) (xs new : List Held) → HasRoom limits capacity xs → ((y : Held) → IsAgreement y.request → IsAgreement (f y).request) → ((y : Held) → (f y).context ≡ y.context)
+    → IsAgreement made.request → AllByRecursion (λ i. nat_eq i made.context ≡ false) (contexts_of xs) → new ≡ change_at c f xs ++ made ∷ [] → HasRoom limits capacity new
+room_pushed limits capacity c f made xs new old requests contexts quiet fresh is =
+    let rest = room_changed limits capacity c f xs (change_at c f xs) old requests contexts refl in
+    let others = subst (AllByRecursion (λ i. nat_eq i made.context ≡ false)) (sym (contexts_changed c f contexts xs)) fresh in
+    subst (HasRoom limits capacity) (sym is) (record {
+      may_open = rest.may_open;
+      room = rest.room;
+      requests = each_push (λ x. IsAgreement x.request) (change_at c f xs) made rest.requests quiet;
+      contexts =
+          subst (IsDistinct nat_eq) (sym (contexts_push (change_at c f xs) made))
+          (distinct_push nat_eq (contexts_of (change_at c f xs)) made.context rest.contexts (any_none (λ i. nat_eq i made.context) (contexts_of (change_at c f xs)) others));
     })

@@ -1,5 +1,6 @@
 -- A world, all its ranks and one pass, in one hand: what each call is of the whole.
 use Rattle.std.proofs.Common.{◌≡◌, ℕ, ◌<◌, ◌≤◌, Bool, true, false, List, [], get_or, set, length, Some, refl, ap, ap₂, sym, ◌∙◌, subst, arith, append-nil, inl, inr, IsTrue}
+use Rattle.std.specs.Prelude.{Result, Ok, Err, OnErr}
 use Rattle.std.proofs.Math.Seq.{map-set_same}
 use Rattle.std.proofs.lemmas.List.{set-get_or}
 use mathlib.Core.List.{IsPrefix}
@@ -11,6 +12,11 @@ use Rattle.ulfm_model.proofs.{LeftRuns.{call_legal, call_number, fail_fits, fail
 use Rattle.ulfm_words.specs.Steps.{IsOf, Name, Sight}
 use Rattle.ulfm_comm.specs.{Calls.{Calls, EndsBy, RunsOut, is_out_of_memory}, Ends.{IsAloneCall}, Fails.{Fails}, Jobs.{IsJob, StepsBy, state_of}}
 use Rattle.ulfm_comm.proofs.InOrder.{count_is, each_set, number_at, rank_changed, rank_found, rank_missing}
+
+-- what holds anyway holds of an error
+pub at_error : {X E : Type 0} {Q : Type 0} (result : Result X E) → Q → OnErr result Q
+at_error (Ok x) is = tt
+at_error (Err fault) is = is
 
 module _ {P : Type 0} (meld : P → P → P) (alone : Bool) (name : Name) (before : Sight P) (ranks : List Record) (job : IsJob meld name before ranks) where
   -- the record of a rank has changed

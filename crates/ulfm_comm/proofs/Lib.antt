@@ -7,10 +7,16 @@ pub mod Freeing
 pub mod Helds
 pub mod Holding
 pub mod InOrder
+pub mod Handing
 pub mod Jobs
+pub mod LeftOut
+pub mod Members
 pub mod Opening
 pub mod Passing
 pub mod Polls
+pub mod ReadingOn
 pub mod Replying
+pub mod Shrinks
+pub mod Spawning
 pub mod Starts
 pub mod Tested

@@ -45,14 +45,14 @@ module _ {P : Type 0} (meld : P → P → P) (limits : Limits) (alone : Bool) (b
   abbrev pub Marks : Call P → List (Event P) → Type 0
   Marks asked own = IsTrue alone → IsTrue (traits_of asked).polls → IsFalse (has (failures before) old.number) → settled_by own ≡ unsettled_of limits.ranks before (comm_of asked) (polled_by old asked)
 
-  -- a call with its point at its end
-  run_at_end : (after : History P) (own : List (Event P)) (asked : Call P) (reply : Reply P) (new : Record) → IsFalse old.refused → Did alone [] before look
+  -- a call with its point at its end, of a rank that has then seen so much
+  pub run_ends : (after : History P) (own : List (Event P)) (asked : Call P) (reply : Reply P) (new : Record) (seen : List ℕ) → IsFalse old.refused → Did alone [] before look
       → Did alone (entries_by (Rank old.number) own) look after → IsLegal meld limits after → AllByRecursion (MayOwn (failures look) old asked) own
-      → IsSelfFailed (view_at after own) old asked reply ⊎ IsReply meld limits (view_at after own) old asked reply
-      → new ≡ left_by limits.ranks after (record old { seen = failures look }) asked reply → Marks asked own → IsEndRun meld limits alone before after old asked reply new
-  run_at_end after own asked reply new in_use looked did legal may replies is marks =
+      → IsSelfFailed (view_at after own) old asked reply ⊎ IsReply meld limits (view_at after own) old asked reply → Sees (is_shrink (polled_by old asked)) (view_at after own) seen
+      → new ≡ left_by limits.ranks after (record old { seen = seen }) asked reply → Marks asked own → IsEndRun meld limits alone before after old asked reply new
+  run_ends after own asked reply new seen in_use looked did legal may replies sees is marks =
       let begins = did_prefix alone (entries_by (Rank old.number) own) look after did in
-      let seen : new.seen ≡ failures look = ap (λ (w : Record). w.seen) is ∙ left_seen limits.ranks after (record old { seen = failures look }) asked reply in
+      let same : new.seen ≡ seen = ap (λ (w : Record). w.seen) is ∙ left_seen limits.ranks after (record old { seen = seen }) asked reply in
       record {
         run = record {
           in_use = in_use;
@@ -70,14 +70,23 @@ module _ {P : Type 0} (meld : P → P → P) (limits : Limits) (alone : Bool) (b
             own = may;
             replies = replies;
             leaves = record {
-              seen = subst (Sees (is_shrink (polled_by old asked)) (view_at after own)) (sym seen) (sees_look (is_shrink (polled_by old asked)) (view_at after own) (failures_begin look after begins));
-              record_is = is ∙ ap (λ s. left_by limits.ranks after (record old { seen = s }) asked reply) (sym seen);
+              seen = subst (Sees (is_shrink (polled_by old asked)) (view_at after own)) (sym same) sees;
+              record_is = is ∙ ap (λ s. left_by limits.ranks after (record old { seen = s }) asked reply) (sym same);
             };
           };
         };
         at_end = refl;
         marks = marks;
       }
+
+  -- the same, where it has seen what its look found
+  run_at_end : (after : History P) (own : List (Event P)) (asked : Call P) (reply : Reply P) (new : Record) → IsFalse old.refused → Did alone [] before look
+      → Did alone (entries_by (Rank old.number) own) look after → IsLegal meld limits after → AllByRecursion (MayOwn (failures look) old asked) own
+      → IsSelfFailed (view_at after own) old asked reply ⊎ IsReply meld limits (view_at after own) old asked reply
+      → new ≡ left_by limits.ranks after (record old { seen = failures look }) asked reply → Marks asked own → IsEndRun meld limits alone before after old asked reply new
+  run_at_end after own asked reply new in_use looked did legal may replies is marks =
+      run_ends after own asked reply new (failures look) in_use looked did legal may replies
+      (sees_look (is_shrink (polled_by old asked)) (view_at after own) (failures_begin look after (did_prefix alone (entries_by (Rank old.number) own) look after did))) is marks
 
   -- a rank that is declared at the end, in a call that has added nothing; where nobody else steps, and the call is a poll, it was so at the look
   pub self_failed : (after : History P) (asked : Call P) (new : Record) → IsFalse old.refused → Did alone [] before look → Did alone [] look after → IsLegal meld limits after

@@ -5,5 +5,6 @@ pub mod Calls
 pub mod Starts
 pub mod Excludes
 pub mod Polls
+pub mod Shrinks
 pub mod Fails
 pub mod Jobs

@@ -1,7 +1,7 @@
 // Groups of ranks, and which of their members are declared.
-ghost use Rattle.std.specs.Prelude.{◌≡◌, ◌++◌, ◌+◌, ◌≤◌, [], OnOk, filter, length, vec_len, vec_capacity};
+ghost use Rattle.std.specs.Prelude.{◌≡◌, ◌++◌, ◌+◌, ◌≤◌, [], IfOk, OnOk, filter, length, vec_len, vec_capacity};
 ghost use Rattle.std.specs.List.Sorted.{IsStrictlyIncreasing};
-ghost use Rattle.ulfm_model.specs.History.{has};
+ghost use Rattle.ulfm_model.specs.History.{has, without};
 
 use std::alloc::{AllocError, Allocator};
 use ulfm_steps::group::is_member;
@@ -58,4 +58,19 @@ pub(crate) fn put_in<B: Allocator>(group: &[u16], ranks: &[u16], found: &mut Vec
             let _ = found.push(*rank);
         }
     }
+}
+
+// The ranks of a group that aren't among the others, in their order.
+pub(crate) fn without<A: Allocator + Copy>(
+    alloc: A,
+    group: &[u16],
+    others: &[u16],
+) -> Result<Vec<u16, A>, AllocError>
+    ensures { IfOk result (λ left. left.items ≡ without group.now others.now) }
+{
+    group
+        .iter()
+        .copied()
+        .filter(|rank| !has_rank(others, *rank))
+        .collect(alloc)
 }

@@ -1,7 +1,8 @@
-ghost use Rattle.std.specs.Prelude.{◌≡◌, ◌==◌, Some, None, filter, not, position};
+ghost use Rattle.std.specs.Prelude.{◌≡◌, ◌==◌, ◌<◌, ◌++◌, ◌∷◌, [], Some, None, filter, not, position, vec_capacity, vec_len};
 ghost use Rattle.std.specs.List.{list_any};
 ghost use Rattle.ulfm_model.specs.Records.{change_at, is_shrink};
 ghost use Rattle.ulfm_model.specs.Answers.{opened};
+ghost use Rattle.ulfm_model.proofs.Terms.{new_held};
 ghost use Rattle.ulfm_comm.specs.Starts.{HasNext};
 
 use std::alloc::Allocator;
@@ -30,6 +31,23 @@ impl<A: Allocator> Model for HeldComm<A> {
     ghost Value = { Held };
 
     ghost view = { λ a. record { comm = a.comm; group = a.group.items; context = a.context; acked = a.acked; next_agreement = a.next_agreement; next_barrier = a.next_barrier; request = a.request } };
+}
+
+impl<A: Allocator> HeldComm<A> {
+    // A communicator as a rank first holds it: nobody is acknowledged, no round is used up, no request is open.
+    pub(crate) fn new(comm: u16, context: u8, group: Vec<u16, A>) -> HeldComm<A>
+        ensures { result ≡ new_held comm context group.items }
+    {
+        HeldComm {
+            comm,
+            group,
+            context,
+            acked: 0,
+            next_agreement: 0,
+            next_barrier: 0,
+            request: None,
+        }
+    }
 }
 
 // Where the communicator of this number stands.
@@ -104,4 +122,17 @@ pub(crate) fn release<A: Allocator>(held: &mut Vec<HeldComm<A>, A>, comm: u16)
     ensures { held.new.items ≡ filter (λ x. not (x.comm == comm)) held.old.items }
 {
     held.retain(|x| x.comm != comm);
+}
+
+// No request is open, and one communicator more is held, for which there is room.
+pub(crate) fn take_in<A: Allocator>(held: &mut Vec<HeldComm<A>, A>, comm: u16, made: HeldComm<A>)
+    requires { vec_len held.old < vec_capacity held.old }
+    ensures { held.new.items ≡ change_at comm (λ y. record y { request = None }) held.old.items ++ made ∷ [] }
+{
+    let place = place_of(held, comm);
+    let _ = held.push(made);
+    if let Some(i) = place {
+        let parent = &mut held[i];
+        parent.request = None;
+    }
 }

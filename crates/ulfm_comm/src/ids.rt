@@ -1,6 +1,6 @@
-// Context ids that a rank's communicators leave free.
-ghost use Rattle.std.specs.Prelude.{◌≡◌};
-ghost use Rattle.ulfm_model.specs.Records.{all_but, free_ids};
+// Context ids: those that a rank's communicators leave free, and the least of a mask.
+ghost use Rattle.std.specs.Prelude.{◌≡◌, ◌<◌};
+ghost use Rattle.ulfm_model.specs.Records.{IsLowestId, all_but, free_ids};
 
 use crate::held::HeldComm;
 use std::alloc::Allocator;
@@ -29,4 +29,12 @@ pub(crate) fn free_ids<A: Allocator>(held: &[HeldComm<A>]) -> CtxMask
         free = free.meld(&all_but(x.context));
     }
     free
+}
+
+// The least id of a mask that isn't empty.
+pub(crate) fn lowest_id(mask: CtxMask) -> u8
+    requires { 0 < mask.bits }
+    ensures { IsLowestId mask.bits result }
+{
+    mask.bits.trailing_zeros() as u8
 }

@@ -1,13 +1,13 @@
-ghost use Rattle.std.specs.Prelude.{ℕ, ◌≡◌, ◌≤◌, ◌==◌, Some, find, IsTrue, IfOk, OnErr, MatchOption, MatchResult};
+ghost use Rattle.std.specs.Prelude.{ℕ, ◌⊎◌, ◌≡◌, ◌≤◌, ◌==◌, Some, find, IsTrue, IfOk, OnErr, MatchOption, MatchResult};
 ghost use mathlib.Core.List.{IsPrefix};
 ghost use Rattle.ulfm_model.specs.Answers.{traits_of};
 ghost use Rattle.ulfm_model.specs.Runs.{IsStep, new_state};
-ghost use Rattle.ulfm_model.specs.declared.call.Call.TheVariants.{GetFailed as GetAsked};
+ghost use Rattle.ulfm_model.specs.declared.call.Call.TheVariants.{GetFailed as GetAsked, Poll as PollAsked};
 ghost use Rattle.ulfm_model.specs.declared.limits.OpenFault.TheVariants.{OutOfMemory};
 ghost use Rattle.ulfm_model.proofs.Terms.{comm_of};
 ghost use Rattle.ulfm_comm.specs.Jobs.{IsAbout, IsAnswered};
 
-use crate::answers::{ack_by, agree_by, fail_by, get_by, poll_by};
+use crate::answers::{ack_by, agree_by, fail_by, free_by, get_by, poll_by, shrink_by};
 use crate::rank::Rank;
 use crate::world::World;
 use std::alloc::{AllocError, Allocator};
@@ -74,7 +74,8 @@ where
     }
 
     /// Answers a call. Where nobody else steps, it is one step of the sequential object. A failed group that was asked for is
-    /// put into the vector, in the order of the failures. Memory alone can be refused, to a query of the failed group.
+    /// put into the vector, in the order of the failures, and so are the members of a communicator that a shrink made, in their
+    /// order. Memory alone can be refused, to a query of the failed group and to the poll of a shrink.
     pub fn apply(
         &mut self,
         asked: &Call<P>,
@@ -83,7 +84,7 @@ where
         requires { IsAnswered asked.now }
         ensures about { IfOk result (IsAbout self.new (comm_of asked.now) group.new.items) }
         ensures step { IfOk result (λ reply. IsTrue W.alone → IsStep P.meld self.old (traits_of asked.now).by asked.now reply self.new) }
-        ensures memory { OnErr result ((rank : ℕ) × (comm : ℕ) × (asked.now ≡ GetAsked rank comm)) }
+        ensures memory { OnErr result ((rank : ℕ) × (comm : ℕ) × ((asked.now ≡ GetAsked rank comm) ⊎ (asked.now ≡ PollAsked rank comm))) }
         ensures begins { IsPrefix self.old.history self.new.history }
     {
         let world = &self.world;
@@ -104,7 +105,9 @@ where
             Call::Agree { rank, comm, value } => {
                 Ok(agree_by(world, pass, &mut self.ranks, rank, comm, value))
             }
-            Call::Poll { rank, comm } => Ok(poll_by(world, pass, &mut self.ranks, rank, comm)),
+            Call::Shrink { rank, comm } => Ok(shrink_by(world, pass, &mut self.ranks, rank, comm)),
+            Call::Free { rank, comm } => Ok(free_by(world, pass, &mut self.ranks, rank, comm)),
+            Call::Poll { rank, comm } => poll_by(world, pass, &mut self.ranks, rank, comm, group),
             _ => unreachable!(),
         }
     }

@@ -13,9 +13,12 @@ mod held;
 mod ids;
 pub mod job;
 mod poll;
+mod poll_shrink;
 pub mod polled;
 pub mod rank;
+mod read_on;
 mod shrink;
+mod spawned;
 mod start;
 pub mod world;
 

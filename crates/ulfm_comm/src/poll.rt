@@ -1,10 +1,8 @@
 ghost use Rattle.std.specs.Prelude.{◌≡◌, Some, None, MatchOption, IfOk};
 ghost use Rattle.ulfm_model.specs.Records.{Fits};
 ghost use Rattle.ulfm_model.specs.declared.call.Call.TheVariants.{Poll as Asked};
-ghost use Rattle.ulfm_model.specs.declared.call.Request.TheVariants.{Agree as AgreeOpen};
 ghost use Rattle.ulfm_words.specs.Steps.{IsOf};
-ghost use Rattle.ulfm_comm.specs.Calls.{Calls, reply_of};
-ghost use Rattle.ulfm_comm.specs.Polls.{polled, EndsIn};
+ghost use Rattle.ulfm_comm.specs.Polls.{agreement, Polls, EndsIn};
 ghost use Rattle.ulfm_comm.specs.Ranks.{IsAgreement};
 
 use crate::polled::Polled;
@@ -19,27 +17,40 @@ use ulfm_steps::ReadRound;
 use ulfm_steps::mark_all::mark_all;
 use ulfm_words::Words;
 
-// The round of an open agree.
-fn agree_round(request: Option<Request>) -> Option<u16>
+// The round of an open agreement, and whether it is a shrink.
+fn agreement(request: Option<Request>) -> Option<(u16, bool)>
     requires { IsAgreement request }
-    ensures { MatchOption result (request ≡ None) (λ k. request ≡ Some (AgreeOpen k)) }
+    ensures { MatchOption result (request ≡ None) (λ found. request ≡ Some (agreement found.1 found.0)) }
 {
     match request {
         None => None,
-        Some(Request::Agree { round }) => Some(round),
+        Some(Request::Agree { round }) => Some((round, false)),
+        Some(Request::Shrink { round }) => Some((round, true)),
         Some(_) => unreachable!(),
     }
 }
 
-impl<P: Packed, A: Allocator> Rank<P, A> {
-    /// Asks for the reply to the open request on a communicator. Each member that is known to have failed, and hasn't
-    /// contributed, is marked: it is left out. Then the round is read, in the order of the members. Where all are settled
-    /// it is decided, and the request ends: with the same flag, count and error for all who poll. Otherwise somebody is
-    /// missing who isn't known to have failed, and the request stays open. Where the communicator has n members, it makes
-    /// the steps of a look and 2n more at most (ULFM: Communicator Functions, `MPI_COMM_AGREE`).
+impl<P: Packed, A: Allocator + Copy> Rank<P, A> {
+    /// Asks for the reply to the open request on a communicator, an agree or a shrink. Each member that is known to have
+    /// failed, and hasn't contributed, is marked: it is left out. Then the round is read, in the order of the members. Where
+    /// somebody is missing who isn't known to have failed, it is pending, and the request stays open. Else the round is
+    /// decided, for all who poll alike (ULFM: Communicator Functions, `MPI_COMM_AGREE`, `MPI_COMM_SHRINK`).
+    ///
+    /// An agree ends with the flags combined, the size of the failed group and the error. A shrink ends with a new
+    /// communicator, which the rank holds from then on: it has the members of the old one, in their order, but for the
+    /// failed group that was decided, and the lowest context id that all contributors had free. For a shrink the rank reads
+    /// on in the list of failures, as far as the decision's failed group reaches, and then goes through the list of
+    /// communicators.
     ///
     /// `SelfFailed` where the rank is declared, `NoSuchComm` where it doesn't hold the communicator, `Idle` where no request
-    /// is open on it. `Mismatch` where some agreed and others shrank in one round; it ends the request.
+    /// is open on it. `Mismatch` where some agreed and others shrank in one round; it ends the request. For a shrink, then:
+    /// `NoContext` where no id is free at all contributors; `SelfFailed` where the rank is in the failed group that was
+    /// decided; `OutOfMemory` where memory for the new communicator is refused; `NoRoom` where all communicators that there
+    /// may be were made. `NoContext` and `NoRoom` end the request. After `OutOfMemory` it is open as before, and the poll may
+    /// be made again.
+    ///
+    /// With N ranks, n members and M communicators, the poll of an agree makes N + 2n steps at most, and that of a shrink
+    /// N + 2n + 2M.
     #[inline(never)]
     pub fn poll<W: Words<P, A>>(
         &mut self,
@@ -49,14 +60,14 @@ impl<P: Packed, A: Allocator> Rank<P, A> {
     ) -> Result<Polled<P>, Refusal>
         requires of { IsOf P.meld (W.name world.now.words) (W.sight pass.old) }
         requires fits { Fits P.meld (W.name world.now.words).limits (W.sight pass.old).seen self.old }
-        ensures calls { Calls P.meld W.alone (W.name world.now.words) (Asked self.old.number comm) self.old (W.sight pass.old) (reply_of polled result) self.new (W.sight pass.new) }
+        ensures calls { Polls P.meld W.alone (W.name world.now.words) (Asked self.old.number comm) self.old (W.sight pass.old) result self.new (W.sight pass.new) }
         ensures pending { IfOk result (EndsIn P.meld W.alone (W.name world.now.words) comm self.old (W.sight pass.old) self.new (W.sight pass.new)) }
     {
         self.begin(world, pass)?;
         let Some(x) = self.held(comm) else {
             return Err(Refusal::NoSuchComm);
         };
-        let Some(round) = agree_round(x.request) else {
+        let Some((round, shrinks)) = agreement(x.request) else {
             return Err(Refusal::Idle);
         };
         let words = &world.words;
@@ -66,6 +77,9 @@ impl<P: Packed, A: Allocator> Rank<P, A> {
         let Some(all) = reading.finish(words, pass, &x.group) else {
             return Ok(Polled::Pending);
         };
+        if shrinks {
+            return self.end_shrink(world, pass, comm, round, all);
+        }
         self.close(comm);
         let Body::Flag(value) = all.body else {
             return Err(Refusal::Mismatch);

@@ -1,16 +1,21 @@
-ghost use Rattle.std.specs.Prelude.{◌≡◌, ◌==◌, true, filter, map, nat_eq, not, Some, None, MatchOption, IfSome, IfOk};
+ghost use Rattle.std.specs.Prelude.{◌≡◌, ◌<◌, ◌==◌, true, filter, map, nat_eq, not, Some, None, MatchOption, IfSome, IfOk};
 ghost use Rattle.std.specs.List.{IsDistinct, list_any};
 ghost use Rattle.ulfm_model.specs.Records.{Held, free_ids, held_at, is_shrink, new_record, with_held};
 ghost use Rattle.ulfm_model.specs.History.{failures, first_ranks, has};
 ghost use Rattle.ulfm_model.specs.Words.{MayOpen};
 ghost use Rattle.ulfm_model.specs.Answers.{closed, opened};
 ghost use Rattle.ulfm_words.specs.Steps.{IsOf, Goes};
+ghost use Rattle.ulfm_steps.specs.Appends.{MayAppend};
+ghost use Rattle.ulfm_steps.specs.declared.item.Item.TheVariants.{Comm as OfComm};
 ghost use Rattle.ulfm_comm.specs.Ranks.{IsAgreement};
+ghost use Rattle.ulfm_comm.specs.Shrinks.{MayHold, MayReadOn, ReadsOn, SpawnIs};
 ghost use Rattle.ulfm_comm.specs.Starts.{HasNext};
 
-use crate::groups::has_rank;
-use crate::held::{self, HeldComm, place_of};
+use crate::groups::{has_rank, without};
+use crate::held::{self, HeldComm, place_of, take_in};
 use crate::ids::free_ids;
+use crate::read_on::read_on;
+use crate::spawned::{Spawned, made_of};
 use std::alloc::{AllocError, Allocator};
 use std::marker::{Model, PhantomData};
 use ulfm_laws::ctx_mask::CtxMask;
@@ -59,15 +64,7 @@ impl<P: Packed, A: Allocator + Copy> Rank<P, A> {
         let group = ranks.to_vec(alloc)?;
         let seen = Vec::with_capacity(alloc, limits.ranks as usize)?;
         let mut held = Vec::with_capacity(alloc, 1)?;
-        held.push(HeldComm {
-            comm: 0,
-            group,
-            context: 0,
-            acked: 0,
-            next_agreement: 0,
-            next_barrier: 0,
-            request: None,
-        })?;
+        held.push(HeldComm::new(0, 0, group))?;
         Ok(Rank {
             number,
             limits,
@@ -144,6 +141,28 @@ impl<P: Packed, A: Allocator> Rank<P, A> {
         has_rank(&self.seen, self.number)
     }
 
+    // Reads on in the list of failures, until so many members of a communicator that it holds are among those that it has
+    // seen: how many of these reach so far.
+    pub(crate) fn read_on<W: Words<P, A>>(
+        &mut self,
+        words: &W,
+        pass: &mut W::Pass,
+        comm: u16,
+        count: u16,
+    ) -> usize
+        requires of { IsOf P.meld (W.name words.now) (W.sight pass.old) }
+        requires limits { self.old.limits ≡ (W.name words.now).limits }
+        requires may { (x : Held) × (held_at self.old comm ≡ Some x) × MayReadOn x.group count self.old.seen (failures (W.sight pass.old).seen) }
+        ensures goes { Goes P.meld W.alone (W.name words.now) (W.name words.now).limits.ranks (W.sight pass.old) (W.sight pass.new) }
+        ensures kept { self.new ≡ record self.old { seen = self.new.seen } }
+        ensures reads { (x : Held) → held_at self.old comm ≡ Some x → ReadsOn x.group count self.old.seen self.new.seen (failures (W.sight pass.new).seen) result }
+    {
+        let Some(i) = place_of(&self.held, comm) else {
+            unreachable!()
+        };
+        read_on(words, pass, &self.held[i].group, count, &mut self.seen)
+    }
+
     // From now on it is refused.
     pub(crate) fn refuse(&mut self)
         ensures { self.new ≡ record self.old { refused = true } }
@@ -193,5 +212,44 @@ impl<P: Packed, A: Allocator> Rank<P, A> {
         ensures { self.new ≡ record self.old { held = filter (λ x. not (x.comm == comm)) self.old.held } }
     {
         held::release(&mut self.held, comm);
+    }
+}
+
+impl<P: Packed, A: Allocator + Copy> Rank<P, A> {
+    // Holds the communicator that is made of a decided round, in place of the open request on its parent: its members are
+    // the parent's without the first so many failures. Memory comes first, and then the list of communicators, which has it
+    // or gets it.
+    pub(crate) fn spawn<W: Words<P, A>>(
+        &mut self,
+        words: &W,
+        pass: &mut W::Pass,
+        comm: u16,
+        round: u16,
+        context: u8,
+        reach: usize,
+    ) -> Spawned
+        requires of { IsOf P.meld (W.name words.now) (W.sight pass.old) }
+        requires may { MayAppend P.meld (W.name words.now).limits (W.sight pass.old).seen (OfComm comm round) }
+        requires round { round < (W.name words.now).limits.rounds }
+        requires holds { MayHold self.old comm context reach }
+        ensures { SpawnIs P.meld W.alone (W.name words.now) comm round context reach self.old (W.sight pass.old) result self.new (W.sight pass.new) }
+    {
+        let Some(i) = place_of(&self.held, comm) else {
+            unreachable!()
+        };
+        let alloc = *self.seen.allocator();
+        let Ok(group) = without(alloc, &self.held[i].group, &self.seen[..reach]) else {
+            return Spawned::NoMemory;
+        };
+        let Ok(()) = self.held.reserve(1) else {
+            return Spawned::NoMemory;
+        };
+        let Some(number) = made_of(words, pass, self.number, comm, round) else {
+            return Spawned::Full;
+        };
+        let size = group.len() as u16;
+        let made = HeldComm::new(number, context, group);
+        take_in(&mut self.held, comm, made);
+        Spawned::Made { comm: number, size }
     }
 }

@@ -3,7 +3,7 @@ ghost use Rattle.ulfm_comm.specs.Jobs.{IsAnswered};
 ghost use Rattle.ulfm_model.specs.Records.{Fits};
 ghost use Rattle.ulfm_words.specs.Steps.{IsOf};
 
-use crate::{Job, Rank, World};
+use crate::{Job, Polled, Rank, World};
 use linked_list_allocator::LocalHeap;
 use std::alloc::{Allocator, Global};
 use std::process::Abort;
@@ -363,5 +363,126 @@ fn last_round_is_kept_for_a_shrink(rt: HostRuntime) -> Result<(), Fail> {
     assert!(rt; declare(&world, &mut pass, own, 0) == Ok(true));
     assert!(rt; own.ishrink(&world, &mut pass, 0) == Err(Refusal::SelfFailed));
     assert!(rt; own.free(&world, &mut pass, 1) == Err(Refusal::SelfFailed));
+    Ok(())
+}
+
+const THREE_COMMS: Limits = Limits {
+    ranks: 3,
+    comms: 3,
+    rounds: 2,
+};
+
+#[test]
+fn survivor_shrinks(rt: HostRuntime) -> Result<(), Fail> {
+    let words = PlainWords::<FlagAnd>::open(THREE_COMMS)?;
+    let (world, mut ranks) = World::open(rt.alloc(), words)?;
+    let mut pass = world.pass(rt.alloc())?;
+    assert!(rt; ranks.len() == 3);
+    let own = &mut ranks[0];
+    assert!(rt; declare(&world, &mut pass, own, 2) == Ok(true));
+    assert!(rt; own.ishrink(&world, &mut pass, 0) == Ok(()));
+    assert!(rt; own.poll(&world, &mut pass, 0) == Ok(Polled::Pending));
+    assert!(rt; declare(&world, &mut pass, own, 1) == Ok(true));
+    let alone = Polled::Shrunk {
+        comm: 1,
+        context: 1,
+        size: 1,
+    };
+    assert!(rt; own.poll(&world, &mut pass, 0) == Ok(alone));
+    assert!(rt; own.poll(&world, &mut pass, 0) == Err(Refusal::Idle));
+    assert!(rt; own.members(1) == Some([0].as_slice()));
+    assert!(rt; own.context(1) == Some(1));
+    assert!(rt; own.ishrink(&world, &mut pass, 1) == Ok(()));
+    let again = Polled::Shrunk {
+        comm: 2,
+        context: 2,
+        size: 1,
+    };
+    assert!(rt; own.poll(&world, &mut pass, 1) == Ok(again));
+    assert!(rt; own.ishrink(&world, &mut pass, 2) == Ok(()));
+    assert!(rt; own.poll(&world, &mut pass, 2) == Err(Refusal::NoRoom));
+    assert!(rt; own.poll(&world, &mut pass, 2) == Err(Refusal::Idle));
+    Ok(())
+}
+
+// All memory that is left, in blocks.
+fn rest_of<A: Allocator + Copy, B: Allocator + Copy>(left: B, alloc: A) -> Vec<Vec<u8, B>, A> {
+    let mut blocks = Vec::new(alloc);
+    for size in [
+        8192, 4096, 2048, 1024, 512, 256, 128, 64, 32, 16, 8, 4, 2, 1,
+    ] {
+        for _ in 0..4 {
+            if let Ok(block) = Vec::<u8, B>::with_capacity(left, size) {
+                let _ = blocks.push(block);
+            }
+        }
+    }
+    blocks
+}
+
+// A rank that is alone polls its shrink without memory, and then with it.
+fn shrink_with<R: Abort, A: Allocator + Copy, B: Allocator + Copy>(
+    rt: &R,
+    alloc: A,
+    outside: B,
+) -> Result<(), Fail> {
+    let limits = Limits {
+        ranks: 1,
+        comms: 2,
+        rounds: 2,
+    };
+    let words = PlainWords::<FlagAnd>::open(limits)?;
+    let (world, mut ranks) = World::open(alloc, words)?;
+    let mut pass = world.pass(alloc)?;
+    assert!(rt; ranks.len() == 1);
+    let own = &mut ranks[0];
+    assert!(rt; own.ishrink(&world, &mut pass, 0) == Ok(()));
+    let taken = rest_of(alloc, outside);
+    assert!(rt; own.poll(&world, &mut pass, 0) == Err(Refusal::OutOfMemory));
+    assert!(rt; own.poll(&world, &mut pass, 0) == Err(Refusal::OutOfMemory));
+    assert!(rt; own.members(1).is_none());
+    drop(taken);
+    let made = Polled::Shrunk {
+        comm: 1,
+        context: 1,
+        size: 1,
+    };
+    assert!(rt; own.poll(&world, &mut pass, 0) == Ok(made));
+    Ok(())
+}
+
+#[test]
+fn shrinks_once_memory_is_there(rt: HostRuntime) -> Result<(), Fail> {
+    let heap = LocalHeap::new(rt.alloc(), 16384)?;
+    shrink_with(&rt, &heap, rt.alloc())
+}
+
+#[test]
+fn agree_meets_a_shrink(rt: HostRuntime) -> Result<(), Fail> {
+    let plain = PlainWords::<FlagAnd>::open(THREE_COMMS)?;
+    let given = Contribution {
+        offer: Offer::Flag(FlagAnd { bits: 0x1 }),
+        known: Known { count: 0 },
+        acked: Acked { count: 0 },
+    };
+    let guest = Entry {
+        by: Caller::Rank(1),
+        event: Event::Settle {
+            comm: 0,
+            round: 0,
+            rank: 1,
+            given,
+        },
+    };
+    let (world, mut ranks) = World::open(rt.alloc(), Intruder { plain, guest })?;
+    let mut pass = world.pass(rt.alloc())?;
+    assert!(rt; ranks.len() == 3);
+    let own = &mut ranks[0];
+    assert!(rt; declare(&world, &mut pass, own, 2) == Ok(true));
+    assert!(rt; own.ishrink(&world, &mut pass, 0) == Ok(()));
+    // Just before the place of rank 1 is read: the look makes two loads, one mark is made, and the first place is read.
+    pass.wait(4);
+    assert!(rt; own.poll(&world, &mut pass, 0) == Err(Refusal::Mismatch));
+    assert!(rt; own.poll(&world, &mut pass, 0) == Err(Refusal::Idle));
     Ok(())
 }

@@ -1,3 +1,5 @@
+use Rattle.std.proofs.Common.{inl, inr}
+use Rattle.ulfm_comm.proofs.Jobs.{at_error}
 use Rattle.ulfm_comm.proofs.job.Job.apply.Goals as goal
 
 pub returns-in-Fail-clause-step : goal.returns-in-Fail-clause-step
@@ -12,5 +14,14 @@ returns-in-Ack-clause-about g c = rw c.in-Ack.is (c.ack_by.ensures.about c.args.
 pub returns-in-Agree-clause-about : goal.returns-in-Agree-clause-about
 returns-in-Agree-clause-about g c = rw c.in-Agree.is (c.agree_by.ensures.about c.args.group.now.items)
 
-pub returns-in-Poll-clause-about : goal.returns-in-Poll-clause-about
-returns-in-Poll-clause-about g c = rw c.in-Poll.is (c.poll_by.ensures.about c.args.group.now.items)
+pub returns-in-Shrink-clause-about : goal.returns-in-Shrink-clause-about
+returns-in-Shrink-clause-about g c = rw c.in-Shrink.is (c.shrink_by.ensures.about c.args.group.now.items)
+
+pub returns-in-Free-clause-about : goal.returns-in-Free-clause-about
+returns-in-Free-clause-about g c = rw c.in-Free.is (c.free_by.ensures.about c.args.group.now.items)
+
+pub returns-in-GetFailed-clause-memory : goal.returns-in-GetFailed-clause-memory
+returns-in-GetFailed-clause-memory g c = at_error c.get_by.result (c.in-GetFailed.rank, c.in-GetFailed.comm, inl c.in-GetFailed.is)
+
+pub returns-in-Poll-clause-memory : goal.returns-in-Poll-clause-memory
+returns-in-Poll-clause-memory g c = at_error c.poll_by.result (c.in-Poll.rank, c.in-Poll.comm, inr c.in-Poll.is)
