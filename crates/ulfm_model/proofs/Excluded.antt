@@ -11,15 +11,15 @@ use Rattle.ulfm_model.proofs.{Histories.{legal_parts, members_stay, slot_stays},
 
 -- a test that holds of what g gives for a rank of a list holds of some that g gives
 any_given : {Y : Type 0} (p : Y → Bool) (g : ℕ → Option Y) (xs : List ℕ) (x : ℕ) (y : Y) → has xs x ≡ true → g x ≡ Some y → p y ≡ true → list_any p (filter_map g xs) ≡ true
-any_given p g [] x y e is yes = absurd (cc e)
-any_given {Y = Y} p g (z ∷ xs) x y e is yes = go (λ e. any_given p g xs x y e is yes) (z == x) refl e
+any_given p g [] x y e is holds = absurd (cc e)
+any_given {Y = Y} p g (z ∷ xs) x y e is holds = go (λ e. any_given p g xs x y e is holds) (z == x) refl e
   where
     later : (o : Option Y) → list_any p (filter_map g xs) ≡ true → list_any p (cons_option o (filter_map g xs)) ≡ true
     later None more = more
     later (Some w) more = or_right (p w) (list_any p (filter_map g xs)) more
 
     go : (has xs x ≡ true → list_any p (filter_map g xs) ≡ true) → (b : Bool) → (z == x) ≡ b → (b || has xs x) ≡ true → list_any p (cons_option (g z) (filter_map g xs)) ≡ true
-    go more true same e = ap (λ o. list_any p (cons_option o (filter_map g xs))) (ap g (eqb-true z x same) ∙ is) ∙ or_left (p y) (list_any p (filter_map g xs)) yes
+    go more true same e = ap (λ o. list_any p (cons_option o (filter_map g xs))) (ap g (eqb-true z x same) ∙ is) ∙ or_left (p y) (list_any p (filter_map g xs)) holds
     go more false same e = later (g z) (more e)
 
 module _ {P : Type 0} (meld : P → P → P) (limits : Limits) (h : History P) (c k : ℕ) where
