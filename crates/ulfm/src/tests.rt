@@ -174,10 +174,10 @@ const ROWS: [Row; 22] = [
 
 /// A script with a reply of each form, for devices and memory that fail.
 const SCRIPT: &str =
-    "ulfm 1 3 1 4\nget 0 0\nfail 2\nagree 0 0 0000000f\nagree 1 0 0000003c\nget 0 0\nack 0 0 1\npoll 0 0\npoll 1 0\npoll 2 0\n";
+    "ulfm 1 3 2 4\nget 0 0\nfail 2\nagree 0 0 0000000f\nagree 1 0 0000003c\nget 0 0\nack 0 0 1\npoll 0 0\npoll 1 0\npoll 2 0\nshrink 0 0\npoll 0 0\nshrink 1 0\npoll 0 0\npoll 1 0\nfree 0 1\n";
 
 const OUTPUT: &str =
-    "failed none\ndeclared\nstarted\nstarted\nfailed 2\nacked 1\nagreed 0000000c failed 1 raised\nagreed 0000000c failed 1 raised\nrefused 1 self-failed\n";
+    "failed none\ndeclared\nstarted\nstarted\nfailed 2\nacked 1\nagreed 0000000c failed 1 raised\nagreed 0000000c failed 1 raised\nrefused 1 self-failed\nstarted\npending\nstarted\nshrunk 1 context 1 members 0 1\nshrunk 1 context 1 members 0 1\nfreed\n";
 
 #[test]
 fn worked_rows(rt: HostRuntime) -> Result<(), Fail> {
