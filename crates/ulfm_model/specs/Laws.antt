@@ -145,7 +145,8 @@ pub record IsLeftOut {P : Type 0} (meld : P → P → P) (ranks : ℕ) (h : Hist
   pub decided_failed : IsTrue (has (decision meld ranks h c k).failed r)
   pub no_member : (j : ℕ) → slice_get (spawns h) j ≡ Some (c, k) → IsFalse (has (members ranks h (j + 1)) r)
 
--- the round of a shrink that starts leaves out all who were failed on its communicator in what its caller had seen before, whatever others do
+-- the round of a shrink that starts leaves out all who were failed on its communicator in what its caller had seen before, in every longer
+-- legal history, whether the round is decided there already or not
 abbrev pub ShrinksExcludeFailures : {P : Type 0} → (P → P → P) → Type 0
 ShrinksExcludeFailures {P} meld =
     (limits : Limits) (alone : Bool) (before after longer : History P) (own new : Record) (rank c : ℕ) (x : Held)
