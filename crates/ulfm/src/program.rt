@@ -9,7 +9,8 @@ use clap::error::ErrorKind;
 use clap::{ArgMatches, Command, Error};
 use std::alloc::{Allocator, Global};
 use std::io::{Read, Write};
-use ulfm_script::{RunFault, run_calls};
+use ulfm_run::run_calls;
+use ulfm_script::RunFault;
 
 /// The example that help shows.
 const EXAMPLE: &str =

@@ -1,9 +1,10 @@
 -- A world, all its ranks and one pass, in one hand.
-use Rattle.std.specs.Prelude.{⊤, Bool, List, IsTrue}
+use Rattle.std.specs.Prelude.{◌≡◌, ℕ, ⊤, Bool, List, IsTrue}
 use mathlib.Core.List.{IsPrefix}
 use Rattle.ulfm_model.specs.declared.{call.Call.{Call}, reply.Reply.{Reply}}
 use Rattle.ulfm_model.specs.declared.call.Call.TheVariants as call
-use Rattle.ulfm_model.specs.{Answers.{traits_of}, Records.{Record}, Runs.{IsSound, IsStep, State}}
+use Rattle.ulfm_model.specs.declared.reply.Reply.TheVariants.{Started, Pending, Agreed, Shrunk, Done, FailedGroup, Acked, Declared, AlreadyFailed, Revoked, AlreadyRevoked, Standing, Freed, Refused}
+use Rattle.ulfm_model.specs.{Answers.{traits_of}, History.{failed, members}, Records.{Record}, Runs.{IsSound, IsStep, State}}
 use Rattle.ulfm_words.specs.Steps.{IsOf, Name, Sight}
 
 -- the object's state: what the pass has seen, and the ranks' records
@@ -21,6 +22,24 @@ pub record StepsBy {P : Type 0} (meld : P → P → P) (alone : Bool) (name : Na
   pub job : IsJob meld name after new
   pub begins : IsPrefix before.seen after.seen
   pub step : IsTrue alone → IsStep meld (state_of name before old) (traits_of asked).by asked reply (state_of name after new)
+
+-- The group that a reply to a call on communicator c is about, by the state after it: a failed group, or the members of a new
+-- communicator. Other replies are about none.
+abbrev pub IsAbout : {P : Type 0} → State P → ℕ → List ℕ → Reply P → Type 0
+IsAbout state c group Started = ⊤
+IsAbout state c group Pending = ⊤
+IsAbout state c group (Agreed value count raised) = ⊤
+IsAbout state c group (Shrunk j context size) = group ≡ members state.limits.ranks state.history j
+IsAbout state c group Done = ⊤
+IsAbout state c group (FailedGroup count) = group ≡ failed state.limits.ranks state.history c
+IsAbout state c group (Acked count) = ⊤
+IsAbout state c group Declared = ⊤
+IsAbout state c group AlreadyFailed = ⊤
+IsAbout state c group Revoked = ⊤
+IsAbout state c group AlreadyRevoked = ⊤
+IsAbout state c group (Standing revoked) = ⊤
+IsAbout state c group Freed = ⊤
+IsAbout state c group (Refused refusal) = ⊤
 
 -- the calls that a job answers
 abbrev pub IsAnswered : {P : Type 0} → Call P → Type 0

@@ -1,8 +1,8 @@
 // Calls of ranks that stand in one hand, each answered as the object replies.
-ghost use Rattle.std.specs.Prelude.{IfOk};
+ghost use Rattle.std.specs.Prelude.{IfOk, List, ℕ};
 ghost use mathlib.Core.List.{IsPrefix};
 ghost use Rattle.ulfm_model.specs.declared.call.Call.TheVariants.{Fail as FailAsked, GetFailed as GetAsked, Ack as AckAsked, Agree as AgreeAsked, Poll as PollAsked};
-ghost use Rattle.ulfm_comm.specs.Jobs.{IsJob, StepsBy};
+ghost use Rattle.ulfm_comm.specs.Jobs.{IsAbout, IsJob, StepsBy, state_of};
 
 use crate::polled::Polled;
 use crate::rank::Rank;
@@ -21,7 +21,8 @@ pub(crate) fn fail_by<P: Packed, A: Allocator + Copy, W: Words<P, A>>(
     rank: u16,
 ) -> Reply<P>
     requires { IsJob P.meld (W.name world.now.words) (W.sight pass.old) ranks.now }
-    ensures { StepsBy P.meld W.alone (W.name world.now.words) (FailAsked rank) (W.sight pass.old) ranks.now result (W.sight pass.new) ranks.now }
+    ensures about { (group : List ℕ) → IsAbout (state_of (W.name world.now.words) (W.sight pass.new) ranks.now) 0 group result }
+    ensures step { StepsBy P.meld W.alone (W.name world.now.words) (FailAsked rank) (W.sight pass.old) ranks.now result (W.sight pass.new) ranks.now }
 {
     let _ = ranks;
     match world.fail(pass, rank) {
@@ -44,6 +45,7 @@ pub(crate) fn get_by<P: Packed, A: Allocator, W: Words<P, A>>(
     ensures step { IfOk result (λ reply. StepsBy P.meld W.alone (W.name world.now.words) (GetAsked rank comm) (W.sight pass.old) ranks.old reply (W.sight pass.new) ranks.new) }
     ensures job { IsJob P.meld (W.name world.now.words) (W.sight pass.new) ranks.new }
     ensures begins { IsPrefix (W.sight pass.old).seen (W.sight pass.new).seen }
+    ensures about { IfOk result (IsAbout (state_of (W.name world.now.words) (W.sight pass.new) ranks.new) comm found.new.items) }
 {
     if rank as usize >= ranks.len() {
         return Ok(Reply::Refused(Refusal::NoSuchRank));
@@ -70,7 +72,8 @@ pub(crate) fn ack_by<P: Packed, A: Allocator, W: Words<P, A>>(
     count: u16,
 ) -> Reply<P>
     requires { IsJob P.meld (W.name world.now.words) (W.sight pass.old) ranks.old }
-    ensures { StepsBy P.meld W.alone (W.name world.now.words) (AckAsked rank comm count) (W.sight pass.old) ranks.old result (W.sight pass.new) ranks.new }
+    ensures about { (group : List ℕ) → IsAbout (state_of (W.name world.now.words) (W.sight pass.new) ranks.new) comm group result }
+    ensures step { StepsBy P.meld W.alone (W.name world.now.words) (AckAsked rank comm count) (W.sight pass.old) ranks.old result (W.sight pass.new) ranks.new }
 {
     if rank as usize >= ranks.len() {
         return Reply::Refused(Refusal::NoSuchRank);
@@ -92,7 +95,8 @@ pub(crate) fn agree_by<P: Packed, A: Allocator, W: Words<P, A>>(
     value: P,
 ) -> Reply<P>
     requires { IsJob P.meld (W.name world.now.words) (W.sight pass.old) ranks.old }
-    ensures { StepsBy P.meld W.alone (W.name world.now.words) (AgreeAsked rank comm value) (W.sight pass.old) ranks.old result (W.sight pass.new) ranks.new }
+    ensures about { (group : List ℕ) → IsAbout (state_of (W.name world.now.words) (W.sight pass.new) ranks.new) comm group result }
+    ensures step { StepsBy P.meld W.alone (W.name world.now.words) (AgreeAsked rank comm value) (W.sight pass.old) ranks.old result (W.sight pass.new) ranks.new }
 {
     if rank as usize >= ranks.len() {
         return Reply::Refused(Refusal::NoSuchRank);
@@ -113,7 +117,8 @@ pub(crate) fn poll_by<P: Packed, A: Allocator, W: Words<P, A>>(
     comm: u16,
 ) -> Reply<P>
     requires { IsJob P.meld (W.name world.now.words) (W.sight pass.old) ranks.old }
-    ensures { StepsBy P.meld W.alone (W.name world.now.words) (PollAsked rank comm) (W.sight pass.old) ranks.old result (W.sight pass.new) ranks.new }
+    ensures about { (group : List ℕ) → IsAbout (state_of (W.name world.now.words) (W.sight pass.new) ranks.new) comm group result }
+    ensures step { StepsBy P.meld W.alone (W.name world.now.words) (PollAsked rank comm) (W.sight pass.old) ranks.old result (W.sight pass.new) ranks.new }
 {
     if rank as usize >= ranks.len() {
         return Reply::Refused(Refusal::NoSuchRank);

@@ -4,7 +4,8 @@ ghost use Rattle.ulfm_model.specs.Answers.{traits_of};
 ghost use Rattle.ulfm_model.specs.Runs.{IsStep, new_state};
 ghost use Rattle.ulfm_model.specs.declared.call.Call.TheVariants.{GetFailed as GetAsked};
 ghost use Rattle.ulfm_model.specs.declared.limits.OpenFault.TheVariants.{OutOfMemory};
-ghost use Rattle.ulfm_comm.specs.Jobs.{IsAnswered};
+ghost use Rattle.ulfm_model.proofs.Terms.{comm_of};
+ghost use Rattle.ulfm_comm.specs.Jobs.{IsAbout, IsAnswered};
 
 use crate::answers::{ack_by, agree_by, fail_by, get_by, poll_by};
 use crate::rank::Rank;
@@ -28,8 +29,6 @@ where
     pass: W::Pass,
     // In the order of their numbers.
     ranks: Vec<Rank<P, A>, A>,
-    // The failed group that was asked for last.
-    found: Vec<u16, A>,
 }
 
 impl<W, P: Packed, A: Allocator> Model for Job<W, P, A>
@@ -60,12 +59,7 @@ where
         let Ok(pass) = world.pass(alloc) else {
             return Err(OpenFault::OutOfMemory);
         };
-        Ok(Job {
-            world,
-            pass,
-            ranks,
-            found: Vec::new(alloc),
-        })
+        Ok(Job { world, pass, ranks })
     }
 
     /// A rank of the world, if there is one of this number.
@@ -79,10 +73,15 @@ where
         Some(&ranks[number as usize])
     }
 
-    /// Answers a call. Where nobody else steps, it is one step of the sequential object. Memory alone can be refused, to a
-    /// query of the failed group.
-    pub fn apply(&mut self, asked: &Call<P>) -> Result<Reply<P>, AllocError>
+    /// Answers a call. Where nobody else steps, it is one step of the sequential object. A failed group that was asked for is
+    /// put into the vector, in the order of the failures. Memory alone can be refused, to a query of the failed group.
+    pub fn apply(
+        &mut self,
+        asked: &Call<P>,
+        group: &mut Vec<u16, A>,
+    ) -> Result<Reply<P>, AllocError>
         requires { IsAnswered asked.now }
+        ensures about { IfOk result (IsAbout self.new (comm_of asked.now) group.new.items) }
         ensures step { IfOk result (λ reply. IsTrue W.alone → IsStep P.meld self.old (traits_of asked.now).by asked.now reply self.new) }
         ensures memory { OnErr result ((rank : ℕ) × (comm : ℕ) × (asked.now ≡ GetAsked rank comm)) }
         ensures begins { IsPrefix self.old.history self.new.history }
@@ -97,7 +96,7 @@ where
                 &mut self.ranks,
                 rank,
                 comm,
-                &mut self.found,
+                group,
             ),
             Call::Ack { rank, comm, count } => {
                 Ok(ack_by(world, pass, &mut self.ranks, rank, comm, count))

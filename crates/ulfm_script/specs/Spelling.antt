@@ -23,3 +23,7 @@ Spells line (Poll rank comm) = IsOnComm line (codes "poll ") rank comm []
 Spells line (Revoke rank comm) = ⊥
 Spells line (IsRevoked rank comm) = ⊥
 Spells line (Free rank comm) = IsOnComm line (codes "free ") rank comm []
+
+-- a call that some line spells
+abbrev pub IsSpelled : ScriptCall → Type 0
+IsSpelled call = (line : List ℕ) × Spells line call

@@ -1,9 +1,9 @@
 //! The engine that runs a script, over anything that answers its calls.
 ghost use Rattle.std.specs.Prelude.{◌≡◌, [], OnOk};
-ghost use Rattle.ulfm_model.proofs.Terms.{comm_of};
 ghost use Rattle.ulfm_script.specs.Buffers.{pending, waiting, unread};
 ghost use Rattle.ulfm_script.specs.Runs.{Answered, Opens, Runs, RunsLine, RunsUpTo};
 ghost use Rattle.ulfm_script.specs.Scripts.{call_at};
+ghost use Rattle.ulfm_script.specs.Spelling.{IsSpelled};
 
 use crate::calls::read_call;
 use crate::fault::RunFault;
@@ -16,7 +16,7 @@ use crate::printing::print_reply;
 use std::alloc::{AllocError, Allocator};
 use std::io::{Read, Write};
 use ulfm_laws::FlagAnd;
-use ulfm_model::{Call, Reply};
+use ulfm_model::Call;
 
 /// The most bytes that a line may have, without its newline.
 const LONGEST: usize = 64;
@@ -26,8 +26,15 @@ const LAST_LINE: u32 = 100_000;
 
 /// Runs the script that the reader gives on a new machine, writes a line for each call, and flushes the writer.
 ///
-/// It reads and writes as [`crate::run_calls`] does, of which this is the engine: whatever answers as the sequential object does
-/// can stand in the object's place.
+/// The first line is `ulfm 1 RANKS COMMS ROUNDS`, the world's limits; each other line is a call as [`crate::read_call`] reads
+/// it, and gives one line as [`crate::print_reply`] prints it. Want of memory is never printed as a reply.
+///
+/// At `Ok` the whole text was read, and exactly its output was written. At `Line` the fault is the first of the text, in the order
+/// of [`crate::LineKind`] within a line, and exactly the output of the lines before was written. At `Read` exactly the output of
+/// the lines that the reader gave whole was written. At `Memory`, which is no reply, exactly the output of the first lines was
+/// written, those before the one under work. At `Write` a beginning of the output was written: the writer failed, took nothing, or
+/// couldn't be flushed, also where it had to take what waited at another fault. Every error of the reader or the writer is a fault,
+/// of whatever kind; none is tried again. Reader and writer have buffers of 8 KB here and need none of their own.
 pub fn run_script<M: Machine<A>, A: Allocator + Copy, R: Read, W: Write>(
     alloc: A,
     reader: &mut R,
@@ -64,6 +71,7 @@ fn run_lines<M: Machine<A>, A: Allocator + Copy, R: Read, W: Write>(
 {
     let mut line = Vec::with_capacity(alloc, LONGEST + 1)?;
     let mut text = Vec::with_capacity(alloc, LONGEST)?;
+    let mut group = Vec::new(alloc);
     let mut machine: M = open_machine(alloc, reader, input, &mut line)?;
     'lines: for number in 2..LAST_LINE + 2 {
         match input.read_line(reader, &mut line)? {
@@ -74,7 +82,15 @@ fn run_lines<M: Machine<A>, A: Allocator + Copy, R: Read, W: Write>(
             }
             LineEnd::Newline => {}
         }
-        run_line(writer, output, &mut machine, number, &line, &mut text)?;
+        run_line(
+            writer,
+            output,
+            &mut machine,
+            number,
+            &line,
+            &mut group,
+            &mut text,
+        )?;
     }
     unreachable!()
 }
@@ -113,6 +129,7 @@ fn run_line<M: Machine<A>, A: Allocator, W: Write>(
     machine: &mut M,
     number: u32,
     line: &[u8],
+    group: &mut Vec<u16, A>,
     text: &mut Vec<u8, A>,
 ) -> Result<(), RunFault>
     ensures { RunsLine number (call_at number line.now) (M.state machine.old) (M.state machine.new) (W.contents writer.old)
@@ -128,7 +145,7 @@ fn run_line<M: Machine<A>, A: Allocator, W: Write>(
     }
     match read_call(line) {
         Ok(call) => {
-            answer(machine, &call, text)?;
+            answer(machine, &call, group, text)?;
             output.put(writer, text)
         }
         Err(kind) => Err(RunFault::Line { number, kind }),
@@ -139,41 +156,15 @@ fn run_line<M: Machine<A>, A: Allocator, W: Write>(
 fn answer<M: Machine<A>, A: Allocator>(
     machine: &mut M,
     call: &Call<FlagAnd>,
+    group: &mut Vec<u16, A>,
     text: &mut Vec<u8, A>,
 ) -> Result<(), AllocError>
+    requires { IsSpelled call.now }
     ensures { OnOk result (Answered (M.state machine.old) call.now (M.state machine.new) text.new.items) }
 {
-    let reply = machine.apply(call)?;
+    let reply = machine.apply(call, group)?;
     text.clear();
-    match reply {
-        Reply::FailedGroup { .. } => {
-            let group = machine.failed(comm_of(call))?;
-            print_reply(text, &reply, &group)?;
-        }
-        Reply::Shrunk { comm, .. } => {
-            let group = machine.members(comm)?;
-            print_reply(text, &reply, &group)?;
-        }
-        _ => print_reply(text, &reply, &[])?,
-    }
+    print_reply(text, &reply, group)?;
     text.push(b'\n')?;
     Ok(())
-}
-
-/// The communicator of a call; 0 for a declaration, which has none.
-fn comm_of(call: &Call<FlagAnd>) -> u16
-    ensures { result ≡ comm_of call.now }
-{
-    match *call {
-        Call::Fail { .. } => 0,
-        Call::GetFailed { comm, .. }
-        | Call::Ack { comm, .. }
-        | Call::Agree { comm, .. }
-        | Call::Shrink { comm, .. }
-        | Call::Barrier { comm, .. }
-        | Call::Poll { comm, .. }
-        | Call::Revoke { comm, .. }
-        | Call::IsRevoked { comm, .. }
-        | Call::Free { comm, .. } => comm,
-    }
 }

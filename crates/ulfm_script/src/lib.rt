@@ -12,7 +12,6 @@ pub mod line_kind;
 pub mod machine;
 mod output;
 pub mod printing;
-pub mod running;
 mod words;
 
 pub use calls::read_call;
@@ -23,7 +22,3 @@ pub use laws::prints_the_replies;
 pub use line_kind::LineKind;
 pub use machine::Machine;
 pub use printing::print_reply;
-pub use running::run_calls;
-
-#[cfg(test)]
-mod tests;

@@ -1,7 +1,8 @@
 ghost use Rattle.std.specs.Prelude.{◌≡◌, IfOk};
 ghost use Rattle.ulfm_laws.specs.declared.flag_and.FlagAnd.{FlagAnd};
+ghost use Rattle.ulfm_model.proofs.Terms.{comm_of};
 ghost use Rattle.ulfm_model.specs.{Runs.{State, new_state}, Words.{MayOpen}};
-ghost use Rattle.ulfm_script.specs.Runs.{Steps, failed_at, members_at};
+ghost use Rattle.ulfm_script.specs.{Runs.{Steps, group_of}, Spelling.{IsSpelled}};
 
 use std::alloc::{AllocError, Allocator};
 use ulfm_laws::FlagAnd;
@@ -17,15 +18,15 @@ pub trait Machine<A: Allocator>: Drop {
         requires { MayOpen limits }
         ensures { IfOk result (λ machine. state machine ≡ new_state limits) };
 
-    /// The reply to a call. After an error the machine isn't used again.
-    fn apply(&mut self, call: &Call<FlagAnd>) -> Result<Reply<FlagAnd>, AllocError>
-        ensures { IfOk result (λ reply. Steps (state self.old) call.now reply (state self.new)) };
-
-    /// The members of a communicator, in order.
-    fn members(&self, comm: u16) -> Result<Vec<u16, A>, AllocError>
-        ensures { IfOk result (λ group. group.items ≡ members_at (state self.now) comm) };
-
-    /// The failed group of a communicator, in the order of the failures.
-    fn failed(&self, comm: u16) -> Result<Vec<u16, A>, AllocError>
-        ensures { IfOk result (λ group. group.items ≡ failed_at (state self.now) comm) };
+    /// The reply to a call that a script can ask for. Where it is about a group, a communicator's failed group or the members
+    /// of a new one, the vector has that group afterwards, in order; else it is empty. After an error the machine isn't used
+    /// again.
+    fn apply(
+        &mut self,
+        call: &Call<FlagAnd>,
+        group: &mut Vec<u16, A>,
+    ) -> Result<Reply<FlagAnd>, AllocError>
+        requires { IsSpelled call.now }
+        ensures steps { IfOk result (λ reply. Steps (state self.old) call.now reply (state self.new)) }
+        ensures group { IfOk result (λ reply. group.new.items ≡ group_of (state self.new) (comm_of call.now) reply) };
 }

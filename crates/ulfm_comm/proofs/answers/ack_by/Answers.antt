@@ -4,16 +4,16 @@ use Rattle.ulfm_model.specs.declared.reply.Reply.TheVariants.{Acked, Refused}
 use Rattle.ulfm_comm.proofs.Jobs.{calls_step, missing_step}
 use Rattle.ulfm_comm.proofs.answers.ack_by.Goals as goal
 
-pub returns-then-rank-ranks : goal.returns-then-rank-ranks
-returns-then-rank-ranks g c =
+pub returns-then-rank-ranks-clause-step : goal.returns-then-rank-ranks-clause-step
+returns-then-rank-ranks-clause-step g c =
     missing_step g.P.Meld.meld g.W.Words.alone (g.W.Words.name c.args.world.now.words) (g.W.Words.sight c.args.pass.now) c.args.ranks.now c.requires (call.Ack c.args.rank c.args.comm c.args.count) c.args.rank refl (omega (arith, c.if-rank-ranks.true))
 
-pub returns-in-Ok : goal.returns-in-Ok
-returns-in-Ok g c =
+pub returns-in-Ok-clause-step : goal.returns-in-Ok-clause-step
+returns-in-Ok-clause-step g c =
     calls_step g.P.Meld.meld g.W.Words.alone (g.W.Words.name c.args.world.now.words) (g.W.Words.sight c.args.pass.now) c.args.ranks.now c.requires c.args.rank c.index-ranks-rank.result (omega (arith, c.if-rank-ranks.false))
     c.ack_failed.new.self (g.W.Words.sight c.ack_failed.new.pass) (λ r. call.Ack r c.args.comm c.args.count) (Acked c.in-Ok.count) refl c.in-Ok.ensures
 
-pub returns-in-Err : goal.returns-in-Err
-returns-in-Err g c =
+pub returns-in-Err-clause-step : goal.returns-in-Err-clause-step
+returns-in-Err-clause-step g c =
     calls_step g.P.Meld.meld g.W.Words.alone (g.W.Words.name c.args.world.now.words) (g.W.Words.sight c.args.pass.now) c.args.ranks.now c.requires c.args.rank c.index-ranks-rank.result (omega (arith, c.if-rank-ranks.false))
     c.ack_failed.new.self (g.W.Words.sight c.ack_failed.new.pass) (λ r. call.Ack r c.args.comm c.args.count) (Refused c.in-Err.refusal) refl c.in-Err.ensures

@@ -23,7 +23,7 @@ pub returns-in-Ok : goal.returns-in-Ok
 returns-in-Ok g c =
     let answered = calls_step g.P.Meld.meld g.W.Words.alone (g.W.Words.name c.args.world.now.words) (g.W.Words.sight c.args.pass.now) c.args.ranks.now c.requires c.args.rank c.index-ranks-rank.result (omega (arith, c.if-rank-ranks.false))
     c.get_failed.new.self (g.W.Words.sight c.get_failed.new.pass) (λ r. call.GetFailed r c.args.comm) (FailedGroup (length c.as_slice.result.now)) refl (rw (← c.as_slice.ensures.value) at c.in-Ok.ensures.gets) in
-    record { step = answered; job = answered.job; begins = answered.begins }
+    record { step = answered; job = answered.job; begins = answered.begins; about = c.in-Ok.ensures.group }
 
 pub returns-in-OutOfMemory-clause-job : goal.returns-in-OutOfMemory-clause-job
 returns-in-OutOfMemory-clause-job g c =
@@ -39,4 +39,4 @@ pub returns-in_default : goal.returns-in_default
 returns-in_default g c =
     let refused = refused_step g.P.Meld.meld g.W.Words.alone (g.W.Words.name c.args.world.now.words) (g.W.Words.sight c.args.pass.now) c.args.ranks.now c.requires c.args.rank c.index-ranks-rank.result (omega (arith, c.if-rank-ranks.false))
     c.get_failed.new.self (g.W.Words.sight c.get_failed.new.pass) (λ r. call.GetFailed r c.args.comm) c.in-Err.refusal refl c.in_default.not-OutOfMemory c.in-Err.ensures.gets in
-    record { step = refused; job = refused.job; begins = refused.begins }
+    record { step = refused; job = refused.job; begins = refused.begins; about = tt }

@@ -1,5 +1,6 @@
-use crate::{LineKind, RunFault, run_calls};
+use crate::run_calls;
 use std::test::Fail;
+use ulfm_script::{LineKind, RunFault};
 
 fn line(number: u32, kind: LineKind) -> Result<(), RunFault> {
     Err(RunFault::Line { number, kind })

@@ -1,0 +1,27 @@
+ghost use Rattle.ulfm_script.specs.Runs.{Runs};
+
+use crate::over_words::WordsMachine;
+use std::alloc::Allocator;
+use std::io::{Read, Write};
+use ulfm_script::{RunFault, run_script};
+
+/// Runs the call script that the reader gives over the words of a new world, writes a line for each call, and flushes the writer once.
+///
+/// The first line is `ulfm 1 RANKS COMMS ROUNDS`, the world's limits; each other line is a call as `read_call` reads
+/// it, and gives one line as `print_reply` prints it. Want of memory is never printed as a reply.
+///
+/// At `Ok` the whole text was read, and exactly its output was written. At `Line` the fault is the first of the text, in the order
+/// of `LineKind` within a line, and exactly the output of the lines before was written. At `Read` exactly the output of
+/// the lines that the reader gave whole was written. At `Memory`, which is no reply, exactly the output of the first lines was
+/// written, those before the one under work. At `Write` a beginning of the output was written: the writer failed, took nothing, or
+/// couldn't be flushed, also where it had to take what waited at another fault. Every error of the reader or the writer is a fault,
+/// of whatever kind; none is tried again. Reader and writer have buffers of 8 KB here and need none of their own.
+pub fn run_calls<A: Allocator + Copy + Drop, R: Read, W: Write>(
+    alloc: A,
+    reader: &mut R,
+    writer: &mut W,
+) -> Result<(), RunFault>
+    ensures { Runs (R.remaining reader.old) (R.remaining reader.new) (W.contents writer.old) (W.contents writer.new) result }
+{
+    run_script::<WordsMachine<A>, A, R, W>(alloc, reader, writer)
+}
