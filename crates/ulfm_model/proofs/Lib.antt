@@ -1,6 +1,7 @@
 pub mod Computed
 pub mod Contexts
 pub mod Decisions
+pub mod Excluded
 pub mod FreeIds
 pub mod Histories
 pub mod Interleaved

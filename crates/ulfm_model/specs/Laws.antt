@@ -2,7 +2,7 @@
 use Rattle.std.specs.{Prelude.{Bool, ◌≡◌, ◌≢◌, ◌↔◌, ℕ, ◌+◌, ◌<◌, ◌==◌, ◌&&◌, List, [], ◌∷◌, ◌++◌, filter_map, map, take, slice_get, Some, IsTrue, IsFalse, nat_eq}, Int.{bit_at}, List.{IsDistinct}}
 use mathlib.Core.List.{IsPrefix}
 use Rattle.ulfm_laws.specs.{declared.summary.Summary.{Summary}, Bodies.{body_unit}, Combined.{combined}, Counts.{acked_unit}, Summaries.{summary_unit, summary_meld}}
-use Rattle.ulfm_model.specs.declared.{call.Call.{Call}, contribution.Slot.{Slot}, contribution.Slot.TheVariants.{Given, Mark as Marked}, event.Entry.{Entry}, limits.Limits.{Limits}, place.Place.{Place}, reply.Reply.{Reply}}
+use Rattle.ulfm_model.specs.declared.{call.Call.{Call}, call.Call.TheVariants.{Shrink}, contribution.Slot.{Slot}, contribution.Slot.TheVariants.{Given, Mark as Marked}, event.Entry.{Entry}, limits.Limits.{Limits}, place.Place.{Place}, reply.Reply.{Reply}, reply.Reply.TheVariants.{Started}}
 use Rattle.ulfm_model.specs.{Answers.{traits_of}, History.{Decision, Exists, History, IsLegal, MayFollow, body_of, decision, failed, failures, has, is_decided, members, round, same_place, says, spawns, without}, Records.{Fits, Held, IsContext, Record, free_ids, held_at}, Runs.{IsCall, IsSound, IsStep, State, new_state}, Words.{MayOpen, place_of, word_at, word_of}}
 
 -- a record that fits a history fits every longer legal one
@@ -139,3 +139,17 @@ HoldersAgree {P} meld =
     (limits : Limits) (h : History P) (one other : Record) (c : ℕ) (x y : Held) → Fits meld limits h one → Fits meld limits h other
     → held_at one c ≡ Some x → held_at other c ≡ Some y
     → IsTrue (has x.group one.number) × (x.group ≡ y.group) × (x.context ≡ y.context)
+
+-- a rank is left out of a round: it is in the decision's failed group, and a member of nothing that is made of the round
+pub record IsLeftOut {P : Type 0} (meld : P → P → P) (ranks : ℕ) (h : History P) (c k r : ℕ) : Type 0 where
+  pub decided_failed : IsTrue (has (decision meld ranks h c k).failed r)
+  pub no_member : (j : ℕ) → slice_get (spawns h) j ≡ Some (c, k) → IsFalse (has (members ranks h (j + 1)) r)
+
+-- the round of a shrink that starts leaves out all who were failed on its communicator in what its caller had seen before, in every longer
+-- legal history, whether the round is decided there already or not
+abbrev pub ShrinksExcludeFailures : {P : Type 0} → (P → P → P) → Type 0
+ShrinksExcludeFailures {P} meld =
+    (limits : Limits) (alone : Bool) (before after longer : History P) (own new : Record) (rank c : ℕ) (x : Held)
+    → Fits meld limits before own → IsCall meld limits alone before after own (Shrink rank c) Started new → held_at own c ≡ Some x
+    → IsPrefix after longer → IsLegal meld limits longer
+    → (r : ℕ) → IsTrue (has (failed limits.ranks before c) r) → IsLeftOut meld limits.ranks longer c x.next_agreement r

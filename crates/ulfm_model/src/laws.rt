@@ -1,5 +1,5 @@
 //! The laws of the object. Each function does nothing: what it ensures is a law, proved for every sort of contribution.
-ghost use Rattle.ulfm_model.specs.Laws.{CallsHaveOneStep, CallsKeepRecords, HoldersAgree, StatesStaySound, RecordsStay, DecisionsStay, CommunicatorsStay, ContextsAreIds, SurvivorsAreSpawned, DecisionsAreCombined, EventsHappenOnce, UnheldIdsAreOffered, WordsTellEvents};
+ghost use Rattle.ulfm_model.specs.Laws.{CallsHaveOneStep, CallsKeepRecords, HoldersAgree, StatesStaySound, RecordsStay, DecisionsStay, CommunicatorsStay, ContextsAreIds, SurvivorsAreSpawned, DecisionsAreCombined, EventsHappenOnce, ShrinksExcludeFailures, UnheldIdsAreOffered, WordsTellEvents};
 
 use ulfm_laws::meld::Meld;
 
@@ -68,4 +68,10 @@ pub fn calls_keep_records<P: Meld>()
 /// All who hold a communicator are members of it, and hold it with one group and one context id.
 pub fn holders_agree<P: Meld>()
     ensures { HoldersAgree P.meld }
+{}
+
+/// The round of a shrink that starts leaves out every rank that was failed on its communicator in what its caller had seen
+/// before, as in the answers to its earlier calls: no communicator that is made of the round has such a rank as a member.
+pub fn shrinks_exclude_failures<P: Meld>()
+    ensures { ShrinksExcludeFailures P.meld }
 {}
