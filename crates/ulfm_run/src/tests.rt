@@ -1,16 +1,27 @@
-use crate::run_calls;
+use crate::{ObjectMachine, run_calls};
+use std::alloc::Global;
 use std::test::Fail;
-use ulfm_script::{LineKind, RunFault};
+use ulfm_script::{LineKind, RunFault, run_script};
 
 fn line(number: u32, kind: LineKind) -> Result<(), RunFault> {
     Err(RunFault::Line { number, kind })
 }
 
-/// What a script gives that is run over memory.
+/// What a script gives that is run over memory. The sequential object gives the same.
 fn run(rt: &HostRuntime, script: &[u8]) -> Result<(Vec<u8>, Result<(), RunFault>), Fail> {
     let mut reader = script;
     let mut out = Vec::new(rt.alloc());
     let end = run_calls(rt.alloc(), &mut reader, &mut out);
+    let mut reader = script;
+    let mut right = Vec::new(rt.alloc());
+    let also = run_script::<ObjectMachine<Global>, Global, &[u8], Vec<u8>>(
+        rt.alloc(),
+        &mut reader,
+        &mut right,
+    );
+    if out.as_slice() != right.as_slice() || end != also {
+        return Err(Fail::from("the object gives something else"));
+    }
     Ok((out, end))
 }
 
