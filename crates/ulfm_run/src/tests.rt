@@ -1,23 +1,34 @@
-use crate::run_calls;
+use crate::{ObjectMachine, run_calls};
+use std::alloc::Global;
 use std::test::Fail;
-use ulfm_script::{LineKind, RunFault};
+use ulfm_script::{LineKind, RunFault, run_script};
 
 fn line(number: u32, kind: LineKind) -> Result<(), RunFault> {
     Err(RunFault::Line { number, kind })
 }
 
-/// What a script gives that is run over memory.
+/// What a script gives that is run over memory. The sequential object gives the same.
 fn run(rt: &HostRuntime, script: &[u8]) -> Result<(Vec<u8>, Result<(), RunFault>), Fail> {
     let mut reader = script;
     let mut out = Vec::new(rt.alloc());
     let end = run_calls(rt.alloc(), &mut reader, &mut out);
+    let mut reader = script;
+    let mut right = Vec::new(rt.alloc());
+    let also = run_script::<ObjectMachine<Global>, Global, &[u8], Vec<u8>>(
+        rt.alloc(),
+        &mut reader,
+        &mut right,
+    );
+    if out.as_slice() != right.as_slice() || end != also {
+        return Err(Fail::from("the object gives something else"));
+    }
     Ok((out, end))
 }
 
 /// The worked rows.
 #[test]
 fn worked_rows(rt: HostRuntime) -> Result<(), Fail> {
-    let rows: [(&str, &[u8], &[u8]); 10] = [
+    let rows: [(&str, &[u8], &[u8]); 16] = [
         (
             "acknowledged_by_all",
             b"ulfm 1 3 1 4\nfail 2\nack 0 0 1\nack 1 0 1\nagree 0 0 0000000f\nagree 1 0 0000003c\npoll 0 0\npoll 1 0\n",
@@ -37,6 +48,21 @@ fn worked_rows(rt: HostRuntime) -> Result<(), Fail> {
             "acknowledgements_count",
             b"ulfm 1 3 1 2\nget 0 0\nfail 1\nfail 2\nack 0 0 0\nack 0 0 1\nack 0 0 9\nack 0 0 1\nget 0 0\nfail 1\nfail 7\n",
             b"failed none\ndeclared\ndeclared\nacked 0\nacked 1\nacked 2\nacked 2\nfailed 1 2\nalready-failed\nrefused 13 no-such-rank\n",
+        ),
+        (
+            "agree_meets_shrink",
+            b"ulfm 1 2 2 4\nagree 0 0 0000000f\nshrink 1 0\npoll 0 0\npoll 1 0\nagree 0 0 0000000f\nagree 1 0 00000003\npoll 1 0\n",
+            b"started\nstarted\nrefused 7 mismatch\nrefused 7 mismatch\nstarted\nstarted\nagreed 00000003 failed 0 clean\n",
+        ),
+        (
+            "contexts_come_back_a",
+            b"ulfm 1 2 4 8\nshrink 0 0\nshrink 1 0\npoll 0 0\npoll 1 0\nfree 0 1\nshrink 0 0\nshrink 1 0\npoll 0 0\npoll 1 0\n",
+            b"started\nstarted\nshrunk 1 context 1 members 0 1\nshrunk 1 context 1 members 0 1\nfreed\nstarted\nstarted\nshrunk 2 context 2 members 0 1\nshrunk 2 context 2 members 0 1\n",
+        ),
+        (
+            "contexts_come_back_b",
+            b"ulfm 1 1 40 40\nshrink 0 0\npoll 0 0\nshrink 0 0\npoll 0 0\nshrink 0 0\npoll 0 0\nshrink 0 0\npoll 0 0\nshrink 0 0\npoll 0 0\nshrink 0 0\npoll 0 0\nshrink 0 0\npoll 0 0\nshrink 0 0\npoll 0 0\nshrink 0 0\npoll 0 0\nshrink 0 0\npoll 0 0\nshrink 0 0\npoll 0 0\nshrink 0 0\npoll 0 0\nshrink 0 0\npoll 0 0\nshrink 0 0\npoll 0 0\nshrink 0 0\npoll 0 0\nshrink 0 0\npoll 0 0\nshrink 0 0\npoll 0 0\nshrink 0 0\npoll 0 0\nshrink 0 0\npoll 0 0\nshrink 0 0\npoll 0 0\nshrink 0 0\npoll 0 0\nshrink 0 0\npoll 0 0\nshrink 0 0\npoll 0 0\nshrink 0 0\npoll 0 0\nshrink 0 0\npoll 0 0\nshrink 0 0\npoll 0 0\nshrink 0 0\npoll 0 0\nshrink 0 0\npoll 0 0\nshrink 0 0\npoll 0 0\nshrink 0 0\npoll 0 0\nshrink 0 0\npoll 0 0\nshrink 0 0\npoll 0 0\nfree 0 7\nshrink 0 0\npoll 0 0\n",
+            b"started\nshrunk 1 context 1 members 0\nstarted\nshrunk 2 context 2 members 0\nstarted\nshrunk 3 context 3 members 0\nstarted\nshrunk 4 context 4 members 0\nstarted\nshrunk 5 context 5 members 0\nstarted\nshrunk 6 context 6 members 0\nstarted\nshrunk 7 context 7 members 0\nstarted\nshrunk 8 context 8 members 0\nstarted\nshrunk 9 context 9 members 0\nstarted\nshrunk 10 context 10 members 0\nstarted\nshrunk 11 context 11 members 0\nstarted\nshrunk 12 context 12 members 0\nstarted\nshrunk 13 context 13 members 0\nstarted\nshrunk 14 context 14 members 0\nstarted\nshrunk 15 context 15 members 0\nstarted\nshrunk 16 context 16 members 0\nstarted\nshrunk 17 context 17 members 0\nstarted\nshrunk 18 context 18 members 0\nstarted\nshrunk 19 context 19 members 0\nstarted\nshrunk 20 context 20 members 0\nstarted\nshrunk 21 context 21 members 0\nstarted\nshrunk 22 context 22 members 0\nstarted\nshrunk 23 context 23 members 0\nstarted\nshrunk 24 context 24 members 0\nstarted\nshrunk 25 context 25 members 0\nstarted\nshrunk 26 context 26 members 0\nstarted\nshrunk 27 context 27 members 0\nstarted\nshrunk 28 context 28 members 0\nstarted\nshrunk 29 context 29 members 0\nstarted\nshrunk 30 context 30 members 0\nstarted\nshrunk 31 context 31 members 0\nstarted\nrefused 8 no-context\nfreed\nstarted\nshrunk 32 context 7 members 0\n",
         ),
         (
             "failed_rank_raises",
@@ -62,6 +88,21 @@ fn worked_rows(rt: HostRuntime) -> Result<(), Fail> {
             "pending_then_decided",
             b"ulfm 1 3 1 4\nagree 0 0 0000000f\nagree 1 0 0000003c\npoll 0 0\nagree 2 0 00000004\npoll 0 0\n",
             b"started\nstarted\npending\nstarted\nagreed 00000004 failed 0 clean\n",
+        ),
+        (
+            "refusals_in_order",
+            b"ulfm 1 2 4 8\nshrink 0 0\nshrink 0 0\npoll 0 0\npoll 1 0\nshrink 1 0\npoll 0 0\nshrink 0 0\nshrink 0 1\nagree 0 1 00000001\nfree 0 1\nfree 0 0\nget 1 1\n",
+            b"started\nrefused 3 busy\npending\nrefused 6 idle\nstarted\nshrunk 1 context 1 members 0 1\nstarted\nrefused 4 shrink-open\nstarted\nrefused 3 busy\nrefused 12 world-kept\nrefused 2 no-such-comm\n",
+        ),
+        (
+            "rounds_and_room_used_up",
+            b"ulfm 1 2 1 1\nagree 0 0 00000001\nshrink 0 0\nshrink 1 0\npoll 0 0\npoll 1 0\nshrink 0 0\n",
+            b"refused 5 rounds-used-up\nstarted\nstarted\nrefused 9 no-room\nrefused 9 no-room\nrefused 5 rounds-used-up\n",
+        ),
+        (
+            "shrinks_keep_order",
+            b"ulfm 1 4 4 4\nfail 1\nshrink 3 0\nshrink 0 0\nshrink 2 0\npoll 3 0\npoll 0 0\npoll 2 0\nfail 0\nshrink 3 1\nshrink 2 1\npoll 3 1\npoll 2 1\n",
+            b"declared\nstarted\nstarted\nstarted\nshrunk 1 context 1 members 0 2 3\nshrunk 1 context 1 members 0 2 3\nshrunk 1 context 1 members 0 2 3\ndeclared\nstarted\nstarted\nshrunk 2 context 2 members 2 3\nshrunk 2 context 2 members 2 3\n",
         ),
         (
             "three_flags",
@@ -141,7 +182,7 @@ fn line_faults(rt: HostRuntime) -> Result<(), Fail> {
             b"",
             line(2, LineKind::Flag),
         ),
-        (b"ulfm 1 3 1 4\nshrink 0 0\n", b"", line(2, LineKind::Verb)),
+        (b"ulfm 1 3 1 4\nbarrier 0 0\n", b"", line(2, LineKind::Verb)),
         (
             b"ulfm 1 3 1 4\nfail 1023\n",
             b"refused 13 no-such-rank\n",

@@ -6,7 +6,7 @@ use Rattle.ulfm_laws.specs.declared.flag_and.FlagAnd.{FlagAnd}
 use Rattle.ulfm_model.specs.declared.call.Call.TheVariants.{Fail, GetFailed, Ack, Agree, Shrink, Barrier, Poll, Revoke, IsRevoked, Free}
 use Rattle.ulfm_script.specs.declared.line_kind.LineKind.{LineKind}
 use Rattle.ulfm_script.specs.declared.line_kind.LineKind.TheVariants.{Verb}
-use Rattle.ulfm_script.specs.{Calls.{ScriptCall, fail_of, get_of, ack_of, agree_of, poll_of, call_from, call_of}, Digits.{rank_of, comm_of, number_of, flag_of, flag_text}, Spelling.{IsOnComm, Spells}, Steps.{◌>>=◌}, Words.{word_of, one_of, two_of, three_of}}
+use Rattle.ulfm_script.specs.{Calls.{ScriptCall, place_of, fail_of, get_of, ack_of, agree_of, shrink_of, poll_of, free_of, call_from, call_of}, Digits.{rank_of, comm_of, number_of, flag_of, flag_text}, Spelling.{IsOnComm, Spells}, Steps.{◌>>=◌}, Words.{word_of, one_of, two_of, three_of}}
 use Rattle.ulfm_script.proofs.{Hexadecimal.{flag_again, flag_found}, Numerals.{number_again, number_found, number_to_again, number_to_found}, WordLemmas.{IsWord, decimal_is_word, flag_is_word, joined, joined_word, one_again, one_found, same_done, step_found, three_again, three_found, two_again, two_found}}
 
 rank_again : (rank : ℕ) → rank < 1024 → rank_of (decimal rank) ≡ Ok rank
@@ -22,10 +22,30 @@ fail_again : (rank : ℕ) → rank < 1024 → call_of (codes "fail " ++ decimal 
 unfolding call_of fail_of
 fail_again rank h = rw (one_again (decimal rank) (number_is_word rank (omega (arith, h))), rank_again rank h) refl
 
-get_again : (rank comm : ℕ) → rank < 1024 → comm < 256 → call_of (codes "get " ++ (decimal rank ++ 32 ∷ decimal comm)) ≡ Ok (GetFailed rank comm)
-unfolding call_of get_of
-get_again rank comm h k =
+-- two words, as a rank and a communicator are written
+abbrev place_text : ℕ → ℕ → List ℕ
+place_text rank comm = decimal rank ++ 32 ∷ decimal comm
+
+place_again : (rank comm : ℕ) → rank < 1024 → comm < 256 → place_of (Some (place_text rank comm)) ≡ Ok (rank, comm)
+unfolding place_of
+place_again rank comm h k =
     rw (two_again (decimal rank) (decimal comm) (number_is_word rank (omega (arith, h))) (number_is_word comm (omega (arith, k))), rank_again rank h, comm_again comm k) refl
+
+get_again : (rank comm : ℕ) → rank < 1024 → comm < 256 → call_of (codes "get " ++ place_text rank comm) ≡ Ok (GetFailed rank comm)
+unfolding call_of get_of
+get_again rank comm h k = rw (place_again rank comm h k) refl
+
+shrink_again : (rank comm : ℕ) → rank < 1024 → comm < 256 → call_of (codes "shrink " ++ place_text rank comm) ≡ Ok (Shrink rank comm)
+unfolding call_of shrink_of
+shrink_again rank comm h k = rw (place_again rank comm h k) refl
+
+poll_again : (rank comm : ℕ) → rank < 1024 → comm < 256 → call_of (codes "poll " ++ place_text rank comm) ≡ Ok (Poll rank comm)
+unfolding call_of poll_of
+poll_again rank comm h k = rw (place_again rank comm h k) refl
+
+free_again : (rank comm : ℕ) → rank < 1024 → comm < 256 → call_of (codes "free " ++ place_text rank comm) ≡ Ok (Free rank comm)
+unfolding call_of free_of
+free_again rank comm h k = rw (place_again rank comm h k) refl
 
 ack_again : (rank comm count : ℕ) → rank < 1024 → comm < 256 → count < 10000 → call_of (codes "ack " ++ (decimal rank ++ 32 ∷ (decimal comm ++ 32 ∷ decimal count))) ≡ Ok (Ack rank comm count)
 unfolding call_of ack_of
@@ -37,11 +57,6 @@ unfolding call_of agree_of
 agree_again rank comm flag h k =
     rw (three_again (decimal rank) (decimal comm) (flag_text flag) (number_is_word rank (omega (arith, h))) (number_is_word comm (omega (arith, k))) (flag_is_word flag), rank_again rank h, comm_again comm k, flag_again flag) refl
 
-poll_again : (rank comm : ℕ) → rank < 1024 → comm < 256 → call_of (codes "poll " ++ (decimal rank ++ 32 ∷ decimal comm)) ≡ Ok (Poll rank comm)
-unfolding call_of poll_of
-poll_again rank comm h k =
-    rw (two_again (decimal rank) (decimal comm) (number_is_word rank (omega (arith, h))) (number_is_word comm (omega (arith, k))), rank_again rank h, comm_again comm k) refl
-
 plain_line : (verb : List ℕ) (rank comm : ℕ) → verb ++ (decimal rank ++ 32 ∷ (decimal comm ++ [])) ≡ verb ++ (decimal rank ++ 32 ∷ decimal comm)
 plain_line verb rank comm = ap (λ (t : List ℕ). verb ++ (decimal rank ++ 32 ∷ t)) (append-nil (decimal comm))
 
@@ -51,12 +66,12 @@ spelled_again line (Fail rank) h = ap call_of h.1 ∙ fail_again rank h.0
 spelled_again line (GetFailed rank comm) h = ap call_of (h.line_is ∙ plain_line (codes "get ") rank comm) ∙ get_again rank comm h.rank_fits h.comm_fits
 spelled_again line (Ack rank comm count) h = ap call_of h.1.line_is ∙ ack_again rank comm count h.1.rank_fits h.1.comm_fits h.0
 spelled_again line (Agree rank comm flag) h = ap call_of h.line_is ∙ agree_again rank comm flag h.rank_fits h.comm_fits
-spelled_again line (Shrink rank comm) h = absurd h
+spelled_again line (Shrink rank comm) h = ap call_of (h.line_is ∙ plain_line (codes "shrink ") rank comm) ∙ shrink_again rank comm h.rank_fits h.comm_fits
 spelled_again line (Barrier rank comm) h = absurd h
 spelled_again line (Poll rank comm) h = ap call_of (h.line_is ∙ plain_line (codes "poll ") rank comm) ∙ poll_again rank comm h.rank_fits h.comm_fits
 spelled_again line (Revoke rank comm) h = absurd h
 spelled_again line (IsRevoked rank comm) h = absurd h
-spelled_again line (Free rank comm) h = absurd h
+spelled_again line (Free rank comm) h = ap call_of (h.line_is ∙ plain_line (codes "free ") rank comm) ∙ free_again rank comm h.rank_fits h.comm_fits
 
 -- a verb whose fields were read stands at the line's beginning
 abbrev Reads : (verb : List ℕ) → (Option (List ℕ) → Result ScriptCall LineKind) → Type 0
@@ -72,29 +87,29 @@ fail_found fields call e =
     subst (Spells (joined (codes "fail") fields)) (same_done (Fail b.0) call b.2) (omega (arith, r.0), line)
 
 -- the rank and the communicator of two words
-abbrev on_comm : (ℕ → ℕ → Result ScriptCall LineKind) → List ℕ → List ℕ → Result ScriptCall LineKind
+abbrev on_comm : {A : Type 0} → (ℕ → ℕ → Result A LineKind) → List ℕ → List ℕ → Result A LineKind
 on_comm then a b = do
   rank ← rank_of a
   comm ← comm_of b
   then rank comm
 
 -- both were read, and stand there
-record IsPlace (a b : List ℕ) (then : ℕ → ℕ → Result ScriptCall LineKind) (call : ScriptCall) : Type 0 where
+record IsPlace {A : Type 0} (a b : List ℕ) (then : ℕ → ℕ → Result A LineKind) (x : A) : Type 0 where
   rank : ℕ
   comm : ℕ
   rank_fits : rank < 1024
   comm_fits : comm < 256
   a_is : a ≡ decimal rank
   b_is : b ≡ decimal comm
-  rest : then rank comm ≡ Ok call
+  rest : then rank comm ≡ Ok x
 
-place_found : (then : ℕ → ℕ → Result ScriptCall LineKind) (a b : List ℕ) (call : ScriptCall) → on_comm then a b ≡ Ok call → IsPlace a b then call
-place_found then a b call e =
-    let x = step_found (rank_of a) (λ rank. comm_of b >>= λ comm. then rank comm) call e in
-    let y = step_found (comm_of b) (λ comm. then x.0 comm) call x.2 in
-    let r = number_to_found 1023 x.0 a x.1 in
-    let c = number_to_found 255 y.0 b y.1 in
-    record { rank = x.0; comm = y.0; rank_fits = omega (arith, r.0); comm_fits = omega (arith, c.0); a_is = r.1; b_is = c.1; rest = y.2 }
+place_found : {A : Type 0} (then : ℕ → ℕ → Result A LineKind) (a b : List ℕ) (x : A) → on_comm then a b ≡ Ok x → IsPlace a b then x
+place_found then a b x e =
+    let r = step_found (rank_of a) (λ rank. comm_of b >>= λ comm. then rank comm) x e in
+    let c = step_found (comm_of b) (λ comm. then r.0 comm) x r.2 in
+    let ra = number_to_found 1023 r.0 a r.1 in
+    let cb = number_to_found 255 c.0 b c.1 in
+    record { rank = r.0; comm = c.0; rank_fits = omega (arith, ra.0); comm_fits = omega (arith, cb.0); a_is = ra.1; b_is = cb.1; rest = c.2 }
 
 two_line : (verb : List ℕ) (fields : Option (List ℕ)) (a b : List ℕ) (rank comm : ℕ) → fields ≡ Some (a ++ 32 ∷ b) → rank < 1024 → comm < 256 → a ≡ decimal rank → b ≡ decimal comm
     → IsOnComm (joined verb fields) (verb ++ 32 ∷ []) rank comm []
@@ -112,19 +127,41 @@ three_line verb fields a b last text rank comm e h k i j l = record {
   line_is = ap (joined verb) e ∙ ap (λ (t : List ℕ). verb ++ 32 ∷ (t ++ 32 ∷ (b ++ 32 ∷ last))) i ∙ ap (λ (t : List ℕ). verb ++ 32 ∷ (decimal rank ++ 32 ∷ (t ++ 32 ∷ last))) j ∙ ap (λ (t : List ℕ). verb ++ 32 ∷ (decimal rank ++ 32 ∷ (decimal comm ++ 32 ∷ t))) l ∙ sym (append_assoc verb (32 ∷ []) (decimal rank ++ 32 ∷ (decimal comm ++ 32 ∷ text)));
 }
 
+-- a call of a rank and a communicator, and nothing behind them
+abbrev plain_of : (ℕ → ℕ → ScriptCall) → Option (List ℕ) → Result ScriptCall LineKind
+plain_of call_at fields = place_of fields >>= λ place. Ok (call_at place.0 place.1)
+
+-- its verb is spelled with those alone
+abbrev IsPlain : (verb : List ℕ) → (ℕ → ℕ → ScriptCall) → Type 0
+IsPlain verb call_at = (line : List ℕ) (rank comm : ℕ) → IsOnComm line (verb ++ 32 ∷ []) rank comm [] → Spells line (call_at rank comm)
+
+abbrev pair : ℕ → ℕ → Result (ℕ × ℕ) LineKind
+pair rank comm = Ok (rank, comm)
+
+plain_found : (verb : List ℕ) (call_at : ℕ → ℕ → ScriptCall) → IsPlain verb call_at → Reads verb (plain_of call_at)
+unfolding place_of
+plain_found verb call_at spells fields call e =
+    let x = step_found (place_of fields) (λ place. Ok (call_at place.0 place.1)) call e in
+    let w = step_found (two_of fields) (λ w. on_comm pair w.0 w.1) x.0 x.1 in
+    let p = place_found pair w.0.0 w.0.1 x.0 w.2 in
+    let is : call_at p.rank p.comm ≡ call = ap (λ (at : ℕ × ℕ). call_at at.0 at.1) (same_done (p.rank, p.comm) x.0 p.rest) ∙ same_done (call_at x.0.0 x.0.1) call x.2 in
+    subst (Spells (joined verb fields)) is (spells (joined verb fields) p.rank p.comm (two_line verb fields w.0.0 w.0.1 p.rank p.comm (two_found fields w.0 w.1) p.rank_fits p.comm_fits p.a_is p.b_is))
+
 get_found : Reads (codes "get") get_of
 unfolding get_of
-get_found fields call e =
-    let w = step_found (two_of fields) (λ w. on_comm (λ rank comm. Ok (GetFailed rank comm)) w.0 w.1) call e in
-    let p = place_found (λ rank comm. Ok (GetFailed rank comm)) w.0.0 w.0.1 call w.2 in
-    subst (Spells (joined (codes "get") fields)) (same_done (GetFailed p.rank p.comm) call p.rest) (two_line (codes "get") fields w.0.0 w.0.1 p.rank p.comm (two_found fields w.0 w.1) p.rank_fits p.comm_fits p.a_is p.b_is)
+get_found = plain_found (codes "get") GetFailed (λ line rank comm h. h)
+
+shrink_found : Reads (codes "shrink") shrink_of
+unfolding shrink_of
+shrink_found = plain_found (codes "shrink") Shrink (λ line rank comm h. h)
 
 poll_found : Reads (codes "poll") poll_of
 unfolding poll_of
-poll_found fields call e =
-    let w = step_found (two_of fields) (λ w. on_comm (λ rank comm. Ok (Poll rank comm)) w.0 w.1) call e in
-    let p = place_found (λ rank comm. Ok (Poll rank comm)) w.0.0 w.0.1 call w.2 in
-    subst (Spells (joined (codes "poll") fields)) (same_done (Poll p.rank p.comm) call p.rest) (two_line (codes "poll") fields w.0.0 w.0.1 p.rank p.comm (two_found fields w.0 w.1) p.rank_fits p.comm_fits p.a_is p.b_is)
+poll_found = plain_found (codes "poll") Poll (λ line rank comm h. h)
+
+free_found : Reads (codes "free") free_of
+unfolding free_of
+free_found = plain_found (codes "free") Free (λ line rank comm h. h)
 
 abbrev ack_rest : List ℕ → ℕ → ℕ → Result ScriptCall LineKind
 ack_rest word rank comm = number_of word >>= λ count. Ok (Ack rank comm count)
@@ -172,7 +209,9 @@ read_from word fields call e = verb_found word (codes "fail") fields fail_of _ c
     (verb_found word (codes "get") fields get_of _ call get_found
     (verb_found word (codes "ack") fields ack_of _ call ack_found
     (verb_found word (codes "agree") fields agree_of _ call agree_found
-    (verb_found word (codes "poll") fields poll_of _ call poll_found (no_verb (joined word fields) call))))) e
+    (verb_found word (codes "shrink") fields shrink_of _ call shrink_found
+    (verb_found word (codes "poll") fields poll_of _ call poll_found
+    (verb_found word (codes "free") fields free_of _ call free_found (no_verb (joined word fields) call))))))) e
 
 -- what is read is spelled so
 pub read_is_spelled : (line : List ℕ) (call : ScriptCall) → call_of line ≡ Ok call → Spells line call

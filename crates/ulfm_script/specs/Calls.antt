@@ -3,7 +3,7 @@ use Rattle.std.specs.Prelude.{ℕ, List, codes, Option, Result, Ok, Err, if◌th
 use Rattle.std.specs.Str.{bytes_eq}
 use Rattle.ulfm_laws.specs.declared.flag_and.FlagAnd.{FlagAnd}
 use Rattle.ulfm_model.specs.declared.call.Call.{Call}
-use Rattle.ulfm_model.specs.declared.call.Call.TheVariants.{Fail, GetFailed, Ack, Agree, Poll}
+use Rattle.ulfm_model.specs.declared.call.Call.TheVariants.{Fail, GetFailed, Ack, Agree, Shrink, Poll, Free}
 use Rattle.ulfm_script.specs.declared.line_kind.LineKind.{LineKind}
 use Rattle.ulfm_script.specs.declared.line_kind.LineKind.TheVariants.{Verb}
 use Rattle.ulfm_script.specs.Digits.{rank_of, comm_of, number_of, flag_of}
@@ -14,6 +14,14 @@ use Rattle.ulfm_script.specs.Words.{word_of, one_of, two_of, three_of}
 abbrev pub ScriptCall : Type 0
 ScriptCall = Call FlagAnd
 
+-- a rank and a communicator, and nothing behind them
+unfoldable pub place_of : Option (List ℕ) → Result (ℕ × ℕ) LineKind
+place_of fields = do
+  words ← two_of fields
+  rank ← rank_of words.0
+  comm ← comm_of words.1
+  Ok (rank, comm)
+
 -- the fields of each verb
 unfoldable pub fail_of : Option (List ℕ) → Result ScriptCall LineKind
 fail_of fields = do
@@ -23,10 +31,8 @@ fail_of fields = do
 
 unfoldable pub get_of : Option (List ℕ) → Result ScriptCall LineKind
 get_of fields = do
-  words ← two_of fields
-  rank ← rank_of words.0
-  comm ← comm_of words.1
-  Ok (GetFailed rank comm)
+  place ← place_of fields
+  Ok (GetFailed place.0 place.1)
 
 unfoldable pub ack_of : Option (List ℕ) → Result ScriptCall LineKind
 ack_of fields = do
@@ -44,12 +50,20 @@ agree_of fields = do
   flag ← flag_of words.2
   Ok (Agree rank comm flag)
 
+unfoldable pub shrink_of : Option (List ℕ) → Result ScriptCall LineKind
+shrink_of fields = do
+  place ← place_of fields
+  Ok (Shrink place.0 place.1)
+
 unfoldable pub poll_of : Option (List ℕ) → Result ScriptCall LineKind
 poll_of fields = do
-  words ← two_of fields
-  rank ← rank_of words.0
-  comm ← comm_of words.1
-  Ok (Poll rank comm)
+  place ← place_of fields
+  Ok (Poll place.0 place.1)
+
+unfoldable pub free_of : Option (List ℕ) → Result ScriptCall LineKind
+free_of fields = do
+  place ← place_of fields
+  Ok (Free place.0 place.1)
 
 -- a verb, and the text behind it
 abbrev pub call_from : List ℕ × Option (List ℕ) → Result ScriptCall LineKind
@@ -58,8 +72,10 @@ call_from first =
     else (if bytes_eq first.0 (codes "get") then get_of first.1
     else (if bytes_eq first.0 (codes "ack") then ack_of first.1
     else (if bytes_eq first.0 (codes "agree") then agree_of first.1
+    else (if bytes_eq first.0 (codes "shrink") then shrink_of first.1
     else (if bytes_eq first.0 (codes "poll") then poll_of first.1
-    else Err Verb))))
+    else (if bytes_eq first.0 (codes "free") then free_of first.1
+    else Err Verb))))))
 
 -- the call of a line
 unfoldable pub call_of : List ℕ → Result ScriptCall LineKind

@@ -17,12 +17,12 @@ Spells line (Fail rank) = (rank < 1024) × (line ≡ codes "fail " ++ decimal ra
 Spells line (GetFailed rank comm) = IsOnComm line (codes "get ") rank comm []
 Spells line (Ack rank comm count) = (count < 10000) × IsOnComm line (codes "ack ") rank comm (32 ∷ decimal count)
 Spells line (Agree rank comm flag) = IsOnComm line (codes "agree ") rank comm (32 ∷ flag_text flag)
-Spells line (Shrink rank comm) = ⊥
+Spells line (Shrink rank comm) = IsOnComm line (codes "shrink ") rank comm []
 Spells line (Barrier rank comm) = ⊥
 Spells line (Poll rank comm) = IsOnComm line (codes "poll ") rank comm []
 Spells line (Revoke rank comm) = ⊥
 Spells line (IsRevoked rank comm) = ⊥
-Spells line (Free rank comm) = ⊥
+Spells line (Free rank comm) = IsOnComm line (codes "free ") rank comm []
 
 -- a call that some line spells
 abbrev pub IsSpelled : ScriptCall → Type 0

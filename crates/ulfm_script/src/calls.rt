@@ -1,6 +1,6 @@
 //! The calls of a script, line by line.
 ghost use Rattle.std.specs.Prelude.{◌≡◌, Ok, IfOk};
-ghost use Rattle.ulfm_script.specs.Calls.{ScriptCall, call_of, fail_of, get_of, ack_of, agree_of, poll_of};
+ghost use Rattle.ulfm_script.specs.Calls.{ScriptCall, call_of, place_of, fail_of, get_of, ack_of, agree_of, shrink_of, poll_of, free_of};
 ghost use Rattle.ulfm_script.specs.Spelling.{Spells};
 ghost use Rattle.ulfm_script.specs.Words.{rest_at};
 
@@ -12,8 +12,9 @@ use ulfm_model::Call;
 
 /// The call of one line of a script, without its newline, or the first fault in it from `verb` on.
 ///
-/// A line is `fail R`, `get R C`, `ack R C N`, `agree R C F` or `poll R C`: ranks R are 0 to 1023, communicators C 0 to 255,
-/// counts N 0 to 9999, in decimal without leading zeros, and a flag F is eight lower case hexadecimal digits.
+/// A line is `fail R`, `get R C`, `ack R C N`, `agree R C F`, `shrink R C`, `poll R C` or `free R C`: ranks R are 0 to 1023,
+/// communicators C 0 to 255, counts N 0 to 9999, in decimal without leading zeros, and a flag F is eight lower case
+/// hexadecimal digits.
 pub fn read_call(line: &[u8]) -> Result<Call<FlagAnd>, LineKind>
     // What is read is spelled so, and what is spelled so is read.
     ensures found { IfOk result (λ call. Spells line.now call) }
@@ -36,8 +37,12 @@ fn parse_call(line: &[u8]) -> Result<Call<FlagAnd>, LineKind>
         read_ack(fields)
     } else if verb == b"agree".as_slice() {
         read_agree(fields)
+    } else if verb == b"shrink".as_slice() {
+        read_shrink(fields)
     } else if verb == b"poll".as_slice() {
         read_poll(fields)
+    } else if verb == b"free".as_slice() {
+        read_free(fields)
     } else {
         Err(LineKind::Verb)
     }
@@ -52,13 +57,22 @@ fn read_fail(fields: Option<&[u8]>) -> Result<Call<FlagAnd>, LineKind>
     Ok(Call::Fail { rank })
 }
 
-#[tactic(auto, unfolding(crate::specs::Calls::get_of))]
-fn read_get(fields: Option<&[u8]>) -> Result<Call<FlagAnd>, LineKind>
-    ensures { result ≡ get_of (rest_at fields.entry) }
+/// A rank and a communicator, and nothing behind them.
+#[tactic(auto, unfolding(crate::specs::Calls::place_of))]
+fn read_place(fields: Option<&[u8]>) -> Result<(u16, u16), LineKind>
+    ensures { result ≡ place_of (rest_at fields.entry) }
 {
     let (rank, comm) = two_words(fields)?;
     let rank = read_number_to(LAST_RANK, rank)?;
     let comm = read_number_to(LAST_COMM, comm)?;
+    Ok((rank, comm))
+}
+
+#[tactic(auto, unfolding(crate::specs::Calls::get_of))]
+fn read_get(fields: Option<&[u8]>) -> Result<Call<FlagAnd>, LineKind>
+    ensures { result ≡ get_of (rest_at fields.entry) }
+{
+    let (rank, comm) = read_place(fields)?;
     Ok(Call::GetFailed { rank, comm })
 }
 
@@ -84,12 +98,26 @@ fn read_agree(fields: Option<&[u8]>) -> Result<Call<FlagAnd>, LineKind>
     Ok(Call::Agree { rank, comm, value })
 }
 
+#[tactic(auto, unfolding(crate::specs::Calls::shrink_of))]
+fn read_shrink(fields: Option<&[u8]>) -> Result<Call<FlagAnd>, LineKind>
+    ensures { result ≡ shrink_of (rest_at fields.entry) }
+{
+    let (rank, comm) = read_place(fields)?;
+    Ok(Call::Shrink { rank, comm })
+}
+
 #[tactic(auto, unfolding(crate::specs::Calls::poll_of))]
 fn read_poll(fields: Option<&[u8]>) -> Result<Call<FlagAnd>, LineKind>
     ensures { result ≡ poll_of (rest_at fields.entry) }
 {
-    let (rank, comm) = two_words(fields)?;
-    let rank = read_number_to(LAST_RANK, rank)?;
-    let comm = read_number_to(LAST_COMM, comm)?;
+    let (rank, comm) = read_place(fields)?;
     Ok(Call::Poll { rank, comm })
+}
+
+#[tactic(auto, unfolding(crate::specs::Calls::free_of))]
+fn read_free(fields: Option<&[u8]>) -> Result<Call<FlagAnd>, LineKind>
+    ensures { result ≡ free_of (rest_at fields.entry) }
+{
+    let (rank, comm) = read_place(fields)?;
+    Ok(Call::Free { rank, comm })
 }
