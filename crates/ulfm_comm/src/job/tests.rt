@@ -142,15 +142,37 @@ fn filled<'a>(
     Ok(blocks)
 }
 
-/// A call, with more room each time until it is answered, as it should be: how many times it lacked memory.
+/// A job over plain words in a heap.
+type Heaped<'a> = Job<PlainWords<FlagAnd>, FlagAnd, &'a LocalHeap>;
+
+/// How many communicators were made.
+fn communicators(job: &Heaped) -> u16 {
+    let mut made: u16 = 0;
+    for i in 0..32 {
+        if let Some(
+            Step {
+                place: Place::Comm { .. },
+                ..
+            },
+        ) = job.pass.nth(i)
+        {
+            made = made.saturating_add(1);
+        }
+    }
+    made
+}
+
+/// A call, with more room each time until it is answered, as it should be: how many times it lacked memory. Before that it makes
+/// no communicator.
 fn apply_refused<'a>(
     rt: &impl Abort,
     heap: &'a LocalHeap,
-    job: &mut Job<PlainWords<FlagAnd>, FlagAnd, &'a LocalHeap>,
+    job: &mut Heaped<'a>,
     group: &mut Vec<u16, &'a LocalHeap>,
     alloc: Global,
     line: (Asked, Reply<FlagAnd>),
 ) -> Result<usize, Fail> {
+    let made = communicators(job);
     for count in 0..64usize {
         let blocks = filled(alloc, heap, count * 16)?;
         let answered = job.apply(&call(line.0), group);
@@ -159,6 +181,7 @@ fn apply_refused<'a>(
             assert!(rt; reply == line.1, "{:?} is answered {reply:?}", line.0);
             return Ok(count);
         }
+        assert_eq!(rt; communicators(job), made);
     }
     assert!(rt; false, "{:?} is never answered", line.0);
     Ok(0)
@@ -193,6 +216,7 @@ fn shrinks_are_refused_memory(rt: HostRuntime) -> Result<(), Fail> {
             line.0
         );
     }
+    assert_eq!(rt; communicators(&job), 2);
     Ok(())
 }
 
