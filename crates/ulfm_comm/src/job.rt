@@ -112,3 +112,6 @@ where
         }
     }
 }
+
+#[cfg(test)]
+mod tests;
