@@ -17,6 +17,7 @@ mod poll_shrink;
 pub mod polled;
 pub mod rank;
 mod read_on;
+mod revoke;
 mod shrink;
 mod spawned;
 mod start;
