@@ -2,7 +2,7 @@
 use Rattle.std.proofs.Common.{◌≡◌, ℕ, ◌<◌, Bool, true, false, [], ◌∷◌, Some, None, refl, ap, sym, arith, inl, inr, IsTrue, MatchBool}
 use mathlib.Core.List.{IsPrefix}
 use Rattle.ulfm_model.specs.declared.call.Call.TheVariants as call
-use Rattle.ulfm_model.specs.declared.{event.Caller.TheVariants.{Rank}, event.Event.TheVariants.{Revoke}, limits.Limits.{Limits}, reply.Reply.TheVariants.{AlreadyRevoked, Revoked}}
+use Rattle.ulfm_model.specs.declared.{event.Caller.TheVariants.{Rank}, event.Event.TheVariants.{Revoke}, limits.Limits.{Limits}, reply.Reply.TheVariants.{AlreadyRevoked, Revoked, Standing}}
 use Rattle.ulfm_model.specs.{History.{History, IsLegal, is_revoked}, Records.{Fits, Held, Record, held_at}, Runs.{Did}, Words.{MayOpen}}
 use Rattle.ulfm_model.proofs.Stable.{revoke_stays}
 use Rattle.ulfm_words.specs.{Steps.{IsAdded, IsOf, Name, Sight}, Tries.{MayEnd}}
@@ -47,3 +47,11 @@ module _ {P : Type 0} (meld : P → P → P) (alone : Bool) (name : Name) (befor
       (replied meld name.limits alone before.seen look.seen old mid looked after.seen [] (call.Revoke rank c) AlreadyRevoked mid x outcome of.legal
       (held_before meld name.limits alone before.seen look.seen old mid looked c (Some x) held) (by_tests meld alone name before look (call.Revoke rank c) old mid fits looked x held None refl)
       tt (stands, inr (refl, refl)) refl (λ here polls. absurd (cc polls)))
+
+  -- whether the communicator is revoked, at the end
+  pub calls_standing : (found : Bool) → IsOf meld name after → Did alone [] look.seen after.seen → found ≡ is_revoked after.seen c → Calls meld alone name (call.IsRevoked rank c) old before (Standing found) mid after
+  calls_standing found of did is =
+      calls_is meld alone name before after (call.IsRevoked rank c) old (Standing found) mid of fits
+      (replied meld name.limits alone before.seen look.seen old mid looked after.seen [] (call.IsRevoked rank c) (Standing found) mid x did of.legal
+      (held_before meld name.limits alone before.seen look.seen old mid looked c (Some x) held) (by_tests meld alone name before look (call.IsRevoked rank c) old mid fits looked x held None refl)
+      tt (ap Standing is) refl (λ here polls. absurd (cc polls)))

@@ -11,6 +11,7 @@ mod get;
 mod groups;
 mod held;
 mod ids;
+mod is_revoked;
 pub mod job;
 mod poll;
 mod poll_shrink;
