@@ -15,6 +15,7 @@ pub mod Opening
 pub mod Passing
 pub mod Polls
 pub mod ReadingOn
+pub mod Revoking
 pub mod Replying
 pub mod Shrinks
 pub mod Spawning

@@ -5,6 +5,7 @@ pub mod Calls
 pub mod Starts
 pub mod Excludes
 pub mod Polls
+pub mod Revokes
 pub mod Shrinks
 pub mod Fails
 pub mod Jobs
