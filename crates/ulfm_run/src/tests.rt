@@ -44,13 +44,16 @@ fn write_any(script: &mut Vec<u8>, state: &mut u64) -> io::Result<()> {
     let rank = below(state, 5);
     let comm = below(state, 8) % 3;
     let digit = below(state, 10);
-    match below(state, 16) {
-        0 => writeln!(script, "fail {rank}"),
-        1 => writeln!(script, "get {rank} {comm}"),
-        2 => writeln!(script, "ack {rank} {comm} {digit}"),
-        3..=6 => writeln!(script, "agree {rank} {comm} 0000000{digit}"),
-        7 | 8 => writeln!(script, "shrink {rank} {comm}"),
-        9 => writeln!(script, "free {rank} {comm}"),
+    match below(state, 64) {
+        0..=2 => writeln!(script, "fail {rank}"),
+        3..=6 => writeln!(script, "get {rank} {comm}"),
+        7..=10 => writeln!(script, "ack {rank} {comm} {digit}"),
+        11..=24 => writeln!(script, "agree {rank} {comm} 0000000{digit}"),
+        25..=31 => writeln!(script, "shrink {rank} {comm}"),
+        32..=35 => writeln!(script, "free {rank} {comm}"),
+        36..=42 => writeln!(script, "barrier {rank} {comm}"),
+        43 => writeln!(script, "revoke {rank} {comm}"),
+        44 | 45 => writeln!(script, "isrevoked {rank} {comm}"),
         _ => writeln!(script, "poll {rank} {comm}"),
     }
 }
@@ -96,7 +99,7 @@ fn both_engines_give_the_same(rt: HostRuntime) -> Result<(), Fail> {
         assert_eq!(rt; end, Ok(()));
         all.extend_from_slice(&out)?;
     }
-    let wanted: [&[u8]; 24] = [
+    let wanted: [&[u8]; 31] = [
         b"declared",
         b"already-failed",
         b"failed none",
@@ -108,6 +111,11 @@ fn both_engines_give_the_same(rt: HostRuntime) -> Result<(), Fail> {
         b"agreed",
         b"shrunk",
         b"freed",
+        b"done",
+        b"revoked",
+        b"already-revoked",
+        b"yes",
+        b"no",
         b"refused 1 self-failed",
         b"refused 2 no-such-comm",
         b"refused 3 busy",
@@ -117,6 +125,8 @@ fn both_engines_give_the_same(rt: HostRuntime) -> Result<(), Fail> {
         b"refused 7 mismatch",
         b"refused 8 no-context",
         b"refused 9 no-room",
+        b"refused 10 is-revoked",
+        b"refused 11 proc-failed",
         b"refused 12 world-kept",
         b"refused 13 no-such-rank",
         b"shrunk 2",
@@ -131,7 +141,7 @@ fn both_engines_give_the_same(rt: HostRuntime) -> Result<(), Fail> {
 /// The worked rows.
 #[test]
 fn worked_rows(rt: HostRuntime) -> Result<(), Fail> {
-    let rows: [(&str, &[u8], &[u8]); 16] = [
+    let rows: [(&str, &[u8], &[u8]); 19] = [
         (
             "acknowledged_by_all",
             b"ulfm 1 3 1 4\nfail 2\nack 0 0 1\nack 1 0 1\nagree 0 0 0000000f\nagree 1 0 0000003c\npoll 0 0\npoll 1 0\n",
@@ -156,6 +166,21 @@ fn worked_rows(rt: HostRuntime) -> Result<(), Fail> {
             "agree_meets_shrink",
             b"ulfm 1 2 2 4\nagree 0 0 0000000f\nshrink 1 0\npoll 0 0\npoll 1 0\nagree 0 0 0000000f\nagree 1 0 00000003\npoll 1 0\n",
             b"started\nstarted\nrefused 7 mismatch\nrefused 7 mismatch\nstarted\nstarted\nagreed 00000003 failed 0 clean\n",
+        ),
+        (
+            "agrees_though_revoked",
+            b"ulfm 1 2 4 8\nrevoke 1 0\nrevoke 0 0\nbarrier 0 0\npoll 0 0\nagree 0 0 0000000f\nagree 1 0 00000007\npoll 0 0\npoll 1 0\nshrink 0 0\nshrink 1 0\npoll 0 0\npoll 1 0\nisrevoked 0 0\nisrevoked 0 1\n",
+            b"revoked\nalready-revoked\nstarted\nrefused 10 is-revoked\nstarted\nstarted\nagreed 00000007 failed 0 clean\nagreed 00000007 failed 0 clean\nstarted\nstarted\nshrunk 1 context 1 members 0 1\nshrunk 1 context 1 members 0 1\nyes\nno\n",
+        ),
+        (
+            "barrier_and_failure_a",
+            b"ulfm 1 3 1 4\nbarrier 0 0\nbarrier 1 0\npoll 0 0\nfail 2\npoll 0 0\npoll 0 0\n",
+            b"started\nstarted\npending\ndeclared\nrefused 11 proc-failed\nrefused 6 idle\n",
+        ),
+        (
+            "barrier_and_failure_b",
+            b"ulfm 1 2 1 4\nbarrier 0 0\nbarrier 1 0\nfail 1\npoll 0 0\n",
+            b"started\nstarted\ndeclared\ndone\n",
         ),
         (
             "contexts_come_back_a",
@@ -285,7 +310,7 @@ fn line_faults(rt: HostRuntime) -> Result<(), Fail> {
             b"",
             line(2, LineKind::Flag),
         ),
-        (b"ulfm 1 3 1 4\nbarrier 0 0\n", b"", line(2, LineKind::Verb)),
+        (b"ulfm 1 3 1 4\nsplit 0 0\n", b"", line(2, LineKind::Verb)),
         (
             b"ulfm 1 3 1 4\nfail 1023\n",
             b"refused 13 no-such-rank\n",

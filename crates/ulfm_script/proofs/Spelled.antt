@@ -6,7 +6,7 @@ use Rattle.ulfm_laws.specs.declared.flag_and.FlagAnd.{FlagAnd}
 use Rattle.ulfm_model.specs.declared.call.Call.TheVariants.{Fail, GetFailed, Ack, Agree, Shrink, Barrier, Poll, Revoke, IsRevoked, Free}
 use Rattle.ulfm_script.specs.declared.line_kind.LineKind.{LineKind}
 use Rattle.ulfm_script.specs.declared.line_kind.LineKind.TheVariants.{Verb}
-use Rattle.ulfm_script.specs.{Calls.{ScriptCall, place_of, fail_of, get_of, ack_of, agree_of, shrink_of, poll_of, free_of, call_from, call_of}, Digits.{rank_of, comm_of, number_of, flag_of, flag_text}, Spelling.{IsOnComm, Spells}, Steps.{◌>>=◌}, Words.{word_of, one_of, two_of, three_of}}
+use Rattle.ulfm_script.specs.{Calls.{ScriptCall, place_of, fail_of, get_of, ack_of, agree_of, shrink_of, barrier_of, poll_of, revoke_of, is_revoked_of, free_of, call_from, call_of}, Digits.{rank_of, comm_of, number_of, flag_of, flag_text}, Spelling.{IsOnComm, Spells}, Steps.{◌>>=◌}, Words.{word_of, one_of, two_of, three_of}}
 use Rattle.ulfm_script.proofs.{Hexadecimal.{flag_again, flag_found}, Numerals.{number_again, number_found, number_to_again, number_to_found}, WordLemmas.{IsWord, decimal_is_word, flag_is_word, joined, joined_word, one_again, one_found, same_done, step_found, three_again, three_found, two_again, two_found}}
 
 rank_again : (rank : ℕ) → rank < 1024 → rank_of (decimal rank) ≡ Ok rank
@@ -39,9 +39,21 @@ shrink_again : (rank comm : ℕ) → rank < 1024 → comm < 256 → call_of (cod
 unfolding call_of shrink_of
 shrink_again rank comm h k = rw (place_again rank comm h k) refl
 
+barrier_again : (rank comm : ℕ) → rank < 1024 → comm < 256 → call_of (codes "barrier " ++ place_text rank comm) ≡ Ok (Barrier rank comm)
+unfolding call_of barrier_of
+barrier_again rank comm h k = rw (place_again rank comm h k) refl
+
 poll_again : (rank comm : ℕ) → rank < 1024 → comm < 256 → call_of (codes "poll " ++ place_text rank comm) ≡ Ok (Poll rank comm)
 unfolding call_of poll_of
 poll_again rank comm h k = rw (place_again rank comm h k) refl
+
+revoke_again : (rank comm : ℕ) → rank < 1024 → comm < 256 → call_of (codes "revoke " ++ place_text rank comm) ≡ Ok (Revoke rank comm)
+unfolding call_of revoke_of
+revoke_again rank comm h k = rw (place_again rank comm h k) refl
+
+is_revoked_again : (rank comm : ℕ) → rank < 1024 → comm < 256 → call_of (codes "isrevoked " ++ place_text rank comm) ≡ Ok (IsRevoked rank comm)
+unfolding call_of is_revoked_of
+is_revoked_again rank comm h k = rw (place_again rank comm h k) refl
 
 free_again : (rank comm : ℕ) → rank < 1024 → comm < 256 → call_of (codes "free " ++ place_text rank comm) ≡ Ok (Free rank comm)
 unfolding call_of free_of
@@ -67,10 +79,10 @@ spelled_again line (GetFailed rank comm) h = ap call_of (h.line_is ∙ plain_lin
 spelled_again line (Ack rank comm count) h = ap call_of h.1.line_is ∙ ack_again rank comm count h.1.rank_fits h.1.comm_fits h.0
 spelled_again line (Agree rank comm flag) h = ap call_of h.line_is ∙ agree_again rank comm flag h.rank_fits h.comm_fits
 spelled_again line (Shrink rank comm) h = ap call_of (h.line_is ∙ plain_line (codes "shrink ") rank comm) ∙ shrink_again rank comm h.rank_fits h.comm_fits
-spelled_again line (Barrier rank comm) h = absurd h
+spelled_again line (Barrier rank comm) h = ap call_of (h.line_is ∙ plain_line (codes "barrier ") rank comm) ∙ barrier_again rank comm h.rank_fits h.comm_fits
 spelled_again line (Poll rank comm) h = ap call_of (h.line_is ∙ plain_line (codes "poll ") rank comm) ∙ poll_again rank comm h.rank_fits h.comm_fits
-spelled_again line (Revoke rank comm) h = absurd h
-spelled_again line (IsRevoked rank comm) h = absurd h
+spelled_again line (Revoke rank comm) h = ap call_of (h.line_is ∙ plain_line (codes "revoke ") rank comm) ∙ revoke_again rank comm h.rank_fits h.comm_fits
+spelled_again line (IsRevoked rank comm) h = ap call_of (h.line_is ∙ plain_line (codes "isrevoked ") rank comm) ∙ is_revoked_again rank comm h.rank_fits h.comm_fits
 spelled_again line (Free rank comm) h = ap call_of (h.line_is ∙ plain_line (codes "free ") rank comm) ∙ free_again rank comm h.rank_fits h.comm_fits
 
 -- a verb whose fields were read stands at the line's beginning
@@ -155,9 +167,21 @@ shrink_found : Reads (codes "shrink") shrink_of
 unfolding shrink_of
 shrink_found = plain_found (codes "shrink") Shrink (λ line rank comm h. h)
 
+barrier_found : Reads (codes "barrier") barrier_of
+unfolding barrier_of
+barrier_found = plain_found (codes "barrier") Barrier (λ line rank comm h. h)
+
 poll_found : Reads (codes "poll") poll_of
 unfolding poll_of
 poll_found = plain_found (codes "poll") Poll (λ line rank comm h. h)
+
+revoke_found : Reads (codes "revoke") revoke_of
+unfolding revoke_of
+revoke_found = plain_found (codes "revoke") Revoke (λ line rank comm h. h)
+
+is_revoked_found : Reads (codes "isrevoked") is_revoked_of
+unfolding is_revoked_of
+is_revoked_found = plain_found (codes "isrevoked") IsRevoked (λ line rank comm h. h)
 
 free_found : Reads (codes "free") free_of
 unfolding free_of
@@ -210,8 +234,11 @@ read_from word fields call e = verb_found word (codes "fail") fields fail_of _ c
     (verb_found word (codes "ack") fields ack_of _ call ack_found
     (verb_found word (codes "agree") fields agree_of _ call agree_found
     (verb_found word (codes "shrink") fields shrink_of _ call shrink_found
+    (verb_found word (codes "barrier") fields barrier_of _ call barrier_found
     (verb_found word (codes "poll") fields poll_of _ call poll_found
-    (verb_found word (codes "free") fields free_of _ call free_found (no_verb (joined word fields) call))))))) e
+    (verb_found word (codes "revoke") fields revoke_of _ call revoke_found
+    (verb_found word (codes "isrevoked") fields is_revoked_of _ call is_revoked_found
+    (verb_found word (codes "free") fields free_of _ call free_found (no_verb (joined word fields) call)))))))))) e
 
 -- what is read is spelled so
 pub read_is_spelled : (line : List ℕ) (call : ScriptCall) → call_of line ≡ Ok call → Spells line call

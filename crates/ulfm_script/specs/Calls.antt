@@ -3,7 +3,7 @@ use Rattle.std.specs.Prelude.{ℕ, List, codes, Option, Result, Ok, Err, if◌th
 use Rattle.std.specs.Str.{bytes_eq}
 use Rattle.ulfm_laws.specs.declared.flag_and.FlagAnd.{FlagAnd}
 use Rattle.ulfm_model.specs.declared.call.Call.{Call}
-use Rattle.ulfm_model.specs.declared.call.Call.TheVariants.{Fail, GetFailed, Ack, Agree, Shrink, Poll, Free}
+use Rattle.ulfm_model.specs.declared.call.Call.TheVariants.{Fail, GetFailed, Ack, Agree, Shrink, Barrier, Poll, Revoke, IsRevoked, Free}
 use Rattle.ulfm_script.specs.declared.line_kind.LineKind.{LineKind}
 use Rattle.ulfm_script.specs.declared.line_kind.LineKind.TheVariants.{Verb}
 use Rattle.ulfm_script.specs.Digits.{rank_of, comm_of, number_of, flag_of}
@@ -55,10 +55,25 @@ shrink_of fields = do
   place ← place_of fields
   Ok (Shrink place.0 place.1)
 
+unfoldable pub barrier_of : Option (List ℕ) → Result ScriptCall LineKind
+barrier_of fields = do
+  place ← place_of fields
+  Ok (Barrier place.0 place.1)
+
 unfoldable pub poll_of : Option (List ℕ) → Result ScriptCall LineKind
 poll_of fields = do
   place ← place_of fields
   Ok (Poll place.0 place.1)
+
+unfoldable pub revoke_of : Option (List ℕ) → Result ScriptCall LineKind
+revoke_of fields = do
+  place ← place_of fields
+  Ok (Revoke place.0 place.1)
+
+unfoldable pub is_revoked_of : Option (List ℕ) → Result ScriptCall LineKind
+is_revoked_of fields = do
+  place ← place_of fields
+  Ok (IsRevoked place.0 place.1)
 
 unfoldable pub free_of : Option (List ℕ) → Result ScriptCall LineKind
 free_of fields = do
@@ -73,9 +88,12 @@ call_from first =
     else (if bytes_eq first.0 (codes "ack") then ack_of first.1
     else (if bytes_eq first.0 (codes "agree") then agree_of first.1
     else (if bytes_eq first.0 (codes "shrink") then shrink_of first.1
+    else (if bytes_eq first.0 (codes "barrier") then barrier_of first.1
     else (if bytes_eq first.0 (codes "poll") then poll_of first.1
+    else (if bytes_eq first.0 (codes "revoke") then revoke_of first.1
+    else (if bytes_eq first.0 (codes "isrevoked") then is_revoked_of first.1
     else (if bytes_eq first.0 (codes "free") then free_of first.1
-    else Err Verb))))))
+    else Err Verb)))))))))
 
 -- the call of a line
 unfoldable pub call_of : List ℕ → Result ScriptCall LineKind

@@ -11,17 +11,17 @@ pub record IsOnComm (line verb : List ℕ) (rank comm : ℕ) (behind : List ℕ)
   pub comm_fits : comm < 256
   pub line_is : line ≡ verb ++ (decimal rank ++ 32 ∷ (decimal comm ++ behind))
 
--- the line spells the call; calls of verbs that scripts don't have are not spelled
+-- the line spells the call
 abbrev pub Spells : List ℕ → ScriptCall → Type 0
 Spells line (Fail rank) = (rank < 1024) × (line ≡ codes "fail " ++ decimal rank)
 Spells line (GetFailed rank comm) = IsOnComm line (codes "get ") rank comm []
 Spells line (Ack rank comm count) = (count < 10000) × IsOnComm line (codes "ack ") rank comm (32 ∷ decimal count)
 Spells line (Agree rank comm flag) = IsOnComm line (codes "agree ") rank comm (32 ∷ flag_text flag)
 Spells line (Shrink rank comm) = IsOnComm line (codes "shrink ") rank comm []
-Spells line (Barrier rank comm) = ⊥
+Spells line (Barrier rank comm) = IsOnComm line (codes "barrier ") rank comm []
 Spells line (Poll rank comm) = IsOnComm line (codes "poll ") rank comm []
-Spells line (Revoke rank comm) = ⊥
-Spells line (IsRevoked rank comm) = ⊥
+Spells line (Revoke rank comm) = IsOnComm line (codes "revoke ") rank comm []
+Spells line (IsRevoked rank comm) = IsOnComm line (codes "isrevoked ") rank comm []
 Spells line (Free rank comm) = IsOnComm line (codes "free ") rank comm []
 
 -- a call that some line spells

@@ -1,6 +1,6 @@
 //! The calls of a script, line by line.
 ghost use Rattle.std.specs.Prelude.{◌≡◌, Ok, IfOk};
-ghost use Rattle.ulfm_script.specs.Calls.{ScriptCall, call_of, place_of, fail_of, get_of, ack_of, agree_of, shrink_of, poll_of, free_of};
+ghost use Rattle.ulfm_script.specs.Calls.{ScriptCall, call_of, place_of, fail_of, get_of, ack_of, agree_of, shrink_of, barrier_of, poll_of, revoke_of, is_revoked_of, free_of};
 ghost use Rattle.ulfm_script.specs.Spelling.{Spells};
 ghost use Rattle.ulfm_script.specs.Words.{rest_at};
 
@@ -12,9 +12,9 @@ use ulfm_model::Call;
 
 /// The call of one line of a script, without its newline, or the first fault in it from `verb` on.
 ///
-/// A line is `fail R`, `get R C`, `ack R C N`, `agree R C F`, `shrink R C`, `poll R C` or `free R C`: ranks R are 0 to 1023,
-/// communicators C 0 to 255, counts N 0 to 9999, in decimal without leading zeros, and a flag F is eight lower case
-/// hexadecimal digits.
+/// A line is `fail R`, `get R C`, `ack R C N`, `agree R C F`, `shrink R C`, `barrier R C`, `poll R C`, `revoke R C`,
+/// `isrevoked R C` or `free R C`: ranks R are 0 to 1023, communicators C 0 to 255, counts N 0 to 9999, in decimal without
+/// leading zeros, and a flag F is eight lower case hexadecimal digits.
 pub fn read_call(line: &[u8]) -> Result<Call<FlagAnd>, LineKind>
     // What is read is spelled so, and what is spelled so is read.
     ensures found { IfOk result (λ call. Spells line.now call) }
@@ -39,8 +39,14 @@ fn parse_call(line: &[u8]) -> Result<Call<FlagAnd>, LineKind>
         read_agree(fields)
     } else if verb == b"shrink".as_slice() {
         read_shrink(fields)
+    } else if verb == b"barrier".as_slice() {
+        read_barrier(fields)
     } else if verb == b"poll".as_slice() {
         read_poll(fields)
+    } else if verb == b"revoke".as_slice() {
+        read_revoke(fields)
+    } else if verb == b"isrevoked".as_slice() {
+        read_is_revoked(fields)
     } else if verb == b"free".as_slice() {
         read_free(fields)
     } else {
@@ -106,12 +112,36 @@ fn read_shrink(fields: Option<&[u8]>) -> Result<Call<FlagAnd>, LineKind>
     Ok(Call::Shrink { rank, comm })
 }
 
+#[tactic(auto, unfolding(crate::specs::Calls::barrier_of))]
+fn read_barrier(fields: Option<&[u8]>) -> Result<Call<FlagAnd>, LineKind>
+    ensures { result ≡ barrier_of (rest_at fields.entry) }
+{
+    let (rank, comm) = read_place(fields)?;
+    Ok(Call::Barrier { rank, comm })
+}
+
 #[tactic(auto, unfolding(crate::specs::Calls::poll_of))]
 fn read_poll(fields: Option<&[u8]>) -> Result<Call<FlagAnd>, LineKind>
     ensures { result ≡ poll_of (rest_at fields.entry) }
 {
     let (rank, comm) = read_place(fields)?;
     Ok(Call::Poll { rank, comm })
+}
+
+#[tactic(auto, unfolding(crate::specs::Calls::revoke_of))]
+fn read_revoke(fields: Option<&[u8]>) -> Result<Call<FlagAnd>, LineKind>
+    ensures { result ≡ revoke_of (rest_at fields.entry) }
+{
+    let (rank, comm) = read_place(fields)?;
+    Ok(Call::Revoke { rank, comm })
+}
+
+#[tactic(auto, unfolding(crate::specs::Calls::is_revoked_of))]
+fn read_is_revoked(fields: Option<&[u8]>) -> Result<Call<FlagAnd>, LineKind>
+    ensures { result ≡ is_revoked_of (rest_at fields.entry) }
+{
+    let (rank, comm) = read_place(fields)?;
+    Ok(Call::IsRevoked { rank, comm })
 }
 
 #[tactic(auto, unfolding(crate::specs::Calls::free_of))]
