@@ -1,4 +1,5 @@
 pub mod Acks
+pub mod Arriving
 pub mod Calling
 pub mod Contexts
 pub mod Excluding

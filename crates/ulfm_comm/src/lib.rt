@@ -4,6 +4,7 @@
 mod ack;
 mod agree;
 mod answers;
+mod arrivals;
 mod begin;
 mod fail;
 mod free;
