@@ -1,5 +1,6 @@
 pub mod Acks
 pub mod Arriving
+pub mod Barriers
 pub mod Calling
 pub mod Contexts
 pub mod Excluding

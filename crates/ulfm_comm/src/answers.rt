@@ -189,6 +189,7 @@ pub(crate) fn poll_by<P: Packed, A: Allocator + Copy, W: Words<P, A>>(
     let own = &mut ranks[rank as usize];
     match own.poll(world, pass, comm) {
         Ok(Polled::Pending) => Ok(Reply::Pending),
+        Ok(Polled::Done) => Ok(Reply::Done),
         Ok(
             Polled::Agreed {
                 value,

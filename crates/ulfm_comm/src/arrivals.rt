@@ -15,6 +15,7 @@ use ulfm_steps::group::is_member;
 use ulfm_words::{Words, load_arrival};
 
 // Who is missing.
+#[derive(Drop)]
 pub(crate) enum Missing {
     Nobody,
     // Somebody, but nobody who is known to have failed.

@@ -15,6 +15,7 @@ mod ids;
 mod is_revoked;
 pub mod job;
 mod poll;
+mod poll_barrier;
 mod poll_shrink;
 pub mod polled;
 pub mod rank;
