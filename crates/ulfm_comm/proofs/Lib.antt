@@ -3,6 +3,7 @@ pub mod Arriving
 pub mod Barriers
 pub mod Calling
 pub mod Contexts
+pub mod Entering
 pub mod Excluding
 pub mod Failing
 pub mod Freeing

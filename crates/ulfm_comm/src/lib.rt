@@ -5,6 +5,7 @@ mod ack;
 mod agree;
 mod answers;
 mod arrivals;
+mod barrier;
 mod begin;
 mod fail;
 mod free;
