@@ -1,10 +1,11 @@
 #!/usr/bin/env python3
 """Times the built program on call scripts of 25,000, 50,000 and 100,000 lines, and as ratios to native programs.
 
-    bench/measure.py [--native FILE.rs] [--kinds KIND,..] [--sizes LINES,..] [--repeats N]
+    bench/measure.py [--native FILE.rs [--cfg NAME]] [--kinds KIND,..] [--sizes LINES,..] [--repeats N]
 
 Each kind of script is made here. A native program, if one is given as a Rust source that does the same work, is built in a
-temporary folder and runs in turn with ours, so that the ratio is of one run; its output must be the same bytes.
+temporary folder and runs in turn with ours, so that the ratio is of one run; its output must be the same bytes. What is
+printed are the medians of the processor times, and the most memory that ours had.
 """
 import argparse
 import os
@@ -24,15 +25,51 @@ def text(lines):
     return ["ulfm 1 1 1 1"] + [calls[i % len(calls)] for i in range(lines - 1)]
 
 
-def rounds(ranks, lines):
+def rounds(ranks, rounds_there, lines):
     """One agree after another: each rank contributes, then each asks for the reply."""
-    script = [f"ulfm 1 {ranks} 1 4096"]
+    script = [f"ulfm 1 {ranks} 1 {rounds_there}"]
     turn = 0
     while len(script) < lines:
         for rank in range(ranks):
             script.append(f"agree {rank} 0 {0xFFFFFFFF ^ 1 << (rank + turn) % 32:08x}")
         script.extend(f"poll {rank} 0" for rank in range(ranks))
         turn += 1
+    return script[:lines]
+
+
+def pending(lines):
+    """One of 1,024 ranks never contributes, and all others ask again and again."""
+    script = ["ulfm 1 1024 1 2"] + [f"agree {rank} 0 ffffffff" for rank in range(1023)]
+    while len(script) < lines:
+        script.extend(f"poll {rank} 0" for rank in range(1023))
+    return script[:lines]
+
+
+def failures(call, lines):
+    """1,000 of 1,024 ranks fail, and then the others make a call that looks at them all."""
+    script = ["ulfm 1 1024 1 2"] + [f"fail {rank}" for rank in range(24, 1024)]
+    while len(script) < lines:
+        script.extend(call.format(rank) for rank in range(24))
+    return script[:lines]
+
+
+def marks(lines):
+    """1,000 of 1,024 ranks fail, and then the others agree: each poll marks all who failed."""
+    script = ["ulfm 1 1024 1 2000"] + [f"fail {rank}" for rank in range(24, 1024)] + [f"ack {rank} 0 1024" for rank in range(12)]
+    while len(script) < lines:
+        script.extend(f"agree {rank} 0 {0xFFFFFFFF ^ 1 << rank:08x}" for rank in range(24))
+        script.extend(f"poll {rank} 0" for rank in range(24))
+    return script[:lines]
+
+
+def shrinks(lines):
+    """128 ranks shrink one communicator after another, each into the next, and give the old one back."""
+    script = ["ulfm 1 128 256 63"]
+    for comm in range(255):
+        for call in ["shrink", "poll"] + (["free"] if comm else []):
+            script.extend(f"{call} {rank} {comm}" for rank in range(128))
+    while len(script) < lines:
+        script.append("poll 0 255")
     return script[:lines]
 
 
@@ -48,20 +85,27 @@ def looks(lines):
 
 KINDS = {
     "text": text,
-    "rounds16": lambda lines: rounds(16, lines),
+    "rounds16": lambda lines: rounds(16, 4096, lines),
     "looks": looks,
+    "rounds64": lambda lines: rounds(64, 4096, lines),
+    "rounds1024": lambda lines: rounds(1024, 2000, lines),
+    "look1024": lambda lines: failures("ack {} 0 0", lines),
+    "get1024": lambda lines: failures("get {} 0", lines),
+    "marks1024": marks,
+    "pending1024": pending,
+    "shrink128": shrinks,
 }
 
 
-def processor_time(command, script, output):
-    """The processor time of one run, in seconds."""
+def one_run(command, script, output):
+    """The processor time of one run, in seconds, and the most memory that it had, in MB."""
     with open(script, "rb") as source, open(output, "wb") as target:
         process = subprocess.Popen(command, stdin=source, stdout=target)
         _, status, usage = os.wait4(process.pid, 0)
         process.returncode = os.waitstatus_to_exitcode(status)
     if process.returncode != 0:
         sys.exit(f"{command[0]} ended with status {process.returncode}")
-    return usage.ru_utime + usage.ru_stime
+    return usage.ru_utime + usage.ru_stime, usage.ru_maxrss / 1024
 
 
 def same(one, other):
@@ -70,31 +114,36 @@ def same(one, other):
 
 
 def measure(kind, size, commands, repeats, folder):
-    """The median of each command's times, run in turn on one script."""
+    """The median of each command's times, run in turn on one script, and the most memory of the first."""
     script = os.path.join(folder, "script")
     with open(script, "w") as file:
         file.write("\n".join(KINDS[kind](size)) + "\n")
     times = [[] for _ in commands]
+    most = 0.0
     for _ in range(repeats):
         for place, command in enumerate(commands):
-            times[place].append(processor_time(command, script, os.path.join(folder, f"output{place}")))
+            time, memory = one_run(command, script, os.path.join(folder, f"output{place}"))
+            times[place].append(time)
+            most = max(most, memory if place == 0 else 0.0)
     for place in range(1, len(commands)):
         if not same(os.path.join(folder, "output0"), os.path.join(folder, f"output{place}")):
             sys.exit(f"{kind} of {size} lines: the outputs differ")
-    return [statistics.median(each) for each in times]
+    return [statistics.median(each) for each in times], most
 
 
-def build(source, folder):
+def build(source, cfg, folder):
     if not shutil.which("rustc"):
         sys.exit("the native program is built by rustc, which isn't on the PATH")
     program = os.path.join(folder, "native")
-    subprocess.run(["rustc", "-O", "--edition", "2021", source, "-o", program], check=True, stderr=subprocess.DEVNULL)
+    chosen = ["--cfg", cfg] if cfg else []
+    subprocess.run(["rustc", "-O", "--edition", "2021", *chosen, source, "-o", program], check=True, stderr=subprocess.DEVNULL)
     return program
 
 
 def main():
     words = argparse.ArgumentParser(description=__doc__, formatter_class=argparse.RawDescriptionHelpFormatter)
     words.add_argument("--native", metavar="FILE.rs", help="a native program of the same work")
+    words.add_argument("--cfg", metavar="NAME", help="what the native program is built with")
     words.add_argument("--kinds", default=",".join(KINDS))
     words.add_argument("--sizes", default="25000,50000,100000")
     words.add_argument("--repeats", type=int, default=5)
@@ -104,14 +153,14 @@ def main():
     with tempfile.TemporaryDirectory() as folder:
         commands = [[PROGRAM, "run"]]
         if asked.native:
-            commands.append([build(asked.native, folder)])
-        print(f"{'script':<10} {'lines':>7} {'ulfm, s':>9} {'growth':>7}" + ("  native, s   ratio" if asked.native else ""))
+            commands.append([build(asked.native, asked.cfg, folder), "run"])
+        print(f"{'script':<11} {'lines':>7} {'ulfm, s':>9} {'growth':>7} {'MB':>6}" + ("  native, s   ratio" if asked.native else ""))
         for kind in asked.kinds.split(","):
             before = None
             for size in map(int, asked.sizes.split(",")):
-                found = measure(kind, size, commands, asked.repeats, folder)
+                found, most = measure(kind, size, commands, asked.repeats, folder)
                 growth = f"{found[0] / before:.1f}" if before else "-"
-                line = f"{kind:<10} {size:>7} {found[0]:>9.3f} {growth:>7}"
+                line = f"{kind:<11} {size:>7} {found[0]:>9.3f} {growth:>7} {most:>6.1f}"
                 if asked.native:
                     line += f"  {found[1]:>9.3f} {found[0] / found[1]:>7.2f}"
                 print(line, flush=True)

@@ -27,12 +27,12 @@ pub struct Member<'a, P: Packed> {
 }
 
 impl<'a, P: Packed> Model for Member<'a, P> {
-    ghost use Rattle.ulfm_words.specs.Steps.{Heard, IsOf};
-    ghost use Rattle.ulfm_model.specs.Records.{Fits};
+    ghost use Rattle.ulfm_words.specs.Steps.{IsOf};
+    ghost use Rattle.ulfm_model.specs.Records.{Fits, Record};
 
-    ghost Value = { Heard P };
+    ghost Value = { Record };
 
-    ghost view = { λ m. record { name = m.world.now.words; seen = m.pass.seen } };
+    ghost view = { λ m. m.rank };
 
     ghost invariant = { λ m. IsOf P.meld m.world.now.words m.pass × Fits P.meld m.world.now.words.limits m.pass.seen m.rank };
 }
@@ -41,16 +41,20 @@ impl<'a, P: Packed> Member<'a, P> {
     fn new(world: &'a Shared<P>, rank: Rank<P, Global>, pass: BookPass<P>) -> Member<'a, P>
         requires of { IsOf P.meld world.now.words pass }
         requires fits { Fits P.meld world.now.words.limits pass.seen rank }
+        ensures { result ≡ rank }
     {
         Member { world, rank, pass }
     }
 
     /// Its number.
-    pub fn number(&self) -> u16 {
+    pub fn number(&self) -> u16
+        ensures { result ≡ self.now.number }
+    {
         self.rank.number()
     }
 
-    /// Contributes a flag, and polls until there is a reply or a refusal.
+    /// Contributes a flag, and polls until there is a reply or a refusal. What these are is in the contracts of the two calls;
+    /// a loop that may wait promises nothing beyond them.
     pub fn agree<R: Wait>(&mut self, rt: &R, value: P) -> Result<Polled<P>, Refusal> {
         self.rank.iagree(self.world, &mut self.pass, 0, value)?;
         for _ in rt.forever() {

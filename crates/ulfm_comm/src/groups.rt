@@ -68,9 +68,11 @@ pub(crate) fn without<A: Allocator + Copy>(
 ) -> Result<Vec<u16, A>, AllocError>
     ensures { IfOk result (λ left. left.items ≡ without group.now others.now) }
 {
-    group
-        .iter()
-        .copied()
-        .filter(|rank| !has_rank(others, *rank))
-        .collect(alloc)
+    let mut left = Vec::with_capacity(alloc, group.len())?;
+    for rank in group {
+        if !has_rank(others, *rank) {
+            left.push(*rank)?;
+        }
+    }
+    Ok(left)
 }

@@ -11,6 +11,7 @@ use std::alloc::{AllocError, Allocator};
 use std::marker::PhantomData;
 use ulfm_laws::meld::Packed;
 use ulfm_model::limits::{Limits, OpenFault};
+use ulfm_steps::group::first_ranks;
 use ulfm_words::Words;
 
 /// A world over words. Its ranks are given out once, when it is opened.
@@ -87,15 +88,4 @@ fn ranks_of<P: Packed, A: Allocator + Copy>(
         ranks.push(Rank::new(alloc, limits, number, &group)?)?;
     }
     Ok(ranks)
-}
-
-// All ranks below a number, in order.
-fn first_ranks<A: Allocator + Copy>(alloc: A, ranks: u16) -> Result<Vec<u16, A>, AllocError>
-    ensures { IfOk result (λ group. group.items ≡ all_below ranks) }
-{
-    let mut group = Vec::with_capacity(alloc, ranks as usize)?;
-    for rank in 0..ranks {
-        group.push(rank)?;
-    }
-    Ok(group)
 }

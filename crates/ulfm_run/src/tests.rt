@@ -1,5 +1,8 @@
+ghost use Rattle.std.specs.Prelude.{◌<◌};
+
 use crate::{ObjectMachine, run_calls};
 use std::alloc::Global;
+use std::io::{self, Write};
 use std::test::Fail;
 use ulfm_script::{LineKind, RunFault, run_script};
 
@@ -23,6 +26,106 @@ fn run(rt: &HostRuntime, script: &[u8]) -> Result<(Vec<u8>, Result<(), RunFault>
         return Err(Fail::from("the object gives something else"));
     }
     Ok((out, end))
+}
+
+/// The next number of a fixed row of numbers, below a limit.
+fn below(state: &mut u64, limit: u64) -> u64
+    requires { 0 < limit }
+    ensures { result < limit }
+{
+    *state = state
+        .wrapping_mul(6_364_136_223_846_793_005)
+        .wrapping_add(1_442_695_040_888_963_407);
+    (*state >> 33) % limit
+}
+
+/// A line of any verb, on five ranks and three communicators.
+fn write_any(script: &mut Vec<u8>, state: &mut u64) -> io::Result<()> {
+    let rank = below(state, 5);
+    let comm = below(state, 8) % 3;
+    let digit = below(state, 10);
+    match below(state, 16) {
+        0 => writeln!(script, "fail {rank}"),
+        1 => writeln!(script, "get {rank} {comm}"),
+        2 => writeln!(script, "ack {rank} {comm} {digit}"),
+        3..=6 => writeln!(script, "agree {rank} {comm} 0000000{digit}"),
+        7 | 8 => writeln!(script, "shrink {rank} {comm}"),
+        9 => writeln!(script, "free {rank} {comm}"),
+        _ => writeln!(script, "poll {rank} {comm}"),
+    }
+}
+
+/// A line of the one rank of a world, which shrinks until no context id is free, and now and then gives one back.
+fn write_alone(script: &mut Vec<u8>, state: &mut u64) -> io::Result<()> {
+    let comm = below(state, 40);
+    match below(state, 20) {
+        0 => writeln!(script, "free 0 {comm}"),
+        1..=9 => writeln!(script, "shrink 0 0"),
+        _ => writeln!(script, "poll 0 0"),
+    }
+}
+
+/// Whether some line begins so.
+fn has_line(lines: &[u8], beginning: &[u8]) -> bool {
+    lines
+        .split(|byte| *byte == b'\n')
+        .any(|line| line.starts_with(beginning))
+}
+
+/// Two hundred scripts, which reach every verb, every reply and every refusal that scripts can give.
+#[test]
+fn both_engines_give_the_same(rt: HostRuntime) -> Result<(), Fail> {
+    let mut state = 1;
+    let mut all = Vec::new(rt.alloc());
+    for number in 0..200 {
+        let mut script = Vec::new(rt.alloc());
+        if number % 20 == 0 {
+            writeln!(script, "ulfm 1 1 40 90")?;
+        } else {
+            let rounds = 1 + below(&mut state, 9);
+            writeln!(script, "ulfm 1 4 3 {rounds}")?;
+        }
+        for _ in 0..160 {
+            if number % 20 == 0 {
+                write_alone(&mut script, &mut state)?;
+            } else {
+                write_any(&mut script, &mut state)?;
+            }
+        }
+        let (out, end) = run(&rt, &script)?;
+        assert_eq!(rt; end, Ok(()));
+        all.extend_from_slice(&out)?;
+    }
+    let wanted: [&[u8]; 24] = [
+        b"declared",
+        b"already-failed",
+        b"failed none",
+        b"failed 1",
+        b"acked 0",
+        b"acked 1",
+        b"started",
+        b"pending",
+        b"agreed",
+        b"shrunk",
+        b"freed",
+        b"refused 1 self-failed",
+        b"refused 2 no-such-comm",
+        b"refused 3 busy",
+        b"refused 4 shrink-open",
+        b"refused 5 rounds-used-up",
+        b"refused 6 idle",
+        b"refused 7 mismatch",
+        b"refused 8 no-context",
+        b"refused 9 no-room",
+        b"refused 12 world-kept",
+        b"refused 13 no-such-rank",
+        b"shrunk 2",
+        b"shrunk 31",
+    ];
+    for beginning in wanted {
+        assert!(rt; has_line(&all, beginning), "{beginning:?}");
+    }
+    Ok(())
 }
 
 /// The worked rows.

@@ -1,13 +1,14 @@
 -- A decided round's communicator may be appended to the list of communicators.
-use Rattle.std.proofs.Common.{◌≡◌, ℕ, suc, ◌+◌, ◌<◌, ◌==◌, ◌&&◌, Bool, true, false, ◌||◌, List, [], ◌∷◌, length, map, Some, slice_get, refl, ap, ◌∙◌, arith, IsTrue}
-use Rattle.std.specs.List.{list_any}
+use Rattle.std.proofs.Common.{◌≡◌, ℕ, suc, ◌+◌, ◌<◌, ◌==◌, ◌&&◌, Bool, true, false, ◌||◌, List, [], ◌∷◌, length, map, Some, is_some, slice_get, refl, ap, sym, ◌∙◌, arith, IsTrue}
+use Rattle.std.specs.List.{list_all, list_any}
 use Rattle.std.proofs.lemmas.Bool.{and_parts, eqb-true}
-use Rattle.ulfm_laws.specs.{declared.body.Body.TheVariants.{Ctx}, declared.ctx_mask.CtxMask.{CtxMask}}
+use Rattle.ulfm_laws.specs.{declared.body.Body.TheVariants.{Ctx}, declared.ctx_mask.CtxMask.{CtxMask}, declared.summary.Summary.{Summary}}
 use Rattle.ulfm_model.specs.declared.limits.Limits.{Limits}
-use Rattle.ulfm_model.specs.History.{Decision, Exists, History, decision, is_decided, is_made, spawns}
-use Rattle.ulfm_model.proofs.{Decisions.{decision_stays}, Histories.{members_stay}}
-use Rattle.ulfm_steps.specs.{Appends.{MayAppend}}
+use Rattle.ulfm_model.specs.{History.{Decision, Exists, History, IsLegal, decision, first_ranks, is_decided, is_made, round_among, slot, spawns}, Laws.{all_of}}
+use Rattle.ulfm_model.proofs.{Decisions.{decision_stays}, Histories.{members_stay}, Stable.{decision_is}}
+use Rattle.ulfm_steps.specs.{Appends.{MayAppend}, Rounds.{IsSummed}}
 use Rattle.ulfm_steps.specs.declared.item.Item.TheVariants.{Comm}
+use Rattle.ulfm_steps.proofs.Reading.{world_round}
 
 made_in : (xs : List (ℕ × ℕ)) (c k : ℕ) → list_any (λ made. (made.0 == c) && (made.1 == k)) xs ≡ true → (j : ℕ) × (slice_get (map (λ made. Comm made.0 made.1) xs) j ≡ Some (Comm c k))
 made_in [] c k e = absurd (cc e)
@@ -45,3 +46,12 @@ may_spawn {P} meld limits seen c k here k_lt decided mask ids some more begins l
     go : (b : Bool) → is_made more c k ≡ b → b ≡ false
     go false e = refl
     go true e = let found = made_in (spawns more) c k e in absurd (none found.0 found.1)
+
+-- a round of the world's own communicator that was read through, and says that some ids are free
+pub world_spawns : {P : Type 0} (meld : P → P → P) (limits : Limits) (h : History P) (k : ℕ) (all : Summary P) → IsLegal meld limits h → k < limits.rounds → IsSummed meld h 0 k (first_ranks limits.ranks) all → (mask : CtxMask) → all.body ≡ Ctx mask → 0 < mask.bits
+    → MayAppend meld limits h (Comm 0 k)
+world_spawns {P} meld limits h k all legal k_lt read mask ids some =
+    let world = world_round limits h k k_lt in
+    let said = ap (λ group. all_of meld (round_among group h 0 k)) (sym world.group_is) ∙ sym read.is in
+    may_spawn meld limits h 0 k world.exists k_lt (ap (list_all (λ r. is_some (slot h 0 k r))) (sym world.group_is) ∙ read.each) mask
+    (ap (λ (d : Decision P). d.body) (decision_is meld limits h 0 k legal) ∙ (ap (λ (a : Summary P). a.body) said ∙ ids)) some

@@ -49,6 +49,7 @@ impl Append {
     }
 
     /// One load or one exchange, at the place that is tried: how the appending ended, if it did.
+    #[inline(always)]
     pub fn step<P: Packed, A: Allocator, W: Words<P, A>>(
         &mut self,
         words: &W,
@@ -92,6 +93,7 @@ impl Append {
     }
 
     /// All steps that are left. It takes two steps at most for each place of the list.
+    #[inline(never)]
     pub fn finish<P: Packed, A: Allocator, W: Words<P, A>>(
         &mut self,
         words: &W,

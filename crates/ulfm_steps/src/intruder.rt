@@ -1,17 +1,20 @@
 // Plain words into which another's event comes, for tests.
-ghost use Rattle.std.specs.Prelude.{◌≡◌, ◌+◌, [], Some, IsTrue, length, false};
+ghost use Rattle.std.specs.Prelude.{◌≡◌, ◌<◌, ◌+◌, [], Some, IsTrue, length, false};
 ghost use Rattle.ulfm_model.specs.Runs.{Did};
 ghost use Rattle.ulfm_words.specs.Pass.{plain_name, last_of};
 ghost use Rattle.ulfm_words.specs.Steps.{IsOf};
 ghost use Rattle.ulfm_steps.specs.Intrusions.{is_welcome};
 
 use crate::append::Append;
+use crate::group::first_ranks;
 use crate::item::Item;
+use crate::read_round::ReadRound;
 use http_server::Log;
 use std::alloc::{AllocError, Allocator, Global};
+use ulfm_laws::body::Body;
 use ulfm_laws::meld::Packed;
 use ulfm_model::contribution::Slot;
-use ulfm_model::event::{Entry, Event};
+use ulfm_model::event::{Caller, Entry, Event};
 use ulfm_model::limits::Limits;
 use ulfm_model::place::Place;
 use ulfm_words::{
@@ -24,7 +27,8 @@ use ulfm_words::{
 pub struct Intruder<P: Packed> {
     pub plain: PlainWords<P>,
     /// The event, and in whose name it comes. It is one that may come at any time, once: a failure, or of the world's own
-    /// communicator a revocation, an arrival or a contribution that knows of no failure.
+    /// communicator a revocation, an arrival or a contribution that knows of no failure. Or it is a communicator that is made
+    /// of a round of the world's own: that comes only where the round is decided on free ids, and gets the next number.
     pub guest: Entry<P>,
     ghost welcome: { IsTrue (is_welcome plain.limits guest.event) },
 }
@@ -36,6 +40,8 @@ pub struct IntruderPass<P: Packed, A: Allocator = Global> {
     /// How many steps are made before the intrusion, if one is to come.
     pub left: Option<u32>,
     pub trail: Log<Last, bool>,
+    /// For the list of ranks whose places a communicator's intrusion reads first.
+    pub alloc: A,
 }
 
 impl<P: Packed, A: Allocator> IntruderPass<P, A> {
@@ -95,7 +101,38 @@ impl<P: Packed> Intruder<P> {
             Event::Revoke { comm } => {
                 let _ = set_revocation(&self.plain, plain, by, comm);
             }
-            Event::Mark { .. } | Event::Spawn { .. } => {}
+            Event::Spawn { parent, round, .. } => self.spawn(pass, by, parent, round),
+            Event::Mark { .. } => {}
+        }
+    }
+
+    // Makes a communicator of a round of the world's own, where that is decided on free ids and memory is there.
+    fn spawn<A: Allocator + Copy + Drop>(
+        &self,
+        pass: &mut IntruderPass<P, A>,
+        by: Caller,
+        parent: u16,
+        round: u16,
+    )
+        requires of { IsOf P.meld (plain_name self.now.plain.limits) pass.old.plain }
+        requires world { parent ≡ 0 }
+        requires round { round < self.now.plain.limits.rounds }
+        ensures of { IsOf P.meld (plain_name self.now.plain.limits) pass.new.plain }
+        ensures did { Did false [] pass.old.plain.seen pass.new.plain.seen }
+        ensures trail { pass.new.trail ≡ pass.old.trail }
+    {
+        let Ok(group) = first_ranks(pass.alloc, self.plain.limits.ranks) else {
+            return;
+        };
+        let plain = &mut pass.plain;
+        let Some(all) = ReadRound::new(parent, round).finish(&self.plain, plain, &group) else {
+            return;
+        };
+        let Body::Ctx(mask) = all.body else {
+            return;
+        };
+        if mask.bits != 0 {
+            let _ = Append::new(Item::Comm { parent, round }, by).finish(&self.plain, plain);
         }
     }
 }
@@ -127,6 +164,7 @@ impl<P: Packed, A: Allocator + Copy + Drop> Words<P, A> for Intruder<P> {
             plain,
             left: None,
             trail: Log::new(),
+            alloc,
         })
     }
 

@@ -11,6 +11,7 @@ use ulfm_model::limits::Limits;
 use ulfm_words::{Words, load_comm, load_failure, set_comm, set_failure};
 
 /// How many places the item's list has.
+#[inline(always)]
 pub fn room_for(item: Item, limits: Limits) -> u16
     ensures { result ≡ room item limits }
 {
@@ -21,6 +22,7 @@ pub fn room_for(item: Item, limits: Limits) -> u16
 }
 
 /// One load of a place of the item's list: what stands there, if anything does.
+#[inline(always)]
 pub fn load_item<P: Packed, A: Allocator, W: Words<P, A>>(
     words: &W,
     pass: &mut W::Pass,

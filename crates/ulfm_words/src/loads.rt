@@ -75,6 +75,7 @@ pub fn load_summary<P: Packed, A: Allocator, W: Words<P, A>>(
 }
 
 /// One load of an entry of the list of communicators: the parent and the round that it was made of, if it was made.
+#[inline(always)]
 pub fn load_comm<P: Packed, A: Allocator, W: Words<P, A>>(
     words: &W,
     pass: &mut W::Pass,

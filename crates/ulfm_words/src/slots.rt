@@ -59,8 +59,12 @@ pub(crate) fn summary_in<P: Packed>(word: u64) -> Summary<P>
     requires { IsSlotWord P.unpack word }
     ensures { (s : Slot P) → slot_in P.unpack word ≡ Some s → result ≡ summary_of s }
 {
-    let known = (word / 8 % 2048) as u16;
-    let acked = (word / 16_384 % 2048) as u16;
+    let known = Known {
+        count: (word / 8 % 2048) as u16,
+    };
+    let acked = Acked {
+        count: (word / 16_384 % 2048) as u16,
+    };
     let payload = (word / 33_554_432) as u32;
     let tag = word / 2 % 4;
     let body = if tag == 0 {
@@ -70,11 +74,7 @@ pub(crate) fn summary_in<P: Packed>(word: u64) -> Summary<P>
     } else {
         Body::Ctx(CtxMask { bits: payload })
     };
-    Summary {
-        body,
-        known: Known { count: known },
-        acked: Acked { count: acked },
-    }
+    Summary { body, known, acked }
 }
 
 /// The word of a slot is read as that slot.

@@ -5,6 +5,7 @@ ghost use Rattle.ulfm_words.specs.Steps.{IsOf};
 use super::member::{Member, Shared, members, open};
 use crate::{BookPass, BookTold};
 use std::alloc::{AllocError, Global};
+use std::process::Abort;
 use std::test::Fail;
 use std::thread::{self, Threads, join};
 use ulfm_comm::Polled;
@@ -34,6 +35,29 @@ fn start_all<'a, R: Threads + Sync>(
             member
         },
     )
+}
+
+/// Each starts a shrink on a thread of its own.
+fn shrink_all<'a, R: Threads + Sync>(
+    rt: &R,
+    all: Vec<Member<'a, FlagAnd>>,
+) -> Result<Vec<Member<'a, FlagAnd>>, AllocError> {
+    thread::map_vec(
+        rt,
+        all,
+        &|mut member| {
+            let _ = member.shrink();
+            member
+        },
+    )
+}
+
+/// Each polls on a thread of its own, and comes back with its reply.
+fn poll_and_keep<'a, R: Threads + Sync>(
+    rt: &R,
+    all: Vec<Member<'a, FlagAnd>>,
+) -> Result<Vec<(Reply, Member<'a, FlagAnd>)>, AllocError> {
+    thread::map_vec(rt, all, &|mut member| (member.poll(), member))
 }
 
 /// Each polls on a thread of its own.
@@ -114,6 +138,36 @@ fn agree_on_threads(rt: HostRuntime) -> Result<(), Fail> {
     };
     for reply in poll_all(&rt, started)? {
         assert_eq!(rt; reply, Ok(agreed));
+    }
+    Ok(())
+}
+
+/// Of five ranks one is declared. The four others shrink, each on a thread of its own, and then poll at once: they have one
+/// communicator, of one number and context id, with the same members in the same order.
+fn spawn_once<R: Threads + Sync + Abort>(rt: &R, alloc: Global) -> Result<(), Fail> {
+    let (shared, ranks) = open(alloc, 5)?;
+    let world = shared;
+    let mut all = members(alloc, &world, ranks)?;
+    all.retain(|member| member.number() != 1);
+    assert!(rt; all.len() == 4);
+    assert_eq!(rt; all[0].declare(1), Ok(true));
+    let made = Polled::Shrunk {
+        comm: 1,
+        context: 1,
+        size: 4,
+    };
+    let started = shrink_all(rt, all)?;
+    for (reply, member) in poll_and_keep(rt, started)? {
+        assert_eq!(rt; reply, Ok(made));
+        assert!(rt; member.holds(1) == Some(([0, 2, 3, 4].as_slice(), 1)));
+    }
+    Ok(())
+}
+
+#[test]
+fn one_spawn(rt: HostRuntime) -> Result<(), Fail> {
+    for _ in 0..16 {
+        spawn_once(&rt, rt.alloc())?;
     }
     Ok(())
 }

@@ -53,6 +53,11 @@ impl<'a, P: Packed> Member<'a, P> {
         self.rank.iagree(self.world, &mut self.pass, 0, value)
     }
 
+    /// Starts a shrink of all ranks.
+    pub(crate) fn shrink(&mut self) -> Result<(), Refusal> {
+        self.rank.ishrink(self.world, &mut self.pass, 0)
+    }
+
     /// Asks for the reply.
     pub(crate) fn poll(&mut self) -> Result<Polled<P>, Refusal> {
         self.rank.poll(self.world, &mut self.pass, 0)
@@ -89,6 +94,11 @@ impl<'a, P: Packed> Member<'a, P> {
         self.rank.number()
     }
 
+    /// The members of a communicator that it holds, and the context id.
+    pub(crate) fn holds(&self, comm: u16) -> Option<(&[u16], u8)> {
+        Some((self.rank.members(comm)?, self.rank.context(comm)?))
+    }
+
     /// From now on it has seen what was told, too.
     pub(crate) fn learn(&mut self, told: &BookTold<P>)
         requires { told.now.name ≡ self.old.name }
@@ -97,7 +107,7 @@ impl<'a, P: Packed> Member<'a, P> {
     }
 }
 
-/// A new world of one communicator and three rounds, and its ranks.
+/// A new world of four communicators and three rounds, and its ranks.
 pub(crate) fn open<P: Packed>(
     alloc: Global,
     ranks: u16,
@@ -106,7 +116,7 @@ pub(crate) fn open<P: Packed>(
 {
     let limits = Limits {
         ranks,
-        comms: 1,
+        comms: 4,
         rounds: 3,
     };
     World::open(alloc, BookWords::open(alloc, limits)?)

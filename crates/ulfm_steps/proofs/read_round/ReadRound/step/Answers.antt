@@ -1,4 +1,4 @@
-use Rattle.std.proofs.Common.{◌≡◌, take, slice_index_or, sym, ap, ◌∙◌}
+use Rattle.std.proofs.Common.{◌≡◌, take, slice_index_or, ap, ◌∙◌}
 use Rattle.ulfm_laws.specs.Summaries.{summary_meld}
 use Rattle.ulfm_model.specs.Laws.{summary_of}
 use Rattle.ulfm_words.proofs.Trails.{did_prefix}

@@ -1,0 +1,237 @@
+// Shrinks of a world in one hand: another's communicator that comes in between, and memory that is refused.
+ghost use Rattle.std.specs.Prelude.{◌≡◌};
+ghost use Rattle.ulfm_comm.specs.Jobs.{IsAnswered};
+
+use crate::Job;
+use linked_list_allocator::LocalHeap;
+use std::alloc::{AllocError, Global};
+use std::process::Abort;
+use std::test::Fail;
+use ulfm_laws::flag_and::FlagAnd;
+use ulfm_model::call::Call;
+use ulfm_model::event::{Caller, Entry, Event};
+use ulfm_model::limits::{Limits, OpenFault};
+use ulfm_model::place::Place;
+use ulfm_model::reply::Reply;
+use ulfm_steps::Intruder;
+use ulfm_words::{PlainWords, Step};
+
+const FOUR: Limits = Limits {
+    ranks: 4,
+    comms: 4,
+    rounds: 4,
+};
+
+/// A declaration; or a rank's shrink of a communicator, or poll of one.
+#[derive(Clone, Copy, Debug)]
+enum Asked {
+    Fail(u16),
+    Shrink(u16, u16),
+    Poll(u16, u16),
+}
+
+fn call(asked: Asked) -> Call<FlagAnd>
+    ensures { IsAnswered result }
+{
+    match asked {
+        Asked::Fail(rank) => Call::Fail { rank },
+        Asked::Shrink(rank, comm) => Call::Shrink { rank, comm },
+        Asked::Poll(rank, comm) => Call::Poll { rank, comm },
+    }
+}
+
+/// The reply with communicator 1, which ranks 0, 2 and 3 are left in.
+const FIRST: Reply<FlagAnd> = Reply::Shrunk {
+    comm: 1,
+    context: 1,
+    size: 3,
+};
+
+/// The reply with communicator 2, which ranks 2 and 3 are left in.
+const SECOND: Reply<FlagAnd> = Reply::Shrunk {
+    comm: 2,
+    context: 2,
+    size: 2,
+};
+
+/// A job over words into which another's event comes.
+type Disturbed = Job<Intruder<FlagAnd>, FlagAnd, Global>;
+
+impl Job<Intruder<FlagAnd>, FlagAnd, Global> {
+    // The other's event comes after so many further steps.
+    fn wait(&mut self, steps: u32)
+        ensures { self.new ≡ self.old }
+    {
+        self.pass.wait(steps);
+    }
+
+    // The step that was set as the `i`-th.
+    fn nth(&self, i: usize) -> Option<Step> {
+        self.pass.plain.nth(i)
+    }
+}
+
+/// A job in which rank 1 was declared, and then the others started a shrink of the world: four events. Rank 2 is to make the
+/// communicator of its round, as soon as it may.
+fn shrinking(rt: &impl Abort, alloc: Global) -> Result<Disturbed, Fail> {
+    let plain = PlainWords::open(FOUR)?;
+    let guest = Entry {
+        by: Caller::Rank(2),
+        event: Event::Spawn {
+            comm: 1,
+            parent: 0,
+            round: 0,
+        },
+    };
+    let mut job = Job::open(alloc, Intruder { plain, guest })?;
+    let mut group = Vec::new(alloc);
+    assert!(rt; job.apply(&call(Asked::Fail(1)), &mut group)? == Reply::Declared);
+    for rank in [3, 0, 2] {
+        let reply = job.apply(&call(Asked::Shrink(rank, 0)), &mut group)?;
+        assert!(rt; reply == Reply::Started);
+    }
+    Ok(job)
+}
+
+/// The poll of rank 3 takes two steps to look, one to mark rank 1, four to read the round, and then a load and an exchange of
+/// the first place in the list of communicators. The other comes after so many of them: the communicator is made in this
+/// name, and all ranks have it.
+fn spawn_after(rt: &impl Abort, alloc: Global, steps: u32, by: Caller) -> Result<(), Fail> {
+    let mut job = shrinking(rt, alloc)?;
+    let mut group = Vec::new(alloc);
+    job.wait(steps);
+    for rank in [3, 0, 2] {
+        let reply = job.apply(&call(Asked::Poll(rank, 0)), &mut group)?;
+        assert!(rt;
+            reply == FIRST,
+            "rank {rank} is answered {reply:?} after {steps}"
+        );
+        assert_eq!(rt; group.as_slice(), [0, 2, 3].as_slice());
+    }
+    let made = job.nth(5).expect(rt, "after the mark");
+    assert!(rt; made.place == Place::Comm { comm: 1 });
+    assert!(rt; made.by == by, "made by {:?} after {steps}", made.by);
+    assert!(rt; job.nth(6).is_none());
+    Ok(())
+}
+
+#[test]
+fn one_spawn(rt: HostRuntime) -> Result<(), Fail> {
+    // Before the mark the round isn't decided, so the other doesn't come.
+    spawn_after(&rt, rt.alloc(), 2, Caller::Rank(3))?;
+    spawn_after(&rt, rt.alloc(), 3, Caller::Rank(2))?;
+    // Just before the exchange, and just after it.
+    spawn_after(&rt, rt.alloc(), 8, Caller::Rank(2))?;
+    spawn_after(&rt, rt.alloc(), 9, Caller::Rank(3))
+}
+
+/// Fills a heap, block by block, until it has no more than so many bytes of room. The room comes back with what is
+/// answered.
+fn filled<'a>(
+    alloc: Global,
+    heap: &'a LocalHeap,
+    room: usize,
+) -> Result<Vec<Vec<u8, &'a LocalHeap>, Global>, AllocError> {
+    let mut blocks = Vec::new(alloc);
+    for _ in 0..1024usize {
+        if heap.free() <= room {
+            break;
+        }
+        blocks.push(Vec::with_capacity(heap, 16)?)?;
+    }
+    Ok(blocks)
+}
+
+/// A job over plain words in a heap.
+type Heaped<'a> = Job<PlainWords<FlagAnd>, FlagAnd, &'a LocalHeap>;
+
+/// How many communicators were made.
+fn communicators(job: &Heaped) -> u16 {
+    let mut made: u16 = 0;
+    for i in 0..32 {
+        if let Some(
+            Step {
+                place: Place::Comm { .. },
+                ..
+            },
+        ) = job.pass.nth(i)
+        {
+            made = made.saturating_add(1);
+        }
+    }
+    made
+}
+
+/// A call, with more room each time until it is answered, as it should be: how many times it lacked memory. Before that it makes
+/// no communicator.
+fn apply_refused<'a>(
+    rt: &impl Abort,
+    heap: &'a LocalHeap,
+    job: &mut Heaped<'a>,
+    group: &mut Vec<u16, &'a LocalHeap>,
+    alloc: Global,
+    line: (Asked, Reply<FlagAnd>),
+) -> Result<usize, Fail> {
+    let made = communicators(job);
+    for count in 0..64usize {
+        let blocks = filled(alloc, heap, count * 16)?;
+        let answered = job.apply(&call(line.0), group);
+        drop(blocks);
+        if let Ok(reply) = answered {
+            assert!(rt; reply == line.1, "{:?} is answered {reply:?}", line.0);
+            return Ok(count);
+        }
+        assert_eq!(rt; communicators(job), made);
+    }
+    assert!(rt; false, "{:?} is never answered", line.0);
+    Ok(0)
+}
+
+#[test]
+fn shrinks_are_refused_memory(rt: HostRuntime) -> Result<(), Fail> {
+    let heap = LocalHeap::new(rt.alloc(), 1 << 14)?;
+    let mut job = Job::open(&heap, PlainWords::open(FOUR)?)?;
+    // It has room for all ranks, so that nothing but the call itself lacks memory.
+    let mut group = Vec::with_capacity(&heap, 4)?;
+    let script = [
+        (Asked::Fail(1), Reply::Declared),
+        (Asked::Shrink(3, 0), Reply::Started),
+        (Asked::Shrink(0, 0), Reply::Started),
+        (Asked::Shrink(2, 0), Reply::Started),
+        (Asked::Poll(3, 0), FIRST),
+        (Asked::Poll(0, 0), FIRST),
+        (Asked::Poll(2, 0), FIRST),
+        (Asked::Fail(0), Reply::Declared),
+        (Asked::Shrink(3, 1), Reply::Started),
+        (Asked::Shrink(2, 1), Reply::Started),
+        (Asked::Poll(3, 1), SECOND),
+        (Asked::Poll(2, 1), SECOND),
+    ];
+    for line in script {
+        let refused = apply_refused(&rt, &heap, &mut job, &mut group, rt.alloc(), line)?;
+        let polls = matches!(line.0, Asked::Poll(_, _));
+        assert!(rt;
+            (refused > 0) == polls,
+            "{:?} lacked memory {refused} times",
+            line.0
+        );
+    }
+    assert_eq!(rt; communicators(&job), 2);
+    Ok(())
+}
+
+#[test]
+fn opening_is_refused_memory(rt: HostRuntime) -> Result<(), Fail> {
+    for count in 0..512usize {
+        let heap = LocalHeap::new(rt.alloc(), count * 16)?;
+        match Job::open(&heap, PlainWords::<FlagAnd>::open(FOUR)?) {
+            Err(fault) => assert!(rt; fault == OpenFault::OutOfMemory),
+            Ok(_) => {
+                assert!(rt; count > 0);
+                return Ok(());
+            }
+        }
+    }
+    assert!(rt; false, "no opening succeeds");
+    Ok(())
+}
