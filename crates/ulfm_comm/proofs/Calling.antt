@@ -1,14 +1,14 @@
 -- What a call promises, by its run.
-use Rattle.std.proofs.Common.{◌≡◌, Bool, true, false, List, [], None, refl, ap, sym, ◌∙◌, subst, append-nil, inl, IsTrue}
+use Rattle.std.proofs.Common.{◌≡◌, Bool, true, false, List, [], None, refl, ap, sym, ◌∙◌, subst, append-nil, inl, inr, IsTrue}
 use Rattle.std.specs.List.{AllByRecursion}
 use mathlib.Core.List.{IsPrefix}
 use Rattle.ulfm_model.specs.declared.{call.Call.{Call}, event.Caller.TheVariants.{Rank}, event.Event.{Event}, refusal.Refusal.TheVariants.{NoSuchComm, SelfFailed}, reply.Reply.{Reply}, reply.Reply.TheVariants.{Refused}}
-use Rattle.ulfm_model.specs.{Answers.{MayOwn, Sees, polled_by, refusal_of}, History.{History, entries_by, failures, has, spawns}, Records.{Fits, Record, held_at, is_shrink}, Runs.{Did}}
+use Rattle.ulfm_model.specs.{Answers.{MayOwn, Sees, polled_by, refusal_of}, History.{History, entries_by, failures, has, spawns}, Records.{Fits, Record, held_at, is_shrink}, Runs.{Did, IsRun}}
 use Rattle.ulfm_model.proofs.Terms.{comm_of}
 use Rattle.ulfm_model.proofs.{LeftFits.{fits_seen}, LeftRuns.{call_fits}, Lists.{prefix_trans}, Stable.{fits_stays}}
 use Rattle.ulfm_words.specs.Steps.{IsOf, Name, Sight}
-use Rattle.ulfm_words.proofs.Trails.{did_none, did_prefix}
-use Rattle.ulfm_comm.specs.{Calls.{Calls, RunsOut}, Ends.{IsEndRun}, Looked.{Looked}}
+use Rattle.ulfm_words.proofs.Trails.{did_none, did_prefix, did_quiet, did_wait}
+use Rattle.ulfm_comm.specs.{Calls.{Calls, RunsOut}, Ends.{IsAloneCall, IsEndRun}, Looked.{Looked}}
 use Rattle.ulfm_comm.proofs.Replying.{alone_of, call_of, refused_missing, sees_look, self_failed, view_at}
 
 module _ {P : Type 0} (meld : P → P → P) (alone : Bool) (name : Name) (before after : Sight P) where
@@ -22,6 +22,33 @@ module _ {P : Type 0} (meld : P → P → P) (alone : Bool) (name : Name) (befor
         fits = call_fits meld name.limits alone before.seen after.seen old asked reply new fits called;
         run = called;
         run_alone = alone_of meld name.limits alone before.seen after.seen old asked reply new ended;
+        no_step = λ refused. absurd (cc (refused, ended.run.in_use));
+      }
+
+  -- a call with its point at the end of what it had seen before others stepped once more
+  pub calls_waited : (asked : Call P) (old : Record) (reply : Reply P) (new : Record) (point : History P) → IsOf meld name after → Fits meld name.limits before.seen old
+      → IsEndRun meld name.limits alone before.seen point old asked reply new → Did alone [] point after.seen → Calls meld alone name asked old before reply new after
+  calls_waited asked old reply new point of fits ended wait =
+      let span = ended.run.span in
+      let run : IsRun meld name.limits alone before.seen after.seen old asked reply new = record {
+        in_use = ended.run.in_use;
+        span = record {
+          look = span.look;
+          point = span.point;
+          own = span.own;
+          looked = span.looked;
+          did = did_wait alone (entries_by (Rank old.number) span.own) span.look point after.seen span.did wait;
+          point_begins = span.point_begins;
+          point_ends = prefix_trans span.point point after.seen span.point_ends (did_prefix alone [] point after.seen wait);
+          legal = of.legal;
+        };
+        answer = ended.run.answer;
+      } in
+      record {
+        of = of;
+        fits = call_fits meld name.limits alone before.seen after.seen old asked reply new fits (inr run);
+        run = inr run;
+        run_alone = λ here. subst (λ h. IsAloneCall meld name.limits before.seen h old asked reply new) (sym (did_quiet alone point after.seen wait here)) (alone_of meld name.limits alone before.seen point old asked reply new ended here);
         no_step = λ refused. absurd (cc (refused, ended.run.in_use));
       }
 

@@ -1,9 +1,9 @@
 -- What a rank holds after the poll of a shrink.
-use Rattle.std.proofs.Common.{◌≡◌, ◌==◌, ℕ, Bool, true, false, cond, List, [], ◌∷◌, ◌++◌, Option, Some, None, refl, ap, sym, ◌∙◌, arith, inl, inr}
+use Rattle.std.proofs.Common.{◌≡◌, ◌==◌, ℕ, Bool, true, false, cond, List, [], ◌∷◌, ◌++◌, Some, None, refl, ap, ◌∙◌, arith, inl, inr}
 use Rattle.std.proofs.lemmas.Bool.Decides.{nat_tests}
 use Rattle.std.specs.List.{find}
 use Rattle.ulfm_model.specs.declared.{call.Call.TheVariants.{Poll}, reply.Reply.TheVariants.{Shrunk}}
-use Rattle.ulfm_model.specs.{Answers.{closed, left_by}, History.{members}, Records.{Held, Record, held_at}, Runs.{IsCall}}
+use Rattle.ulfm_model.specs.{Answers.{closed}, History.{members}, Records.{Held, Record, held_at}, Runs.{IsCall}}
 use Rattle.ulfm_words.specs.Steps.{Name, Sight}
 use Rattle.ulfm_comm.specs.Calls.{Calls}
 use Rattle.ulfm_comm.proofs.Holding.{group_is}

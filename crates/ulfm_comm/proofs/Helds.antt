@@ -9,8 +9,8 @@ use Rattle.std.proofs.lemmas.Map.Keys.{IsDistinct-cons}
 use Rattle.ulfm_model.specs.declared.{call.Request.{Request}, call.Request.TheVariants.{Agree, Shrink, Barrier}, limits.Limits.{Limits}}
 use Rattle.ulfm_model.specs.{Answers.{opened}, Records.{Held, change_at}, Words.{MayOpen}}
 use Rattle.ulfm_model.proofs.Terms.{contexts_of}
-use Rattle.ulfm_model.proofs.{LeftHeld.{contexts_push, distinct_kept}, Lists.{any_none, distinct_push, each_filter, each_push}}
-use Rattle.ulfm_comm.specs.Ranks.{HasRoom, IsAgreement}
+use Rattle.ulfm_model.proofs.{LeftHeld.{contexts_push, distinct_kept}, Lists.{any_none, distinct_push}}
+use Rattle.ulfm_comm.specs.Ranks.{HasRoom}
 use Rattle.ulfm_comm.proofs.InOrder.{found_at}
 
 -- whether a communicator has this number
@@ -53,13 +53,6 @@ unchanged (x ∷ xs) c f e = go (is_of c x) e (λ less. unchanged xs c f less)
 pub change_missing : (xs : List Held) (c : ℕ) (f : Held → Held) → position (is_of c) xs ≡ None → xs ≡ change_at c f xs
 change_missing xs c f e = unchanged xs c f (find_missing xs c e)
 
--- what holds of each, and is kept by the change, holds of each afterwards
-pub each_changed : (Q : Held → Type 0) (c : ℕ) (f : Held → Held) → ((y : Held) → Q y → Q (f y)) → (xs : List Held) → AllByRecursion Q xs → AllByRecursion Q (change_at c f xs)
-each_changed Q c f keeps [] all = tt
-each_changed Q c f keeps (x ∷ xs) all =
-    let rest = each_changed Q c f keeps xs all.1 in
-    elim (is_of c x) as (λ b. AllByRecursion Q (cond b (f x ∷ xs) (x ∷ change_at c f xs))) [ true ↦ (keeps x all.0, all.1) | false ↦ (all.0, rest) ]
-
 -- a change that keeps each context id keeps all of them
 contexts_changed : (c : ℕ) (f : Held → Held) → ((y : Held) → (f y).context ≡ y.context) → (xs : List Held) → contexts_of (change_at c f xs) ≡ contexts_of xs
 contexts_changed c f same [] = refl
@@ -68,28 +61,27 @@ contexts_changed c f same (x ∷ xs) =
     elim (is_of c x) as (λ b. contexts_of (cond b (f x ∷ xs) (x ∷ change_at c f xs)) ≡ x.context ∷ contexts_of xs)
     [ true ↦ ap (λ i. i ∷ contexts_of xs) (same x) | false ↦ ap (λ ids. x.context ∷ ids) rest ]
 
--- a rank that holds one communicator, with no request
-pub room_new : (limits : Limits) (capacity : ℕ) (x : Held) → MayOpen limits → limits.ranks ≤ capacity → x.request ≡ None → HasRoom limits capacity (x ∷ [])
+-- a rank that holds one communicator
+pub room_new : (limits : Limits) (capacity : ℕ) (x : Held) → MayOpen limits → limits.ranks ≤ capacity → HasRoom limits capacity (x ∷ [])
 unfolding IsDistinct
-room_new limits capacity x may_open room idle =
-    record { may_open = may_open; room = room; requests = (subst IsAgreement (sym idle) tt, tt); contexts = IsDistinct-cons nat_eq x.context [] tt tt }
+room_new limits capacity x may_open room =
+    record { may_open = may_open; room = room; contexts = IsDistinct-cons nat_eq x.context [] tt tt }
 
--- a change that leaves an agree or a shrink open, or nothing, and keeps the context id, keeps what a rank keeps
-pub room_changed : (limits : Limits) (capacity c : ℕ) (f : Held → Held) (xs new : List Held) → HasRoom limits capacity xs → ((y : Held) → IsAgreement y.request → IsAgreement (f y).request) → ((y : Held) → (f y).context ≡ y.context) → new ≡ change_at c f xs
+-- a change that keeps the context id keeps what a rank keeps
+pub room_changed : (limits : Limits) (capacity c : ℕ) (f : Held → Held) (xs new : List Held) → HasRoom limits capacity xs → ((y : Held) → (f y).context ≡ y.context) → new ≡ change_at c f xs
     → HasRoom limits capacity new
-room_changed limits capacity c f xs new old requests contexts is =
+room_changed limits capacity c f xs new old contexts is =
     subst (HasRoom limits capacity) (sym is) (record {
       may_open = old.may_open;
       room = old.room;
-      requests = each_changed (λ x. IsAgreement x.request) c f requests xs old.requests;
       contexts = subst (IsDistinct nat_eq) (sym (contexts_changed c f contexts xs)) old.contexts;
     })
 
--- an agree or a shrink is opened
-pub room_opened : (limits : Limits) (capacity c : ℕ) (request : Request) (xs new : List Held) → HasRoom limits capacity xs → IsAgreement (Some request) → new ≡ change_at c (λ y. opened y (Some request)) xs → HasRoom limits capacity new
-room_opened limits capacity c (Agree k) xs new old agreement is = room_changed limits capacity c (λ y. opened y (Some (Agree k))) xs new old (λ y was. tt) (λ y. refl) is
-room_opened limits capacity c (Shrink k) xs new old agreement is = room_changed limits capacity c (λ y. opened y (Some (Shrink k))) xs new old (λ y was. tt) (λ y. refl) is
-room_opened limits capacity c (Barrier k) xs new old agreement is = absurd agreement
+-- a request is opened
+pub room_opened : (limits : Limits) (capacity c : ℕ) (request : Request) (xs new : List Held) → HasRoom limits capacity xs → new ≡ change_at c (λ y. opened y (Some request)) xs → HasRoom limits capacity new
+room_opened limits capacity c (Agree k) xs new old is = room_changed limits capacity c (λ y. opened y (Some (Agree k))) xs new old (λ y. refl) is
+room_opened limits capacity c (Shrink k) xs new old is = room_changed limits capacity c (λ y. opened y (Some (Shrink k))) xs new old (λ y. refl) is
+room_opened limits capacity c (Barrier k) xs new old is = room_changed limits capacity c (λ y. opened y (Some (Barrier k))) xs new old (λ y. refl) is
 
 -- changes that do the same to the one that is found
 pub change_alike : (xs : List Held) (c : ℕ) (x : Held) (f g : Held → Held) → find (is_of c) xs ≡ Some x → f x ≡ g x → change_at c f xs ≡ change_at c g xs
@@ -106,7 +98,6 @@ room_kept limits capacity p xs new old is =
     subst (HasRoom limits capacity) (sym is) (record {
       may_open = old.may_open;
       room = old.room;
-      requests = each_filter p (λ x. IsAgreement x.request) xs old.requests;
       contexts = distinct_kept p xs old.contexts;
     })
 
@@ -123,15 +114,14 @@ pub push_missing : (xs pushed : List Held) (made : Held) (c : ℕ) (f : Held →
 push_missing xs pushed made c f none more = more ∙ ap (λ zs. zs ++ made ∷ []) (change_missing xs c f none)
 
 -- one communicator more, with a context id that none has
-pub room_pushed : (limits : Limits) (capacity c : ℕ) (f : Held → Held) (made : Held) (xs new : List Held) → HasRoom limits capacity xs → ((y : Held) → IsAgreement y.request → IsAgreement (f y).request) → ((y : Held) → (f y).context ≡ y.context)
-    → IsAgreement made.request → AllByRecursion (λ i. nat_eq i made.context ≡ false) (contexts_of xs) → new ≡ change_at c f xs ++ made ∷ [] → HasRoom limits capacity new
-room_pushed limits capacity c f made xs new old requests contexts quiet fresh is =
-    let rest = room_changed limits capacity c f xs (change_at c f xs) old requests contexts refl in
+pub room_pushed : (limits : Limits) (capacity c : ℕ) (f : Held → Held) (made : Held) (xs new : List Held) → HasRoom limits capacity xs → ((y : Held) → (f y).context ≡ y.context)
+    → AllByRecursion (λ i. nat_eq i made.context ≡ false) (contexts_of xs) → new ≡ change_at c f xs ++ made ∷ [] → HasRoom limits capacity new
+room_pushed limits capacity c f made xs new old contexts fresh is =
+    let rest = room_changed limits capacity c f xs (change_at c f xs) old contexts refl in
     let others = subst (AllByRecursion (λ i. nat_eq i made.context ≡ false)) (sym (contexts_changed c f contexts xs)) fresh in
     subst (HasRoom limits capacity) (sym is) (record {
       may_open = rest.may_open;
       room = rest.room;
-      requests = each_push (λ x. IsAgreement x.request) (change_at c f xs) made rest.requests quiet;
       contexts =
           subst (IsDistinct nat_eq) (sym (contexts_push (change_at c f xs) made))
           (distinct_push nat_eq (contexts_of (change_at c f xs)) made.context rest.contexts (any_none (λ i. nat_eq i made.context) (contexts_of (change_at c f xs)) others));

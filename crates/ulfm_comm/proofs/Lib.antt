@@ -1,6 +1,9 @@
 pub mod Acks
+pub mod Arriving
+pub mod Barriers
 pub mod Calling
 pub mod Contexts
+pub mod Entering
 pub mod Excluding
 pub mod Failing
 pub mod Freeing

@@ -16,7 +16,7 @@ use Rattle.ulfm_words.proofs.Trails.{did_prefix, did_quiet, did_wait}
 use Rattle.ulfm_steps.specs.{Marks.{IsMarkOf}, Rounds.{IsSummed}}
 use Rattle.ulfm_words.specs.Steps.{IsOf, Name, Sight}
 use Rattle.ulfm_comm.specs.{Calls.{EndsBy, is_out_of_memory}, Ends.{IsEndRun}, Looked.{Looked}, Polls.{EndsIn, HasMarked, IsAnswer, PollIs, Polls, agreement}}
-use Rattle.ulfm_comm.specs.declared.polled.{Polled.{Polled}, Polled.TheVariants.{Pending as Undecided, Agreed as WasAgreed, Shrunk as WasShrunk}}
+use Rattle.ulfm_comm.specs.declared.polled.{Polled.{Polled}, Polled.TheVariants.{Pending as Undecided, Agreed as WasAgreed, Shrunk as WasShrunk, Done as AllCame}}
 use Rattle.ulfm_comm.proofs.{Holding.{comm_is, failed_is, group_is, holds}, Replying.{held_before, refused, replied}}
 
 -- a body that is a flag or a clash, and no flag
@@ -266,6 +266,7 @@ pub ends_answered : {P : Type 0} (meld : P → P → P) (alone : Bool) (name : N
 ends_answered meld alone name c old before new after (Ok Undecided) answer = absurd answer
 ends_answered meld alone name c old before new after (Ok (WasAgreed value failed raised)) answer = tt
 ends_answered meld alone name c old before new after (Ok (WasShrunk j context size)) answer = tt
+ends_answered meld alone name c old before new after (Ok AllCame) answer = tt
 ends_answered meld alone name c old before new after (Err refusal) answer = tt
 
 module _ {P : Type 0} (meld : P → P → P) (alone : Bool) (name : Name) (asked : Call P) (old : Record) (before : Sight P) (new : Record) (after : Sight P) where

@@ -69,6 +69,23 @@ module _ (old : Record) (x : Held) where
   pub shrink_passes : is_some x.request ≡ false → shrinking ≡ false → x.next_agreement < old.limits.rounds → first_refusal shrink_tests ≡ None
   shrink_passes idle none room = by_round idle none ∙ first_fails (nat_le old.limits.rounds x.next_agreement) RoundsUsedUp [] (room_is old.limits.rounds x.next_agreement room)
 
+-- the tests of the start of a barrier
+module _ (old : Record) (x : Held) where
+  abbrev out_of_rounds : List (Bool × Refusal)
+  out_of_rounds = (nat_le old.limits.rounds x.next_barrier, RoundsUsedUp) ∷ []
+
+  abbrev barrier_tests : List (Bool × Refusal)
+  barrier_tests = (is_some x.request, Busy) ∷ out_of_rounds
+
+  pub barrier_busy : is_some x.request ≡ true → first_refusal barrier_tests ≡ Some Busy
+  barrier_busy busy = first_holds (is_some x.request) Busy out_of_rounds busy
+
+  pub barrier_late : is_some x.request ≡ false → old.limits.rounds ≤ x.next_barrier → first_refusal barrier_tests ≡ Some RoundsUsedUp
+  barrier_late idle up = first_fails (is_some x.request) Busy out_of_rounds idle ∙ first_holds (nat_le old.limits.rounds x.next_barrier) RoundsUsedUp [] (late_is old.limits.rounds x.next_barrier up)
+
+  pub barrier_passes : is_some x.request ≡ false → x.next_barrier < old.limits.rounds → first_refusal barrier_tests ≡ None
+  barrier_passes idle room = first_fails (is_some x.request) Busy out_of_rounds idle ∙ first_fails (nat_le old.limits.rounds x.next_barrier) RoundsUsedUp [] (room_is old.limits.rounds x.next_barrier room)
+
 -- the tests of a communicator that is to be given back
 module _ (c : ℕ) (x : Held) where
   abbrev free_tests : List (Bool × Refusal)

@@ -2,7 +2,6 @@
 use Rattle.std.specs.Prelude.{◌≡◌, ℕ, ⊤, Bool, List, IsTrue}
 use mathlib.Core.List.{IsPrefix}
 use Rattle.ulfm_model.specs.declared.{call.Call.{Call}, reply.Reply.{Reply}}
-use Rattle.ulfm_model.specs.declared.call.Call.TheVariants as call
 use Rattle.ulfm_model.specs.declared.reply.Reply.TheVariants.{Started, Pending, Agreed, Shrunk, Done, FailedGroup, Acked, Declared, AlreadyFailed, Revoked, AlreadyRevoked, Standing, Freed, Refused}
 use Rattle.ulfm_model.specs.{Answers.{traits_of}, History.{failed, members}, Records.{Record}, Runs.{IsSound, IsStep, State}}
 use Rattle.ulfm_words.specs.Steps.{IsOf, Name, Sight}
@@ -40,16 +39,3 @@ IsAbout state c group AlreadyRevoked = ⊤
 IsAbout state c group (Standing revoked) = ⊤
 IsAbout state c group Freed = ⊤
 IsAbout state c group (Refused refusal) = ⊤
-
--- the calls that a job answers
-abbrev pub IsAnswered : {P : Type 0} → Call P → Type 0
-IsAnswered (call.Fail rank) = ⊤
-IsAnswered (call.GetFailed rank c) = ⊤
-IsAnswered (call.Ack rank c count) = ⊤
-IsAnswered (call.Agree rank c value) = ⊤
-IsAnswered (call.Shrink rank c) = ⊤
-IsAnswered (call.Barrier rank c) = ⊥
-IsAnswered (call.Poll rank c) = ⊤
-IsAnswered (call.Revoke rank c) = ⊥
-IsAnswered (call.IsRevoked rank c) = ⊥
-IsAnswered (call.Free rank c) = ⊤

@@ -4,6 +4,7 @@ pub mod Ranks
 pub mod Calls
 pub mod Starts
 pub mod Excludes
+pub mod Barriers
 pub mod Polls
 pub mod Revokes
 pub mod Shrinks

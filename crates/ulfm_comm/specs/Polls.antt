@@ -1,23 +1,31 @@
 -- What a poll answers, and in what a pending one ends.
-use Rattle.std.specs.Prelude.{◌≡◌, ℕ, ◌<◌, Bool, true, false, [], Some, None, IsTrue, IsFalse, Result, Ok, Err, filter, ⊤}
+use Rattle.std.specs.Prelude.{◌≡◌, ℕ, ◌<◌, Bool, true, false, [], Option, Some, None, IsTrue, IsFalse, Result, Ok, Err, filter, ⊤}
 use Rattle.ulfm_laws.specs.declared.summary.Summary.{Summary}
-use Rattle.ulfm_model.specs.declared.{call.Call.{Call}, call.Call.TheVariants.{Poll}, call.Request.{Request}, call.Request.TheVariants.{Agree, Shrink}, limits.Limits.{Limits}, place.Place.TheVariants.{Slot as SlotAt}, refusal.Refusal.{Refusal}, refusal.Refusal.TheVariants.{OutOfMemory}, reply.Reply.{Reply}, reply.Reply.TheVariants.{Agreed as AgreedOn, Pending as StillPending, Shrunk as ShrunkTo}}
+use Rattle.ulfm_model.specs.declared.{call.Call.{Call}, call.Call.TheVariants.{Poll}, call.Request.{Request}, call.Request.TheVariants.{Agree, Shrink, Barrier}, limits.Limits.{Limits}, place.Place.TheVariants.{Slot as SlotAt}, refusal.Refusal.{Refusal}, refusal.Refusal.TheVariants.{OutOfMemory}, reply.Reply.{Reply}, reply.Reply.TheVariants.{Agreed as AgreedOn, Done as AllCame, Pending as StillPending, Shrunk as ShrunkTo}}
 use Rattle.ulfm_model.specs.{Answers.{polled_by}, History.{History, IsLegal, failures, has, slot}, Records.{Fits, Held, Record, held_at, is_shrink}, Runs.{Did, IsRun}}
 use Rattle.ulfm_words.specs.Steps.{IsOf, Name, Sight}
 use Rattle.ulfm_steps.specs.{Marks.{Marks}, Rounds.{IsSummed}}
 use Rattle.ulfm_comm.specs.{Calls.{Calls, EndsBy, is_out_of_memory}, Looked.{Looked}}
-use Rattle.ulfm_comm.specs.declared.polled.{Polled.{Polled}, Polled.TheVariants.{Agreed, Pending, Shrunk}}
+use Rattle.ulfm_comm.specs.declared.polled.{Polled.{Polled}, Polled.TheVariants.{Agreed, Done, Pending, Shrunk}}
 
 -- an agree or a shrink in round k
 abbrev pub agreement : Bool → ℕ → Request
 agreement false k = Agree k
 agreement true k = Shrink k
 
+-- no barrier is open: an agree, a shrink, or nothing
+abbrev pub IsAgreement : Option Request → Type 0
+IsAgreement None = ⊤
+IsAgreement (Some (Agree k)) = ⊤
+IsAgreement (Some (Shrink k)) = ⊤
+IsAgreement (Some (Barrier k)) = ⊥
+
 -- the reply
 abbrev pub polled : {P : Type 0} → Polled P → Reply P
 polled Pending = StillPending
 polled (Agreed value failed raised) = AgreedOn value failed raised
 polled (Shrunk j context size) = ShrunkTo j context size
+polled Done = AllCame
 
 -- a poll with this result is a call of the sequential object, or ran out of memory
 abbrev pub PollIs : {P : Type 0} → (P → P → P) → Bool → Name → Call P → Record → Sight P → Result (Polled P) Refusal → Record → Sight P → Type 0
@@ -70,14 +78,16 @@ pub record EndsInMissing {P : Type 0} (meld : P → P → P) (alone : Bool) (nam
   pub in_call : before.steps < after.steps
   pub loaded : after.last ≡ Some (record { place = SlotAt c round member; word = 0; load = true })
 
--- a pending poll ends so
+-- a pending poll of an agreement ends so
 abbrev pub EndsIn : {P : Type 0} → (P → P → P) → Bool → Name → ℕ → Record → Sight P → Record → Sight P → Polled P → Type 0
-EndsIn meld alone name c old before new after Pending = EndsInMissing meld alone name c old before new after
+EndsIn {P} meld alone name c old before new after Pending = IsAgreement (polled_by {P = P} old (Poll old.number c)) → EndsInMissing meld alone name c old before new after
 EndsIn meld alone name c old before new after (Agreed value failed raised) = ⊤
 EndsIn meld alone name c old before new after (Shrunk j context size) = ⊤
+EndsIn meld alone name c old before new after Done = ⊤
 
 -- the request was answered
 abbrev pub IsAnswer : {P : Type 0} → Polled P → Type 0
 IsAnswer Pending = ⊥
 IsAnswer (Agreed value failed raised) = ⊤
 IsAnswer (Shrunk j context size) = ⊤
+IsAnswer Done = ⊤

@@ -1,7 +1,7 @@
 // Calls of ranks that stand in one hand, each answered as the object replies.
 ghost use Rattle.std.specs.Prelude.{◌≡◌, IfOk, List, OnOk, Some, ℕ};
 ghost use mathlib.Core.List.{IsPrefix};
-ghost use Rattle.ulfm_model.specs.declared.call.Call.TheVariants.{Fail as FailAsked, GetFailed as GetAsked, Ack as AckAsked, Agree as AgreeAsked, Poll as PollAsked, Shrink as ShrinkAsked, Free as FreeAsked};
+ghost use Rattle.ulfm_model.specs.declared.call.Call.TheVariants.{Fail as FailAsked, GetFailed as GetAsked, Ack as AckAsked, Agree as AgreeAsked, Poll as PollAsked, Shrink as ShrinkAsked, Barrier as BarrierAsked, Revoke as RevokeAsked, IsRevoked as StandingAsked, Free as FreeAsked};
 ghost use Rattle.ulfm_model.specs.Records.{Held, held_at};
 ghost use Rattle.ulfm_comm.specs.Jobs.{IsAbout, IsJob, StepsBy, state_of};
 
@@ -131,6 +131,73 @@ pub(crate) fn shrink_by<P: Packed, A: Allocator, W: Words<P, A>>(
     }
 }
 
+// A rank starts a barrier.
+pub(crate) fn barrier_by<P: Packed, A: Allocator, W: Words<P, A>>(
+    world: &World<W, P, A>,
+    pass: &mut W::Pass,
+    ranks: &mut [Rank<P, A>],
+    rank: u16,
+    comm: u16,
+) -> Reply<P>
+    requires { IsJob P.meld (W.name world.now.words) (W.sight pass.old) ranks.old }
+    ensures about { (group : List ℕ) → IsAbout (state_of (W.name world.now.words) (W.sight pass.new) ranks.new) comm group result }
+    ensures step { StepsBy P.meld W.alone (W.name world.now.words) (BarrierAsked rank comm) (W.sight pass.old) ranks.old result (W.sight pass.new) ranks.new }
+{
+    if rank as usize >= ranks.len() {
+        return Reply::Refused(Refusal::NoSuchRank);
+    }
+    let own = &mut ranks[rank as usize];
+    match own.ibarrier(world, pass, comm) {
+        Ok(()) => Reply::Started,
+        Err(refusal) => Reply::Refused(refusal),
+    }
+}
+
+// A rank revokes a communicator.
+pub(crate) fn revoke_by<P: Packed, A: Allocator, W: Words<P, A>>(
+    world: &World<W, P, A>,
+    pass: &mut W::Pass,
+    ranks: &mut [Rank<P, A>],
+    rank: u16,
+    comm: u16,
+) -> Reply<P>
+    requires { IsJob P.meld (W.name world.now.words) (W.sight pass.old) ranks.old }
+    ensures about { (group : List ℕ) → IsAbout (state_of (W.name world.now.words) (W.sight pass.new) ranks.new) comm group result }
+    ensures step { StepsBy P.meld W.alone (W.name world.now.words) (RevokeAsked rank comm) (W.sight pass.old) ranks.old result (W.sight pass.new) ranks.new }
+{
+    if rank as usize >= ranks.len() {
+        return Reply::Refused(Refusal::NoSuchRank);
+    }
+    let own = &mut ranks[rank as usize];
+    match own.revoke(world, pass, comm) {
+        Ok(true) => Reply::Revoked,
+        Ok(false) => Reply::AlreadyRevoked,
+        Err(refusal) => Reply::Refused(refusal),
+    }
+}
+
+// A rank asks whether a communicator is revoked.
+pub(crate) fn standing_by<P: Packed, A: Allocator, W: Words<P, A>>(
+    world: &World<W, P, A>,
+    pass: &mut W::Pass,
+    ranks: &mut [Rank<P, A>],
+    rank: u16,
+    comm: u16,
+) -> Reply<P>
+    requires { IsJob P.meld (W.name world.now.words) (W.sight pass.old) ranks.old }
+    ensures about { (group : List ℕ) → IsAbout (state_of (W.name world.now.words) (W.sight pass.new) ranks.new) comm group result }
+    ensures step { StepsBy P.meld W.alone (W.name world.now.words) (StandingAsked rank comm) (W.sight pass.old) ranks.old result (W.sight pass.new) ranks.new }
+{
+    if rank as usize >= ranks.len() {
+        return Reply::Refused(Refusal::NoSuchRank);
+    }
+    let own = &mut ranks[rank as usize];
+    match own.is_revoked(world, pass, comm) {
+        Ok(revoked) => Reply::Standing { revoked },
+        Err(refusal) => Reply::Refused(refusal),
+    }
+}
+
 // A rank gives a communicator back.
 pub(crate) fn free_by<P: Packed, A: Allocator, W: Words<P, A>>(
     world: &World<W, P, A>,
@@ -189,6 +256,7 @@ pub(crate) fn poll_by<P: Packed, A: Allocator + Copy, W: Words<P, A>>(
     let own = &mut ranks[rank as usize];
     match own.poll(world, pass, comm) {
         Ok(Polled::Pending) => Ok(Reply::Pending),
+        Ok(Polled::Done) => Ok(Reply::Done),
         Ok(
             Polled::Agreed {
                 value,

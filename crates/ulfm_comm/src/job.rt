@@ -5,9 +5,12 @@ ghost use Rattle.ulfm_model.specs.Runs.{IsStep, new_state};
 ghost use Rattle.ulfm_model.specs.declared.call.Call.TheVariants.{GetFailed as GetAsked, Poll as PollAsked};
 ghost use Rattle.ulfm_model.specs.declared.limits.OpenFault.TheVariants.{OutOfMemory};
 ghost use Rattle.ulfm_model.proofs.Terms.{comm_of};
-ghost use Rattle.ulfm_comm.specs.Jobs.{IsAbout, IsAnswered};
+ghost use Rattle.ulfm_comm.specs.Jobs.{IsAbout};
 
-use crate::answers::{ack_by, agree_by, fail_by, free_by, get_by, poll_by, shrink_by};
+use crate::answers::{
+    ack_by, agree_by, barrier_by, fail_by, free_by, get_by, poll_by, revoke_by, shrink_by,
+    standing_by,
+};
 use crate::rank::Rank;
 use crate::world::World;
 use std::alloc::{AllocError, Allocator};
@@ -81,7 +84,6 @@ where
         asked: &Call<P>,
         group: &mut Vec<u16, A>,
     ) -> Result<Reply<P>, AllocError>
-        requires { IsAnswered asked.now }
         ensures about { IfOk result (IsAbout self.new (comm_of asked.now) group.new.items) }
         ensures step { IfOk result (λ reply. IsTrue W.alone → IsStep P.meld self.old (traits_of asked.now).by asked.now reply self.new) }
         ensures memory { OnErr result ((rank : ℕ) × (comm : ℕ) × ((asked.now ≡ GetAsked rank comm) ⊎ (asked.now ≡ PollAsked rank comm))) }
@@ -106,9 +108,15 @@ where
                 Ok(agree_by(world, pass, &mut self.ranks, rank, comm, value))
             }
             Call::Shrink { rank, comm } => Ok(shrink_by(world, pass, &mut self.ranks, rank, comm)),
-            Call::Free { rank, comm } => Ok(free_by(world, pass, &mut self.ranks, rank, comm)),
+            Call::Barrier { rank, comm } => {
+                Ok(barrier_by(world, pass, &mut self.ranks, rank, comm))
+            }
             Call::Poll { rank, comm } => poll_by(world, pass, &mut self.ranks, rank, comm, group),
-            _ => unreachable!(),
+            Call::Revoke { rank, comm } => Ok(revoke_by(world, pass, &mut self.ranks, rank, comm)),
+            Call::IsRevoked { rank, comm } => {
+                Ok(standing_by(world, pass, &mut self.ranks, rank, comm))
+            }
+            Call::Free { rank, comm } => Ok(free_by(world, pass, &mut self.ranks, rank, comm)),
         }
     }
 }

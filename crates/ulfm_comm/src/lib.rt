@@ -4,6 +4,8 @@
 mod ack;
 mod agree;
 mod answers;
+mod arrivals;
+mod barrier;
 mod begin;
 mod fail;
 mod free;
@@ -14,6 +16,7 @@ mod ids;
 mod is_revoked;
 pub mod job;
 mod poll;
+mod poll_barrier;
 mod poll_shrink;
 pub mod polled;
 pub mod rank;

@@ -2,8 +2,8 @@ ghost use Rattle.std.specs.Prelude.{◌≡◌, Some, None, MatchOption, IfOk};
 ghost use Rattle.ulfm_model.specs.Records.{Fits};
 ghost use Rattle.ulfm_model.specs.declared.call.Call.TheVariants.{Poll as Asked};
 ghost use Rattle.ulfm_words.specs.Steps.{IsOf};
-ghost use Rattle.ulfm_comm.specs.Polls.{agreement, Polls, EndsIn};
-ghost use Rattle.ulfm_comm.specs.Ranks.{IsAgreement};
+ghost use Rattle.ulfm_model.specs.declared.call.Request.TheVariants.{Barrier as OfBarrier};
+ghost use Rattle.ulfm_comm.specs.Polls.{agreement, Polls, EndsIn, IsAgreement};
 
 use crate::polled::Polled;
 use crate::rank::Rank;
@@ -16,6 +16,16 @@ use ulfm_model::refusal::Refusal;
 use ulfm_steps::ReadRound;
 use ulfm_steps::mark_all::mark_all;
 use ulfm_words::Words;
+
+// The round of an open barrier.
+fn barrier(request: Option<Request>) -> Option<u16>
+    ensures { MatchOption result (IsAgreement request) (λ round. request ≡ Some (OfBarrier round)) }
+{
+    match request {
+        Some(Request::Barrier { round }) => Some(round),
+        _ => None,
+    }
+}
 
 // The round of an open agreement, and whether it is a shrink.
 fn agreement(request: Option<Request>) -> Option<(u16, bool)>
@@ -31,10 +41,11 @@ fn agreement(request: Option<Request>) -> Option<(u16, bool)>
 }
 
 impl<P: Packed, A: Allocator + Copy> Rank<P, A> {
-    /// Asks for the reply to the open request on a communicator, an agree or a shrink. Each member that is known to have
-    /// failed, and hasn't contributed, is marked: it is left out. Then the round is read, in the order of the members. Where
-    /// somebody is missing who isn't known to have failed, it is pending, and the request stays open. Else the round is
-    /// decided, for all who poll alike (ULFM: Communicator Functions, `MPI_COMM_AGREE`, `MPI_COMM_SHRINK`).
+    /// Asks for the reply to the open request on a communicator, an agree, a shrink or a barrier. For an agree or a shrink each
+    /// member that is known to have failed, and hasn't contributed, is marked: it is left out. Then the round is read, in the
+    /// order of the members. Where somebody is missing who isn't known to have failed, it is pending, and the request stays
+    /// open. Else the round is decided, for all who poll alike (ULFM: Communicator Functions, `MPI_COMM_AGREE`,
+    /// `MPI_COMM_SHRINK`).
     ///
     /// An agree ends with the flags combined, the size of the failed group and the error. A shrink ends with a new
     /// communicator, which the rank holds from then on: it has the members of the old one, in their order, but for the
@@ -42,15 +53,21 @@ impl<P: Packed, A: Allocator + Copy> Rank<P, A> {
     /// on in the list of failures, as far as the decision's failed group reaches, and then goes through the list of
     /// communicators.
     ///
+    /// Of a barrier the arrivals are read, first of the members that are known to have failed, in the order of their failures,
+    /// and then of the others, in the members' order, up to the first who is missing; and last whether the communicator is
+    /// revoked. It ends where all have arrived, also where some of them have failed since. Where somebody is missing, but
+    /// nobody who is known to have failed, it is pending (ULFM: Communicator Functions, `MPI_COMM_REVOKE`).
+    ///
     /// `SelfFailed` where the rank is declared, `NoSuchComm` where it doesn't hold the communicator, `Idle` where no request
     /// is open on it. `Mismatch` where some agreed and others shrank in one round; it ends the request. For a shrink, then:
     /// `NoContext` where no id is free at all contributors; `SelfFailed` where the rank is in the failed group that was
     /// decided; `OutOfMemory` where memory for the new communicator is refused; `NoRoom` where all communicators that there
     /// may be were made. `NoContext` and `NoRoom` end the request. After `OutOfMemory` it is open as before, and the poll may
-    /// be made again.
+    /// be made again. For a barrier: `IsRevoked` where the communicator is revoked, whoever has arrived; `ProcFailed` where it
+    /// isn't, and a member that is known to have failed is missing. Both end the request.
     ///
-    /// With N ranks, n members and M communicators, the poll of an agree makes N + 2n steps at most, and that of a shrink
-    /// N + 2n + 2M.
+    /// With N ranks, n members and M communicators, the poll of an agree makes N + 2n steps at most, that of a shrink
+    /// N + 2n + 2M, and that of a barrier N + n + 1.
     #[inline(never)]
     pub fn poll<W: Words<P, A>>(
         &mut self,
@@ -67,6 +84,9 @@ impl<P: Packed, A: Allocator + Copy> Rank<P, A> {
         let Some(x) = self.held(comm) else {
             return Err(Refusal::NoSuchComm);
         };
+        if let Some(round) = barrier(x.request) {
+            return self.poll_barrier(world, pass, comm, round);
+        }
         let Some((round, shrinks)) = agreement(x.request) else {
             return Err(Refusal::Idle);
         };

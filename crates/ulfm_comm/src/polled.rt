@@ -9,4 +9,6 @@ pub enum Polled<P> {
     /// What a shrink made: the new communicator, which the rank holds from now on, its context id, 0 to 31, and how many
     /// members it has: those of the old one, in their order, without the failed group that the round decided.
     Shrunk { comm: u16, context: u8, size: u16 },
+    /// All members have arrived in the barrier.
+    Done,
 }

@@ -1,4 +1,4 @@
-ghost use Rattle.std.specs.Prelude.{◌≡◌, ◌<◌, ◌==◌, true, filter, map, nat_eq, not, Some, None, MatchOption, IfSome, IfOk};
+ghost use Rattle.std.specs.Prelude.{◌≡◌, ◌<◌, ◌==◌, true, filter, map, nat_eq, not, Some, None, MatchOption, IfOk};
 ghost use Rattle.std.specs.List.{IsDistinct, list_any};
 ghost use Rattle.ulfm_model.specs.Records.{Held, free_ids, held_at, is_shrink, new_record, with_held};
 ghost use Rattle.ulfm_model.specs.History.{failures, first_ranks, has};
@@ -7,7 +7,6 @@ ghost use Rattle.ulfm_model.specs.Answers.{closed, opened};
 ghost use Rattle.ulfm_words.specs.Steps.{IsOf, Goes};
 ghost use Rattle.ulfm_steps.specs.Appends.{MayAppend};
 ghost use Rattle.ulfm_steps.specs.declared.item.Item.TheVariants.{Comm as OfComm};
-ghost use Rattle.ulfm_comm.specs.Ranks.{IsAgreement};
 ghost use Rattle.ulfm_comm.specs.Shrinks.{MayHold, MayReadOn, ReadsOn, SpawnIs};
 ghost use Rattle.ulfm_comm.specs.Starts.{HasNext};
 
@@ -94,7 +93,6 @@ impl<P: Packed, A: Allocator> Rank<P, A> {
     /// The communicator of this number, if the rank holds it.
     pub(crate) fn held(&self, comm: u16) -> Option<&HeldComm<A>>
         ensures held { MatchOption result (held_at self.now comm ≡ None) (λ x. held_at self.now comm ≡ Some x.now) }
-        ensures agreement { IfSome result (λ x. IsAgreement x.now.request) }
         ensures contexts { IsDistinct nat_eq (map (λ x. x.context) self.now.held) }
     {
         match place_of(&self.held, comm) {
@@ -193,7 +191,6 @@ impl<P: Packed, A: Allocator> Rank<P, A> {
 
     // A request is open on a communicator, and its round is used up.
     pub(crate) fn open(&mut self, comm: u16, request: Request)
-        requires agreement { IsAgreement (Some request) }
         requires next { HasNext request }
         ensures { self.new ≡ with_held self.old comm (λ y. opened y (Some request)) }
     {

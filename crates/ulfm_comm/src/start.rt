@@ -3,7 +3,6 @@ ghost use Rattle.std.specs.Prelude.{◌≡◌, ◌≤◌, ◌<◌, Some};
 ghost use Rattle.ulfm_model.specs.History.{failures};
 ghost use Rattle.ulfm_model.specs.Records.{Fits, held_at};
 ghost use Rattle.ulfm_words.specs.Steps.{IsOf};
-ghost use Rattle.ulfm_comm.specs.Ranks.{IsAgreement};
 ghost use Rattle.ulfm_comm.specs.Starts.{HasNext, Settles, start_leaves, start_result};
 
 use crate::groups::count_in;
@@ -72,7 +71,6 @@ impl<P: Packed, A: Allocator> Rank<P, A> {
         request: Request,
         settled: Result<(), Slot<P>>,
     ) -> Result<(), Refusal>
-        requires agreement { IsAgreement (Some request) }
         requires next { HasNext request }
         ensures result { result ≡ start_result settled }
         ensures leaves { self.new ≡ start_leaves self.old comm request settled }

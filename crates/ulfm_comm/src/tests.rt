@@ -1,5 +1,4 @@
 // Worked scripts over plain words, memory that is refused, and others' events that come in between.
-ghost use Rattle.ulfm_comm.specs.Jobs.{IsAnswered};
 ghost use Rattle.ulfm_model.specs.Records.{Fits};
 ghost use Rattle.ulfm_words.specs.Steps.{IsOf};
 
@@ -32,9 +31,7 @@ enum Asked {
     Poll(u16),
 }
 
-fn call(asked: Asked) -> Call<FlagAnd>
-    ensures { IsAnswered result }
-{
+fn call(asked: Asked) -> Call<FlagAnd> {
     let comm = 0;
     match asked {
         Asked::Fail(rank) => Call::Fail { rank },

@@ -1,6 +1,6 @@
-use Rattle.std.proofs.Common.{◌≡◌, refl, ap, sym, ◌∙◌, arith}
+use Rattle.std.proofs.Common.{refl, arith}
 use Rattle.ulfm_model.specs.declared.call.Call.TheVariants as call
-use Rattle.ulfm_model.specs.declared.reply.Reply.TheVariants.{Agreed, Pending, Refused, Shrunk}
+use Rattle.ulfm_model.specs.declared.reply.Reply.TheVariants.{Agreed, Done, Pending, Shrunk}
 use Rattle.ulfm_comm.proofs.{Handing.{has_members}, Jobs.{calls_step, missing_step, out_begins, out_job, refused_step}}
 use Rattle.ulfm_comm.proofs.answers.poll_by.Goals as goal
 
@@ -12,6 +12,12 @@ pub returns-in-Ok-Pending : goal.returns-in-Ok-Pending
 returns-in-Ok-Pending g c =
     let answered = calls_step g.P.Meld.meld g.W.Words.alone (g.W.Words.name c.args.world.now.words) (g.W.Words.sight c.args.pass.now) c.args.ranks.now c.requires c.args.rank c.index-ranks-rank.result (omega (arith, c.if-rank-ranks.false))
     c.poll.new.self (g.W.Words.sight c.poll.new.pass) (λ r. call.Poll r c.args.comm) Pending refl (rw c.in-Ok-Pending.field-0-is at c.in-Ok-Pending.ensures.calls.run) in
+    record { step = answered; job = answered.job; begins = answered.begins; about = tt }
+
+pub returns-in-Ok-Done : goal.returns-in-Ok-Done
+returns-in-Ok-Done g c =
+    let answered = calls_step g.P.Meld.meld g.W.Words.alone (g.W.Words.name c.args.world.now.words) (g.W.Words.sight c.args.pass.now) c.args.ranks.now c.requires c.args.rank c.index-ranks-rank.result (omega (arith, c.if-rank-ranks.false))
+    c.poll.new.self (g.W.Words.sight c.poll.new.pass) (λ r. call.Poll r c.args.comm) Done refl (rw c.in-Ok-Done.field-0-is at c.in-Ok-Done.ensures.calls.run) in
     record { step = answered; job = answered.job; begins = answered.begins; about = tt }
 
 pub returns-in-Ok-Agreed : goal.returns-in-Ok-Agreed

@@ -17,6 +17,15 @@ returns-in-Agree-clause-about g c = rw c.in-Agree.is (c.agree_by.ensures.about c
 pub returns-in-Shrink-clause-about : goal.returns-in-Shrink-clause-about
 returns-in-Shrink-clause-about g c = rw c.in-Shrink.is (c.shrink_by.ensures.about c.args.group.now.items)
 
+pub returns-in-Barrier-clause-about : goal.returns-in-Barrier-clause-about
+returns-in-Barrier-clause-about g c = rw c.in-Barrier.is (c.barrier_by.ensures.about c.args.group.now.items)
+
+pub returns-in-Revoke-clause-about : goal.returns-in-Revoke-clause-about
+returns-in-Revoke-clause-about g c = rw c.in-Revoke.is (c.revoke_by.ensures.about c.args.group.now.items)
+
+pub returns-in-IsRevoked-clause-about : goal.returns-in-IsRevoked-clause-about
+returns-in-IsRevoked-clause-about g c = rw c.in-IsRevoked.is (c.standing_by.ensures.about c.args.group.now.items)
+
 pub returns-in-Free-clause-about : goal.returns-in-Free-clause-about
 returns-in-Free-clause-about g c = rw c.in-Free.is (c.free_by.ensures.about c.args.group.now.items)
 

@@ -1,8 +1,6 @@
 use Rattle.std.proofs.Common.{◌≡◌, Some, ap, sym, ◌∙◌}
 use Rattle.std.specs.List.{position}
-use Rattle.ulfm_model.specs.Records.{Held, Record, held_at}
-use Rattle.ulfm_model.proofs.Lists.{find_holds}
-use Rattle.ulfm_comm.specs.Ranks.{IsAgreement}
+use Rattle.ulfm_model.specs.Records.{Record, held_at}
 use Rattle.ulfm_comm.proofs.Helds.{find_is, find_missing, is_of}
 use Rattle.ulfm_comm.proofs.rank.Rank.held.Goals as goal
 
@@ -16,10 +14,3 @@ pub returns-in-None-clause-held : goal.returns-in-None-clause-held
 returns-in-None-clause-held g c =
     let items = c.self.inside.held.items in
     ap (λ (own : Record). held_at own c.args.comm) (sym c.self.view_is) ∙ find_missing items c.args.comm (ap (position (is_of c.args.comm)) (sym c.deref.ensures.value) ∙ (sym c.place_of.ensures ∙ c.in-None.is))
-
-pub returns-in-Some-clause-agreement : goal.returns-in-Some-clause-agreement
-returns-in-Some-clause-agreement g c =
-    let items = c.self.inside.held.items in
-    let at : position (is_of c.args.comm) items ≡ Some c.in-Some.i = ap (position (is_of c.args.comm)) (sym c.deref.ensures.value) ∙ (sym c.place_of.ensures ∙ c.in-Some.is) in
-    let found = find_is items c.args.comm c.in-Some.i c.index.result.now at ∙ ap Some (sym c.index.ensures) in
-    (find_holds (is_of c.args.comm) (λ (x : Held). IsAgreement x.request) items c.index.result.now c.self.invariant.requests found).0

@@ -9,7 +9,7 @@ use Rattle.ulfm_words.proofs.Trails.{did_prefix}
 use Rattle.ulfm_steps.specs.{Marks.{Marks}, Rounds.{IsMissing, IsRoundOf, IsSummed}}
 use Rattle.ulfm_steps.proofs.Reading.{round_stays}
 use Rattle.ulfm_comm.specs.{Ends.{IsEndRun}, Polls.{HasMarked, agreement}}
-use Rattle.ulfm_comm.proofs.{Calling.{calls_is, calls_missing}, Holding.{exists_is, group_is}, Polls.{ends_answered, held_first, later, not_found, not_marked, open_round, poll_agreed, poll_idle, poll_mismatch, poll_pending, polls_by, polls_it}}
+use Rattle.ulfm_comm.proofs.{Barriers.{barrier_polled, ends_barrier}, Calling.{calls_is, calls_missing}, Holding.{exists_is, group_is}, Polls.{ends_answered, held_first, later, not_found, not_marked, open_round, poll_agreed, poll_idle, poll_mismatch, poll_pending, polls_by, polls_it}}
 use Rattle.ulfm_comm.proofs.rank.Rank.poll.Goals as goal
 use Rattle.ulfm_comm.proofs.rank.Rank.poll.Goals.{After-deref, After-mark_all, After-finish, In_default-finish, In-Some-finish}
 
@@ -121,7 +121,7 @@ returns-in_default-finish-clause-pending g c =
     let to_marks = c.mark_all.ensures.marks.onward in
     let to_load = c.in_default-finish.ensures.loaded in
     let alive = not_marked g.P.Meld.meld name.limits g.W.Words.alone before c.args.self.now c.begin.new.self c.args.comm c.in-Some-agreement.shrinks c.in-Some-agreement.round _ after m one.rank one.member one.empty in
-    record {
+    λ agrees. record {
       run = ended.run;
       at_end = ended.at_end;
       x = _;
@@ -205,3 +205,24 @@ returns-in_err-begin-clause-calls g c =
     let e = err_from_is_err_and c.from_residual.result c.from_residual.ensures.1 in
     let called = c.in_err-begin.ensures.begins.1 (call.Poll c.args.self.now.number c.args.comm) in
     rw (e.1, e.2, c.in_err-begin.ensures.begins.0) (record { of = called.of; fits = called.fits; run = called; memory = λ out. absurd (cc out) })
+
+pub poll_barrier-requires-clause-awaits : goal.poll_barrier-requires-clause-awaits
+poll_barrier-requires-clause-awaits g c =
+    record {
+      fits = c.begin.ensures.fits;
+      x = _;
+      held = c.in-Some.ensures.held;
+      open_is = sym (ap (λ (y : Held). y.request) c.x.view_is) ∙ c.in-Some-barrier.ensures;
+    }
+
+pub returns-in-Some-barrier-clause-calls : goal.returns-in-Some-barrier-clause-calls
+returns-in-Some-barrier-clause-calls g c = c.poll_barrier.ensures.polls c.args.self.now (g.W.Words.sight c.args.pass.now) c.requires.fits c.in_ok-begin.ensures.begins
+
+pub returns-in-Some-barrier-clause-pending : goal.returns-in-Some-barrier-clause-pending
+returns-in-Some-barrier-clause-pending g c =
+    let name = g.W.Words.name c.args.world.now.words in
+    let before = g.W.Words.sight c.args.pass.now in
+    let look = (g.W.Words.sight c.begin.new.pass).seen in
+    ends_barrier g.P.Meld.meld g.W.Words.alone name c.args.comm c.in-Some-barrier.round c.args.self.now before c.poll_barrier.new.self (g.W.Words.sight c.poll_barrier.new.pass) c.poll_barrier.result
+    (barrier_polled g.P.Meld.meld name.limits g.W.Words.alone before.seen look c.args.self.now c.begin.new.self c.in_ok-begin.ensures.begins c.args.comm c.in-Some-barrier.round
+    (record { fits = c.begin.ensures.fits; x = _; held = c.in-Some.ensures.held; open_is = sym (ap (λ (y : Held). y.request) c.x.view_is) ∙ c.in-Some-barrier.ensures }))

@@ -46,7 +46,7 @@ items_are g c = c.take_in.ensures ∙ ap₂ (λ hs made. change_at c.args.comm (
 pub invariant_of-self-2 : goal.invariant_of-self-2
 invariant_of-self-2 g c =
     let fresh = subst (λ (own : Record). AllByRecursion (λ i. nat_eq i c.args.context ≡ false) (contexts_of own.held)) (sym c.self.view_is) c.requires.holds.fresh in
-    room_pushed _ _ c.args.comm (λ y. record y { request = None }) (new_held c.in-Some-made_of.number c.args.context c.in-Ok.group.items) c.self.inside.held.items c.take_in.new.held.items c.self.invariant (λ y is. tt) (λ y. refl) tt fresh
+    room_pushed _ _ c.args.comm (λ y. record y { request = None }) (new_held c.in-Some-made_of.number c.args.context c.in-Ok.group.items) c.self.inside.held.items c.take_in.new.held.items c.self.invariant (λ y. refl) fresh
     (items_are g (goal.at.invariant_of-self-2 g c).After-take_in)
 
 pub returns : goal.returns

@@ -1,0 +1,31 @@
+-- Who has arrived in a barrier round, and what its poll answers.
+use Rattle.std.specs.Prelude.{◌≡◌, ℕ, true, false, List, Some, filter}
+use Rattle.std.specs.List.{list_all}
+use Rattle.ulfm_model.specs.declared.{call.Request.TheVariants.{Barrier}, limits.Limits.{Limits}, refusal.Refusal.TheVariants.{ProcFailed}, reply.Reply.{Reply}, reply.Reply.TheVariants.{Done, Pending, Refused}}
+use Rattle.ulfm_model.specs.{Answers.{closed}, History.{History, has, has_arrived}, Records.{Fits, Held, Record, held_at}}
+use Rattle.ulfm_comm.specs.declared.arrivals.{Missing.{Missing}, Missing.TheVariants.{Nobody, Others, Declared}}
+
+-- nobody of the group is missing; or somebody is, and of these failures nobody; or one of these
+abbrev pub MissingAre : {P : Type 0} → History P → ℕ → ℕ → List ℕ → List ℕ → Missing → Type 0
+MissingAre h c k group failures Nobody = list_all (has_arrived h c k) group ≡ true
+MissingAre h c k group failures Others = (list_all (has_arrived h c k) group ≡ false) × (list_all (has_arrived h c k) (filter (has group) failures) ≡ true)
+MissingAre h c k group failures Declared = (list_all (has_arrived h c k) group ≡ false) × (list_all (has_arrived h c k) (filter (has group) failures) ≡ false)
+
+-- a rank that has a barrier open in this round
+pub record Awaits {P : Type 0} (meld : P → P → P) (limits : Limits) (h : History P) (c k : ℕ) (own : Record) : Type 0 where
+  pub fits : Fits meld limits h own
+  pub x : Held
+  pub held : held_at own c ≡ Some x
+  pub open_is : x.request ≡ Some (Barrier k)
+
+-- what the poll answers where the communicator isn't revoked
+abbrev pub missing_reply : {P : Type 0} → Missing → Reply P
+missing_reply Nobody = Done
+missing_reply Others = Pending
+missing_reply Declared = Refused ProcFailed
+
+-- what that leaves of the record
+abbrev pub missing_leaves : Record → ℕ → Missing → Record
+missing_leaves own c Nobody = closed own c
+missing_leaves own c Others = own
+missing_leaves own c Declared = closed own c
