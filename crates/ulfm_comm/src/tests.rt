@@ -28,7 +28,10 @@ enum Asked {
     Get(u16, u16),
     Ack(u16, u16),
     Agree(u16, u32),
+    Barrier(u16),
     Poll(u16),
+    Revoke(u16),
+    Standing(u16),
 }
 
 fn call(asked: Asked) -> Call<FlagAnd> {
@@ -42,7 +45,10 @@ fn call(asked: Asked) -> Call<FlagAnd> {
             comm,
             value: FlagAnd { bits },
         },
+        Asked::Barrier(rank) => Call::Barrier { rank, comm },
         Asked::Poll(rank) => Call::Poll { rank, comm },
+        Asked::Revoke(rank) => Call::Revoke { rank, comm },
+        Asked::Standing(rank) => Call::IsRevoked { rank, comm },
     }
 }
 
@@ -231,6 +237,52 @@ fn first_refusal_is_answered(rt: HostRuntime) -> Result<(), Fail> {
         (Asked::Get(0, 1), Reply::Refused(Refusal::SelfFailed)),
     ];
     run(&rt, rt.alloc(), 1, 2, &script)?;
+    Ok(())
+}
+
+#[test]
+fn agrees_though_revoked(rt: HostRuntime) -> Result<(), Fail> {
+    let script = [
+        (Asked::Standing(0), Reply::Standing { revoked: false }),
+        (Asked::Revoke(1), Reply::Revoked),
+        (Asked::Revoke(0), Reply::AlreadyRevoked),
+        (Asked::Barrier(0), Reply::Started),
+        (Asked::Poll(0), Reply::Refused(Refusal::IsRevoked)),
+        (Asked::Agree(0, 0xf), Reply::Started),
+        (Asked::Agree(1, 0x7), Reply::Started),
+        (Asked::Poll(0), agreed(0x7, 0, false)),
+        (Asked::Poll(1), agreed(0x7, 0, false)),
+        (Asked::Standing(0), Reply::Standing { revoked: true }),
+    ];
+    run(&rt, rt.alloc(), 2, 8, &script)?;
+    Ok(())
+}
+
+#[test]
+fn barrier_and_failure(rt: HostRuntime) -> Result<(), Fail> {
+    let script = [
+        (Asked::Barrier(0), Reply::Started),
+        (Asked::Barrier(0), Reply::Refused(Refusal::Busy)),
+        (Asked::Barrier(1), Reply::Started),
+        (Asked::Poll(0), Reply::Pending),
+        (Asked::Fail(2), Reply::Declared),
+        (Asked::Poll(0), Reply::Refused(Refusal::ProcFailed)),
+        (Asked::Poll(0), Reply::Refused(Refusal::Idle)),
+    ];
+    run(&rt, rt.alloc(), 3, 4, &script)?;
+    Ok(())
+}
+
+#[test]
+fn failed_after_arriving(rt: HostRuntime) -> Result<(), Fail> {
+    let script = [
+        (Asked::Barrier(0), Reply::Started),
+        (Asked::Barrier(1), Reply::Started),
+        (Asked::Fail(1), Reply::Declared),
+        (Asked::Poll(0), Reply::Done),
+        (Asked::Barrier(0), Reply::Refused(Refusal::RoundsUsedUp)),
+    ];
+    run(&rt, rt.alloc(), 2, 1, &script)?;
     Ok(())
 }
 
@@ -480,6 +532,54 @@ fn agree_meets_a_shrink(rt: HostRuntime) -> Result<(), Fail> {
     // Just before the place of rank 1 is read: the look makes two loads, one mark is made, and the first place is read.
     pass.wait(4);
     assert!(rt; own.poll(&world, &mut pass, 0) == Err(Refusal::Mismatch));
+    assert!(rt; own.poll(&world, &mut pass, 0) == Err(Refusal::Idle));
+    Ok(())
+}
+
+#[test]
+fn revoked_between_loads(rt: HostRuntime) -> Result<(), Fail> {
+    let limits = Limits {
+        ranks: 1,
+        comms: 1,
+        rounds: 1,
+    };
+    let plain = PlainWords::<FlagAnd>::open(limits)?;
+    let guest = Entry {
+        by: Caller::Outside,
+        event: Event::Revoke { comm: 0 },
+    };
+    let (world, mut ranks) = World::open(rt.alloc(), Intruder { plain, guest })?;
+    let mut pass = world.pass(rt.alloc())?;
+    assert!(rt; ranks.len() == 1);
+    let own = &mut ranks[0];
+    assert!(rt; own.ibarrier(&world, &mut pass, 0) == Ok(()));
+    // Just before the revocation is read: the look makes one load, and the one arrival is read.
+    pass.wait(2);
+    assert!(rt; own.poll(&world, &mut pass, 0) == Err(Refusal::IsRevoked));
+    assert!(rt; own.is_revoked(&world, &mut pass, 0) == Ok(true));
+    Ok(())
+}
+
+#[test]
+fn arrives_too_late(rt: HostRuntime) -> Result<(), Fail> {
+    let plain = PlainWords::<FlagAnd>::open(THREE)?;
+    let guest = Entry {
+        by: Caller::Rank(1),
+        event: Event::Arrive {
+            comm: 0,
+            round: 0,
+            rank: 1,
+        },
+    };
+    let (world, mut ranks) = World::open(rt.alloc(), Intruder { plain, guest })?;
+    let mut pass = world.pass(rt.alloc())?;
+    assert!(rt; ranks.len() == 3);
+    let own = &mut ranks[0];
+    assert!(rt; declare(&world, &mut pass, own, 1) == Ok(true));
+    assert!(rt; own.ibarrier(&world, &mut pass, 0) == Ok(()));
+    // Just before the revocation is read: the look makes two loads, and the arrival of rank 1 is read, who is missing then.
+    pass.wait(3);
+    assert!(rt; own.poll(&world, &mut pass, 0) == Err(Refusal::ProcFailed));
     assert!(rt; own.poll(&world, &mut pass, 0) == Err(Refusal::Idle));
     Ok(())
 }

@@ -1,6 +1,5 @@
 // Shrinks of a world in one hand: another's communicator that comes in between, and memory that is refused.
 ghost use Rattle.std.specs.Prelude.{◌≡◌};
-ghost use Rattle.ulfm_comm.specs.Jobs.{IsAnswered};
 
 use crate::Job;
 use linked_list_allocator::LocalHeap;
@@ -30,9 +29,7 @@ enum Asked {
     Poll(u16, u16),
 }
 
-fn call(asked: Asked) -> Call<FlagAnd>
-    ensures { IsAnswered result }
-{
+fn call(asked: Asked) -> Call<FlagAnd> {
     match asked {
         Asked::Fail(rank) => Call::Fail { rank },
         Asked::Shrink(rank, comm) => Call::Shrink { rank, comm },
