@@ -39,7 +39,7 @@ fn below(state: &mut u64, limit: u64) -> u64
     (*state >> 33) % limit
 }
 
-/// A line of any verb, on five ranks and three communicators.
+/// A line of any verb, on five ranks and three communicators, which the world may not have.
 fn write_any(script: &mut Vec<u8>, state: &mut u64) -> io::Result<()> {
     let rank = below(state, 5);
     let comm = below(state, 8) % 3;
@@ -85,8 +85,10 @@ fn both_engines_give_the_same(rt: HostRuntime) -> Result<(), Fail> {
         if number % 20 == 0 {
             writeln!(script, "ulfm 1 1 40 90")?;
         } else {
+            let ranks = 1 + below(&mut state, 4);
+            let comms = 1 + below(&mut state, 3);
             let rounds = 1 + below(&mut state, 9);
-            writeln!(script, "ulfm 1 4 3 {rounds}")?;
+            writeln!(script, "ulfm 1 {ranks} {comms} {rounds}")?;
         }
         for _ in 0..160 {
             if number % 20 == 0 {
