@@ -90,7 +90,7 @@ fn both_engines_give_the_same(rt: HostRuntime) -> Result<(), Fail> {
             let rounds = 1 + below(&mut state, 9);
             writeln!(script, "ulfm 1 {ranks} {comms} {rounds}")?;
         }
-        for _ in 0..160 {
+        for _ in 0..400 {
             if number % 20 == 0 {
                 write_alone(&mut script, &mut state)?;
             } else {
