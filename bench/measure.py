@@ -89,7 +89,7 @@ KINDS = {
     "looks": looks,
     "rounds64": lambda lines: rounds(64, 4096, lines),
     "rounds1024": lambda lines: rounds(1024, 2000, lines),
-    "look1024": lambda lines: failures("ack {} 0 0", lines),
+    "look1024": lambda lines: failures("isrevoked {} 0", lines),
     "get1024": lambda lines: failures("get {} 0", lines),
     "marks1024": marks,
     "pending1024": pending,
