@@ -5,7 +5,7 @@
 
 Each kind of script is made here. A native program, if one is given as a Rust source that does the same work, is built in a
 temporary folder and runs in turn with ours, so that the ratio is of one run; its output must be the same bytes. What is
-printed are the medians of the processor times, and the most memory that ours had.
+printed are the medians of the processor times.
 """
 import argparse
 import os
@@ -97,15 +97,15 @@ KINDS = {
 }
 
 
-def one_run(command, script, output):
-    """The processor time of one run, in seconds, and the most memory that it had, in MB."""
+def processor_time(command, script, output):
+    """The processor time of one run, in seconds."""
     with open(script, "rb") as source, open(output, "wb") as target:
         process = subprocess.Popen(command, stdin=source, stdout=target)
         _, status, usage = os.wait4(process.pid, 0)
         process.returncode = os.waitstatus_to_exitcode(status)
     if process.returncode != 0:
         sys.exit(f"{command[0]} ended with status {process.returncode}")
-    return usage.ru_utime + usage.ru_stime, usage.ru_maxrss / 1024
+    return usage.ru_utime + usage.ru_stime
 
 
 def same(one, other):
@@ -114,21 +114,18 @@ def same(one, other):
 
 
 def measure(kind, size, commands, repeats, folder):
-    """The median of each command's times, run in turn on one script, and the most memory of the first."""
+    """The median of each command's times, run in turn on one script."""
     script = os.path.join(folder, "script")
     with open(script, "w") as file:
         file.write("\n".join(KINDS[kind](size)) + "\n")
     times = [[] for _ in commands]
-    most = 0.0
     for _ in range(repeats):
         for place, command in enumerate(commands):
-            time, memory = one_run(command, script, os.path.join(folder, f"output{place}"))
-            times[place].append(time)
-            most = max(most, memory if place == 0 else 0.0)
+            times[place].append(processor_time(command, script, os.path.join(folder, f"output{place}")))
     for place in range(1, len(commands)):
         if not same(os.path.join(folder, "output0"), os.path.join(folder, f"output{place}")):
             sys.exit(f"{kind} of {size} lines: the outputs differ")
-    return [statistics.median(each) for each in times], most
+    return [statistics.median(each) for each in times]
 
 
 def build(source, cfg, folder):
@@ -154,13 +151,13 @@ def main():
         commands = [[PROGRAM, "run"]]
         if asked.native:
             commands.append([build(asked.native, asked.cfg, folder), "run"])
-        print(f"{'script':<11} {'lines':>7} {'ulfm, s':>9} {'growth':>7} {'MB':>6}" + ("  native, s   ratio" if asked.native else ""))
+        print(f"{'script':<11} {'lines':>7} {'ulfm, s':>9} {'growth':>7}" + ("  native, s   ratio" if asked.native else ""))
         for kind in asked.kinds.split(","):
             before = None
             for size in map(int, asked.sizes.split(",")):
-                found, most = measure(kind, size, commands, asked.repeats, folder)
+                found = measure(kind, size, commands, asked.repeats, folder)
                 growth = f"{found[0] / before:.1f}" if before else "-"
-                line = f"{kind:<11} {size:>7} {found[0]:>9.3f} {growth:>7} {most:>6.1f}"
+                line = f"{kind:<11} {size:>7} {found[0]:>9.3f} {growth:>7}"
                 if asked.native:
                     line += f"  {found[1]:>9.3f} {found[0] / found[1]:>7.2f}"
                 print(line, flush=True)
