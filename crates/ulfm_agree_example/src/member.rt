@@ -2,6 +2,7 @@
 ghost use Rattle.std.specs.Prelude.{◌≡◌, [], IfOk};
 ghost use Rattle.std.specs.List.{AllByRecursion};
 ghost use Rattle.ulfm_model.specs.Records.{Fits};
+ghost use Rattle.ulfm_comm.specs.Polls.{IsAnswer};
 ghost use Rattle.ulfm_words.specs.Steps.{IsOf};
 
 use std::alloc::{AllocError, Global};
@@ -53,14 +54,15 @@ impl<'a, P: Packed> Member<'a, P> {
         self.rank.number()
     }
 
-    /// Contributes a flag, and polls until there is a reply or a refusal. What these are is in the contracts of the two calls;
-    /// a loop that may wait promises nothing beyond them.
-    pub fn agree<R: Wait>(&mut self, rt: &R, value: P) -> Result<Polled<P>, Refusal> {
+    /// Contributes a flag, and polls until there is a reply or a refusal. It is never pending.
+    pub fn agree<R: Wait>(&mut self, rt: &R, value: P) -> Result<Polled<P>, Refusal>
+        ensures { IfOk result IsAnswer }
+    {
         self.rank.iagree(self.world, &mut self.pass, 0, value)?;
         for _ in rt.forever() {
-            match self.poll() {
-                Ok(Polled::Pending) => thread::yield_now(),
-                answer => return answer,
+            match self.poll()? {
+                Polled::Pending => thread::yield_now(),
+                answer => return Ok(answer),
             }
         }
         unreachable!()
