@@ -4,16 +4,17 @@ use Rattle.std.specs.Prelude.{Result, Ok, Err, IfOk}
 use Rattle.std.specs.List.{list_all}
 use Rattle.std.proofs.lemmas.List.Elements.{Contains-push_cases}
 use Rattle.ulfm_model.specs.declared.call.Call.TheVariants as call
-use Rattle.ulfm_model.specs.declared.{call.Call.{Call}, call.Request.TheVariants.{Barrier}, event.Caller.TheVariants.{Rank}, event.Entry.{Entry}, event.Event.TheVariants.{Arrive}, limits.Limits.{Limits}, refusal.Refusal.{Refusal}, refusal.Refusal.TheVariants.{Idle, IsRevoked, ProcFailed}, reply.Reply.{Reply}, reply.Reply.TheVariants.{Done, Pending, Refused}}
+use Rattle.ulfm_model.specs.declared.{call.Call.{Call}, call.Request.TheVariants.{Barrier}, event.Caller.TheVariants.{Rank}, event.Entry.{Entry}, event.Event.TheVariants.{Arrive}, limits.Limits.{Limits}, refusal.Refusal.{Refusal}, refusal.Refusal.TheVariants.{Idle, IsRevoked, ProcFailed}, reply.Reply.{Reply}, reply.Reply.TheVariants.{Done, FailedGroup, Pending, Refused}}
 use Rattle.ulfm_model.specs.{Answers.{PollReplies, View, barrier_reply, closed, first_refusal, left_by, polled_by, refusal_on}, History.{History, IsLegal, MayFollow, failures, has, has_arrived, is_revoked}, Records.{Fits, FitsRequest, Record, held_at}, Runs.{Did, unsettled_of}}
 use Rattle.ulfm_model.proofs.Terms.{IsOwn, contexts_of, request_of}
 use Rattle.ulfm_model.proofs.{Histories.{by_events}}
 use Rattle.ulfm_words.specs.Steps.{IsOf, Name, Sight}
 use Rattle.ulfm_words.proofs.Trails.{did_prefix}
 use Rattle.ulfm_steps.specs.Rounds.{IsRoundOf}
-use Rattle.ulfm_comm.specs.declared.arrivals.{Missing.{Missing}, Missing.TheVariants.{Nobody, Others, Declared}}
+use Rattle.ulfm_steps.specs.Arriving.{MissingAre}
+use Rattle.ulfm_steps.specs.declared.arrivals.{Missing.{Missing}, Missing.TheVariants.{Nobody, Others, Declared}}
 use Rattle.ulfm_comm.specs.declared.polled.{Polled.{Polled}, Polled.TheVariants.{Pending as Undecided, Agreed as WasAgreed, Shrunk as WasShrunk, Done as AllCame}}
-use Rattle.ulfm_comm.specs.{Barriers.{Awaits, MissingAre, missing_leaves, missing_reply}, Calls.{Calls}, Ends.{IsEndRun}, Looked.{Looked}, Polls.{EndsIn, IsAgreement, Polls}}
+use Rattle.ulfm_comm.specs.{Barriers.{Awaits, missing_leaves, missing_reply}, Calls.{Calls}, Ends.{IsEndRun}, Looked.{Looked}, Polls.{EndsIn, IsAgreement, Polls}}
 use Rattle.ulfm_comm.proofs.{Calling.{calls_is, calls_waited}, Revoking.{standing_before}, Holding.{comm_is, exists_is, group_is, holds}, Replying.{held_before, replied}}
 
 -- an arrival of a legal history is in a round that there is
@@ -81,6 +82,12 @@ module _ {P : Type 0} (meld : P → P → P) (limits : Limits) (alone : Bool) (b
     barrier_waits Others new standing are left = barrier_run Pending new (by_tests false false true standing are.0 are.1) left
     barrier_waits Declared new standing are left = barrier_run (Refused ProcFailed) new (by_tests false false false standing are.0 are.1) left
 
+-- it counts no failures
+missing_counts_none : {P : Type 0} (missing : Missing) (count : ℕ) → missing_reply {P = P} missing ≡ FailedGroup count → ⊥
+missing_counts_none Nobody count is = absurd (cc is)
+missing_counts_none Others count is = absurd (cc is)
+missing_counts_none Declared count is = absurd (cc is)
+
 -- what the poll of a barrier promises
 module _ {P : Type 0} (meld : P → P → P) (alone : Bool) (name : Name) (before look after : Sight P) (old mid : Record) (fits : Fits meld name.limits before.seen old) (looked : Looked alone before.seen look.seen old mid)
     (c k : ℕ) (a : Awaits meld name.limits look.seen c k mid) (of : IsOf meld name after) where
@@ -97,7 +104,7 @@ module _ {P : Type 0} (meld : P → P → P) (alone : Bool) (name : Name) (befor
       let found = seen ∙ ap (λ (r : Record). r.seen) looked.record_is in
       calls_waited meld alone name before after (call.Poll old.number c) old (missing_reply missing) new point of fits
       (barrier_waits meld name.limits alone before.seen look.seen old mid looked c k a point did legal missing new (standing_before point after.seen c (did_prefix alone [] point after.seen wait) standing)
-      (subst (λ w. MissingAre point c k w (failures look.seen) missing) same (subst (λ w. MissingAre point c k group w missing) found are)) left) wait
+      (subst (λ w. MissingAre point c k w (failures look.seen) missing) same (subst (λ w. MissingAre point c k group w missing) found are)) left) wait (missing_counts_none missing)
 
 -- the last step of a barrier's poll isn't that of an agreement's
 pub ends_barrier : {P : Type 0} (meld : P → P → P) (alone : Bool) (name : Name) (c k : ℕ) (old : Record) (before : Sight P) (new : Record) (after : Sight P) (result : Result (Polled P) Refusal)

@@ -1,14 +1,15 @@
 -- What a call promises, by its run.
-use Rattle.std.proofs.Common.{◌≡◌, Bool, true, false, List, [], None, refl, ap, sym, ◌∙◌, subst, append-nil, inl, inr, IsTrue}
+use Rattle.std.proofs.Common.{◌≡◌, ℕ, Bool, true, false, List, [], None, refl, ap, sym, ◌∙◌, subst, append-nil, inl, inr, IsTrue}
 use Rattle.std.specs.List.{AllByRecursion}
 use mathlib.Core.List.{IsPrefix}
-use Rattle.ulfm_model.specs.declared.{call.Call.{Call}, event.Caller.TheVariants.{Rank}, event.Event.{Event}, refusal.Refusal.TheVariants.{NoSuchComm, SelfFailed}, reply.Reply.{Reply}, reply.Reply.TheVariants.{Refused}}
+use Rattle.ulfm_model.specs.declared.{call.Call.{Call}, event.Caller.TheVariants.{Rank}, event.Event.{Event}, refusal.Refusal.TheVariants.{NoSuchComm, SelfFailed}, reply.Reply.{Reply}, reply.Reply.TheVariants.{FailedGroup, Refused}}
 use Rattle.ulfm_model.specs.{Answers.{MayOwn, Sees, polled_by, refusal_of}, History.{History, entries_by, failures, has, spawns}, Records.{Fits, Record, held_at, is_shrink}, Runs.{Did, IsRun}}
 use Rattle.ulfm_model.proofs.Terms.{comm_of}
 use Rattle.ulfm_model.proofs.{LeftFits.{fits_seen}, LeftRuns.{call_fits}, Lists.{prefix_trans}, Stable.{fits_stays}}
 use Rattle.ulfm_words.specs.Steps.{IsOf, Name, Sight}
 use Rattle.ulfm_words.proofs.Trails.{did_none, did_prefix, did_quiet, did_wait}
 use Rattle.ulfm_comm.specs.{Calls.{Calls, RunsOut}, Ends.{IsAloneCall, IsEndRun}, Looked.{Looked}}
+use Rattle.ulfm_comm.proofs.ReplyKinds.{counted_seen}
 use Rattle.ulfm_comm.proofs.Replying.{alone_of, call_of, refused_missing, sees_look, self_failed, view_at}
 
 module _ {P : Type 0} (meld : P → P → P) (alone : Bool) (name : Name) (before after : Sight P) where
@@ -23,12 +24,13 @@ module _ {P : Type 0} (meld : P → P → P) (alone : Bool) (name : Name) (befor
         run = called;
         run_alone = alone_of meld name.limits alone before.seen after.seen old asked reply new ended;
         no_step = λ refused. absurd (cc (refused, ended.run.in_use));
+        counts = λ count is. counted_seen meld name.limits alone before.seen after.seen old asked reply new ended.run count is ∙ ap failures ended.at_end;
       }
 
-  -- a call with its point at the end of what it had seen before others stepped once more
+  -- a call with its point at the end of what it had seen before others stepped once more, that counts no failures
   pub calls_waited : (asked : Call P) (old : Record) (reply : Reply P) (new : Record) (point : History P) → IsOf meld name after → Fits meld name.limits before.seen old
-      → IsEndRun meld name.limits alone before.seen point old asked reply new → Did alone [] point after.seen → Calls meld alone name asked old before reply new after
-  calls_waited asked old reply new point of fits ended wait =
+      → IsEndRun meld name.limits alone before.seen point old asked reply new → Did alone [] point after.seen → ((count : ℕ) → reply ≡ FailedGroup count → ⊥) → Calls meld alone name asked old before reply new after
+  calls_waited asked old reply new point of fits ended wait other =
       let span = ended.run.span in
       let run : IsRun meld name.limits alone before.seen after.seen old asked reply new = record {
         in_use = ended.run.in_use;
@@ -50,6 +52,7 @@ module _ {P : Type 0} (meld : P → P → P) (alone : Bool) (name : Name) (befor
         run = inr run;
         run_alone = λ here. subst (λ h. IsAloneCall meld name.limits before.seen h old asked reply new) (sym (did_quiet alone point after.seen wait here)) (alone_of meld name.limits alone before.seen point old asked reply new ended here);
         no_step = λ refused. absurd (cc (refused, ended.run.in_use));
+        counts = λ count is. absurd (other count is);
       }
 
   -- a rank that its look finds declared
@@ -118,4 +121,4 @@ module _ {P : Type 0} (meld : P → P → P) (alone : Bool) (name : Name) (pass 
   -- a rank that was refused for good before
   pub calls_refused : (asked : Call P) (old : Record) → IsOf meld name pass → Fits meld name.limits pass.seen old → IsTrue old.refused → Calls meld alone name asked old pass (Refused SelfFailed) old pass
   calls_refused asked old of fits refused =
-      record { of = of; fits = fits; run = inl (refused, refl, refl, refl); run_alone = λ here. inl (refused, refl, refl, refl); no_step = λ same. refl }
+      record { of = of; fits = fits; run = inl (refused, refl, refl, refl); run_alone = λ here. inl (refused, refl, refl, refl); no_step = λ same. refl; counts = λ count is. absurd (cc is) }

@@ -1,15 +1,17 @@
 -- Whom a shrink that was started leaves out.
-use Rattle.std.proofs.Common.{◌≡◌, ℕ, ◌+◌, ◌-◌, ◌≤◌, ◌==◌, ◌||◌, Bool, true, false, List, [], ◌∷◌, ◌++◌, filter_map, length, take, Option, Some, None, Result, Ok, Err, IfOk, refl, ap, sym, ◌∙◌, subst, arith, IsTrue}
+use Rattle.std.proofs.Common.{◌≡◌, ℕ, ◌+◌, ◌-◌, ◌≤◌, ◌==◌, ◌||◌, Bool, true, false, List, [], ◌∷◌, ◌++◌, inl, inr, filter, filter_map, length, take, Option, Some, None, Result, Ok, Err, IfOk, refl, ap, sym, ◌∙◌, subst, arith, IsTrue}
 use Rattle.std.specs.List.{cons_option, list_any}
 use Rattle.std.proofs.Math.Seq.{take-append-add}
 use Rattle.std.proofs.lemmas.Bool.{eqb-true, or_left, or_right}
 use mathlib.Core.List.{IsPrefix}
-use Rattle.ulfm_model.specs.declared.{contribution.Contribution.{Contribution}, contribution.Offer.TheVariants.{Ctx}, contribution.Slot.{Slot}, contribution.Slot.TheVariants.{Given, Mark as Marked}, limits.Limits.{Limits}, refusal.Refusal.{Refusal}}
-use Rattle.ulfm_model.specs.{History.{History, IsLegal, decision, failed, has, known_of, members, round, slot}, Records.{Fits, Held, Record, free_ids, held_at}}
-use Rattle.ulfm_model.proofs.{Decisions.{slot_stands}, Histories.{slot_stays}, Lists.{all_has, each_from, has_kept, has_prefix, length_prefix, not_in_take, prefix_trans}, Stable.{failed_begins}}
+use Rattle.ulfm_model.specs.declared.{contribution.Contribution.{Contribution}, contribution.Offer.TheVariants.{Ctx}, contribution.Slot.TheVariants.{Given}, event.Caller.TheVariants.{Rank}, limits.Limits.{Limits}, refusal.Refusal.{Refusal}, reply.Reply.TheVariants.{Started}}
+use Rattle.ulfm_model.specs.declared.call.Call.TheVariants as call
+use Rattle.ulfm_model.specs.{Answers.{Contributes, StartReplies}, History.{History, IsLegal, decision, failed, failures, has, known_of, members, round, slot}, Records.{Fits, Held, Record, free_ids, held_at}, Runs.{IsCall, IsSpan}}
+use Rattle.ulfm_model.proofs.Terms.{view_of}
+use Rattle.ulfm_model.proofs.{Decisions.{slot_stands}, Histories.{failures_begin, slot_stays}, Lists.{all_has, each_from, has_kept, has_prefix, length_prefix, not_in_take, prefix_trans}, Stable.{failed_begins}}
 use Rattle.ulfm_words.proofs.Trails.{did_prefix}
-use Rattle.ulfm_comm.specs.{Excludes.{Excludes}, Looked.{Looked}, Starts.{HasGiven, Settles, start_result}}
-use Rattle.ulfm_comm.proofs.{Holding.{comm_is, exists_is}, Replying.{held_before}, Starts.{known_is}}
+use Rattle.ulfm_comm.specs.{Calls.{reply_of}, Excludes.{Excludes}}
+use Rattle.ulfm_comm.proofs.{Holding.{comm_is, exists_is, failed_is}, LeftOut.{filter_begins}, ReplyKinds.{answered_on}}
 
 -- a beginning of a list begins each longer beginning of it
 prefix_taken : (xs ys : List ℕ) (n : ℕ) → IsPrefix xs ys → length xs ≤ n → IsPrefix xs (take n ys)
@@ -47,27 +49,26 @@ module _ {P : Type 0} (meld : P → P → P) (limits : Limits) where
       has_kept (λ r. list_any (λ s. has (take (known_of s) group) r) (round limits.ranks h c k)) group r (has_taken given.known.count group r known)
       (any_at (slot h c k) (λ s. has (take (known_of s) group) r) (members limits.ranks h c) m (Given given) member stands known)
 
-  module _ (alone : Bool) (before look after : History P) (old mid : Record) (c : ℕ) (x : Held) (old_fits : Fits meld limits before old) (fits : Fits meld limits look mid) (looked : Looked alone before look old mid)
-      (held : held_at mid c ≡ Some x) (look_legal : IsLegal meld limits look) (legal : IsLegal meld limits after) where
-    excludes_is : HasGiven alone look after mid x (Ctx (free_ids old.held)) → Excludes meld limits before after old c
-    excludes_is gave =
-        let at_old = held_before meld limits alone before look old mid looked c (Some x) held in
-        let exists = exists_is meld limits before old c x old_fits at_old in
-        let to_look = did_prefix alone [] before look looked.did in
-        let to_after = prefix_trans before look after to_look (did_prefix alone _ look after gave.did) in
-        let longer = length_prefix (failed limits.ranks before c) (failed limits.ranks look c) (failed_begins meld limits before look c to_look look_legal exists) in
-        let counted = known_is meld limits look mid c x fits held in
-        let enough : length (failed limits.ranks before c) ≤ gave.given.known.count = omega (arith, longer, counted, gave.known) in
-        let mine : mid.number ≡ old.number = ap (λ (w : Record). w.number) looked.record_is in
-        let stands : slot after c x.next_agreement old.number ≡ Some (Given gave.given) =
-        subst (λ n. slot after c x.next_agreement n ≡ Some (Given gave.given)) mine (subst (λ w. slot after w x.next_agreement mid.number ≡ Some (Given gave.given)) (comm_is meld limits look mid c x fits held) gave.stands) in
+  -- the contribution of a shrink stands, and names all of the failed group of before
+  module _ (alone : Bool) (before after : History P) (old : Record) (c : ℕ) (x : Held) (fits : Fits meld limits before old) (held : held_at old c ≡ Some x) (span : IsSpan meld limits alone before after (Rank old.number)) where
+    contributed : Contributes (view_of span) old x (Ctx (free_ids old.held)) → Excludes meld limits before after old c
+    contributed gave =
+        let exists = exists_is meld limits before old c x fits held in
+        let to_look = did_prefix alone [] before span.look span.looked in
+        let to_after = prefix_trans before span.look after to_look (did_prefix alone _ span.look after span.did) in
+        let known = filter_begins (has x.group) (failures before) (failures span.look) (failures_begin before span.look to_look) in
+        let longer = length_prefix (filter (has x.group) (failures before)) (filter (has x.group) (failures span.look)) known in
+        let all = ap length (failed_is meld limits before old c x fits held) in
+        let enough : length (failed limits.ranks before c) ≤ gave.given.known.count = omega (arith, longer, all, gave.known) in
+        let at_point : slot span.point c x.next_agreement old.number ≡ Some (Given gave.given) = subst (λ w. slot span.point w x.next_agreement old.number ≡ Some (Given gave.given)) (comm_is meld limits before old c x fits held) gave.stands in
+        let stands = slot_stays span.point after c x.next_agreement old.number (Given gave.given) span.point_ends at_point in
         record {
           x = x;
-          held = at_old;
+          held = held;
           given = gave.given;
           stands = stands;
           offers = gave.offer_is;
-          knows = prefix_taken (failed limits.ranks before c) (failed limits.ranks after c) gave.given.known.count (failed_begins meld limits before after c to_after legal exists) enough;
+          knows = prefix_taken (failed limits.ranks before c) (failed limits.ranks after c) gave.given.known.count (failed_begins meld limits before after c to_after span.legal exists) enough;
           excludes = λ more begins more_legal decided.
               let to_more = prefix_trans before after more to_after begins in
               let group = prefix_taken (failed limits.ranks before c) (failed limits.ranks more c) gave.given.known.count (failed_begins meld limits before more c to_more more_legal exists) enough in
@@ -77,8 +78,19 @@ module _ {P : Type 0} (meld : P → P → P) (limits : Limits) where
               (failed limits.ranks before c) (all_has (failed limits.ranks before c));
         }
 
-    -- a shrink that is answered as started does
-    pub start_excludes : (settled : Result (Unit {0}) (Slot P)) (result : Result (Unit {0}) Refusal) → result ≡ start_result settled → Settles alone look after mid x (Ctx (free_ids old.held)) settled → IfOk result (λ _. Excludes meld limits before after old c)
-    start_excludes (Ok done) result is gave = subst (λ r. IfOk r (λ _. Excludes meld limits before after old c)) (sym is) (excludes_is gave)
-    start_excludes (Err (Marked mark)) result is was = subst (λ r. IfOk r (λ _. Excludes meld limits before after old c)) (sym is) tt
-    start_excludes (Err (Given given)) result is was = subst (λ r. IfOk r (λ _. Excludes meld limits before after old c)) (sym is) tt
+    by_start : StartReplies (view_of span) old x (Ctx (free_ids old.held)) Started → Excludes meld limits before after old c
+    by_start (inl started) = contributed started.1
+    by_start (inr twice) = absurd (cc (twice.0))
+
+  -- a shrink that was started does
+  pub shrink_excludes : (alone : Bool) (before after : History P) (old : Record) (rank c : ℕ) (new : Record) → Fits meld limits before old → IsCall meld limits alone before after old (call.Shrink rank c) Started new → Excludes meld limits before after old c
+  shrink_excludes alone before after old rank c new fits (inl refused) = absurd (cc (refused.2))
+  shrink_excludes alone before after old rank c new fits (inr run) =
+      let answered = answered_on meld limits alone before after old (call.Shrink rank c) Started new run (λ refusal is. absurd (cc is)) in
+      by_start alone before after old c answered.x fits answered.held run.span answered.replies
+
+  -- so is whether it was
+  pub start_excludes : (alone : Bool) (before after : History P) (old : Record) (rank c : ℕ) (result : Result (Unit {0}) Refusal) (new : Record) → Fits meld limits before old
+      → IsCall meld limits alone before after old (call.Shrink rank c) (reply_of (λ _. Started) result) new → IfOk result (λ _. Excludes meld limits before after old c)
+  start_excludes alone before after old rank c (Ok done) new fits called = shrink_excludes alone before after old rank c new fits called
+  start_excludes alone before after old rank c (Err refusal) new fits called = tt

@@ -6,7 +6,7 @@ use Rattle.std.proofs.Math.Seq.{take-length}
 use mathlib.Core.List.{IsPrefix}
 use Rattle.ulfm_model.specs.History.{has, without}
 use Rattle.ulfm_model.proofs.Lists.{all_has, each_from, filter_same, has_kept, not_in_filter, not_in_take, prefix_trans}
-use Rattle.ulfm_comm.specs.Shrinks.{ReadsOn}
+use Rattle.ulfm_steps.specs.ReadsOn.{ReadsOn}
 
 -- a beginning of a list is its first elements, so many
 first_ones : {X : Type 0} (a whole : List X) (n : ℕ) → IsPrefix a whole → length a ≡ n → take n whole ≡ a
@@ -15,7 +15,8 @@ first_ones a whole n begins counted = ap (λ m. take m whole) (sym counted) ∙ 
 take_prefix : {X : Type 0} (n : ℕ) (xs : List X) → IsPrefix (take n xs) xs
 take_prefix n xs = (drop n xs, take-append-drop n xs)
 
-filter_begins : (p : ℕ → Bool) (a b : List ℕ) → IsPrefix a b → IsPrefix (filter p a) (filter p b)
+-- what passes of a beginning of a list begins what passes of it
+pub filter_begins : (p : ℕ → Bool) (a b : List ℕ) → IsPrefix a b → IsPrefix (filter p a) (filter p b)
 filter_begins p a b begins = (filter p begins.0, sym (filter-append p a begins.0) ∙ ap (filter p) begins.1)
 
 -- those of a group that are among the failures that reach so far are its first failures, so many

@@ -12,8 +12,10 @@ use Rattle.ulfm_model.proofs.Terms.{new_held, settled_by}
 use Rattle.ulfm_model.proofs.{Decisions.{decision_stays}, Histories.{failures_begin}, Lists.{each_from, has_prefix, not_in_filter, prefix_trans}, Spawned.{members_of_spawned}, Stable.{failed_begins, fits_stays}, StepsRounds.{IsMasked}}
 use Rattle.ulfm_words.proofs.Trails.{did_after, did_more, did_prefix}
 use Rattle.ulfm_steps.specs.{Marks.{IsMarkOf}, Rounds.{IsSummed}}
-use Rattle.ulfm_comm.specs.{Ends.{IsEndRun}, Polls.{HasMarked, HasRead}, Shrinks.{ReadsOn}}
-use Rattle.ulfm_comm.proofs.{LeftOut.{has_first, reached_first, without_among}, Holding.{comm_is, exists_is, failed_is, group_is}, Polls.{answered, body_read, declared, due, enough_read, group_read, held_first, later, not_refused, polls_it, read_decided, read_masked, whole}, ReadingOn.{take_begins}, Replying.{run_ends}}
+use Rattle.ulfm_steps.specs.ReadsOn.{ReadsOn}
+use Rattle.ulfm_comm.specs.{Ends.{IsEndRun}, Polls.{HasMarked, HasRead}}
+use Rattle.ulfm_steps.proofs.ReadingOn.{take_begins}
+use Rattle.ulfm_comm.proofs.{LeftOut.{has_first, reached_first, without_among}, Holding.{comm_is, exists_is, failed_is, group_is}, Polls.{answered, body_read, declared, due, enough_read, group_read, held_first, later, not_refused, polls_it, read_decided, read_masked, whole}, Replying.{run_ends}}
 
 -- a body that is a mask or a clash, and no mask
 pub masked_clash : {P : Type 0} (body : Body P) → IsMasked body → ((mask : CtxMask) → body ≡ OfIds mask → ⊥) → body ≡ Clash

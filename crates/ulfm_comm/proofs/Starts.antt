@@ -1,13 +1,13 @@
 -- The start of an agree or of a shrink.
 use Rattle.std.proofs.Common.{◌≡◌, ℕ, ◌<◌, ◌≤◌, ◌-◌, Bool, true, false, [], ◌∷◌, length, filter, Some, None, Result, Ok, Err, is_ok, refl, ap, sym, ◌∙◌, subst, arith, inl, inr, IsTrue, MatchBool, MatchResult}
 use Rattle.ulfm_model.specs.declared.{call.Call.{Call}, call.Request.{Request}, contribution.Contribution.{Contribution}, contribution.MarkCount.{MarkCount}, contribution.Offer.{Offer}, contribution.Slot.{Slot}, contribution.Slot.TheVariants.{Given, Mark as Marked}, event.Caller.TheVariants.{Rank}, event.Event.TheVariants.{Settle}, limits.Limits.{Limits}, refusal.Refusal.{Refusal}, refusal.Refusal.TheVariants.{Twice}, reply.Reply.{Reply}, reply.Reply.TheVariants.{Refused, Started}}
-use Rattle.ulfm_model.specs.{Answers.{CallAdds, Replies, StartReplies, View, first_refusal, opened, traits_of}, History.{History, IsLegal, IsPlace, failed, failures, has, members, slot}, Records.{Fits, Held, Record, held_at}, Runs.{Did}}
-use Rattle.ulfm_model.proofs.Terms.{comm_of, tests_of}
-use Rattle.ulfm_model.proofs.{Decisions.{slot_stands}, Marking.{failed_few}, Lists.{has_at, has_filter}}
+use Rattle.ulfm_model.specs.{Answers.{CallAdds, Replies, StartReplies, View, opened, refusal_of, traits_of}, History.{History, IsLegal, IsPlace, failed, failures, has, members, slot}, Records.{Fits, Held, Record, held_at}, Runs.{Did}}
+use Rattle.ulfm_model.proofs.Terms.{comm_of}
+use Rattle.ulfm_model.proofs.{Decisions.{slot_stands}, Marking.{failed_few}, Lists.{has_at, has_filter, length_prefix}}
 use Rattle.ulfm_words.specs.Steps.{IsAdded, IsOf, Name, Sight}
-use Rattle.ulfm_words.proofs.Trails.{did_added}
+use Rattle.ulfm_words.proofs.Trails.{did_added, did_after}
 use Rattle.ulfm_comm.specs.{Calls.{Calls, reply_of}, Ends.{IsEndRun}, Looked.{Looked}, Starts.{Settles, start_leaves, start_result}}
-use Rattle.ulfm_comm.proofs.{Calling.{calls_is}, Helds.{change_alike}, Holding.{comm_is, exists_is, failed_is, group_is, holds}, Replying.{held_before, replied, self_failed}, Tested.{by_tests}}
+use Rattle.ulfm_comm.proofs.{Calling.{calls_is}, Helds.{change_alike}, Holding.{comm_is, exists_is, failed_is, group_is, holds}, LeftOut.{filter_begins}, Replying.{held_before, replied, self_failed}}
 
 -- a rank whose place is marked is declared
 marked_declared : {P : Type 0} (meld : P → P → P) (limits : Limits) (h : History P) (c k r : ℕ) (mark : MarkCount) → IsLegal meld limits h → slot h c k r ≡ Some (Marked mark) → IsTrue (has (failures h) r)
@@ -15,37 +15,37 @@ marked_declared meld limits h c k r mark legal stands =
     has_filter (has (members limits.ranks h c)) (failures h) r (has_at (failed limits.ranks h c) (mark.known.count - 1) r (slot_stands meld limits h legal c k r (Marked mark) stands).names)
 
 -- what the exchange of the rank's own place has done
-pub settles_is : {P : Type 0} (alone : Bool) (look after : History P) (own : Record) (x : Held) (offer : Offer P) (given : Contribution P) (r : ℕ) (settled : Result (Unit {0}) (Slot P)) → r ≡ own.number
-    → MatchBool (is_ok settled) (IsAdded alone (record { by = Rank r; event = Settle x.comm x.next_agreement r given }) look after) (Did alone [] look after)
+pub settles_is : {P : Type 0} (alone : Bool) (now after : History P) (own : Record) (x : Held) (offer : Offer P) (given : Contribution P) (r : ℕ) (settled : Result (Unit {0}) (Slot P)) → r ≡ own.number
+    → MatchBool (is_ok settled) (IsAdded alone (record { by = Rank r; event = Settle x.comm x.next_agreement r given }) now after) (Did alone [] now after)
     → MatchResult settled (λ _. slot after x.comm x.next_agreement r ≡ Some (Given given)) (λ s. slot after x.comm x.next_agreement r ≡ Some s)
-    → given.offer ≡ offer → given.known.count ≡ length (filter (has x.group) (failures look)) → given.acked.count ≡ x.acked → Settles alone look after own x offer settled
-settles_is {P} alone look after own x offer given r (Ok done) mine outcome stands is known acked =
+    → given.offer ≡ offer → given.known.count ≡ length (filter (has x.group) own.seen) → given.acked.count ≡ x.acked → Settles alone now after own x offer settled
+settles_is {P} alone now after own x offer given r (Ok done) mine outcome stands is known acked =
     record {
       given = given;
-      did = subst (λ n. Did alone (record { by = Rank n; event = Settle x.comm x.next_agreement n given } ∷ []) look after) mine (did_added alone _ look after outcome);
+      did = subst (λ n. Did alone (record { by = Rank n; event = Settle x.comm x.next_agreement n given } ∷ []) now after) mine (did_added alone _ now after outcome);
       stands = subst (λ n. slot after x.comm x.next_agreement n ≡ Some (Given given)) mine stands;
       offer_is = is;
       known = known;
       acked = acked;
     }
-settles_is {P} alone look after own x offer given r (Err put) mine outcome stands is known acked =
+settles_is {P} alone now after own x offer given r (Err put) mine outcome stands is known acked =
     record { did = outcome; stands = subst (λ n. slot after x.comm x.next_agreement n ≡ Some put) mine stands }
 
 -- a start that its record doesn't refuse
 module _ {P : Type 0} (meld : P → P → P) (alone : Bool) (name : Name) (before look after : Sight P) (asked : Call P) (old mid : Record) (fits : Fits meld name.limits before.seen old)
-    (looked : Looked alone before.seen look.seen old mid) (x : Held) (held : held_at mid (comm_of asked) ≡ Some x) (passed : first_refusal (tests_of old x asked) ≡ None)
+    (looked : Looked alone before.seen look.seen old mid) (x : Held) (held : held_at mid (comm_of asked) ≡ Some x) (passed : refusal_of old asked ≡ None) (now : History P) (waited : Did alone [] look.seen now)
     (offer : Offer P) (request : Request) (no_poll : (traits_of asked).polls ≡ false) (starts : (traits_of asked).starts x ≡ Some request)
     (adds : (given : Contribution P) → CallAdds (failures look.seen) old.number x asked (Settle x.comm x.next_agreement old.number given))
     (replies : (view : View P) (reply : Reply P) → StartReplies view old x offer reply → Replies meld name.limits view old x asked reply) where
   mine : mid.number ≡ old.number
   mine = ap (λ (w : Record). w.number) looked.record_is
 
-  by_outcome : (settled : Result (Unit {0}) (Slot P)) (new : Record) → IsLegal meld name.limits after.seen → Settles alone look.seen after.seen mid x offer settled → new ≡ start_leaves mid (comm_of asked) request settled
+  by_outcome : (settled : Result (Unit {0}) (Slot P)) (new : Record) → IsLegal meld name.limits after.seen → Settles alone now after.seen mid x offer settled → new ≡ start_leaves mid (comm_of asked) request settled
       → IsEndRun meld name.limits alone before.seen after.seen old asked (reply_of (λ _. Started) (start_result settled)) new
   by_outcome (Ok done) new legal gave leaves =
       replied meld name.limits alone before.seen look.seen old mid looked after.seen (Settle x.comm x.next_agreement old.number gave.given ∷ []) asked Started new x
-      (subst (λ n. Did alone (record { by = Rank n; event = Settle x.comm x.next_agreement n gave.given } ∷ []) look.seen after.seen) mine gave.did) legal
-      (held_before meld name.limits alone before.seen look.seen old mid looked (comm_of asked) (Some x) held) (by_tests meld alone name before look asked old mid fits looked x held None passed) (adds gave.given, tt)
+      (did_after alone _ look.seen now after.seen waited (subst (λ n. Did alone (record { by = Rank n; event = Settle x.comm x.next_agreement n gave.given } ∷ []) now after.seen) mine gave.did)) legal
+      (held_before meld name.limits alone before.seen look.seen old mid looked (comm_of asked) (Some x) held) passed (adds gave.given, tt)
       (replies (record { look = failures look.seen; history = after.seen; own = Settle x.comm x.next_agreement old.number gave.given ∷ [] }) Started (inl (
         refl,
         record {
@@ -53,50 +53,58 @@ module _ {P : Type 0} (meld : P → P → P) (alone : Bool) (name : Name) (befor
           own = refl;
           stands = subst (λ n. slot after.seen x.comm x.next_agreement n ≡ Some (Given gave.given)) mine gave.stands;
           offer_is = gave.offer_is;
-          known = gave.known;
+          known = gave.known ∙ ap (λ (w : Record). length (filter (has x.group) w.seen)) looked.record_is;
           acked = gave.acked;
         },
       )))
       (leaves ∙ ap (λ hs. record mid { held = hs }) (change_alike mid.held (comm_of asked) x (λ y. opened y (Some request)) (λ y. opened y ((traits_of asked).starts y)) held (ap (opened x) (sym starts))))
       (λ here polls. absurd (cc (polls, no_poll)))
   by_outcome (Err (Marked mark)) new legal was leaves =
-      self_failed meld name.limits alone before.seen look.seen old after.seen asked new looked.in_use looked.did was.did legal
+      self_failed meld name.limits alone before.seen look.seen old after.seen asked new looked.in_use looked.did (did_after alone [] look.seen now after.seen waited was.did) legal
       (subst (λ n. IsTrue (has (failures after.seen) n)) mine (marked_declared meld name.limits after.seen x.comm x.next_agreement mid.number mark legal was.stands))
       (leaves ∙ ap (λ (w : Record). record w { refused = true }) looked.record_is)
   by_outcome (Err (Given given)) new legal was leaves =
-      replied meld name.limits alone before.seen look.seen old mid looked after.seen [] asked (Refused Twice) new x was.did legal
-      (held_before meld name.limits alone before.seen look.seen old mid looked (comm_of asked) (Some x) held) (by_tests meld alone name before look asked old mid fits looked x held None passed) tt
+      replied meld name.limits alone before.seen look.seen old mid looked after.seen [] asked (Refused Twice) new x (did_after alone [] look.seen now after.seen waited was.did) legal
+      (held_before meld name.limits alone before.seen look.seen old mid looked (comm_of asked) (Some x) held) passed tt
       (replies (record { look = failures look.seen; history = after.seen; own = [] }) (Refused Twice) (inr (refl, refl, (given, subst (λ n. slot after.seen x.comm x.next_agreement n ≡ Some (Given given)) mine was.stands)))) leaves (λ here polls. absurd (cc (polls, no_poll)))
 
   -- it is answered as its exchange says
-  pub calls_started : (settled : Result (Unit {0}) (Slot P)) (result : Result (Unit {0}) Refusal) (new : Record) → IsOf meld name after → Settles alone look.seen after.seen mid x offer settled → result ≡ start_result settled
+  pub calls_started : (settled : Result (Unit {0}) (Slot P)) (result : Result (Unit {0}) Refusal) (new : Record) → IsOf meld name after → Settles alone now after.seen mid x offer settled → result ≡ start_result settled
       → new ≡ start_leaves mid (comm_of asked) request settled → Calls meld alone name asked old before (reply_of (λ _. Started) result) new after
   calls_started settled result new of settles gives leaves =
       subst (λ r. Calls meld alone name asked old before (reply_of (λ _. Started) r) new after) (sym gives)
       (calls_is meld alone name before after asked old (reply_of (λ _. Started) (start_result settled)) new of fits (by_outcome settled new of.legal settles leaves))
 
--- what a start asks of its exchange, by what the rank's look found
-module _ {P : Type 0} (meld : P → P → P) (limits : Limits) (look : History P) (own : Record) (c : ℕ) (x : Held) (fits : Fits meld limits look own) (held : held_at own c ≡ Some x) where
+-- what a start asks of its exchange, where others may have stepped since the rank's look
+module _ {P : Type 0} (meld : P → P → P) (limits : Limits) (now : History P) (own : Record) (c : ℕ) (x : Held) (fits : Fits meld limits now own) (held : held_at own c ≡ Some x) where
   -- the rank's own place is one of the world's
-  pub own_place : x.next_agreement < limits.rounds → IsPlace limits look c x.next_agreement own.number
+  pub own_place : x.next_agreement < limits.rounds → IsPlace limits now c x.next_agreement own.number
   own_place room =
       record {
-        exists = exists_is meld limits look own c x fits held;
-        member = ap (λ group. has group own.number) (sym (group_is meld limits look own c x fits held)) ∙ (holds meld limits look own c x fits held).member;
+        exists = exists_is meld limits now own c x fits held;
+        member = ap (λ group. has group own.number) (sym (group_is meld limits now own c x fits held)) ∙ (holds meld limits now own c x fits held).member;
         in_rounds = room;
       }
 
-  -- as many failures as the look found in the group are known
-  pub known_is : length (filter (has x.group) (failures look)) ≡ length (failed limits.ranks look c)
-  known_is = ap length (failed_is meld limits look own c x fits held)
+  -- no more failures are known than there are in the group
+  pub known_within : length (filter (has x.group) own.seen) ≤ length (failed limits.ranks now c)
+  known_within =
+      let all = failed_is meld limits now own c x fits held in
+      subst (λ fs. length (filter (has x.group) own.seen) ≤ length fs) all
+      (length_prefix (filter (has x.group) own.seen) (filter (has x.group) (failures now)) (filter_begins (has x.group) own.seen (failures now) fits.seen))
 
   -- and no more than the world has ranks
-  pub known_few : IsLegal meld limits look → length (filter (has x.group) (failures look)) ≤ limits.ranks
-  known_few legal = failed_few meld limits look x.group legal
+  pub known_few : IsLegal meld limits now → length (filter (has x.group) own.seen) ≤ limits.ranks
+  known_few legal =
+      let few = failed_few meld limits now x.group legal in
+      let all = ap length (failed_is meld limits now own c x fits held) in
+      omega (arith, few, all, known_within)
 
-  -- the rank acknowledged no more
-  pub acked_known : x.acked ≤ length (filter (has x.group) (failures look))
-  acked_known =
-      let few = (holds meld limits look own c x fits held).acked in
-      let at = ap (λ w. length (failed limits.ranks look w)) (comm_is meld limits look own c x fits held) in
-      omega (arith, few, at, known_is)
+  -- where these are all of them, the rank has acknowledged no more
+  pub acked_known : own.seen ≡ failures now → x.acked ≤ length (filter (has x.group) own.seen)
+  acked_known seen =
+      let few = (holds meld limits now own c x fits held).acked in
+      let at = ap (λ w. length (failed limits.ranks now w)) (comm_is meld limits now own c x fits held) in
+      let all = ap length (failed_is meld limits now own c x fits held) in
+      let same = ap (λ s. length (filter (has x.group) s)) seen in
+      omega (arith, few, at, all, same)

@@ -3,13 +3,7 @@ use Rattle.std.specs.Prelude.{◌≡◌, ℕ, true, false, List, Some, filter}
 use Rattle.std.specs.List.{list_all}
 use Rattle.ulfm_model.specs.declared.{call.Request.TheVariants.{Barrier}, limits.Limits.{Limits}, refusal.Refusal.TheVariants.{ProcFailed}, reply.Reply.{Reply}, reply.Reply.TheVariants.{Done, Pending, Refused}}
 use Rattle.ulfm_model.specs.{Answers.{closed}, History.{History, has, has_arrived}, Records.{Fits, Held, Record, held_at}}
-use Rattle.ulfm_comm.specs.declared.arrivals.{Missing.{Missing}, Missing.TheVariants.{Nobody, Others, Declared}}
-
--- nobody of the group is missing; or somebody is, and of these failures nobody; or one of these
-abbrev pub MissingAre : {P : Type 0} → History P → ℕ → ℕ → List ℕ → List ℕ → Missing → Type 0
-MissingAre h c k group failures Nobody = list_all (has_arrived h c k) group ≡ true
-MissingAre h c k group failures Others = (list_all (has_arrived h c k) group ≡ false) × (list_all (has_arrived h c k) (filter (has group) failures) ≡ true)
-MissingAre h c k group failures Declared = (list_all (has_arrived h c k) group ≡ false) × (list_all (has_arrived h c k) (filter (has group) failures) ≡ false)
+use Rattle.ulfm_steps.specs.declared.arrivals.{Missing.{Missing}, Missing.TheVariants.{Nobody, Others, Declared}}
 
 -- a rank that has a barrier open in this round
 pub record Awaits {P : Type 0} (meld : P → P → P) (limits : Limits) (h : History P) (c k : ℕ) (own : Record) : Type 0 where

@@ -1,7 +1,7 @@
 -- What a call of a rank promises.
 use Rattle.std.specs.Prelude.{◌≡◌, ℕ, Bool, ◌==◌, true, false, [], None, IsTrue, IsFalse, Result, Ok, Err}
 use Rattle.std.specs.List.{AllByRecursion}
-use Rattle.ulfm_model.specs.declared.{call.Call.{Call}, event.Caller.TheVariants.{Rank}, limits.Limits.{Limits}, refusal.Refusal.{Refusal}, reply.Reply.{Reply}, reply.Reply.TheVariants.{FailedGroup, Refused}}
+use Rattle.ulfm_model.specs.declared.{call.Call.{Call}, event.Caller.TheVariants.{Rank}, limits.Limits.{Limits}, refusal.Refusal.{Refusal}, reply.Reply.{Reply}, reply.Reply.TheVariants.{Started, Pending, Agreed, Shrunk, Done, FailedGroup, Acked, Declared, AlreadyFailed, Revoked, AlreadyRevoked, Standing, Freed, Refused}}
 use Rattle.ulfm_model.specs.{Answers.{MayOwn, Sees, polled_by, printed, refusal_of}, History.{History, entries_by, failures, has, spawns}, Records.{Fits, Record, is_shrink}, Runs.{IsCall, IsSpan}}
 use Rattle.ulfm_model.proofs.Terms.{view_of}
 use Rattle.ulfm_words.specs.Steps.{IsOf, Name, Sight}
@@ -14,13 +14,14 @@ reply_of reply (Err refusal) = Refused refusal
 
 -- A call of a rank: the pass is of these words still, the record fits what it has seen, and the call is one of the sequential
 -- object, among the steps of others; where nobody else steps, it is one of the sequential object alone. A rank that was refused
--- for good makes no step.
+-- for good makes no step. One that counted failures has seen all that are declared at its end.
 pub record Calls {P : Type 0} (meld : P → P → P) (alone : Bool) (name : Name) (asked : Call P) (old : Record) (before : Sight P) (reply : Reply P) (new : Record) (after : Sight P) : Type 0 where
   pub of : IsOf meld name after
   pub fits : Fits meld name.limits after.seen new
   pub run : IsCall meld name.limits alone before.seen after.seen old asked reply new
   pub run_alone : IsTrue alone → IsAloneCall meld name.limits before.seen after.seen old asked reply new
   pub no_step : IsTrue old.refused → after ≡ before
+  pub counts : (count : ℕ) → reply ≡ FailedGroup count → new.seen ≡ failures after.seen
 
 -- A call that ran out of memory is a run but for its reply: its rank isn't declared at the look, its record doesn't refuse it,
 -- it has made no communicator, and of the record only what was seen is new.
@@ -48,6 +49,32 @@ is_out_of_memory refusal = (printed refusal).0 == 14
 abbrev pub EndsBy : {P : Type 0} → (P → P → P) → Bool → Name → Call P → Record → Sight P → Refusal → Bool → Record → Sight P → Type 0
 EndsBy meld alone name asked old before refusal true new after = RunsOut meld alone name asked old before new after
 EndsBy meld alone name asked old before refusal false new after = Calls meld alone name asked old before (Refused refusal) new after
+
+-- whether a reply says that memory ran out
+abbrev pub wants_memory : {P : Type 0} → Reply P → Bool
+wants_memory Started = false
+wants_memory Pending = false
+wants_memory (Agreed value count raised) = false
+wants_memory (Shrunk j context size) = false
+wants_memory Done = false
+wants_memory (FailedGroup count) = false
+wants_memory (Acked count) = false
+wants_memory Declared = false
+wants_memory AlreadyFailed = false
+wants_memory Revoked = false
+wants_memory AlreadyRevoked = false
+wants_memory (Standing revoked) = false
+wants_memory Freed = false
+wants_memory (Refused refusal) = is_out_of_memory refusal
+
+-- a call that is answered, or the poll of a shrink that ran out of memory
+abbrev pub EndsAs : {P : Type 0} → (P → P → P) → Bool → Name → Call P → Record → Sight P → Reply P → Bool → Record → Sight P → Type 0
+EndsAs meld alone name asked old before reply true new after = RunsOut meld alone name asked old before new after × IsTrue (is_shrink (polled_by old asked))
+EndsAs meld alone name asked old before reply false new after = Calls meld alone name asked old before reply new after
+
+-- the same, by the reply
+abbrev pub EndsReply : {P : Type 0} → (P → P → P) → Bool → Name → Call P → Record → Sight P → Reply P → Record → Sight P → Type 0
+EndsReply meld alone name asked old before reply new after = EndsAs meld alone name asked old before reply (wants_memory reply) new after
 
 -- a query of the failed group, which puts so many ranks into a vector
 abbrev pub Gets : {P : Type 0} → (P → P → P) → Bool → Name → Call P → Record → Sight P → ℕ → Result (Unit {0}) Refusal → Record → Sight P → Type 0

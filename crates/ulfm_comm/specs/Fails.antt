@@ -17,3 +17,4 @@ pub record Fails {P : Type 0} (meld : P → P → P) (alone : Bool) (name : Name
   pub at_end : run.span.point ≡ after.seen
   pub steps : after.steps ≤ before.steps + 2 * name.limits.ranks
   pub no_step : name.limits.ranks ≤ rank → after ≡ before
+  pub onward : before.steps ≤ after.steps

@@ -10,3 +10,6 @@ pub mod Revokes
 pub mod Shrinks
 pub mod Fails
 pub mod Jobs
+pub mod Replies
+pub mod Stages
+pub mod Seats

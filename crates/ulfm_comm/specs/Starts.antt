@@ -1,7 +1,7 @@
 -- The start of an agree or of a shrink.
 use Rattle.std.specs.Prelude.{◌≡◌, ℕ, ◌+◌, ◌<◌, ◌^◌, Bool, true, [], ◌∷◌, length, filter, Some, Result, Ok, Err}
 use Rattle.ulfm_model.specs.declared.{call.Request.{Request}, call.Request.TheVariants.{Agree, Shrink, Barrier}, contribution.Contribution.{Contribution}, contribution.Offer.{Offer}, contribution.Slot.{Slot}, contribution.Slot.TheVariants.{Given, Mark}, event.Caller.TheVariants.{Rank}, event.Event.TheVariants.{Settle}, refusal.Refusal.{Refusal}, refusal.Refusal.TheVariants.{SelfFailed, Twice}}
-use Rattle.ulfm_model.specs.{Answers.{opened}, History.{History, failures, has, slot}, Records.{Held, Record, with_held}, Runs.{Did}}
+use Rattle.ulfm_model.specs.{Answers.{opened}, History.{History, has, slot}, Records.{Held, Record, with_held}, Runs.{Did}}
 
 -- the round after a request's own has a number of 16 bits
 abbrev pub HasNext : Request → Type 0
@@ -9,25 +9,25 @@ HasNext (Agree k) = k + 1 < 2 ^ 16
 HasNext (Shrink k) = k + 1 < 2 ^ 16
 HasNext (Barrier k) = k + 1 < 2 ^ 16
 
--- a rank's own place in its next agreement round has its contribution, made since its look: this offer, the failures that the look
--- found, and how many of them its record has acknowledged
-pub record HasGiven {P : Type 0} (alone : Bool) (look after : History P) (own : Record) (x : Held) (offer : Offer P) : Type 0 where
+-- a rank's own place in its next agreement round has its contribution: this offer, the failures that its look found, and how many of
+-- them its record has acknowledged
+pub record HasGiven {P : Type 0} (alone : Bool) (now after : History P) (own : Record) (x : Held) (offer : Offer P) : Type 0 where
   pub given : Contribution P
-  pub did : Did alone (record { by = Rank own.number; event = Settle x.comm x.next_agreement own.number given } ∷ []) look after
+  pub did : Did alone (record { by = Rank own.number; event = Settle x.comm x.next_agreement own.number given } ∷ []) now after
   pub stands : slot after x.comm x.next_agreement own.number ≡ Some (Given given)
   pub offer_is : given.offer ≡ offer
-  pub known : given.known.count ≡ length (filter (has x.group) (failures look))
+  pub known : given.known.count ≡ length (filter (has x.group) own.seen)
   pub acked : given.acked.count ≡ x.acked
 
 -- that place was settled by something else, and the rank has added nothing
-pub record WasSettled {P : Type 0} (alone : Bool) (look after : History P) (own : Record) (x : Held) (put : Slot P) : Type 0 where
-  pub did : Did alone [] look after
+pub record WasSettled {P : Type 0} (alone : Bool) (now after : History P) (own : Record) (x : Held) (put : Slot P) : Type 0 where
+  pub did : Did alone [] now after
   pub stands : slot after x.comm x.next_agreement own.number ≡ Some put
 
 -- one of the two, by what the exchange gave
 abbrev pub Settles : {P : Type 0} → Bool → History P → History P → Record → Held → Offer P → Result (Unit {0}) (Slot P) → Type 0
-Settles alone look after own x offer (Ok _) = HasGiven alone look after own x offer
-Settles alone look after own x offer (Err put) = WasSettled alone look after own x put
+Settles alone now after own x offer (Ok _) = HasGiven alone now after own x offer
+Settles alone now after own x offer (Err put) = WasSettled alone now after own x put
 
 -- what a start answers, by what its exchange gave
 abbrev pub start_result : {P : Type 0} → Result (Unit {0}) (Slot P) → Result (Unit {0}) Refusal

@@ -5,15 +5,15 @@ ghost use Rattle.ulfm_words.specs.Steps.{IsOf};
 ghost use Rattle.ulfm_comm.specs.Calls.{Calls, reply_of};
 
 use crate::rank::Rank;
+use crate::replies::started;
 use crate::world::World;
 use std::alloc::Allocator;
 use ulfm_laws::meld::Packed;
-use ulfm_model::call::Request;
-use ulfm_model::contribution::Offer;
+use ulfm_model::call::Call;
 use ulfm_model::refusal::Refusal;
 use ulfm_words::Words;
 
-impl<P: Packed, A: Allocator> Rank<P, A> {
+impl<P: Packed, A: Allocator + Copy> Rank<P, A> {
     /// Starts an agree on a flag, in the rank's next agreement round of the communicator: the rank contributes the flag,
     /// the failures that it knows and those of them that it has acknowledged. From then on the request is open, until a
     /// poll ends it. It makes the steps of a look and one more (ULFM: Communicator Functions, `MPI_COMM_IAGREE`).
@@ -34,18 +34,8 @@ impl<P: Packed, A: Allocator> Rank<P, A> {
         requires fits { Fits P.meld (W.name world.now.words).limits (W.sight pass.old).seen self.old }
         ensures { Calls P.meld W.alone (W.name world.now.words) (Asked self.old.number comm value) self.old (W.sight pass.old) (reply_of (λ _. Started) result) self.new (W.sight pass.new) }
     {
-        self.begin(world, pass)?;
-        let Some(x) = self.held(comm) else {
-            return Err(Refusal::NoSuchComm);
-        };
-        if x.request.is_some() {
-            return Err(Refusal::Busy);
-        }
-        let round = x.next_agreement;
-        if u32::from(round) + 1 >= u32::from(world.words.limits().rounds) {
-            return Err(Refusal::RoundsUsedUp);
-        }
-        let settled = self.contribute(world, pass, x, Offer::Flag(value));
-        self.end_start(comm, Request::Agree { round }, settled)
+        let rank = self.number();
+        let asked = Call::Agree { rank, comm, value };
+        started(self.call(world, pass, asked))
     }
 }

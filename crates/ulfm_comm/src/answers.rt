@@ -34,7 +34,7 @@ pub(crate) fn fail_by<P: Packed, A: Allocator + Copy, W: Words<P, A>>(
 }
 
 // A rank asks for a failed group.
-pub(crate) fn get_by<P: Packed, A: Allocator, W: Words<P, A>>(
+pub(crate) fn get_by<P: Packed, A: Allocator + Copy, W: Words<P, A>>(
     world: &World<W, P, A>,
     pass: &mut W::Pass,
     ranks: &mut [Rank<P, A>],
@@ -64,7 +64,7 @@ pub(crate) fn get_by<P: Packed, A: Allocator, W: Words<P, A>>(
 }
 
 // A rank acknowledges failures.
-pub(crate) fn ack_by<P: Packed, A: Allocator, W: Words<P, A>>(
+pub(crate) fn ack_by<P: Packed, A: Allocator + Copy, W: Words<P, A>>(
     world: &World<W, P, A>,
     pass: &mut W::Pass,
     ranks: &mut [Rank<P, A>],
@@ -87,7 +87,7 @@ pub(crate) fn ack_by<P: Packed, A: Allocator, W: Words<P, A>>(
 }
 
 // A rank starts an agree.
-pub(crate) fn agree_by<P: Packed, A: Allocator, W: Words<P, A>>(
+pub(crate) fn agree_by<P: Packed, A: Allocator + Copy, W: Words<P, A>>(
     world: &World<W, P, A>,
     pass: &mut W::Pass,
     ranks: &mut [Rank<P, A>],
@@ -110,7 +110,7 @@ pub(crate) fn agree_by<P: Packed, A: Allocator, W: Words<P, A>>(
 }
 
 // A rank starts a shrink.
-pub(crate) fn shrink_by<P: Packed, A: Allocator, W: Words<P, A>>(
+pub(crate) fn shrink_by<P: Packed, A: Allocator + Copy, W: Words<P, A>>(
     world: &World<W, P, A>,
     pass: &mut W::Pass,
     ranks: &mut [Rank<P, A>],
@@ -132,7 +132,7 @@ pub(crate) fn shrink_by<P: Packed, A: Allocator, W: Words<P, A>>(
 }
 
 // A rank starts a barrier.
-pub(crate) fn barrier_by<P: Packed, A: Allocator, W: Words<P, A>>(
+pub(crate) fn barrier_by<P: Packed, A: Allocator + Copy, W: Words<P, A>>(
     world: &World<W, P, A>,
     pass: &mut W::Pass,
     ranks: &mut [Rank<P, A>],
@@ -154,7 +154,7 @@ pub(crate) fn barrier_by<P: Packed, A: Allocator, W: Words<P, A>>(
 }
 
 // A rank revokes a communicator.
-pub(crate) fn revoke_by<P: Packed, A: Allocator, W: Words<P, A>>(
+pub(crate) fn revoke_by<P: Packed, A: Allocator + Copy, W: Words<P, A>>(
     world: &World<W, P, A>,
     pass: &mut W::Pass,
     ranks: &mut [Rank<P, A>],
@@ -177,7 +177,7 @@ pub(crate) fn revoke_by<P: Packed, A: Allocator, W: Words<P, A>>(
 }
 
 // A rank asks whether a communicator is revoked.
-pub(crate) fn standing_by<P: Packed, A: Allocator, W: Words<P, A>>(
+pub(crate) fn standing_by<P: Packed, A: Allocator + Copy, W: Words<P, A>>(
     world: &World<W, P, A>,
     pass: &mut W::Pass,
     ranks: &mut [Rank<P, A>],
@@ -199,7 +199,7 @@ pub(crate) fn standing_by<P: Packed, A: Allocator, W: Words<P, A>>(
 }
 
 // A rank gives a communicator back.
-pub(crate) fn free_by<P: Packed, A: Allocator, W: Words<P, A>>(
+pub(crate) fn free_by<P: Packed, A: Allocator + Copy, W: Words<P, A>>(
     world: &World<W, P, A>,
     pass: &mut W::Pass,
     ranks: &mut [Rank<P, A>],

@@ -5,15 +5,15 @@ ghost use Rattle.ulfm_words.specs.Steps.{IsOf};
 ghost use Rattle.ulfm_comm.specs.Calls.{Calls, reply_of};
 
 use crate::rank::Rank;
+use crate::replies::started;
 use crate::world::World;
 use std::alloc::Allocator;
 use ulfm_laws::meld::Packed;
-use ulfm_model::call::Request;
-use ulfm_model::event::Caller;
+use ulfm_model::call::Call;
 use ulfm_model::refusal::Refusal;
-use ulfm_words::{Words, set_arrival};
+use ulfm_words::Words;
 
-impl<P: Packed, A: Allocator> Rank<P, A> {
+impl<P: Packed, A: Allocator + Copy> Rank<P, A> {
     /// Starts a barrier, in the rank's next barrier round of the communicator, which are counted apart from its agreement
     /// rounds: the rank has arrived. From then on the request is open, until a poll ends it. That a communicator is revoked
     /// doesn't keep a barrier from starting; its poll says so. It makes the steps of a look and one more.
@@ -32,23 +32,7 @@ impl<P: Packed, A: Allocator> Rank<P, A> {
         requires fits { Fits P.meld (W.name world.now.words).limits (W.sight pass.old).seen self.old }
         ensures { Calls P.meld W.alone (W.name world.now.words) (Asked self.old.number comm) self.old (W.sight pass.old) (reply_of (λ _. Started) result) self.new (W.sight pass.new) }
     {
-        self.begin(world, pass)?;
-        let Some(x) = self.held(comm) else {
-            return Err(Refusal::NoSuchComm);
-        };
-        if x.request.is_some() {
-            return Err(Refusal::Busy);
-        }
-        let round = x.next_barrier;
-        if round >= world.words.limits().rounds {
-            return Err(Refusal::RoundsUsedUp);
-        }
-        let number = self.number();
-        let by = Caller::Rank(number);
-        if !set_arrival(&world.words, pass, by, comm, round, number) {
-            return Err(Refusal::Twice);
-        }
-        self.open(comm, Request::Barrier { round });
-        Ok(())
+        let rank = self.number();
+        started(self.call(world, pass, Call::Barrier { rank, comm }))
     }
 }

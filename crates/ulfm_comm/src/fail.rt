@@ -26,7 +26,7 @@ where
         if rank >= self.words.limits().ranks {
             return Err(Refusal::NoSuchRank);
         }
-        let mut append = Append::new(Item::Failure { rank }, Caller::Outside);
+        let append = Append::new(Item::Failure { rank }, Caller::Outside);
         match append.finish(&self.words, pass) {
             Appended::Won(_) => Ok(true),
             Appended::Found(_) => Ok(false),

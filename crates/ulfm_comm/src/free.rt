@@ -5,13 +5,15 @@ ghost use Rattle.ulfm_words.specs.Steps.{IsOf};
 ghost use Rattle.ulfm_comm.specs.Calls.{Calls, reply_of};
 
 use crate::rank::Rank;
+use crate::replies::freed;
 use crate::world::World;
 use std::alloc::Allocator;
 use ulfm_laws::meld::Packed;
+use ulfm_model::call::Call;
 use ulfm_model::refusal::Refusal;
 use ulfm_words::Words;
 
-impl<P: Packed, A: Allocator> Rank<P, A> {
+impl<P: Packed, A: Allocator + Copy> Rank<P, A> {
     /// Gives a communicator back: the rank doesn't hold it any more, and its context id is free at this rank. In MPI all
     /// members call `MPI_COMM_FREE` together; here each rank drops its own, and the others' stay as they are. It makes the
     /// steps of a look.
@@ -29,17 +31,7 @@ impl<P: Packed, A: Allocator> Rank<P, A> {
         requires fits { Fits P.meld (W.name world.now.words).limits (W.sight pass.old).seen self.old }
         ensures { Calls P.meld W.alone (W.name world.now.words) (Asked self.old.number comm) self.old (W.sight pass.old) (reply_of (λ _. Freed) result) self.new (W.sight pass.new) }
     {
-        self.begin(world, pass)?;
-        let Some(x) = self.held(comm) else {
-            return Err(Refusal::NoSuchComm);
-        };
-        if comm == 0 {
-            return Err(Refusal::WorldKept);
-        }
-        if x.request.is_some() {
-            return Err(Refusal::Busy);
-        }
-        self.release(comm);
-        Ok(())
+        let rank = self.number();
+        freed(self.call(world, pass, Call::Free { rank, comm }))
     }
 }

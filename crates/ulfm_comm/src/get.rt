@@ -7,13 +7,15 @@ ghost use Rattle.ulfm_comm.specs.Calls.{Gets};
 
 use crate::groups::{make_room, put_in};
 use crate::rank::Rank;
+use crate::replies::counted;
 use crate::world::World;
 use std::alloc::Allocator;
 use ulfm_laws::meld::Packed;
+use ulfm_model::call::Call;
 use ulfm_model::refusal::Refusal;
 use ulfm_words::Words;
 
-impl<P: Packed, A: Allocator> Rank<P, A> {
+impl<P: Packed, A: Allocator + Copy> Rank<P, A> {
     /// Puts the failed group of a communicator into a vector, in the order of the declarations: the members that are
     /// known to have failed. What the vector held is dropped. It makes the steps of a look (ULFM: Communicator Functions,
     /// `MPI_COMM_GET_FAILED`).
@@ -34,9 +36,10 @@ impl<P: Packed, A: Allocator> Rank<P, A> {
         ensures group { IfOk result (λ _. found.new.items ≡ failed (W.name world.now.words).limits.ranks (W.sight pass.new).seen comm) }
         ensures kept { OnErr result (found.new.items ≡ found.old.items) }
     {
-        self.begin(world, pass)?;
+        let rank = self.number();
+        counted(self.call(world, pass, Call::GetFailed { rank, comm }))?;
         let Some(x) = self.held(comm) else {
-            return Err(Refusal::NoSuchComm);
+            unreachable!()
         };
         if make_room(&x.group, self.failures(), found).is_err() {
             return Err(Refusal::OutOfMemory);

@@ -4,19 +4,7 @@ ghost use Rattle.std.specs.List.Sorted.{IsStrictlyIncreasing};
 ghost use Rattle.ulfm_model.specs.History.{has, without};
 
 use std::alloc::{AllocError, Allocator};
-use ulfm_steps::group::is_member;
-
-// Whether a rank is among these, which stand in any order. Each is compared, whatever was found before: such a loop runs over
-// many ranks at once.
-pub(crate) fn has_rank(ranks: &[u16], rank: u16) -> bool
-    ensures { result ≡ has ranks.now rank }
-{
-    let mut found = false;
-    for x in ranks {
-        found |= *x == rank;
-    }
-    found
-}
+use ulfm_steps::group::{has_rank, is_member};
 
 // How many of these ranks are in the group, whose ranks rise.
 #[inline(never)]

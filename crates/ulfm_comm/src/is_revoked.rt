@@ -5,13 +5,15 @@ ghost use Rattle.ulfm_words.specs.Steps.{IsOf};
 ghost use Rattle.ulfm_comm.specs.Calls.{Calls, reply_of};
 
 use crate::rank::Rank;
+use crate::replies::standing;
 use crate::world::World;
 use std::alloc::Allocator;
 use ulfm_laws::meld::Packed;
+use ulfm_model::call::Call;
 use ulfm_model::refusal::Refusal;
-use ulfm_words::{Words, load_revocation};
+use ulfm_words::Words;
 
-impl<P: Packed, A: Allocator> Rank<P, A> {
+impl<P: Packed, A: Allocator + Copy> Rank<P, A> {
     /// Whether a communicator is revoked, as its own load finds it. It makes the steps of a look and one more (ULFM:
     /// Communicator Functions, `MPI_COMM_IS_REVOKED`).
     ///
@@ -27,10 +29,7 @@ impl<P: Packed, A: Allocator> Rank<P, A> {
         requires fits { Fits P.meld (W.name world.now.words).limits (W.sight pass.old).seen self.old }
         ensures { Calls P.meld W.alone (W.name world.now.words) (Asked self.old.number comm) self.old (W.sight pass.old) (reply_of Standing result) self.new (W.sight pass.new) }
     {
-        self.begin(world, pass)?;
-        let Some(_) = self.held(comm) else {
-            return Err(Refusal::NoSuchComm);
-        };
-        Ok(load_revocation(&world.words, pass, comm))
+        let rank = self.number();
+        standing(self.call(world, pass, Call::IsRevoked { rank, comm }))
     }
 }

@@ -1,44 +1,18 @@
-ghost use Rattle.std.specs.Prelude.{◌≡◌, Some, None, MatchOption, IfOk};
+ghost use Rattle.std.specs.Prelude.{◌≡◌, IfOk};
 ghost use Rattle.ulfm_model.specs.Records.{Fits};
 ghost use Rattle.ulfm_model.specs.declared.call.Call.TheVariants.{Poll as Asked};
 ghost use Rattle.ulfm_words.specs.Steps.{IsOf};
-ghost use Rattle.ulfm_model.specs.declared.call.Request.TheVariants.{Barrier as OfBarrier};
-ghost use Rattle.ulfm_comm.specs.Polls.{agreement, Polls, EndsIn, IsAgreement};
+ghost use Rattle.ulfm_comm.specs.Polls.{Polls, EndsIn};
 
 use crate::polled::Polled;
 use crate::rank::Rank;
+use crate::replies::polled;
 use crate::world::World;
 use std::alloc::Allocator;
-use ulfm_laws::body::Body;
 use ulfm_laws::meld::Packed;
-use ulfm_model::call::Request;
+use ulfm_model::call::Call;
 use ulfm_model::refusal::Refusal;
-use ulfm_steps::ReadRound;
-use ulfm_steps::mark_all::mark_all;
 use ulfm_words::Words;
-
-// The round of an open barrier.
-fn barrier(request: Option<Request>) -> Option<u16>
-    ensures { MatchOption result (IsAgreement request) (λ round. request ≡ Some (OfBarrier round)) }
-{
-    match request {
-        Some(Request::Barrier { round }) => Some(round),
-        _ => None,
-    }
-}
-
-// The round of an open agreement, and whether it is a shrink.
-fn agreement(request: Option<Request>) -> Option<(u16, bool)>
-    requires { IsAgreement request }
-    ensures { MatchOption result (request ≡ None) (λ found. request ≡ Some (agreement found.1 found.0)) }
-{
-    match request {
-        None => None,
-        Some(Request::Agree { round }) => Some((round, false)),
-        Some(Request::Shrink { round }) => Some((round, true)),
-        Some(_) => unreachable!(),
-    }
-}
 
 impl<P: Packed, A: Allocator + Copy> Rank<P, A> {
     /// Asks for the reply to the open request on a communicator, an agree, a shrink or a barrier. For an agree or a shrink each
@@ -80,34 +54,7 @@ impl<P: Packed, A: Allocator + Copy> Rank<P, A> {
         ensures calls { Polls P.meld W.alone (W.name world.now.words) (Asked self.old.number comm) self.old (W.sight pass.old) result self.new (W.sight pass.new) }
         ensures pending { IfOk result (EndsIn P.meld W.alone (W.name world.now.words) comm self.old (W.sight pass.old) self.new (W.sight pass.new)) }
     {
-        self.begin(world, pass)?;
-        let Some(x) = self.held(comm) else {
-            return Err(Refusal::NoSuchComm);
-        };
-        if let Some(round) = barrier(x.request) {
-            return self.poll_barrier(world, pass, comm, round);
-        }
-        let Some((round, shrinks)) = agreement(x.request) else {
-            return Err(Refusal::Idle);
-        };
-        let words = &world.words;
-        let seen = self.failures();
-        mark_all(words, pass, self.number(), comm, round, &x.group, seen);
-        let mut reading = ReadRound::new(comm, round);
-        let Some(all) = reading.finish(words, pass, &x.group) else {
-            return Ok(Polled::Pending);
-        };
-        if shrinks {
-            return self.end_shrink(world, pass, comm, round, all);
-        }
-        self.close(comm);
-        let Body::Flag(value) = all.body else {
-            return Err(Refusal::Mismatch);
-        };
-        Ok(Polled::Agreed {
-            value,
-            failed: all.known.count,
-            raised: all.acked.count < all.known.count,
-        })
+        let rank = self.number();
+        polled(self.call(world, pass, Call::Poll { rank, comm }))
     }
 }

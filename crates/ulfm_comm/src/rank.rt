@@ -1,27 +1,30 @@
-ghost use Rattle.std.specs.Prelude.{◌≡◌, ◌<◌, ◌==◌, true, filter, map, nat_eq, not, Some, None, MatchOption, IfOk};
+ghost use Rattle.std.specs.Prelude.{◌≡◌, ◌≢◌, ◌<◌, ◌≤◌, ◌+◌, ◌==◌, ℕ, [], true, false, filter, length, map, nat_eq, not, take, Some, None, MatchOption, IfOk};
 ghost use Rattle.std.specs.List.{IsDistinct, list_any};
+ghost use mathlib.Core.List.{IsPrefix};
 ghost use Rattle.ulfm_model.specs.Records.{Held, free_ids, held_at, is_shrink, new_record, with_held};
-ghost use Rattle.ulfm_model.specs.History.{failures, first_ranks, has};
+ghost use Rattle.ulfm_model.specs.History.{failures, first_ranks, without};
 ghost use Rattle.ulfm_model.specs.Words.{MayOpen};
 ghost use Rattle.ulfm_model.specs.Answers.{closed, opened};
 ghost use Rattle.ulfm_words.specs.Steps.{IsOf, Goes};
-ghost use Rattle.ulfm_steps.specs.Appends.{MayAppend};
+ghost use Rattle.ulfm_steps.specs.Looks.{LookIs};
+ghost use Rattle.ulfm_steps.specs.ReadsOn.{AtFailure, MayReadOn};
 ghost use Rattle.ulfm_steps.specs.declared.item.Item.TheVariants.{Comm as OfComm};
-ghost use Rattle.ulfm_comm.specs.Shrinks.{MayHold, MayReadOn, ReadsOn, SpawnIs};
+ghost use Rattle.ulfm_comm.specs.Shrinks.{MayHold, MaySpawn, SpawnIs};
 ghost use Rattle.ulfm_comm.specs.Starts.{HasNext};
+ghost use Rattle.ulfm_comm.specs.declared.spawned.Spawned.TheVariants.{NoMemory, Unknown};
 
-use crate::groups::{has_rank, without};
+use crate::groups::without;
 use crate::held::{self, HeldComm, place_of, take_in};
 use crate::ids::free_ids;
-use crate::read_on::read_on;
-use crate::spawned::{Spawned, made_of};
+use crate::spawned::{Spawned, place_in};
 use std::alloc::{AllocError, Allocator};
 use std::marker::{Model, PhantomData};
+use std::mem;
 use ulfm_laws::ctx_mask::CtxMask;
 use ulfm_laws::meld::Packed;
 use ulfm_model::call::Request;
 use ulfm_model::limits::Limits;
-use ulfm_steps::Look;
+use ulfm_steps::{Append, Look, ReadOn};
 use ulfm_words::Words;
 
 /// A rank of a world. Contracts see it as its record.
@@ -125,40 +128,76 @@ impl<P: Packed, A: Allocator> Rank<P, A> {
         self.refused
     }
 
-    // Looks at the list of failures: whether the rank is declared.
-    #[inline(never)]
-    pub(crate) fn look<W: Words<P, A>>(&mut self, words: &W, pass: &mut W::Pass) -> bool
-        requires of { IsOf P.meld (W.name words.now) (W.sight pass.old) }
-        requires limits { self.old.limits ≡ (W.name words.now).limits }
-        ensures goes { Goes P.meld W.alone (W.name words.now) (W.name words.now).limits.ranks (W.sight pass.old) (W.sight pass.new) }
-        ensures seen { self.new ≡ record self.old { seen = failures (W.sight pass.new).seen } }
-        ensures found { result ≡ has (failures (W.sight pass.new).seen) self.old.number }
+    // How many rounds a communicator has.
+    pub(crate) fn rounds(&self) -> u16
+        ensures { result ≡ self.now.limits.rounds }
     {
-        let mut look = Look::new(&mut self.seen);
-        look.finish(words, pass, &mut self.seen);
-        has_rank(&self.seen, self.number)
+        self.limits.rounds
     }
 
-    // Reads on in the list of failures, until so many members of a communicator that it holds are among those that it has
-    // seen: how many of these reach so far.
+    // What it has seen is forgotten, so that a look begins.
+    pub(crate) fn forget(&mut self)
+        ensures { self.new ≡ record self.old { seen = [] } }
+    {
+        self.seen.clear();
+    }
+
+    // One load of the list of failures, or all that are left: whether its end is reached.
+    #[inline(always)]
+    pub(crate) fn look_on<W: Words<P, A>>(
+        &mut self,
+        words: &W,
+        pass: &mut W::Pass,
+        whole: bool,
+    ) -> bool
+        requires of { IsOf P.meld (W.name words.now) (W.sight pass.old) }
+        requires limits { self.old.limits ≡ (W.name words.now).limits }
+        requires look { LookIs (W.name words.now).limits false self.old.seen (W.sight pass.old).seen }
+        ensures goes { Goes P.meld W.alone (W.name words.now) (W.name words.now).limits.ranks (W.sight pass.old) (W.sight pass.new) }
+        ensures one { whole ≡ false → (W.sight pass.new).steps ≡ (W.sight pass.old).steps + 1 }
+        ensures kept { self.new ≡ record self.old { seen = self.new.seen } }
+        ensures look { LookIs (W.name words.now).limits result self.new.seen (W.sight pass.new).seen }
+        ensures done { whole ≡ true → result ≡ true }
+    {
+        let mut look = Look { done: false };
+        look.advance(words, pass, &mut self.seen, whole);
+        look.done
+    }
+
+    // One load on in the list of failures, or all that are left, until so many members of a communicator that it holds are
+    // among those that it has seen.
     pub(crate) fn read_on<W: Words<P, A>>(
         &mut self,
         words: &W,
         pass: &mut W::Pass,
         comm: u16,
+        on: &mut ReadOn,
         count: u16,
-    ) -> usize
+        whole: bool,
+    )
         requires of { IsOf P.meld (W.name words.now) (W.sight pass.old) }
         requires limits { self.old.limits ≡ (W.name words.now).limits }
-        requires may { (x : Held) × (held_at self.old comm ≡ Some x) × MayReadOn x.group count self.old.seen (failures (W.sight pass.old).seen) }
+        requires may { (x : Held) × (held_at self.old comm ≡ Some x) × MayReadOn x.group count self.old.seen (failures (W.sight pass.old).seen) × AtFailure x.group count on.old self.old.seen }
+        requires more { on.old.found < count }
         ensures goes { Goes P.meld W.alone (W.name words.now) (W.name words.now).limits.ranks (W.sight pass.old) (W.sight pass.new) }
+        ensures one { whole ≡ false → (W.sight pass.new).steps ≡ (W.sight pass.old).steps + 1 }
         ensures kept { self.new ≡ record self.old { seen = self.new.seen } }
-        ensures reads { (x : Held) → held_at self.old comm ≡ Some x → ReadsOn x.group count self.old.seen self.new.seen (failures (W.sight pass.new).seen) result }
+        ensures goes_on { IsPrefix self.old.seen self.new.seen }
+        ensures begins { IsPrefix self.new.seen (failures (W.sight pass.new).seen) }
+        ensures at { (x : Held) → held_at self.old comm ≡ Some x → AtFailure x.group count on.new self.new.seen }
+        ensures done { whole ≡ true → on.new.found ≡ count }
     {
         let Some(i) = place_of(&self.held, comm) else {
             unreachable!()
         };
-        read_on(words, pass, &self.held[i].group, count, &mut self.seen)
+        on.advance(
+            words,
+            pass,
+            &self.held[i].group,
+            count,
+            &mut self.seen,
+            whole,
+        );
     }
 
     // From now on it is refused.
@@ -213,39 +252,65 @@ impl<P: Packed, A: Allocator> Rank<P, A> {
 }
 
 impl<P: Packed, A: Allocator + Copy> Rank<P, A> {
-    // Holds the communicator that is made of a decided round, in place of the open request on its parent: its members are
-    // the parent's without the first so many failures. Memory comes first, and then the list of communicators, which has it
-    // or gets it.
+    // Its memory.
+    pub(crate) fn allocator(&self) -> A {
+        *self.seen.allocator()
+    }
+
+    // Takes the memory for a communicator that is made of one that it holds, and puts its members into a vector: the
+    // parent's without the first so many failures that were seen.
+    pub(crate) fn make_room(
+        &mut self,
+        comm: u16,
+        reach: usize,
+        group: &mut Vec<u16, A>,
+    ) -> Result<(), AllocError>
+        requires held { (x : Held) × (held_at self.old comm ≡ Some x) }
+        requires within { reach ≤ length self.old.seen }
+        ensures kept { self.new ≡ self.old }
+        ensures left { IfOk result (λ _. (x : Held) → held_at self.old comm ≡ Some x → group.new.items ≡ without x.group (take reach self.old.seen)) }
+    {
+        let Some(i) = place_of(&self.held, comm) else {
+            unreachable!()
+        };
+        *group = without(self.allocator(), &self.held[i].group, &self.seen[..reach])?;
+        self.held.reserve(1)
+    }
+
+    // One step in the list of communicators, or all that are left, until it has that of a decided round. Then the rank holds it,
+    // with these members, in place of the open request on its parent. The room for it comes first; it is there already, but for
+    // the first time.
     pub(crate) fn spawn<W: Words<P, A>>(
         &mut self,
         words: &W,
         pass: &mut W::Pass,
         comm: u16,
-        round: u16,
+        append: &mut Append,
         context: u8,
-        reach: usize,
+        whole: bool,
+        group: &mut Vec<u16, A>,
     ) -> Spawned
         requires of { IsOf P.meld (W.name words.now) (W.sight pass.old) }
-        requires may { MayAppend P.meld (W.name words.now).limits (W.sight pass.old).seen (OfComm comm round) }
-        requires round { round < (W.name words.now).limits.rounds }
-        requires holds { MayHold self.old comm context reach }
-        ensures { SpawnIs P.meld W.alone (W.name words.now) comm round context reach self.old (W.sight pass.old) result self.new (W.sight pass.new) }
+        requires may { (k : ℕ) × MaySpawn P.meld (W.name words.now).limits (W.sight pass.old).seen comm k append.old }
+        requires holds { MayHold self.old comm context (length group.old.items) }
+        ensures spawns { (k : ℕ) → append.old.item ≡ OfComm comm k → SpawnIs P.meld W.alone (W.name words.now) comm k context append.old append.new group.old.items self.old (W.sight pass.old) result self.new (W.sight pass.new) }
+        ensures one { whole ≡ false → result ≢ NoMemory → (W.sight pass.new).steps ≡ (W.sight pass.old).steps + 1 }
+        ensures kept { result ≡ Unknown → group.new.items ≡ group.old.items }
+        ensures done { whole ≡ true → result ≢ Unknown }
     {
-        let Some(i) = place_of(&self.held, comm) else {
-            unreachable!()
-        };
-        let alloc = *self.seen.allocator();
-        let Ok(group) = without(alloc, &self.held[i].group, &self.seen[..reach]) else {
+        if self.held.reserve(1).is_err() {
             return Spawned::NoMemory;
+        }
+        let Some(end) = append.advance(words, pass, whole) else {
+            return Spawned::Unknown;
         };
-        let Ok(()) = self.held.reserve(1) else {
-            return Spawned::NoMemory;
-        };
-        let Some(number) = made_of(words, pass, self.number, comm, round) else {
+        let Some(index) = place_in(end) else {
             return Spawned::Full;
         };
-        let size = group.len() as u16;
-        let made = HeldComm::new(number, context, group);
+        let number = index + 1;
+        let members = mem::replace(group, Vec::new(self.allocator()));
+        let size = members.len() as u16;
+        let made = HeldComm::new(number, context, members);
         take_in(&mut self.held, comm, made);
         Spawned::Made { comm: number, size }
     }

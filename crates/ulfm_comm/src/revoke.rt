@@ -5,14 +5,15 @@ ghost use Rattle.ulfm_comm.specs.Calls.{Calls, reply_of};
 ghost use Rattle.ulfm_comm.specs.Revokes.{revoked};
 
 use crate::rank::Rank;
+use crate::replies::revoked;
 use crate::world::World;
 use std::alloc::Allocator;
 use ulfm_laws::meld::Packed;
-use ulfm_model::event::Caller;
+use ulfm_model::call::Call;
 use ulfm_model::refusal::Refusal;
-use ulfm_words::{Words, set_revocation};
+use ulfm_words::Words;
 
-impl<P: Packed, A: Allocator> Rank<P, A> {
+impl<P: Packed, A: Allocator + Copy> Rank<P, A> {
     /// Revokes a communicator, for all ranks and for good: whether this call did so; else it had been revoked before. A
     /// barrier that is open on it ends refused. All other calls go on as before, so that the ranks can agree on it, shrink it
     /// and give it back. It makes the steps of a look and one more (ULFM: Communicator Functions, `MPI_COMM_REVOKE`).
@@ -29,11 +30,7 @@ impl<P: Packed, A: Allocator> Rank<P, A> {
         requires fits { Fits P.meld (W.name world.now.words).limits (W.sight pass.old).seen self.old }
         ensures { Calls P.meld W.alone (W.name world.now.words) (Asked self.old.number comm) self.old (W.sight pass.old) (reply_of revoked result) self.new (W.sight pass.new) }
     {
-        self.begin(world, pass)?;
-        let Some(_) = self.held(comm) else {
-            return Err(Refusal::NoSuchComm);
-        };
-        let by = Caller::Rank(self.number());
-        Ok(set_revocation(&world.words, pass, by, comm))
+        let rank = self.number();
+        revoked(self.call(world, pass, Call::Revoke { rank, comm }))
     }
 }

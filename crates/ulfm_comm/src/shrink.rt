@@ -7,15 +7,15 @@ ghost use Rattle.ulfm_comm.specs.Calls.{Calls, reply_of};
 ghost use Rattle.ulfm_comm.specs.Excludes.{Excludes};
 
 use crate::rank::Rank;
+use crate::replies::started;
 use crate::world::World;
 use std::alloc::Allocator;
 use ulfm_laws::meld::Packed;
-use ulfm_model::call::Request;
-use ulfm_model::contribution::Offer;
+use ulfm_model::call::Call;
 use ulfm_model::refusal::Refusal;
 use ulfm_words::Words;
 
-impl<P: Packed, A: Allocator> Rank<P, A> {
+impl<P: Packed, A: Allocator + Copy> Rank<P, A> {
     /// Starts a shrink of a communicator, in the rank's next agreement round of it: the rank contributes the context ids
     /// that none of its communicators has, the failures that it knows, all of which are to be left out, and those of them
     /// that it has acknowledged. From then on the request is open, until a poll ends it. It makes the steps of a look and
@@ -38,21 +38,7 @@ impl<P: Packed, A: Allocator> Rank<P, A> {
         ensures calls { Calls P.meld W.alone (W.name world.now.words) (Asked self.old.number comm) self.old (W.sight pass.old) (reply_of (λ _. Started) result) self.new (W.sight pass.new) }
         ensures excludes { IfOk result (λ _. Excludes P.meld (W.name world.now.words).limits (W.sight pass.old).seen (W.sight pass.new).seen self.old comm) }
     {
-        self.begin(world, pass)?;
-        let Some(x) = self.held(comm) else {
-            return Err(Refusal::NoSuchComm);
-        };
-        if x.request.is_some() {
-            return Err(Refusal::Busy);
-        }
-        if self.is_shrinking() {
-            return Err(Refusal::ShrinkOpen);
-        }
-        let round = x.next_agreement;
-        if round >= world.words.limits().rounds {
-            return Err(Refusal::RoundsUsedUp);
-        }
-        let settled = self.contribute(world, pass, x, Offer::Ctx(self.free_ids()));
-        self.end_start(comm, Request::Shrink { round }, settled)
+        let rank = self.number();
+        started(self.call(world, pass, Call::Shrink { rank, comm }))
     }
 }

@@ -1,6 +1,6 @@
 // How an agree or a shrink starts, once its record doesn't refuse it.
-ghost use Rattle.std.specs.Prelude.{◌≡◌, ◌≤◌, ◌<◌, Some};
-ghost use Rattle.ulfm_model.specs.History.{failures};
+ghost use Rattle.std.specs.Prelude.{◌≡◌, ◌+◌, ◌≤◌, ◌<◌, Some, filter, length};
+ghost use Rattle.ulfm_model.specs.History.{has};
 ghost use Rattle.ulfm_model.specs.Records.{Fits, held_at};
 ghost use Rattle.ulfm_words.specs.Steps.{IsOf};
 ghost use Rattle.ulfm_comm.specs.Starts.{HasNext, Settles, start_leaves, start_result};
@@ -47,10 +47,11 @@ impl<P: Packed, A: Allocator> Rank<P, A> {
     ) -> Result<(), Slot<P>>
         requires of { IsOf P.meld (W.name world.now.words) (W.sight pass.old) }
         requires fits { Fits P.meld (W.name world.now.words).limits (W.sight pass.old).seen self.now }
-        requires seen { self.now.seen ≡ failures (W.sight pass.old).seen }
         requires held { held_at self.now x.now.comm ≡ Some x.now }
+        requires acked { x.now.acked ≤ length (filter (has x.now.group) self.now.seen) }
         requires room { x.now.next_agreement < (W.name world.now.words).limits.rounds }
         ensures of { IsOf P.meld (W.name world.now.words) (W.sight pass.new) }
+        ensures one { (W.sight pass.new).steps ≡ (W.sight pass.old).steps + 1 }
         ensures settles { Settles W.alone (W.sight pass.old).seen (W.sight pass.new).seen self.now x.now offer result }
     {
         let known = count_in(&x.group, self.failures());

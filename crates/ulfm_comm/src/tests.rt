@@ -2,6 +2,9 @@
 ghost use Rattle.ulfm_model.specs.Records.{Fits};
 ghost use Rattle.ulfm_words.specs.Steps.{IsOf};
 
+mod play;
+mod step_by_step;
+
 use crate::{Job, Polled, Rank, World};
 use linked_list_allocator::LocalHeap;
 use std::alloc::{Allocator, Global};
@@ -532,54 +535,6 @@ fn agree_meets_a_shrink(rt: HostRuntime) -> Result<(), Fail> {
     // Just before the place of rank 1 is read: the look makes two loads, one mark is made, and the first place is read.
     pass.wait(4);
     assert!(rt; own.poll(&world, &mut pass, 0) == Err(Refusal::Mismatch));
-    assert!(rt; own.poll(&world, &mut pass, 0) == Err(Refusal::Idle));
-    Ok(())
-}
-
-#[test]
-fn revoked_between_loads(rt: HostRuntime) -> Result<(), Fail> {
-    let limits = Limits {
-        ranks: 1,
-        comms: 1,
-        rounds: 1,
-    };
-    let plain = PlainWords::<FlagAnd>::open(limits)?;
-    let guest = Entry {
-        by: Caller::Outside,
-        event: Event::Revoke { comm: 0 },
-    };
-    let (world, mut ranks) = World::open(rt.alloc(), Intruder { plain, guest })?;
-    let mut pass = world.pass(rt.alloc())?;
-    assert!(rt; ranks.len() == 1);
-    let own = &mut ranks[0];
-    assert!(rt; own.ibarrier(&world, &mut pass, 0) == Ok(()));
-    // Just before the revocation is read: the look makes one load, and the one arrival is read.
-    pass.wait(2);
-    assert!(rt; own.poll(&world, &mut pass, 0) == Err(Refusal::IsRevoked));
-    assert!(rt; own.is_revoked(&world, &mut pass, 0) == Ok(true));
-    Ok(())
-}
-
-#[test]
-fn arrives_too_late(rt: HostRuntime) -> Result<(), Fail> {
-    let plain = PlainWords::<FlagAnd>::open(THREE)?;
-    let guest = Entry {
-        by: Caller::Rank(1),
-        event: Event::Arrive {
-            comm: 0,
-            round: 0,
-            rank: 1,
-        },
-    };
-    let (world, mut ranks) = World::open(rt.alloc(), Intruder { plain, guest })?;
-    let mut pass = world.pass(rt.alloc())?;
-    assert!(rt; ranks.len() == 3);
-    let own = &mut ranks[0];
-    assert!(rt; declare(&world, &mut pass, own, 1) == Ok(true));
-    assert!(rt; own.ibarrier(&world, &mut pass, 0) == Ok(()));
-    // Just before the revocation is read: the look makes two loads, and the arrival of rank 1 is read, who is missing then.
-    pass.wait(3);
-    assert!(rt; own.poll(&world, &mut pass, 0) == Err(Refusal::ProcFailed));
     assert!(rt; own.poll(&world, &mut pass, 0) == Err(Refusal::Idle));
     Ok(())
 }

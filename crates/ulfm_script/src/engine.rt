@@ -9,6 +9,7 @@ use crate::calls::read_call;
 use crate::fault::RunFault;
 use crate::header::read_header;
 use crate::input::{Input, LineEnd};
+use crate::last_group::LastGroup;
 use crate::line_kind::LineKind;
 use crate::machine::Machine;
 use crate::output::Output;
@@ -72,6 +73,7 @@ fn run_lines<M: Machine<A>, A: Allocator + Copy, R: Read, W: Write>(
     let mut line = Vec::with_capacity(alloc, LONGEST + 1)?;
     let mut text = Vec::with_capacity(alloc, LONGEST)?;
     let mut group = Vec::new(alloc);
+    let mut last = LastGroup::new(alloc);
     let mut machine: M = open_machine(alloc, reader, input, &mut line)?;
     'lines: for number in 2..LAST_LINE + 2 {
         match input.read_line(reader, &mut line)? {
@@ -89,6 +91,7 @@ fn run_lines<M: Machine<A>, A: Allocator + Copy, R: Read, W: Write>(
             number,
             &line,
             &mut group,
+            &mut last,
             &mut text,
         )?;
     }
@@ -130,6 +133,7 @@ fn run_line<M: Machine<A>, A: Allocator, W: Write>(
     number: u32,
     line: &[u8],
     group: &mut Vec<u16, A>,
+    last: &mut LastGroup<A>,
     text: &mut Vec<u8, A>,
 ) -> Result<(), RunFault>
     ensures { RunsLine number (call_at number line.now) (M.state machine.old) (M.state machine.new) (W.contents writer.old)
@@ -145,7 +149,7 @@ fn run_line<M: Machine<A>, A: Allocator, W: Write>(
     }
     match read_call(line) {
         Ok(call) => {
-            answer(machine, &call, group, text)?;
+            answer(machine, &call, group, last, text)?;
             output.put(writer, text)
         }
         Err(kind) => Err(RunFault::Line { number, kind }),
@@ -157,6 +161,7 @@ fn answer<M: Machine<A>, A: Allocator>(
     machine: &mut M,
     call: &Call<FlagAnd>,
     group: &mut Vec<u16, A>,
+    last: &mut LastGroup<A>,
     text: &mut Vec<u8, A>,
 ) -> Result<(), AllocError>
     requires { IsSpelled call.now }
@@ -164,7 +169,7 @@ fn answer<M: Machine<A>, A: Allocator>(
 {
     let reply = machine.apply(call, group)?;
     text.clear();
-    print_reply(text, &reply, group)?;
+    print_reply(text, &reply, group, last)?;
     text.push(b'\n')?;
     Ok(())
 }

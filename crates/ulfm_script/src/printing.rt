@@ -4,6 +4,7 @@ ghost use Rattle.std.specs.Fmt.{decimal};
 ghost use Rattle.ulfm_script.specs.Printed.{acked_text, agreed_text, failed_text, ranks_text, refused_text, reply_text, shrunk_text, standing_text};
 
 use crate::digits::flag_digits;
+use crate::last_group::LastGroup;
 use itoa::Buffer;
 use std::alloc::{AllocError, Allocator};
 use ulfm_laws::FlagAnd;
@@ -12,12 +13,13 @@ use ulfm_model::{Refusal, Reply, refusal_number};
 /// Appends a reply as scripts print it, without a newline.
 ///
 /// `group` is the group that the reply is about, in order: a communicator's failed group for `FailedGroup`, the new
-/// communicator's members for `Shrunk`. Other replies don't look at it. After an error the text has a beginning of what it
-/// should have got.
+/// communicator's members for `Shrunk`. Other replies don't look at it. Where it is the group that was printed last, its text is
+/// taken from there. After an error the text has a beginning of what it should have got.
 pub fn print_reply<A: Allocator>(
     text: &mut Vec<u8, A>,
     reply: &Reply<FlagAnd>,
     group: &[u16],
+    last: &mut LastGroup<A>,
 ) -> Result<(), AllocError>
     ensures ok { OnOk result (text.new.items ≡ text.old.items ++ reply_text group.now reply.now) }
 {
@@ -29,9 +31,9 @@ pub fn print_reply<A: Allocator>(
             failed,
             raised,
         } => print_agreed(text, value, failed, raised),
-        Reply::Shrunk { comm, context, .. } => print_shrunk(text, comm, context, group),
+        Reply::Shrunk { comm, context, .. } => print_shrunk(text, comm, context, group, last),
         Reply::Done => text.extend_from_slice(b"done"),
-        Reply::FailedGroup { .. } => print_group(text, group),
+        Reply::FailedGroup { .. } => print_group(text, group, last),
         Reply::Acked { count } => print_acked(text, count),
         Reply::Declared => text.extend_from_slice(b"declared"),
         Reply::AlreadyFailed => text.extend_from_slice(b"already-failed"),
@@ -58,7 +60,10 @@ fn print_number<A: Allocator>(text: &mut Vec<u8, A>, number: u16) -> Result<(), 
 
 /// Each rank behind a space.
 #[inline(never)]
-fn print_ranks<A: Allocator>(text: &mut Vec<u8, A>, group: &[u16]) -> Result<(), AllocError>
+pub(crate) fn print_ranks<A: Allocator>(
+    text: &mut Vec<u8, A>,
+    group: &[u16],
+) -> Result<(), AllocError>
     ensures { OnOk result (text.new.items ≡ text.old.items ++ ranks_text group.now) }
 {
     for rank in group {
@@ -68,14 +73,18 @@ fn print_ranks<A: Allocator>(text: &mut Vec<u8, A>, group: &[u16]) -> Result<(),
     Ok(())
 }
 
-fn print_group<A: Allocator>(text: &mut Vec<u8, A>, group: &[u16]) -> Result<(), AllocError>
+fn print_group<A: Allocator>(
+    text: &mut Vec<u8, A>,
+    group: &[u16],
+    last: &mut LastGroup<A>,
+) -> Result<(), AllocError>
     ensures { OnOk result (text.new.items ≡ text.old.items ++ failed_text group.now) }
 {
     text.extend_from_slice(b"failed")?;
     if group.is_empty() {
         return text.extend_from_slice(b" none");
     }
-    print_ranks(text, group)
+    last.put(text, group)
 }
 
 fn print_agreed<A: Allocator>(
@@ -102,6 +111,7 @@ fn print_shrunk<A: Allocator>(
     comm: u16,
     context: u8,
     group: &[u16],
+    last: &mut LastGroup<A>,
 ) -> Result<(), AllocError>
     ensures { OnOk result (text.new.items ≡ text.old.items ++ shrunk_text comm context group.now) }
 {
@@ -110,7 +120,7 @@ fn print_shrunk<A: Allocator>(
     text.extend_from_slice(b" context ")?;
     print_number(text, u16::from(context))?;
     text.extend_from_slice(b" members")?;
-    print_ranks(text, group)
+    last.put(text, group)
 }
 
 fn print_acked<A: Allocator>(text: &mut Vec<u8, A>, count: u16) -> Result<(), AllocError>

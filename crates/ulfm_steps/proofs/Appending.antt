@@ -1,12 +1,13 @@
 -- The places of a list that were passed, and the next one.
-use Rattle.std.proofs.Common.{◌≡◌, ◌≢◌, ◌⊎◌, inl, inr, ℕ, zero, suc, ◌+◌, ◌<◌, ◌-◌, ◌*◌, ◌≤◌, Bool, true, false, cond, List, [], ◌∷◌, length, map, Some, None, slice_get, refl, ap, sym, ◌∙◌, subst, arith, add-one, below_more}
+use Rattle.std.proofs.Common.{◌≡◌, ◌≢◌, ◌⊎◌, inl, inr, ℕ, zero, suc, ◌+◌, ◌<◌, ◌-◌, ◌*◌, ◌≤◌, Bool, true, false, cond, List, [], ◌∷◌, length, map, Option, Some, None, slice_get, refl, ap, sym, ◌∙◌, subst, arith, add-one, below_more}
+use Rattle.std.specs.Prelude.{MatchOption}
 use Rattle.std.proofs.lemmas.List.{map-append}
 use mathlib.Core.List.{IsPrefix}
 use Rattle.ulfm_model.specs.declared.{event.Caller.{Caller}, limits.Limits.{Limits}}
 use Rattle.ulfm_model.specs.{History.{History, MayFollow, failures, spawns}, Runs.{Did}}
 use Rattle.ulfm_model.proofs.Terms.{made_at}
 use Rattle.ulfm_model.proofs.{Histories.{failures_begin}, Lists.{get_prefix, in_list, prefix_trans}, Stable.{spawns_begin}}
-use Rattle.ulfm_words.specs.{Steps.{Name, Sight}, Tries.{MayMake, entry}}
+use Rattle.ulfm_words.specs.{Steps.{Goes, Name, Sight}, Tries.{MayMake, entry}}
 use Rattle.ulfm_words.proofs.Trails.{added_after, did_wait}
 use Rattle.ulfm_steps.specs.declared.{append.Append.{Append}, append.Appended.{Appended}, append.Appended.TheVariants.{Won, Found, Full}, item.Item.{Item}, item.Item.TheVariants.{Failure, Comm}}
 use Rattle.ulfm_steps.specs.{Appends.{AppendIs, Appends, MayAdd, MayAppend, Passed, event_at, items, room}, Turns.{turns_left}}
@@ -96,6 +97,13 @@ appends_later {P} meld alone name item by few most result x y z did onward fewer
     later (Won i) is = (added_after alone (entry by (event_at item i)) x.seen y.seen z.seen did is.0, is.1)
     later (Found i) is = (did_wait alone [] x.seen y.seen z.seen did is.0, is.1)
     later Full is = (did_wait alone [] x.seen y.seen z.seen did is.0, is.1)
+
+-- .. and one more step, whether it was the last or not
+pub appends_next : {P : Type 0} (meld : P → P → P) (alone : Bool) (name : Name) (item : Item) (by : Caller) (most : ℕ) (result : Option Appended) (x y z : Sight P) → Did alone [] x.seen y.seen → x.steps ≤ y.steps → y.steps + 1 ≤ x.steps + most
+    → MatchOption result (Goes meld alone name 1 y z) (λ a. Appends meld alone name item by 1 y a z) → MatchOption result (Goes meld alone name most x z) (λ a. Appends meld alone name item by most x a z)
+appends_next meld alone name item by most None x y z did onward fewer went =
+    record { of = went.of; did = did_wait alone [] x.seen y.seen z.seen did went.did; onward = omega (arith, onward, went.onward); steps = omega (arith, fewer, went.steps) }
+appends_next meld alone name item by most (Some a) x y z did onward fewer ends = appends_later meld alone name item by 1 most a x y z did onward fewer ends
 
 -- at a place of the list there is a step to take
 pub turns_some : (places : ℕ) (a : Append) → a.index < places → 1 ≤ turns_left places a

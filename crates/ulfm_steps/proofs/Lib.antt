@@ -2,6 +2,8 @@ pub mod Looking
 pub mod Settling
 pub mod Groups
 pub mod Reading
+pub mod Arriving
+pub mod ReadingOn
 pub mod Marking
 pub mod Appending
 pub mod Welcome

@@ -1,20 +1,21 @@
 -- Marking a round's declared members.
-use Rattle.std.proofs.Common.{◌≡◌, ℕ, zero, suc, ◌+◌, ◌-◌, ◌<◌, ◌≤◌, ◌==◌, Bool, true, false, cond, not, ◌||◌, ◌&&◌, List, [], ◌∷◌, ◌++◌, length, map, filter, filter_map, take, slice_index_or, slice_get, Some, None, is_some, IsTrue, nat_eq, refl, ap, ap₂, sym, ◌∙◌, subst, arith, append-nil, length-append, if◌then◌else◌}
+use Rattle.std.proofs.Common.{◌≡◌, ℕ, zero, suc, ◌+◌, ◌-◌, ◌<◌, ◌≤◌, ◌==◌, Bool, true, false, cond, not, ◌||◌, ◌&&◌, List, [], ◌∷◌, ◌++◌, length, map, filter, filter_map, take, drop, slice_index_or, slice_get, Some, None, is_some, IsTrue, nat_eq, refl, ap, ap₂, sym, ◌∙◌, subst, arith, append-nil, append_assoc, length-append, if◌then◌else◌}
 use Rattle.std.specs.Prelude.{MatchBool}
 use Rattle.std.specs.List.{slice_index, cons_option, AllByRecursion, IsDistinct}
 use Rattle.std.proofs.lemmas.Bool.{eq-eqb, or_left, or_right, or_parts, or_from}
-use Rattle.std.proofs.lemmas.List.{map-append}
+use Rattle.std.proofs.lemmas.List.{map-append, take-append-drop}
 use Rattle.std.proofs.lemmas.List.Elements.{filter-append, filter_map-append}
 use Rattle.std.proofs.lemmas.List.Folds.{list_any-append}
 use Rattle.std.proofs.lemmas.Map.Keys.{IsDistinct-head, IsDistinct-tail, IsDistinct-cons}
 use mathlib.Core.List.{IsPrefix}
 use Rattle.ulfm_model.specs.declared.{contribution.MarkCount.{MarkCount}, contribution.Slot.{Slot}, contribution.Slot.TheVariants.{Mark as Marked}, event.Caller.TheVariants.{Rank as ByRank}, event.Entry.{Entry}, event.Event.{Event}, event.Event.TheVariants.{Fail, Settle, Mark, Arrive, Revoke, Spawn}, limits.Limits.{Limits}, place.Place.TheVariants.{Slot as SlotAt}}
-use Rattle.ulfm_model.specs.{History.{History, IsLegal, failed, failures, has, says, slot}, Runs.{Did}, Words.{MayOpen}}
+use Rattle.ulfm_model.specs.{History.{History, IsLegal, entries_by, failed, failures, has, says, slot}, Runs.{Did}, Words.{MayOpen}}
 use Rattle.ulfm_model.proofs.Terms.{settled_by}
-use Rattle.ulfm_model.proofs.{Histories.{failures_begin, legal_parts, slot_stays}, Lists.{each_from, get_prefix, is_some_of, length_prefix, not_in_filter, prefix_trans}, Says.{put_by}, Spawned.{failures_distinct}}
-use Rattle.ulfm_words.specs.{Steps.{IsAdded, Name, Sight}, Tries.{MayPut, Tries, entry}}
-use Rattle.ulfm_words.proofs.{Ranks.{failures_le}, Trails.{did_added, did_more, did_none, did_prefix, did_quiet}}
-use Rattle.ulfm_steps.specs.Marks.{IsMarkOf, Marks, MarkSteps, MayMarkAll, members_in}
+use Rattle.ulfm_model.proofs.{Histories.{failures_begin, legal_parts, slot_stays}, Lists.{distinct_filter, each_always, each_from, filter_same, get_prefix, is_some_of, length_prefix, not_in_filter, prefix_trans}, Says.{put_by}, Spawned.{failures_distinct}}
+use Rattle.ulfm_words.specs.{Steps.{IsAdded, IsOf, Name, Sight}, Tries.{MayPut, Tries, entry}}
+use Rattle.ulfm_words.proofs.{Ranks.{failures_le}, Trails.{did_added, did_more, did_none, did_prefix, did_quiet, did_wait}}
+use Rattle.ulfm_steps.specs.declared.mark_all.MarkAll.{MarkAll}
+use Rattle.ulfm_steps.specs.Marks.{HasMarked, IsMarkOf, Marks, MarkSteps, MayMarkAll, members_in}
 use Rattle.ulfm_steps.proofs.Reading.{member_place, round_stays, take_one_more}
 
 filter_one : (b : Bool) (xs : List ℕ) (x : ℕ) → (let ys : List ℕ = cond b (x ∷ []) [] in xs ++ ys) ≡ cond b (xs ++ x ∷ []) xs
@@ -70,6 +71,21 @@ not_before (x ∷ xs) (suc n) d distinct lt =
 right_part : (xs ys : List ℕ) (r : ℕ) → has (xs ++ ys) r ≡ false → has ys r ≡ false
 right_part xs ys r out = (or_parts (has xs r) (has ys r) (sym (list_any-append (λ x. x == r) xs ys) ∙ out)).1
 
+-- the two parts of a list without repeats share nobody
+distinct_apart : (xs ys : List ℕ) → IsDistinct nat_eq (xs ++ ys) → AllByRecursion (λ r. has xs r ≡ false) ys
+unfolding IsDistinct
+distinct_apart [] ys distinct = each_always (λ r. has [] r ≡ false) (λ r. refl) ys
+distinct_apart (x ∷ xs) ys distinct =
+    neither ys (each_end xs ys (IsDistinct-head nat_eq x (xs ++ ys) distinct)) (distinct_apart xs ys (IsDistinct-tail nat_eq x (xs ++ ys) distinct))
+  where
+    each_end : (xs ys : List ℕ) → AllByRecursion (λ y. nat_eq x y ≡ false) (xs ++ ys) → AllByRecursion (λ y. nat_eq x y ≡ false) ys
+    each_end [] ys all = all
+    each_end (z ∷ xs) ys all = each_end xs ys all.1
+
+    neither : (zs : List ℕ) → AllByRecursion (λ y. nat_eq x y ≡ false) zs → AllByRecursion (λ r. has xs r ≡ false) zs → AllByRecursion (λ r. has (x ∷ xs) r ≡ false) zs
+    neither [] one two = tt
+    neither (z ∷ zs) one two = (or_from (x == z) (has xs z) one.0 two.0, neither zs one.1 two.1)
+
 module _ {P : Type 0} (meld : P → P → P) (limits : Limits) where
   -- the count of a mark is one that a mark may have
   pub count_fits : (h : History P) (group declared : List ℕ) (n : ℕ) → IsLegal meld limits h → MayOpen limits → IsPrefix declared (failures h) → n < length declared → length (members_in group declared n) + 1 ≤ 1024
@@ -97,6 +113,12 @@ module _ {P : Type 0} (meld : P → P → P) (limits : Limits) where
       let distinct = distinct_start declared begins.0 (subst (IsDistinct nat_eq) (sym begins.1) (failures_distinct meld limits h legal)) in
       let out = not_in_filter (has group) (take n declared) (slice_index declared n) (not_before declared n 0 distinct lt) in
       right_part start left (slice_index declared n) (ap (λ w. has w (slice_index declared n)) (sym is) ∙ out)
+
+  -- nor are those that are marked from there on
+  pub new_members : (h : History P) (group : List ℕ) (n : ℕ) (start between : List ℕ) → IsLegal meld limits h → members_in group (failures h) n ≡ start ++ between → AllByRecursion (λ r. has start r ≡ false) between
+  new_members h group n start between legal is =
+      let first = distinct_start (take n (failures h)) (drop n (failures h)) (subst (IsDistinct nat_eq) (sym (take-append-drop n (failures h))) (failures_distinct meld limits h legal)) in
+      distinct_apart start between (subst (IsDistinct nat_eq) is (distinct_filter (has group) (take n (failures h)) first))
 
 not_equal : (q r : ℕ) → IsTrue (not (has (r ∷ []) q)) → (r == q) ≡ false
 not_equal q r out = go (r == q) out
@@ -165,34 +187,54 @@ module _ {P : Type 0} (alone : Bool) (number c k : ℕ) where
   wider xs ys more (Revoke comm) is = absurd is
   wider xs ys more (Spawn comm parent round) is = absurd is
 
+  -- who is settled stays so
+  settled_on : (xs : List ℕ) (own y z : History P) → Did alone own y z → AllByRecursion (λ q. IsTrue (is_some (slot y c k q))) xs → AllByRecursion (λ q. IsTrue (is_some (slot z c k q))) xs
+  settled_on xs own y z did settled =
+      each_from (λ q. IsTrue (is_some (slot y c k q))) (λ q. IsTrue (is_some (slot z c k q)))
+      (λ q e. let s = is_some_of (slot y c k q) e in ap is_some (slot_stays y z c k q s.0 (did_prefix alone own y z did) s.1)) xs settled
+
   settled_append : (xs ys : List (Event P)) → settled_by (xs ++ ys) ≡ settled_by xs ++ settled_by ys
   settled_append xs ys = ap (map (λ put. put.0.2)) (filter_map-append (λ e. (says e).settles) xs ys) ∙ map-append (λ put. put.0.2) (filter_map (λ e. (says e).settles) xs) (filter_map (λ e. (says e).settles) ys)
 
-  -- one more member
-  pub marks_push : (xs : List ℕ) (r : ℕ) (x y z : History P) → has xs r ≡ false → Marks alone number c k xs x y → Marks alone number c k (r ∷ []) y z → Marks alone number c k (xs ++ r ∷ []) x z
-  marks_push xs r x y z out first last =
-      let left : (q : ℕ) → has xs q ≡ true → has (xs ++ r ∷ []) q ≡ true = λ q e. list_any-append (λ w. w == q) xs (r ∷ []) ∙ or_left (has xs q) (has (r ∷ []) q) e in
-      let right : (q : ℕ) → has (r ∷ []) q ≡ true → has (xs ++ r ∷ []) q ≡ true = λ q e. list_any-append (λ w. w == q) xs (r ∷ []) ∙ or_right (has xs q) (has (r ∷ []) q) e in
+  -- others' events came after the marks
+  pub marks_wait : (xs : List ℕ) (x y z : History P) → Marks alone number c k xs x y → Did alone [] y z → Marks alone number c k xs x z
+  marks_wait xs x y z marks wait =
+      record {
+        own = marks.own;
+        did = did_wait alone (entries_by (ByRank number) marks.own) x y z marks.did wait;
+        marks = marks.marks;
+        settled = settled_on xs [] y z wait marks.settled;
+        exact = marks.exact;
+        others = λ here q out. ap (λ w. slot w c k q) (did_quiet alone y z wait here) ∙ marks.others here q out;
+      }
+
+  -- further members, none of those before
+  pub marks_join : (xs ys : List ℕ) (x y z : History P) → AllByRecursion (λ r. has xs r ≡ false) ys → Marks alone number c k xs x y → Marks alone number c k ys y z → Marks alone number c k (xs ++ ys) x z
+  marks_join xs ys x y z out first last =
+      let left : (q : ℕ) → has xs q ≡ true → has (xs ++ ys) q ≡ true = λ q e. list_any-append (λ w. w == q) xs ys ∙ or_left (has xs q) (has ys q) e in
+      let right : (q : ℕ) → has ys q ≡ true → has (xs ++ ys) q ≡ true = λ q e. list_any-append (λ w. w == q) xs ys ∙ or_right (has xs q) (has ys q) e in
       record {
         own = first.own ++ last.own;
         did = did_more alone (ByRank number) first.own last.own x y z first.did last.did;
-        marks = each_append (IsMarkOf c k (xs ++ r ∷ [])) first.own last.own (each_from (IsMarkOf c k xs) (IsMarkOf c k (xs ++ r ∷ [])) (wider xs (xs ++ r ∷ []) left) first.own first.marks) (each_from (IsMarkOf c k (r ∷ [])) (IsMarkOf c k (xs ++ r ∷ [])) (wider (r ∷ []) (xs ++ r ∷ []) right) last.own last.marks);
-        settled = each_append (λ q. IsTrue (is_some (slot z c k q))) xs (r ∷ []) (each_from (λ q. IsTrue (is_some (slot y c k q))) (λ q. IsTrue (is_some (slot z c k q))) kept xs first.settled) last.settled;
+        marks = each_append (IsMarkOf c k (xs ++ ys)) first.own last.own (each_from (IsMarkOf c k xs) (IsMarkOf c k (xs ++ ys)) (wider xs (xs ++ ys) left) first.own first.marks) (each_from (IsMarkOf c k ys) (IsMarkOf c k (xs ++ ys)) (wider ys (xs ++ ys) right) last.own last.marks);
+        settled = each_append (λ q. IsTrue (is_some (slot z c k q))) xs ys (settled_on xs (entries_by (ByRank number) last.own) y z last.did first.settled) last.settled;
         exact = λ here.
-            let same : filter (λ q. not (is_some (slot y c k q))) (r ∷ []) ≡ filter (λ q. not (is_some (slot x c k q))) (r ∷ []) =
-            ap (λ o. filter (λ q. not (is_some o)) (r ∷ [])) (first.others here r (not_in xs r out)) in
-            settled_append first.own last.own ∙ (ap₂ (λ v w. v ++ w) (first.exact here) (last.exact here ∙ same) ∙ sym (filter-append (λ q. not (is_some (slot x c k q))) xs (r ∷ [])));
+            let same : filter (λ q. not (is_some (slot y c k q))) ys ≡ filter (λ q. not (is_some (slot x c k q))) ys =
+            filter_same (λ q. not (is_some (slot x c k q))) (λ q. not (is_some (slot y c k q))) ys
+            (each_from (λ r. has xs r ≡ false) (λ q. not (is_some (slot y c k q)) ≡ not (is_some (slot x c k q))) (λ r new. ap (λ o. not (is_some o)) (first.others here r (not_in xs r new))) ys out) in
+            settled_append first.own last.own ∙ (ap₂ (λ v w. v ++ w) (first.exact here) (last.exact here ∙ same) ∙ sym (filter-append (λ q. not (is_some (slot x c k q))) xs ys));
         others = λ here q apart.
-            let both = or_parts (has xs q) (has (r ∷ []) q) (sym (list_any-append (λ w. w == q) xs (r ∷ [])) ∙ is_false (has (xs ++ r ∷ []) q) apart) in
-            last.others here q (not_in (r ∷ []) q both.1) ∙ first.others here q (not_in xs q both.0);
+            let both = or_parts (has xs q) (has ys q) (sym (list_any-append (λ w. w == q) xs ys) ∙ is_false (has (xs ++ ys) q) apart) in
+            last.others here q (not_in ys q both.1) ∙ first.others here q (not_in xs q both.0);
       }
     where
-      kept : (q : ℕ) → IsTrue (is_some (slot y c k q)) → IsTrue (is_some (slot z c k q))
-      kept q e = let s = is_some_of (slot y c k q) e in ap is_some (slot_stays y z c k q s.0 (did_prefix alone _ y z last.did) s.1)
-
       is_false : (b : Bool) → IsTrue (not b) → b ≡ false
       is_false true e = absurd (cc e)
       is_false false e = refl
+
+  -- one more member
+  pub marks_push : (xs : List ℕ) (r : ℕ) (x y z : History P) → has xs r ≡ false → Marks alone number c k xs x y → Marks alone number c k (r ∷ []) y z → Marks alone number c k (xs ++ r ∷ []) x z
+  marks_push xs r x y z out first last = marks_join xs (r ∷ []) x y z (out, tt) first last
 
   -- one exchange of a member's place
   pub marks_try : (meld : P → P → P) (pack : P → ℕ) (name : Name) (r : ℕ) (mark : MarkCount) (won : Bool) (old new : Sight P)
@@ -213,6 +255,30 @@ pub steps_push : {P : Type 0} (meld : P → P → P) (alone : Bool) (name : Name
     → MarkSteps meld alone name number c k (xs ++ r ∷ []) x z
 steps_push meld alone name number c k xs r x y z out first last =
     record { of = last.of; marks = marks_push alone number c k xs r x.seen y.seen z.seen out first.marks last.marks; onward = omega (arith, first.onward, last.onward); steps = omega (arith, first.steps, last.steps, length-append xs (r ∷ [])) }
+
+-- a marking that has marked nobody
+pub marked_none : {P : Type 0} (meld : P → P → P) (alone : Bool) (name : Name) (start : MarkAll) (group declared : List ℕ) (x : Sight P) → IsOf meld name x → HasMarked meld alone name start group declared start.next x x
+marked_none meld alone name start group declared x of =
+    record {
+      between = [];
+      members_are = sym (append-nil (members_in group declared start.next));
+      marks = record { of = of; marks = marks_none alone start.rank start.comm start.round x.seen; onward = omega arith; steps = omega arith };
+    }
+
+-- .. and one that has marked one more
+pub marked_push : {P : Type 0} (meld : P → P → P) (alone : Bool) (name : Name) (start here after : MarkAll) (group declared : List ℕ) (x y z : Sight P) → here.rank ≡ start.rank → here.comm ≡ start.comm → here.round ≡ start.round → IsPrefix declared (failures y.seen)
+    → here.next < length declared → members_in group declared after.next ≡ members_in group declared here.next ++ slice_index declared here.next ∷ [] → HasMarked meld alone name start group declared here.next x y
+    → MarkSteps meld alone name here.rank here.comm here.round (slice_index declared here.next ∷ []) y z → HasMarked meld alone name start group declared after.next x z
+marked_push meld alone name start here after group declared x y z rank comm round begins more further so_far one =
+    let r = slice_index declared here.next in
+    let before = members_in group declared start.next in
+    let last : MarkSteps meld alone name start.rank start.comm start.round (r ∷ []) y z = rw (← rank, ← comm, ← round) one in
+    let new = new_member meld name.limits y.seen group declared before so_far.between here.next so_far.marks.of.legal begins more so_far.members_are in
+    record {
+      between = so_far.between ++ r ∷ [];
+      members_are = further ∙ (ap (λ w. w ++ r ∷ []) so_far.members_are ∙ append_assoc before so_far.between (r ∷ []));
+      marks = steps_push meld alone name start.rank start.comm start.round so_far.between r x y z new so_far.marks last;
+    }
 
 pub take_all : (xs : List ℕ) → take (length xs) xs ≡ xs
 take_all [] = refl

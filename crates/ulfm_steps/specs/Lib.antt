@@ -1,6 +1,8 @@
 pub mod Looks
 pub mod Settles
 pub mod Rounds
+pub mod Arriving
+pub mod ReadsOn
 pub mod Marks
 pub mod Appends
 pub mod Turns

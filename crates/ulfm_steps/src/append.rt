@@ -92,26 +92,58 @@ impl Append {
         None
     }
 
-    /// All steps that are left. It takes two steps at most for each place of the list.
-    #[inline(never)]
-    pub fn finish<P: Packed, A: Allocator, W: Words<P, A>>(
+    /// One load or one exchange; or, where the whole appending is made at once, all steps that are left. How it ended, if it
+    /// did.
+    #[inline(always)]
+    pub fn advance<P: Packed, A: Allocator, W: Words<P, A>>(
         &mut self,
         words: &W,
         pass: &mut W::Pass,
-    ) -> Appended
+        whole: bool,
+    ) -> Option<Appended>
         requires of { IsOf P.meld (W.name words.now) (W.sight pass.old) }
         requires may { MayAppend P.meld (W.name words.now).limits (W.sight pass.old).seen self.old.item }
         requires round { HasRound (W.name words.now).limits self.old.item }
         requires passed { Passed (W.sight pass.old).seen self.old.item self.old.index }
-        requires within { self.old.index ≤ room self.old.item (W.name words.now).limits }
-        ensures { Appends P.meld W.alone (W.name words.now) self.old.item self.old.by (2 * room self.old.item (W.name words.now).limits) (W.sight pass.old) result (W.sight pass.new) }
+        requires more { self.old.index < room self.old.item (W.name words.now).limits }
+        ensures same { (self.new.item ≡ self.old.item) × (self.new.by ≡ self.old.by) }
+        ensures goes { MatchOption result (Goes P.meld W.alone (W.name words.now) (2 * room self.old.item (W.name words.now).limits) (W.sight pass.old) (W.sight pass.new)) (λ a. Appends P.meld W.alone (W.name words.now) self.old.item self.old.by (2 * room self.old.item (W.name words.now).limits) (W.sight pass.old) a (W.sight pass.new)) }
+        ensures one { whole ≡ false → (W.sight pass.new).steps ≡ (W.sight pass.old).steps + 1 }
+        ensures more { (W.sight pass.old).steps < (W.sight pass.new).steps }
+        ensures passed { MatchOption result (Passed (W.sight pass.new).seen self.old.item self.new.index) (λ _. Unit {0}) }
+        ensures turns { MatchOption result (turns_left (room self.old.item (W.name words.now).limits) self.new + 1 ≤ turns_left (room self.old.item (W.name words.now).limits) self.old) (λ _. Unit {0}) }
+        ensures within { MatchOption result (self.new.index < room self.old.item (W.name words.now).limits) (λ _. Unit {0}) }
+        ensures done { MatchOption result (whole ≡ false) (λ _. Unit {0}) }
     {
-        let places = room_for(self.item, words.limits());
-        while self.index < places {
-            if let Some(end) = self.step(words, pass) {
+        loop {
+            let end = self.step(words, pass);
+            if !whole || end.is_some() {
                 return end;
             }
         }
-        Appended::Full
+    }
+
+    /// All steps that are left. It takes two steps at most for each place of the list.
+    #[inline(never)]
+    pub fn finish<P: Packed, A: Allocator, W: Words<P, A>>(
+        mut self,
+        words: &W,
+        pass: &mut W::Pass,
+    ) -> Appended
+        requires of { IsOf P.meld (W.name words.now) (W.sight pass.old) }
+        requires may { MayAppend P.meld (W.name words.now).limits (W.sight pass.old).seen self.item }
+        requires round { HasRound (W.name words.now).limits self.item }
+        requires passed { Passed (W.sight pass.old).seen self.item self.index }
+        requires within { self.index ≤ room self.item (W.name words.now).limits }
+        ensures { Appends P.meld W.alone (W.name words.now) self.item self.by (2 * room self.item (W.name words.now).limits) (W.sight pass.old) result (W.sight pass.new) }
+    {
+        let places = room_for(self.item, words.limits());
+        if self.index == places {
+            return Appended::Full;
+        }
+        match self.advance(words, pass, true) {
+            Some(end) => end,
+            None => unreachable!(),
+        }
     }
 }

@@ -14,6 +14,18 @@ pub fn is_member(group: &[u16], rank: u16) -> bool
     group.get(rank as usize) == Some(&rank) || group.binary_search(&rank).is_ok()
 }
 
+/// Whether a rank is among these, which stand in any order. Each is compared, whatever was found before: such a loop runs over
+/// many ranks at once.
+pub fn has_rank(ranks: &[u16], rank: u16) -> bool
+    ensures { result ≡ has ranks.now rank }
+{
+    let mut found = false;
+    for x in ranks {
+        found |= *x == rank;
+    }
+    found
+}
+
 /// All ranks below a number, in order: the members of the world's own communicator.
 pub fn first_ranks<A: Allocator + Copy>(alloc: A, ranks: u16) -> Result<Vec<u16, A>, AllocError>
     ensures { IfOk result (λ group. group.items ≡ all_below ranks) }

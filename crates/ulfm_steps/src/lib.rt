@@ -2,24 +2,30 @@
 #![tactic(auto)]
 
 pub mod append;
+pub mod arrivals;
 pub mod group;
 pub mod intruder;
 pub mod item;
 pub mod items;
 pub mod look;
 pub mod mark_all;
+pub mod read_on;
 pub mod read_round;
 pub mod settle;
 
 pub use append::{Append, Appended};
+pub use arrivals::{Arrivals, Missing};
 pub use intruder::{Intruder, IntruderPass};
 pub use item::Item;
 pub use look::Look;
 pub use mark_all::MarkAll;
+pub use read_on::ReadOn;
 pub use read_round::ReadRound;
 pub use settle::Settle;
 
 #[cfg(test)]
 mod counted;
+#[cfg(test)]
+mod stepped;
 #[cfg(test)]
 mod tests;

@@ -1,6 +1,6 @@
 // A look at the list of failures, from its start to its first empty place. What it has found begins the list from the load
 // on that found it; at its end the list is that and no more.
-ghost use Rattle.std.specs.Prelude.{◌≡◌, ◌+◌, ◌≤◌, [], false, true, vec_capacity, vec_len};
+ghost use Rattle.std.specs.Prelude.{◌≡◌, ◌+◌, ◌<◌, ◌≤◌, [], false, true, vec_capacity, vec_len, if◌then◌else◌};
 ghost use Rattle.ulfm_model.specs.History.{failures};
 ghost use Rattle.ulfm_words.specs.Steps.{IsOf, Goes};
 ghost use Rattle.ulfm_steps.specs.Looks.{LookIs};
@@ -55,25 +55,51 @@ impl Look {
         }
     }
 
-    /// All steps that are left. The vector then has the list as it was at the last load.
+    /// One load; or, where the whole look is made at once, all that are left.
     #[inline(always)]
-    pub fn finish<P: Packed, A: Allocator, W: Words<P, A>, B: Allocator>(
+    pub fn advance<P: Packed, A: Allocator, W: Words<P, A>, B: Allocator>(
         &mut self,
         words: &W,
         pass: &mut W::Pass,
         found: &mut Vec<u16, B>,
+        whole: bool,
     )
         requires of { IsOf P.meld (W.name words.now) (W.sight pass.old) }
         requires going { self.old.done ≡ false }
         requires look { LookIs (W.name words.now).limits false found.old.items (W.sight pass.old).seen }
         requires room { (W.name words.now).limits.ranks ≤ vec_capacity found.old }
-        ensures goes { Goes P.meld W.alone (W.name words.now) (W.name words.now).limits.ranks (W.sight pass.old) (W.sight pass.new) }
-        ensures done { self.new.done ≡ true }
-        ensures found { found.new.items ≡ failures (W.sight pass.new).seen }
+        ensures goes { Goes P.meld W.alone (W.name words.now) (if whole then (W.name words.now).limits.ranks else 1) (W.sight pass.old) (W.sight pass.new) }
+        ensures one { whole ≡ false → (W.sight pass.new).steps ≡ (W.sight pass.old).steps + 1 }
+        ensures more { (W.sight pass.old).steps < (W.sight pass.new).steps }
+        ensures look { LookIs (W.name words.now).limits self.new.done found.new.items (W.sight pass.new).seen }
+        ensures further { self.new.done ≡ false → vec_len found.new ≡ vec_len found.old + 1 }
+        ensures done { whole ≡ true → self.new.done ≡ true }
         ensures room { vec_capacity found.old ≤ vec_capacity found.new }
     {
         while !self.done {
             self.step(words, pass, found);
+            if !whole {
+                return;
+            }
         }
+    }
+
+    /// All steps that are left. The vector then has the list as it was at the last load.
+    #[inline(always)]
+    pub fn finish<P: Packed, A: Allocator, W: Words<P, A>, B: Allocator>(
+        mut self,
+        words: &W,
+        pass: &mut W::Pass,
+        found: &mut Vec<u16, B>,
+    )
+        requires of { IsOf P.meld (W.name words.now) (W.sight pass.old) }
+        requires going { self.done ≡ false }
+        requires look { LookIs (W.name words.now).limits false found.old.items (W.sight pass.old).seen }
+        requires room { (W.name words.now).limits.ranks ≤ vec_capacity found.old }
+        ensures goes { Goes P.meld W.alone (W.name words.now) (W.name words.now).limits.ranks (W.sight pass.old) (W.sight pass.new) }
+        ensures found { found.new.items ≡ failures (W.sight pass.new).seen }
+        ensures room { vec_capacity found.old ≤ vec_capacity found.new }
+    {
+        self.advance(words, pass, found, true);
     }
 }

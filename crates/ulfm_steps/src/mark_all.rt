@@ -1,6 +1,6 @@
 // Marking a round's declared members, in the order of their failures: one exchange for each. Whoever is settled, by the mark
 // or before it, stays as it is.
-ghost use Rattle.std.specs.Prelude.{◌≡◌, ◌<◌, ◌≤◌, ◌+◌, ◌++◌, ◌∷◌, [], length, filter, slice_index};
+ghost use Rattle.std.specs.Prelude.{◌≡◌, ◌<◌, ◌≤◌, ◌+◌, ◌++◌, ◌∷◌, [], false, true, length, filter, slice_index};
 ghost use Rattle.std.specs.List.Sorted.{IsStrictlyIncreasing};
 ghost use Rattle.ulfm_model.specs.History.{has};
 ghost use Rattle.ulfm_words.specs.Steps.{IsOf};
@@ -92,23 +92,54 @@ impl MarkAll {
         self.next = next_member(group, declared, self.next + 1);
     }
 
+    /// One exchange; or, where the whole marking is made at once, all that are left.
+    #[inline(always)]
+    pub fn advance<P: Packed, A: Allocator, W: Words<P, A>>(
+        &mut self,
+        words: &W,
+        pass: &mut W::Pass,
+        group: &[u16],
+        declared: &[u16],
+        whole: bool,
+    )
+        requires of { IsOf P.meld (W.name words.now) (W.sight pass.old) }
+        requires may { MayMarkAll (W.name words.now).limits (W.sight pass.old).seen self.old.comm self.old.round group.now declared.now }
+        requires at { IsAt group.now declared.now self.old.next self.old.known }
+        requires more { self.old.next < length declared.now }
+        ensures one { whole ≡ false → (W.sight pass.new).steps ≡ (W.sight pass.old).steps + 1 }
+        ensures more { (W.sight pass.old).steps < (W.sight pass.new).steps }
+        ensures rank { self.new.rank ≡ self.old.rank }
+        ensures comm { self.new.comm ≡ self.old.comm }
+        ensures round { self.new.round ≡ self.old.round }
+        ensures at { IsAt group.now declared.now self.new.next self.new.known }
+        ensures onward { self.old.next < self.new.next }
+        ensures done { whole ≡ true → self.new.next ≡ length declared.now }
+        ensures marks { HasMarked P.meld W.alone (W.name words.now) self.old group.now declared.now self.new.next (W.sight pass.old) (W.sight pass.new) }
+    {
+        while self.next < declared.len() {
+            self.step(words, pass, group, declared);
+            if !whole {
+                return;
+            }
+        }
+    }
+
     /// All steps that are left: afterwards each declared member is settled.
     #[inline(always)]
     pub fn finish<P: Packed, A: Allocator, W: Words<P, A>>(
-        &mut self,
+        mut self,
         words: &W,
         pass: &mut W::Pass,
         group: &[u16],
         declared: &[u16],
     )
         requires of { IsOf P.meld (W.name words.now) (W.sight pass.old) }
-        requires may { MayMarkAll (W.name words.now).limits (W.sight pass.old).seen self.old.comm self.old.round group.now declared.now }
-        requires at { IsAt group.now declared.now self.old.next self.old.known }
-        ensures done { self.new.next ≡ length declared.now }
-        ensures marks { HasMarked P.meld W.alone (W.name words.now) self.old group.now declared.now (length declared.now) (W.sight pass.old) (W.sight pass.new) }
+        requires may { MayMarkAll (W.name words.now).limits (W.sight pass.old).seen self.comm self.round group.now declared.now }
+        requires at { IsAt group.now declared.now self.next self.known }
+        ensures marks { HasMarked P.meld W.alone (W.name words.now) self group.now declared.now (length declared.now) (W.sight pass.old) (W.sight pass.new) }
     {
-        while self.next < declared.len() {
-            self.step(words, pass, group, declared);
+        if self.next < declared.len() {
+            self.advance(words, pass, group, declared, true);
         }
     }
 }

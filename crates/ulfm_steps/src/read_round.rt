@@ -1,6 +1,6 @@
 // Reading a round, in the order of its members, up to the first who isn't settled. A member that was found settled stays so
 // and says the same; that one is missing holds at its load alone.
-ghost use Rattle.std.specs.Prelude.{◌≡◌, ◌+◌, ◌≤◌, ◌<◌, ◌-◌, length, take, MatchBool, MatchOption};
+ghost use Rattle.std.specs.Prelude.{◌≡◌, ◌+◌, ◌≤◌, ◌<◌, ◌-◌, false, true, length, take, MatchBool, MatchOption};
 ghost use Rattle.ulfm_laws.specs.Summaries.{summary_unit};
 ghost use Rattle.ulfm_words.specs.Steps.{IsOf, Goes};
 ghost use Rattle.ulfm_steps.specs.Rounds.{IsRoundOf, IsSummed, IsMissing};
@@ -11,7 +11,7 @@ use ulfm_laws::summary::Summary;
 use ulfm_words::{Words, load_summary};
 
 /// A reading that is under way.
-#[derive(Drop)]
+#[derive(Clone, Copy)]
 pub struct ReadRound<P: Packed> {
     pub comm: u16,
     pub round: u16,
@@ -65,26 +65,62 @@ impl<P: Packed> ReadRound<P> {
         }
     }
 
+    /// One load; or, where the whole reading is made at once, all that are left. Whether each member that was loaded is settled.
+    #[inline(always)]
+    pub fn advance<A: Allocator, W: Words<P, A>>(
+        &mut self,
+        words: &W,
+        pass: &mut W::Pass,
+        group: &[u16],
+        whole: bool,
+    ) -> bool
+        requires of { IsOf P.meld (W.name words.now) (W.sight pass.old) }
+        requires round { IsRoundOf (W.name words.now).limits (W.sight pass.old).seen self.old.comm self.old.round group.now }
+        requires more { self.old.read < length group.now }
+        requires read { IsSummed P.meld (W.sight pass.old).seen self.old.comm self.old.round (take self.old.read group.now) self.old.all }
+        ensures goes { Goes P.meld W.alone (W.name words.now) (length group.now) (W.sight pass.old) (W.sight pass.new) }
+        ensures turns { (W.sight pass.new).steps + self.old.read ≤ (W.sight pass.old).steps + length group.now }
+        ensures one { whole ≡ false → (W.sight pass.new).steps ≡ (W.sight pass.old).steps + 1 }
+        ensures more { (W.sight pass.old).steps < (W.sight pass.new).steps }
+        ensures comm { self.new.comm ≡ self.old.comm }
+        ensures round { self.new.round ≡ self.old.round }
+        ensures onward { MatchBool result (self.old.read < self.new.read) (self.old.read ≤ self.new.read) }
+        ensures within { self.new.read ≤ length group.now }
+        ensures read { IsSummed P.meld (W.sight pass.new).seen self.old.comm self.old.round (take self.new.read group.now) self.new.all }
+        ensures missing { MatchBool result (Unit {0}) (IsMissing (W.sight pass.new).last (W.sight pass.new).seen self.old.comm self.old.round group.now) }
+        ensures done { result ≡ true → whole ≡ true → self.new.read ≡ length group.now }
+    {
+        // The loop works on a copy, which needs no memory.
+        let mut reading = *self;
+        while reading.read < group.len() {
+            let settled = reading.step(words, pass, group);
+            if !settled || !whole {
+                *self = reading;
+                return settled;
+            }
+        }
+        *self = reading;
+        true
+    }
+
     /// All steps that are left: what all members say together, where each is settled.
     #[inline(always)]
     pub fn finish<A: Allocator, W: Words<P, A>>(
-        &mut self,
+        mut self,
         words: &W,
         pass: &mut W::Pass,
         group: &[u16],
     ) -> Option<Summary<P>>
         requires of { IsOf P.meld (W.name words.now) (W.sight pass.old) }
-        requires round { IsRoundOf (W.name words.now).limits (W.sight pass.old).seen self.old.comm self.old.round group.now }
-        requires within { self.old.read ≤ length group.now }
-        requires read { IsSummed P.meld (W.sight pass.old).seen self.old.comm self.old.round (take self.old.read group.now) self.old.all }
-        ensures goes { Goes P.meld W.alone (W.name words.now) (length group.now - self.old.read) (W.sight pass.old) (W.sight pass.new) }
+        requires round { IsRoundOf (W.name words.now).limits (W.sight pass.old).seen self.comm self.round group.now }
+        requires within { self.read ≤ length group.now }
+        requires read { IsSummed P.meld (W.sight pass.old).seen self.comm self.round (take self.read group.now) self.all }
+        ensures goes { Goes P.meld W.alone (W.name words.now) (length group.now - self.read) (W.sight pass.old) (W.sight pass.new) }
         ensures loaded { MatchOption result ((W.sight pass.old).steps < (W.sight pass.new).steps) (λ _. Unit {0}) }
-        ensures read { MatchOption result (IsMissing (W.sight pass.new).last (W.sight pass.new).seen self.old.comm self.old.round group.now) (IsSummed P.meld (W.sight pass.new).seen self.old.comm self.old.round group.now) }
+        ensures read { MatchOption result (IsMissing (W.sight pass.new).last (W.sight pass.new).seen self.comm self.round group.now) (IsSummed P.meld (W.sight pass.new).seen self.comm self.round group.now) }
     {
-        while self.read < group.len() {
-            if !self.step(words, pass, group) {
-                return None;
-            }
+        if self.read < group.len() && !self.advance(words, pass, group, true) {
+            return None;
         }
         Some(self.all)
     }

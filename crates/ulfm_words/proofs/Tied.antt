@@ -11,7 +11,7 @@ use Rattle.ulfm_model.specs.{History.{History, MayFollow}, Words.{place_of, word
 use Rattle.ulfm_model.proofs.{Histories.{legal_push}, WordRules.{word_set, word_kept, word_some}}
 use Rattle.ulfm_words.specs.declared.{pass.Setting.{Setting}, step.Step.{Step}}
 use Rattle.ulfm_words.specs.{Entries.{entry_of}, Pass.{entry_at, entries, IsMade, is_zero, IsTied}, Places.{IsWithin, key_in}}
-use Rattle.ulfm_words.proofs.Keys.{key_lt, one_key}
+use Rattle.ulfm_words.proofs.Keys.{one_key}
 
 -- the setting that a read gave
 pub setting_found : (xs ms : List Setting) (i : ℕ) (m : Setting) → xs ≡ ms → i < length xs → m ≡ get_or xs i m → slice_get ms i ≡ Some m
@@ -88,19 +88,18 @@ module _ {P : Type 0} (meld : P → P → P) (pack : P → ℕ) (unpack : ℕ �
 
   -- the words and the journal stay tied where a word that was 0 is set
   pub tied_set : (ws : List ℕ) (ms ms' : List Setting) (cap cap' : ℕ) (s : Step) (i : ℕ) (e : Entry P) → IsTied meld pack unpack limits ws ms cap → IsWithin limits s.place → key_in limits s.place ≡ i → slice_index ws i ≡ 0
-      → entry_of unpack s ≡ Some e → word_of pack e.event ≡ s.word → MayFollow meld limits (entries unpack limits ws ms) e.event → place_of (entries unpack limits ws ms) e.event ≡ s.place
+      → i < length ws → entry_of unpack s ≡ Some e → word_of pack e.event ≡ s.word → MayFollow meld limits (entries unpack limits ws ms) e.event → place_of (entries unpack limits ws ms) e.event ≡ s.place
       → (let m : Setting = record { place = s.place; by = s.by } in ms' ≡ ms ++ m ∷ []) → cap ≤ cap' → IsTied meld pack unpack limits (slice_set ws i s.word) ms' cap'
-  tied_set ws ms ms' cap cap' s i e tied within at z is word may there pushed more =
+  tied_set ws ms ms' cap cap' s i e tied within at z lt is word may there pushed more =
       let m : Setting = record { place = s.place; by = s.by } in
-      let lt : i < length ws = omega (arith, key_lt limits s.place within, tied.size, at) in
       let n : s.word ≢ 0 = let some = word_some pack e.event in omega (arith, word, some) in
       let history : entries unpack limits (slice_set ws i s.word) (ms ++ m ∷ []) ≡ entries unpack limits ws ms ++ e ∷ [] = entries-set unpack limits ws i s.word m e z lt at is ms tied.made in
       let fewer = count-set ws i s.word z lt n in
       rw pushed (record {
         may_open = tied.may_open;
-        size = length-set ws i s.word ∙ tied.size;
+        size = omega (arith, length-set ws i s.word, tied.size);
         made = made-set unpack limits ws i s.word m e z lt at is n within ms tied.made;
         same = λ p q. same-set ws (entries unpack limits ws ms) s i e tied.same within at lt word may there p q (same_or_not (key_in limits p) i) ∙ ap (λ (h : History P). word_at pack h p) (sym history);
         legal = rw history (legal_push meld limits (entries unpack limits ws ms) e tied.legal may);
-        room = omega (arith, fewer, length-append ms (m ∷ []), tied.room, more);
+        room = omega (arith, fewer, length-append ms (m ∷ []), length-set ws i s.word, tied.room, more);
       })

@@ -17,21 +17,18 @@ IsWithin limits (RevokedAt c) = c < limits.comms
 IsWithin limits (SlotAt c k r) = IsCell limits c k r
 IsWithin limits (ArrivalAt c k r) = IsCell limits c k r
 
--- a rank's number among the ranks of all rounds of all communicators
+-- a rank's number in a line of so many lines of cells: each line has all ranks of all communicators
 abbrev pub cell_in : Limits → ℕ → ℕ → ℕ → ℕ
-cell_in limits c k r = (c * limits.rounds + k) * limits.ranks + r
+cell_in limits line c r = (line * limits.comms + c) * limits.ranks + r
 
--- how many of these there are
-abbrev pub cells : Limits → ℕ
-cells limits = limits.comms * limits.rounds * limits.ranks
-
--- the lists come first, then the revocations, the slots and the arrivals
+-- The lists come first, then the revocations. For each round there are then two lines, of slots and of arrivals. So what is set
+-- early stands in front.
 abbrev pub key_in : Limits → Place → ℕ
 key_in limits (ListAt i) = i
 key_in limits (CommAt j) = limits.ranks + j
 key_in limits (RevokedAt c) = limits.ranks + limits.comms + c
-key_in limits (SlotAt c k r) = limits.ranks + 2 * limits.comms + cell_in limits c k r
-key_in limits (ArrivalAt c k r) = limits.ranks + 2 * limits.comms + cells limits + cell_in limits c k r
+key_in limits (SlotAt c k r) = limits.ranks + 2 * limits.comms + cell_in limits (2 * k) c r
+key_in limits (ArrivalAt c k r) = limits.ranks + 2 * limits.comms + cell_in limits (2 * k + 1) c r
 
 -- each place has a word in the row, and two places have two
 pub record HaveWords (limits : Limits) : Type 0 where

@@ -1,9 +1,8 @@
-ghost use Rattle.std.specs.Prelude.{◌≡◌, ◌<◌, ◌≤◌, true, IfOk, MatchOption, length, slice_get};
-ghost use Rattle.ulfm_model.specs.Words.{MayOpen};
-ghost use Rattle.ulfm_model.specs.Words.{word_at};
+ghost use Rattle.std.specs.Prelude.{◌≡◌, ◌<◌, ◌≤◌, true, IfOk, MatchBool, MatchOption, length, slice_get, slice_index, vec_capacity};
+ghost use Rattle.ulfm_model.specs.Words.{MayOpen, size_of, word_at};
 ghost use Rattle.ulfm_words.specs.Entries.{entry_of};
-ghost use Rattle.ulfm_words.specs.Pass.{plain_name};
-ghost use Rattle.ulfm_words.specs.Places.{IsWithin};
+ghost use Rattle.ulfm_words.specs.Pass.{HasRounds, IsLonger, StandsIn, plain_name, row_of};
+ghost use Rattle.ulfm_words.specs.Places.{IsWithin, key_in};
 ghost use Rattle.ulfm_words.specs.Steps.{IsOf, IsNew, Loads, MaySet, Sets};
 
 use crate::places::key_of;
@@ -27,8 +26,10 @@ pub(crate) struct Setting {
 #[derive(Drop)]
 pub struct PlainPass<P: Packed, A: Allocator = Global> {
     limits: Limits,
-    // One for each place, by its key.
+    // By the keys of their places. It has room for all, and those of later rounds are made as the rounds come.
     words: Vec<u64, A>,
+    // How many rounds have words. All others are 0.
+    rounds: u16,
     // In the order of setting. It has room for each word that is still 0.
     journal: Vec<Setting, A>,
     // The steps so far. It takes no memory, and only contracts read it.
@@ -38,14 +39,91 @@ pub struct PlainPass<P: Packed, A: Allocator = Global> {
 
 impl<P: Packed, A: Allocator> Model for PlainPass<P, A> {
     ghost use Rattle.ulfm_words.specs.Steps.{Sight};
-    ghost use Rattle.std.specs.Prelude.{vec_capacity};
-    ghost use Rattle.ulfm_words.specs.Pass.{sight_of, IsTied};
+    ghost use Rattle.std.specs.Prelude.{◌≤◌, vec_capacity};
+    ghost use Rattle.ulfm_model.specs.Words.{size_of};
+    ghost use Rattle.ulfm_words.specs.Pass.{sight_of, HasRounds, IsTied};
 
     ghost Value = { Sight P };
 
     ghost view = { λ a. sight_of P.unpack a.limits a.words.items a.journal.items a.trail.items };
 
-    ghost invariant = { λ a. IsTied P.meld P.pack P.unpack a.limits a.words.items a.journal.items (vec_capacity a.journal) };
+    ghost invariant = { λ a. IsTied P.meld P.pack P.unpack a.limits a.words.items a.journal.items (vec_capacity a.journal) × HasRounds a.limits a.rounds a.words.items × (size_of a.limits ≤ vec_capacity a.words) };
+}
+
+// Whether the word of a place stands in a row that has so many rounds.
+#[inline(always)]
+fn stands(place: Place, rounds: u16) -> bool
+    ensures { MatchBool result (StandsIn rounds place) (StandsIn rounds place → ⊥) }
+{
+    match place {
+        Place::Slot { round, .. } | Place::Arrival { round, .. } => round < rounds,
+        Place::List { .. } | Place::Comm { .. } | Place::Revoked { .. } => true,
+    }
+}
+
+// The word of a place, 0 where its round has no words yet. In a loop over the ranks of a round that is tested once.
+#[inline(always)]
+fn word_of(words: &[u64], rounds: u16, place: Place, limits: Limits) -> u64
+    requires open { MayOpen limits }
+    requires within { IsWithin limits place }
+    requires rounds { HasRounds limits rounds words.now }
+    ensures { result ≡ slice_index words.now (key_in limits place) }
+{
+    if !stands(place, rounds) {
+        return 0;
+    }
+    words[key_of(place, limits)]
+}
+
+// How many words a row has with so many rounds.
+fn row_length(limits: Limits, rounds: u16) -> usize
+    requires open { MayOpen limits }
+    requires most { rounds ≤ limits.rounds }
+    ensures { result ≡ row_of limits rounds }
+{
+    let ranks = limits.ranks as usize;
+    let comms = limits.comms as usize;
+    ranks + 2 * comms + rounds as usize * (2 * comms * ranks)
+}
+
+// Sees to it that the word of a place stands in the row: how many rounds the row has then. It takes no memory.
+#[inline(always)]
+fn reach<A: Allocator>(words: &mut Vec<u64, A>, rounds: u16, place: Place, limits: Limits) -> u16
+    requires open { MayOpen limits }
+    requires within { IsWithin limits place }
+    requires rounds { HasRounds limits rounds words.old.items }
+    requires room { size_of limits ≤ vec_capacity words.old }
+    ensures stands { StandsIn result place }
+    ensures rounds { HasRounds limits result words.new.items }
+    ensures zeros { IsLonger words.old.items words.new.items }
+    ensures room { vec_capacity words.old ≤ vec_capacity words.new }
+{
+    match place {
+        Place::Slot { round, .. } | Place::Arrival { round, .. } => {
+            if round < rounds {
+                return rounds;
+            }
+            lengthen(words, round, limits)
+        }
+        Place::List { .. } | Place::Comm { .. } | Place::Revoked { .. } => rounds,
+    }
+}
+
+// Makes the words of all rounds up to this one and of as many more, all 0: so a world makes them a few times in all.
+#[inline(never)]
+fn lengthen<A: Allocator>(words: &mut Vec<u64, A>, round: u16, limits: Limits) -> u16
+    requires open { MayOpen limits }
+    requires within { round < limits.rounds }
+    requires row { length words.old.items ≤ row_of limits round }
+    requires room { size_of limits ≤ vec_capacity words.old }
+    ensures stands { round < result }
+    ensures rounds { HasRounds limits result words.new.items }
+    ensures zeros { IsLonger words.old.items words.new.items }
+    ensures room { vec_capacity words.old ≤ vec_capacity words.new }
+{
+    let rounds = (2 * round + 1).min(limits.rounds);
+    let _ = words.resize(row_length(limits, rounds), 0);
+    rounds
 }
 
 impl<P: Packed, A: Allocator + Copy> PlainPass<P, A> {
@@ -55,11 +133,13 @@ impl<P: Packed, A: Allocator + Copy> PlainPass<P, A> {
         ensures { IfOk result (λ p. IsNew P.meld (plain_name limits) p) }
     {
         let size = limits.size() as usize;
-        let words = vec![in alloc; 0; size]?;
+        let mut words = Vec::with_capacity(alloc, size)?;
+        words.resize(row_length(limits, 0), 0)?;
         let journal = Vec::with_capacity(alloc, size)?;
         Ok(PlainPass {
             limits,
             words,
+            rounds: 0,
             journal,
             trail: Log::new(),
             flags: PhantomData,
@@ -71,7 +151,7 @@ impl<P: Packed, A: Allocator + Copy> PlainPass<P, A> {
         ensures { MatchOption result (length self.now.seen ≤ i) (λ s. (i < length self.now.seen) × (slice_get self.now.seen i ≡ entry_of P.unpack s)) }
     {
         let setting = *self.journal.get(i)?;
-        let word = self.words[key_of(setting.place, self.limits)];
+        let word = word_of(&self.words, self.rounds, setting.place, self.limits);
         Some(Step {
             place: setting.place,
             word,
@@ -93,7 +173,7 @@ impl<P: Packed, A: Allocator + Copy> PlainPass<P, A> {
         ensures loads { Loads P.meld P.pack true self.old.name place self.old self.new }
         ensures word { result ≡ word_at P.pack self.new.seen place }
     {
-        let word = self.words[key_of(place, self.limits)];
+        let word = word_of(&self.words, self.rounds, place, self.limits);
         let load = true;
         self.trail = self.trail.and(&Last { place, word, load }, &load);
         word
@@ -108,6 +188,7 @@ impl<P: Packed, A: Allocator + Copy> PlainPass<P, A> {
     {
         let place = step.place;
         let index = key_of(place, self.limits);
+        self.rounds = reach(&mut self.words, self.rounds, place, self.limits);
         let word = self.words[index];
         let load = false;
         self.trail = self.trail.and(&Last { place, word, load }, &load);

@@ -20,7 +20,8 @@ pub fn is_within(place: Place, limits: Limits) -> bool
     }
 }
 
-/// Where the word of this place stands in the row of all words. Two places have two keys, all below the world's size.
+/// Where the word of this place stands in the row of all words: the lists, the revocations, and then round after round the
+/// slots and the arrivals of all communicators. Two places have two keys, all below the world's size.
 #[inline(always)]
 pub fn key_of(place: Place, limits: Limits) -> usize
     requires open { MayOpen limits }
@@ -29,20 +30,16 @@ pub fn key_of(place: Place, limits: Limits) -> usize
 {
     let ranks = limits.ranks as usize;
     let comms = limits.comms as usize;
-    let rounds = limits.rounds as usize;
     let lists = ranks + 2 * comms;
     match place {
         Place::List { index } => index as usize,
         Place::Comm { comm } => ranks + comm as usize,
         Place::Revoked { comm } => ranks + comms + comm as usize,
         Place::Slot { comm, round, rank } => {
-            lists + (comm as usize * rounds + round as usize) * ranks + rank as usize
+            lists + (2 * round as usize * comms + comm as usize) * ranks + rank as usize
         }
         Place::Arrival { comm, round, rank } => {
-            lists
-                + comms * rounds * ranks
-                + (comm as usize * rounds + round as usize) * ranks
-                + rank as usize
+            lists + ((2 * round as usize + 1) * comms + comm as usize) * ranks + rank as usize
         }
     }
 }

@@ -1,54 +1,60 @@
-use Rattle.std.proofs.Common.{◌≡◌, length, filter, refl, ap, ap₂, ◌∙◌, sym, subst, Some}
+use Rattle.std.proofs.Common.{◌≡◌, length, filter, Some, ap, ap₂, ◌∙◌, sym, subst}
+use Rattle.std.specs.List.Sorted.{IsStrictlyIncreasing}
 use Rattle.ulfm_model.specs.declared.call.Call.TheVariants as call
 use Rattle.ulfm_model.specs.declared.reply.Reply.TheVariants.{FailedGroup}
-use Rattle.ulfm_model.specs.{History.{failures, has}, Records.{Held, Record}}
-use Rattle.ulfm_comm.proofs.{Acks.{get_failed_is, get_passes}, Calling.{calls_is, calls_missing, runs_out}, Holding.{failed_is, group_rises}}
-use Rattle.std.specs.List.Sorted.{IsStrictlyIncreasing}
+use Rattle.ulfm_model.specs.{History.{has}, Records.{Held, held_at}}
+use Rattle.ulfm_comm.specs.Calls.{Calls, EndsReply}
+use Rattle.ulfm_comm.proofs.{Holding.{group_rises}, Typed.{HasCounted, has_counted}}
 use Rattle.ulfm_comm.proofs.rank.Rank.get_failed.Goals as goal
-use Rattle.ulfm_comm.proofs.rank.Rank.get_failed.Goals.{After-put_in}
+use Rattle.ulfm_comm.proofs.rank.Rank.get_failed.Goals.{After-failures, After-put_in}
 
-pub returns-in_default-clause-gets : goal.returns-in_default-clause-gets
-returns-in_default-clause-gets g c =
-    calls_missing g.P.Meld.meld g.W.Words.alone (g.W.Words.name c.args.world.now.words) (g.W.Words.sight c.args.pass.now) (g.W.Words.sight c.begin.new.pass) (call.GetFailed c.args.self.now.number c.args.comm)
-    c.args.self.now c.begin.new.self c.begin.ensures.goes.of c.requires.fits c.in_ok-begin.ensures.begins c.in_default.ensures.held
+-- the call has counted so many
+calls : (g : _) (c : After-failures g)
+    → Calls g.P.Meld.meld g.W.Words.alone (g.W.Words.name c.args.world.now.words) (call.GetFailed c.args.self.now.number c.args.comm) c.args.self.now (g.W.Words.sight c.args.pass.now) (FailedGroup c.in_ok-counted.field-0) c.call.new.self (g.W.Words.sight c.call.new.pass)
+calls g c =
+    let name = g.W.Words.name c.args.world.now.words in
+    subst (λ r. EndsReply g.P.Meld.meld g.W.Words.alone name (call.GetFailed c.args.self.now.number c.args.comm) c.args.self.now (g.W.Words.sight c.args.pass.now) r c.call.new.self (g.W.Words.sight c.call.new.pass)) (sym c.in_ok-counted.ensures)
+    (subst (λ n. EndsReply g.P.Meld.meld g.W.Words.alone name (call.GetFailed n c.args.comm) c.args.self.now (g.W.Words.sight c.args.pass.now) c.call.result c.call.new.self (g.W.Words.sight c.call.new.pass)) c.number-rank.ensures c.call.ensures.ends)
+
+counts : (g : _) (c : After-failures g)
+    → HasCounted g.P.Meld.meld g.W.Words.alone (g.W.Words.name c.args.world.now.words) c.args.self.now.number c.args.comm c.in_ok-counted.field-0 c.args.self.now (g.W.Words.sight c.args.pass.now) c.call.new.self (g.W.Words.sight c.call.new.pass)
+counts g c =
+    has_counted g.P.Meld.meld g.W.Words.alone (g.W.Words.name c.args.world.now.words) c.args.self.now.number c.args.comm c.in_ok-counted.field-0 c.args.self.now (g.W.Words.sight c.args.pass.now) c.call.new.self (g.W.Words.sight c.call.new.pass)
+    c.requires.fits (calls g c)
+
+-- the members rise
+rises : (g : _) (c : After-failures g) → IsStrictlyIncreasing c.x.inside.group.items
+rises g c =
+    let held : held_at c.call.new.self c.args.comm ≡ Some c.in-Some.x.now = c.in-Some.ensures.held in
+    subst IsStrictlyIncreasing (sym (ap (λ (y : Held). y.group) c.x.view_is))
+    (group_rises g.P.Meld.meld (g.W.Words.name c.args.world.now.words).limits (g.W.Words.sight c.call.new.pass).seen c.call.new.self c.args.comm c.in-Some.x.now (calls g c).fits held)
+
+pub make_room-requires : goal.make_room-requires
+make_room-requires g c = subst IsStrictlyIncreasing (sym c.deref.ensures.value) (rises g (goal.at.make_room-requires g c).After-failures)
+
+pub put_in-requires-clause-rises : goal.put_in-requires-clause-rises
+put_in-requires-clause-rises g c = subst IsStrictlyIncreasing (sym c.deref-2.ensures.value) (rises g (goal.at.put_in-requires-clause-rises g c).After-failures)
 
 pub returns-then-is_err-clause-gets : goal.returns-then-is_err-clause-gets
-returns-then-is_err-clause-gets g c =
-    let looked = c.in_ok-begin.ensures.begins in
-    runs_out g.P.Meld.meld g.W.Words.alone (g.W.Words.name c.args.world.now.words) (g.W.Words.sight c.args.pass.now) (g.W.Words.sight c.begin.new.pass) (call.GetFailed c.args.self.now.number c.args.comm)
-    c.args.self.now c.begin.new.self c.begin.ensures.goes.of c.requires.fits looked
-    (get_passes g.P.Meld.meld (g.W.Words.name c.args.world.now.words).limits g.W.Words.alone (g.W.Words.sight c.args.pass.now).seen (g.W.Words.sight c.begin.new.pass).seen c.args.self.now c.begin.new.self looked
-    c.args.self.now.number c.args.comm c.in-Some.x.now c.in-Some.ensures.held)
+returns-then-is_err-clause-gets g c = (counts g (goal.at.returns-then-is_err-clause-gets g c).After-failures).run_out
 
 -- the vector has the failures in the group that the look found
-found : (g : _) (c : After-put_in g) → c.put_in.new.found.items ≡ filter (has c.in-Some.x.now.group) (failures (g.W.Words.sight c.begin.new.pass).seen)
-found g c =
-    let seen = c.failures-2.ensures ∙ ap (λ (r : Record). r.seen) c.in_ok-begin.ensures.begins.record_is in
-    let group = c.deref-2.ensures.value ∙ ap (λ (y : Held). y.group) c.x.view_is in
-    c.put_in.ensures ∙ ap₂ (λ w v. filter (has w) v) group seen
+found : (g : _) (c : After-put_in g) (h : HasCounted g.P.Meld.meld g.W.Words.alone (g.W.Words.name c.args.world.now.words) c.args.self.now.number c.args.comm c.in_ok-counted.field-0 c.args.self.now (g.W.Words.sight c.args.pass.now) c.call.new.self (g.W.Words.sight c.call.new.pass))
+    → c.put_in.new.found.items ≡ filter (has h.x.group) c.call.new.self.seen
+found g c h =
+    let same : c.in-Some.x.now ≡ h.x = cc (c.in-Some.ensures.held, h.held) in
+    let group = c.deref-2.ensures.value ∙ (ap (λ (y : Held). y.group) c.x.view_is ∙ ap (λ (y : Held). y.group) same) in
+    c.put_in.ensures ∙ ap₂ (λ w v. filter (has w) v) group c.failures-2.ensures
 
 pub returns-clause-gets : goal.returns-clause-gets
 returns-clause-gets g c =
-    let at = found g (goal.at.returns-clause-gets g c).After-put_in in
-    let looked = c.in_ok-begin.ensures.begins in
-    calls_is g.P.Meld.meld g.W.Words.alone (g.W.Words.name c.args.world.now.words) (g.W.Words.sight c.args.pass.now) (g.W.Words.sight c.begin.new.pass) (call.GetFailed c.args.self.now.number c.args.comm)
-    c.args.self.now (FailedGroup (length c.put_in.new.found.items)) c.begin.new.self c.begin.ensures.goes.of c.requires.fits
-    (get_failed_is g.P.Meld.meld (g.W.Words.name c.args.world.now.words).limits g.W.Words.alone (g.W.Words.sight c.args.pass.now).seen (g.W.Words.sight c.begin.new.pass).seen c.args.self.now c.begin.new.self looked c.begin.ensures.goes.of.legal
-    c.begin.ensures.fits c.args.self.now.number c.args.comm c.in-Some.x.now c.in-Some.ensures.held (length c.put_in.new.found.items) c.begin.new.self (ap length at) refl)
+    let at = goal.at.returns-clause-gets g c in
+    let h = counts g at.After-failures in
+    let number = h.counted ∙ ap length (sym (found g at.After-put_in h)) in
+    subst (λ n. Calls g.P.Meld.meld g.W.Words.alone (g.W.Words.name c.args.world.now.words) (call.GetFailed c.args.self.now.number c.args.comm) c.args.self.now (g.W.Words.sight c.args.pass.now) (FailedGroup n) c.call.new.self (g.W.Words.sight c.call.new.pass)) number
+    (calls g at.After-failures)
 
 pub returns-clause-group : goal.returns-clause-group
 returns-clause-group g c =
-    found g (goal.at.returns-clause-group g c).After-put_in
-    ∙ failed_is g.P.Meld.meld (g.W.Words.name c.args.world.now.words).limits (g.W.Words.sight c.begin.new.pass).seen c.begin.new.self c.args.comm c.in-Some.x.now c.begin.ensures.fits c.in-Some.ensures.held
-
-pub make_room-requires : goal.make_room-requires
-make_room-requires g c =
-    let limits = (g.W.Words.name c.args.world.now.words).limits in
-    let look = (g.W.Words.sight c.begin.new.pass).seen in
-    subst IsStrictlyIncreasing (sym c.deref.ensures.value) (group_rises g.P.Meld.meld limits look c.begin.new.self c.args.comm _ c.begin.ensures.fits (c.in-Some.ensures.held ∙ ap Some (sym c.x.view_is)))
-
-pub put_in-requires-clause-rises : goal.put_in-requires-clause-rises
-put_in-requires-clause-rises g c =
-    let limits = (g.W.Words.name c.args.world.now.words).limits in
-    let look = (g.W.Words.sight c.begin.new.pass).seen in
-    subst IsStrictlyIncreasing (sym c.deref-2.ensures.value) (group_rises g.P.Meld.meld limits look c.begin.new.self c.args.comm _ c.begin.ensures.fits (c.in-Some.ensures.held ∙ ap Some (sym c.x.view_is)))
+    let at = goal.at.returns-clause-group g c in
+    let h = counts g at.After-failures in found g at.After-put_in h ∙ h.group

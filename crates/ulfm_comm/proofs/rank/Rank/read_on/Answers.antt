@@ -1,8 +1,8 @@
-use Rattle.std.proofs.Common.{◌≡◌, None, Some, ap, sym, ◌∙◌, subst}
+use Rattle.std.proofs.Common.{List, ℕ, ◌≡◌, None, Some, ap, sym, ◌∙◌, subst}
 use Rattle.std.specs.List.{position}
 use Rattle.ulfm_model.specs.History.{failures}
 use Rattle.ulfm_model.specs.Records.{Held, Record, held_at}
-use Rattle.ulfm_comm.specs.Shrinks.{MayReadOn, ReadsOn}
+use Rattle.ulfm_steps.specs.ReadsOn.{AtFailure, MayReadOn}
 use Rattle.ulfm_comm.proofs.Helds.{find_is, find_missing, is_of}
 use Rattle.ulfm_comm.proofs.rank.Rank.read_on.Goals as goal
 use Rattle.ulfm_comm.proofs.rank.Rank.read_on.Goals.{After-deref-2}
@@ -23,17 +23,22 @@ group_is g c x held =
     let same : c.index.result.now ≡ x = cc (found, held) in
     c.deref-2.ensures.value ∙ ap (λ (y : Held). y.group) (c.behind-self.view_is ∙ same)
 
-pub read_on-requires-clause-may : goal.read_on-requires-clause-may
-read_on-requires-clause-may g c =
-    let group = group_is g (goal.at.read_on-requires-clause-may g c).After-deref-2 c.requires.may.0 c.requires.may.1 in
+pub advance-requires-clause-may : goal.advance-requires-clause-may
+advance-requires-clause-may g c =
+    let may = c.requires.may in
+    let group = group_is g (goal.at.advance-requires-clause-may g c).After-deref-2 may.0 may.1 in
     let whole = failures (g.W.Words.sight c.args.pass.now).seen in
     let seen = ap (λ (own : Record). own.seen) c.self.view_is in
-    subst (λ ms. MayReadOn ms c.args.count c.self.inside.seen.items whole) (sym group) (subst (λ s. MayReadOn c.requires.may.0.group c.args.count s whole) (sym seen) c.requires.may.2)
+    subst (λ ms. MayReadOn ms c.args.count c.self.inside.seen.items whole) (sym group) (subst (λ s. MayReadOn may.0.group c.args.count s whole) (sym seen) may.2)
 
-pub returns-clause-reads : goal.returns-clause-reads
-returns-clause-reads g c =
-    λ x held.
-    let group = group_is g (goal.at.returns-clause-reads g c).After-deref-2 x held in
-    let whole = failures (g.W.Words.sight c.read_on.new.pass).seen in
+pub advance-requires-clause-at : goal.advance-requires-clause-at
+advance-requires-clause-at g c =
+    let may = c.requires.may in
+    let group = group_is g (goal.at.advance-requires-clause-at g c).After-deref-2 may.0 may.1 in
     let seen = ap (λ (own : Record). own.seen) c.self.view_is in
-    subst (λ ms. ReadsOn ms c.args.count c.args.self.now.seen c.read_on.new.seen.items whole c.read_on.result) group (subst (λ s. ReadsOn c.deref-2.result.now c.args.count s c.read_on.new.seen.items whole c.read_on.result) seen c.read_on.ensures.reads)
+    subst (λ ms. AtFailure ms c.args.count c.args.on.now c.self.inside.seen.items) (sym group) (subst (λ s. AtFailure may.0.group c.args.count c.args.on.now s) (sym seen) may.3)
+
+pub returns-clause-at : goal.returns-clause-at
+returns-clause-at g c = λ x held.
+    let group = group_is g (goal.at.returns-clause-at g c).After-deref-2 x held in
+    subst (λ ms. AtFailure ms c.args.count c.advance.new.self c.advance.new.seen.items) group c.advance.ensures.at

@@ -1,0 +1,15 @@
+use Rattle.std.proofs.Common.{◌≡◌, false}
+use Rattle.ulfm_words.specs.Steps.{IsOf}
+use Rattle.ulfm_comm.specs.Stages.{Stands, left}
+use Rattle.ulfm_comm.proofs.rank.Rank.call.Given as goal
+
+abbrev pub invariant-loop-next : goal.invariant-loop-next
+invariant-loop-next g l = record {
+  of : IsOf g.P.Meld.meld (g.W.Words.name l.world.words) (g.W.Words.sight l.pass);
+  stands : Stands g.P.Meld.meld g.W.Words.alone (g.W.Words.name l.world.words) l.initial.self (g.W.Words.sight l.initial.pass) (record { asked = l.asked; phase = l.phase; group = l.group.items }) l.self (g.W.Words.sight l.pass);
+  still : Stands g.P.Meld.meld false (g.W.Words.name l.world.words) l.initial.self (g.W.Words.sight l.initial.pass) (record { asked = l.asked; phase = l.phase; group = l.group.items }) l.self (g.W.Words.sight l.pass);
+  in_use : l.initial.self.refused ≡ false;
+}
+
+abbrev pub decreases-loop-next : goal.decreases-loop-next
+decreases-loop-next g l = left l.phase

@@ -1,0 +1,27 @@
+use Rattle.std.proofs.Common.{◌≡◌, false, ap, ◌∙◌, arith}
+use Rattle.ulfm_model.specs.Records.{Held}
+use Rattle.ulfm_comm.proofs.Polling.{marking_goes, marking_may_on, marking_reads}
+use Rattle.ulfm_comm.proofs.rank.Rank.go_marking.Goals as goal
+use Rattle.ulfm_comm.proofs.rank.Rank.go_marking.Goals.{After-deref}
+
+-- the members that the code reads
+members : (g : _) (c : After-deref g) → c.deref.result.now ≡ c.in-Some.x.now.group
+members g c = c.deref.ensures.value ∙ ap (λ (y : Held). y.group) c.x.view_is
+
+pub advance-requires-clause-may : goal.advance-requires-clause-may
+advance-requires-clause-may g c =
+    let stands = c.requires.stands.1 in
+    marking_may_on g.P.Meld.meld (g.W.Words.name c.args.world.now.words) c.args.asked.now c.args.marks c.args.shrinks c.requires.stands.0 c.args.self.now (g.W.Words.sight c.args.pass.now) c.requires.of
+    c.in-Some.x.now c.comm_of.result c.in-Some.ensures.held c.comm_of.ensures c.deref.result.now c.failures-seen.result.now (members g (goal.at.advance-requires-clause-may g c).After-deref) c.failures-seen.ensures false stands.0 stands.1 stands.2
+
+pub returns-then-marks-seen-clause-turns : goal.returns-then-marks-seen-clause-turns
+returns-then-marks-seen-clause-turns g c = λ group alone only old before stands.
+    marking_goes g.P.Meld.meld (g.W.Words.name c.args.world.now.words) c.args.asked.now c.args.marks c.args.shrinks group c.args.self.now (g.W.Words.sight c.args.pass.now) c.requires.of
+    c.in-Some.x.now c.comm_of.result c.in-Some.ensures.held c.comm_of.ensures c.deref.result.now c.failures-seen.result.now (members g (goal.at.returns-then-marks-seen-clause-turns g c).After-deref) c.failures-seen.ensures alone old before stands
+    g.W.Words.alone only (g.W.Words.sight c.advance.new.pass) c.advance.new.self c.advance.ensures.rank c.advance.ensures.comm c.advance.ensures.round c.advance.ensures.at c.advance.ensures.marks c.if-marks-seen.true
+
+pub returns-clause-turns : goal.returns-clause-turns
+returns-clause-turns g c = λ group alone only old before stands.
+    marking_reads g.P.Meld.meld (g.W.Words.name c.args.world.now.words) c.args.asked.now c.args.marks c.args.shrinks group c.args.self.now (g.W.Words.sight c.args.pass.now) c.requires.of
+    c.in-Some.x.now c.comm_of.result c.in-Some.ensures.held c.comm_of.ensures c.deref.result.now c.failures-seen.result.now (members g (goal.at.returns-clause-turns g c).After-deref) c.failures-seen.ensures alone old before stands
+    g.W.Words.alone only (g.W.Words.sight c.advance.new.pass) c.advance.new.self c.advance.ensures.rank c.advance.ensures.comm c.advance.ensures.round c.advance.ensures.at c.advance.ensures.marks c.new.result c.new.ensures (omega (arith, c.if-marks-seen.false))

@@ -1,0 +1,54 @@
+use Rattle.std.proofs.Common.{ℕ, List, refl, sym, subst}
+use Rattle.ulfm_model.specs.declared.reply.Reply.TheVariants.{Started}
+use Rattle.ulfm_comm.specs.{Calls.{reply_of}, Stages.{Answered, Turns}}
+use Rattle.ulfm_comm.specs.declared.doing.{Next.TheVariants.{Ends}, Phase.TheVariants.{Settling}}
+use Rattle.ulfm_comm.proofs.{Holding.{found_there}, Exchanging.{fits_now, seen_is, start_answered, walks_settled}, Starts.{acked_known}}
+use Rattle.ulfm_comm.proofs.rank.Rank.go_settling.Goals as goal
+use Rattle.ulfm_comm.proofs.rank.Rank.go_settling.Goals.{After-end_start}
+
+pub contribute-settled-requires-clause-fits : goal.contribute-settled-requires-clause-fits
+contribute-settled-requires-clause-fits g c =
+    let s = c.requires.stands.1.2 in
+    let p = s.at.0 in fits_now _ _ _ _ _ _ _ _ p c.requires.of.legal
+
+pub contribute-settled-requires-clause-held : goal.contribute-settled-requires-clause-held
+contribute-settled-requires-clause-held g c =
+    let s = c.requires.stands.1.2 in
+    let p = s.at.0 in
+    found_there g.P.Meld.meld (g.W.Words.name c.args.world.now.words).limits (g.W.Words.sight c.args.pass.now).seen c.args.self.now c.comm_of.result c.in-Some.x.now
+    (fits_now _ _ _ _ _ _ _ _ p c.requires.of.legal) c.in-Some.ensures.held
+
+pub contribute-settled-requires-clause-acked : goal.contribute-settled-requires-clause-acked
+contribute-settled-requires-clause-acked g c =
+    let s = c.requires.stands.1.2 in
+    let p = s.at.0 in
+    acked_known g.P.Meld.meld (g.W.Words.name c.args.world.now.words).limits p.look c.args.self.now c.comm_of.result c.in-Some.x.now p.fits c.in-Some.ensures.held (seen_is _ _ _ _ _ _ _ _ p)
+
+pub returns-in-Ok-clause-walks : goal.returns-in-Ok-clause-walks
+returns-in-Ok-clause-walks g c =
+    walks_settled g.P.Meld.meld g.W.Words.alone (g.W.Words.name c.args.world.now.words) c.args.self.now.number (g.W.Words.sight c.args.pass.now) (g.W.Words.sight c.contribute-settled.new.pass)
+    c.contribute-settled.ensures.of c.contribute-settled.ensures.one c.args.self.now c.in-Some.x.now c.args.offer c.contribute-settled.result refl c.contribute-settled.ensures.settles
+
+-- the start is answered as its exchange says
+answered : (g : _) (c : After-end_start g) (group : List ℕ)
+    → Turns g.P.Meld.meld g.W.Words.alone (g.W.Words.name c.args.world.now.words) c.args.asked.now (Settling c.args.request c.args.offer) group c.args.self.now (g.W.Words.sight c.args.pass.now)
+    (Ends (reply_of (λ _. Started) c.end_start.result)) group c.end_start.new.self (g.W.Words.sight c.contribute-settled.new.pass)
+answered g c =
+    λ group alone only old before stands.
+    let held = c.in-Some.ensures.held in
+    let name = g.W.Words.name c.args.world.now.words in
+    subst (λ r. Answered g.P.Meld.meld alone name c.args.asked.now old before (reply_of (λ _. Started) r) c.end_start.new.self (g.W.Words.sight c.contribute-settled.new.pass)) (sym c.end_start.ensures.result)
+    (start_answered g.P.Meld.meld alone g.W.Words.alone only name c.args.asked.now c.args.request c.args.offer group old before c.args.self.now (g.W.Words.sight c.args.pass.now) (g.W.Words.sight c.contribute-settled.new.pass)
+    stands c.in-Some.x.now (rw (← c.comm_of.ensures) held) c.contribute-settled.result c.end_start.new.self c.contribute-settled.ensures.of c.contribute-settled.ensures.settles (rw (← c.comm_of-2.ensures) c.end_start.ensures.leaves))
+
+pub returns-in-Ok-clause-turns : goal.returns-in-Ok-clause-turns
+returns-in-Ok-clause-turns g c =
+    λ group alone only old before stands.
+    subst (λ r. Answered g.P.Meld.meld alone (g.W.Words.name c.args.world.now.words) c.args.asked.now old before (reply_of (λ _. Started) r) c.end_start.new.self (g.W.Words.sight c.contribute-settled.new.pass)) c.in-Ok.is
+    (answered g (goal.at.returns-in-Ok-clause-turns g c).After-end_start group alone only old before stands)
+
+pub returns-in-Err-clause-turns : goal.returns-in-Err-clause-turns
+returns-in-Err-clause-turns g c =
+    λ group alone only old before stands.
+    subst (λ r. Answered g.P.Meld.meld alone (g.W.Words.name c.args.world.now.words) c.args.asked.now old before (reply_of (λ _. Started) r) c.end_start.new.self (g.W.Words.sight c.contribute-settled.new.pass)) c.in-Err.is
+    (answered g (goal.at.returns-in-Err-clause-turns g c).After-end_start group alone only old before stands)

@@ -1,0 +1,31 @@
+use Rattle.std.proofs.Common.{◌≡◌, List, None, Some, take, ap, ap₂, sym, ◌∙◌}
+use Rattle.std.specs.Prelude.{IfOk, Result, Ok, Err}
+use Rattle.std.specs.List.{position}
+use Rattle.ulfm_model.specs.History.{without}
+use Rattle.ulfm_model.specs.Records.{Held, Record, held_at}
+use Rattle.ulfm_comm.proofs.Helds.{find_is, find_missing, is_of}
+use Rattle.ulfm_comm.proofs.rank.Rank.make_room.Goals as goal
+
+pub unreachable-requires : goal.unreachable-requires
+unreachable-requires g c =
+    let items = c.self.inside.held.items in
+    let missing : held_at c.args.self.now c.args.comm ≡ None =
+    ap (λ (own : Record). held_at own c.args.comm) (sym c.self.view_is) ∙ find_missing items c.args.comm (ap (position (is_of c.args.comm)) (sym c.deref.ensures.value) ∙ (sym c.place_of.ensures ∙ c.in_default.is)) in
+    absurd (cc (missing, c.requires.held.1))
+
+-- what holds anyway holds of a result
+whatever : {T E : Type 0} (result : Result T E) (Q : Type 0) → Q → IfOk result (λ _. Q)
+whatever (Ok x) Q q = q
+whatever (Err e) Q q = tt
+
+pub returns-clause-left : goal.returns-clause-left
+returns-clause-left g c =
+    whatever c.reserve.result ((x : Held) → held_at c.args.self.now c.args.comm ≡ Some x → c.in_ok-group.field-0.items ≡ without x.group (take c.args.reach c.args.self.now.seen))
+    (λ x held.
+    let items = c.self.inside.held.items in
+    let at : position (is_of c.args.comm) items ≡ Some c.in-Some.i = ap (position (is_of c.args.comm)) (sym c.deref.ensures.value) ∙ (sym c.place_of.ensures ∙ c.in-Some.is) in
+    let found = ap (λ (own : Record). held_at own c.args.comm) (sym c.self.view_is) ∙ (find_is items c.args.comm c.in-Some.i c.index.result.now at ∙ ap Some (sym c.index.ensures)) in
+    let same : c.index.result.now ≡ x = cc (found, held) in
+    let group = c.deref-2.ensures.value ∙ ap (λ (y : Held). y.group) (c.behind-self.view_is ∙ same) in
+    let seen = c.deref-3.ensures.value ∙ ap (λ (own : Record). own.seen) c.self.view_is in
+    c.in_ok-group.ensures ∙ ap₂ (λ ms s. without ms (take c.args.reach s)) group seen)

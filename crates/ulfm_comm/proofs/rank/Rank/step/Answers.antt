@@ -1,0 +1,49 @@
+use Rattle.std.proofs.Common.{◌≡◌, Bool, IsTrue, ap, sym, ◌∙◌, subst, false}
+use Rattle.ulfm_model.specs.declared.call.Call.{Call}
+use Rattle.ulfm_model.specs.Records.{Record}
+use Rattle.ulfm_words.specs.Steps.{Sight}
+use Rattle.ulfm_comm.specs.Stages.{Answered, NextIs, Stands, UnderWay, Waits}
+use Rattle.ulfm_comm.proofs.Lasting.{stands_lasts}
+use Rattle.ulfm_comm.proofs.rank.Rank.step.Goals as goal
+use Rattle.ulfm_comm.proofs.rank.Rank.step.Goals.{After-go, After-go-arg-4-1}
+
+-- the call as its step takes it
+same : (g : _) (c : After-go-arg-4-1 g) → c.args.doing.now ≡ record { asked = c.doing.inside.asked; phase = c.replace-phase.result; group = c.doing.inside.group.items }
+same g c = sym c.doing.view_is ∙ ap (λ phase. record { asked = c.doing.inside.asked; phase = phase; group = c.doing.inside.group.items }) (sym c.replace-phase.ensures.value)
+
+pub go-requires-clause-stands : goal.go-requires-clause-stands
+go-requires-clause-stands g c =
+    let p = c.requires.stood in
+    let name = g.W.Words.name c.args.world.now.words in
+    let now = g.W.Words.sight c.args.pass.now in (
+      p.0,
+      p.1,
+      subst (λ (doing : UnderWay g.row.P.Denot). Stands g.P.Meld.meld false name p.0 p.1 doing c.args.self.now now) (same g c)
+          (stands_lasts g.P.Meld.meld false name p.0 p.1 c.args.doing.now c.args.self.now p.2 now p.3 p.4 c.requires.of),
+    )
+
+-- what came of it
+pub turned : (g : _) (c : After-go g) → (alone : Bool) → (IsTrue alone → IsTrue g.W.Words.alone) → (old : Record) → (before stood : Sight g.row.P.Denot)
+    → Stands g.P.Meld.meld alone (g.W.Words.name c.args.world.now.words) old before c.args.doing.now c.args.self.now stood → Waits alone stood (g.W.Words.sight c.args.pass.now)
+    → NextIs g.P.Meld.meld alone (g.W.Words.name c.args.world.now.words) c.doing.inside.asked old before c.go.result c.go.new.group.items c.go.new.self (g.W.Words.sight c.go.new.pass)
+turned g c alone only old before stood u waits =
+    let name = g.W.Words.name c.args.world.now.words in
+    let now = g.W.Words.sight c.args.pass.now in
+    c.go.ensures.turns alone only old before
+    (subst (λ (doing : UnderWay g.row.P.Denot). Stands g.P.Meld.meld alone name old before doing c.args.self.now now) (same g (goal.at.After-go g c).After-go-arg-4-1)
+    (stands_lasts g.P.Meld.meld alone name old before c.args.doing.now c.args.self.now stood now u waits c.requires.of))
+
+pub returns-in-Goes-clause-stands : goal.returns-in-Goes-clause-stands
+returns-in-Goes-clause-stands g c =
+    λ alone only old before stood u waits.
+    subst (λ next. NextIs g.P.Meld.meld alone (g.W.Words.name c.args.world.now.words) c.doing.inside.asked old before next c.go.new.group.items c.go.new.self (g.W.Words.sight c.go.new.pass)) c.in-Goes.is
+    (turned g (goal.at.returns-in-Goes-clause-stands g c).After-go alone only old before stood u waits)
+
+pub returns-in-Ends-clause-stands : goal.returns-in-Ends-clause-stands
+returns-in-Ends-clause-stands g c =
+    λ alone only old before stood u waits.
+    let name = g.W.Words.name c.args.world.now.words in
+    let after = g.W.Words.sight c.go.new.pass in
+    subst (λ (a : Call g.row.P.Denot). Answered g.P.Meld.meld alone name a old before c.in-Ends.reply c.go.new.self after) (ap (λ (doing : UnderWay g.row.P.Denot). doing.asked) c.doing.view_is)
+    (subst (λ next. NextIs g.P.Meld.meld alone name c.doing.inside.asked old before next c.go.new.group.items c.go.new.self after) c.in-Ends.is
+    (turned g (goal.at.returns-in-Ends-clause-stands g c).After-go alone only old before stood u waits))

@@ -1,0 +1,30 @@
+-- A rank whose calls are taken step by step, among others over one pass.
+use Rattle.std.specs.Prelude.{List, Option, MatchOption, false}
+use Rattle.std.specs.List.{AllByRecursion}
+use mathlib.Core.List.{IsPrefix}
+use Rattle.ulfm_model.specs.Records.{Fits, Record}
+use Rattle.ulfm_words.specs.Steps.{IsOf, Name, Sight}
+use Rattle.ulfm_comm.specs.Stages.{Stands, UnderWay, Waits}
+
+-- a rank's record, and its call under way, if there is one
+pub record Seated (P : Type 0) : Type 0 where
+  pub own : Record
+  pub doing : Option (UnderWay P)
+
+-- a call under way stood here, and since then there were others' events alone
+pub record HasStood {P : Type 0} (meld : P → P → P) (name : Name) (own : Record) (pass : Sight P) (doing : UnderWay P) : Type 0 where
+  pub old : Record
+  pub before : Sight P
+  pub stood : Sight P
+  pub stands : Stands meld false name old before doing own stood
+  pub waits : Waits false stood pass
+  pub begins : IsPrefix before.seen pass.seen
+
+-- the record fits what the pass has seen, or the call under way goes on
+abbrev pub Sits : {P : Type 0} → (P → P → P) → Name → Sight P → Seated P → Type 0
+Sits {P} meld name pass seat = MatchOption seat.doing (Fits meld name.limits pass.seen seat.own) (HasStood meld name seat.own pass)
+
+-- the pass is of these words, and each rank sits so
+pub record IsPlay {P : Type 0} (meld : P → P → P) (name : Name) (pass : Sight P) (seats : List (Seated P)) : Type 0 where
+  pub of : IsOf meld name pass
+  pub sits : AllByRecursion (Sits meld name pass) seats

@@ -1,0 +1,177 @@
+// The further steps of a shrink's poll, once its round is decided.
+ghost use Rattle.std.specs.Prelude.{Bool, ◌≡◌, ◌≢◌, ◌+◌, false, true};
+ghost use Rattle.ulfm_model.specs.Records.{Record};
+ghost use Rattle.ulfm_comm.specs.Stages.{HasReached, HasReadAll, IsFurther, NextBelow, NextIs, StillStands, Turns, Walks};
+ghost use Rattle.ulfm_model.specs.declared.{refusal.Refusal.TheVariants.{OutOfMemory}, reply.Reply.TheVariants.{Refused}};
+ghost use Rattle.ulfm_comm.specs.declared.doing.Next.TheVariants.{Ends as NextEnds};
+ghost use Rattle.ulfm_comm.specs.declared.doing.Phase.TheVariants.{ReadingOn as AtReadingOn, Spawning as AtSpawning};
+ghost use Rattle.ulfm_words.specs.Steps.{IsOf, Sight};
+
+use crate::doing::{Made, Next, Phase};
+use crate::ids::lowest_id;
+use crate::rank::Rank;
+use crate::refusal::comm_of;
+use crate::spawned::Spawned;
+use crate::world::World;
+use std::alloc::Allocator;
+use ulfm_laws::body::Body;
+use ulfm_laws::meld::Packed;
+use ulfm_laws::summary::Summary;
+use ulfm_model::call::Call;
+use ulfm_model::event::Caller;
+use ulfm_model::refusal::Refusal;
+use ulfm_model::reply::Reply;
+use ulfm_steps::group::has_rank;
+use ulfm_steps::{Append, Item, ReadOn};
+use ulfm_words::Words;
+
+impl<P: Packed, A: Allocator + Copy> Rank<P, A> {
+    // What comes next where a shrink's round says this.
+    pub(crate) fn shrunk<W: Words<P, A>>(
+        &mut self,
+        world: &World<W, P, A>,
+        pass: &W::Pass,
+        asked: &Call<P>,
+        round: u16,
+        all: Summary<P>,
+        group: &mut Vec<u16, A>,
+    ) -> Next<P>
+        requires of { IsOf P.meld (W.name world.now.words) (W.sight pass.now) }
+        requires read { (old : Record) × (before : Sight P) × HasReadAll P.meld false (W.name world.now.words) asked.now true round all old before self.old (W.sight pass.now) }
+        ensures further { NextBelow 5 result }
+        ensures turns { (alone : Bool) (old : Record) (before : Sight P) → HasReadAll P.meld alone (W.name world.now.words) asked.now true round all old before self.old (W.sight pass.now) → NextIs P.meld alone (W.name world.now.words) asked.now old before result group.new.items self.new (W.sight pass.now) }
+    {
+        let comm = comm_of(asked);
+        let Body::Ctx(mask) = all.body else {
+            self.close(comm);
+            return Next::Ends(Reply::Refused(Refusal::Mismatch));
+        };
+        if mask.bits == 0 {
+            self.close(comm);
+            return Next::Ends(Reply::Refused(Refusal::NoContext));
+        }
+        let Some(x) = self.held(comm) else {
+            unreachable!()
+        };
+        let count = all.known.count;
+        let on = ReadOn::new(&x.group, count, self.failures());
+        let made = Made { round, mask, count };
+        if on.found < count {
+            return Next::Goes(Phase::ReadingOn { on, made });
+        }
+        self.reached(world, pass, asked, on.reach, made, group)
+    }
+
+    // A load of the list of failures, or all that are left, as far as the decision's failed group reaches.
+    #[inline(always)]
+    pub(crate) fn go_reading_on<W: Words<P, A>>(
+        &mut self,
+        world: &World<W, P, A>,
+        pass: &mut W::Pass,
+        asked: &Call<P>,
+        on: ReadOn,
+        made: Made,
+        whole: bool,
+        group: &mut Vec<u16, A>,
+    ) -> Next<P>
+        requires of { IsOf P.meld (W.name world.now.words) (W.sight pass.old) }
+        requires stands { StillStands P.meld (W.name world.now.words) asked.now (AtReadingOn on made) group.old.items self.old (W.sight pass.old) }
+        ensures walks { Walks P.meld W.alone (W.name world.now.words) self.old.number (W.sight pass.old) (W.sight pass.new) }
+        ensures one { whole ≡ false → (W.sight pass.new).steps ≡ (W.sight pass.old).steps + 1 }
+        ensures further { whole ≡ true → IsFurther (AtReadingOn on made) result }
+        ensures turns { Turns P.meld W.alone (W.name world.now.words) asked.now (AtReadingOn on made) group.old.items self.old (W.sight pass.old) result group.new.items self.new (W.sight pass.new) }
+    {
+        let mut on = on;
+        self.read_on(
+            &world.words,
+            pass,
+            comm_of(asked),
+            &mut on,
+            made.count,
+            whole,
+        );
+        if on.found < made.count {
+            return Next::Goes(Phase::ReadingOn { on, made });
+        }
+        self.reached(world, pass, asked, on.reach, made, group)
+    }
+
+    // What comes next where the decision's whole failed group is known: so many failures that were seen reach as far as it.
+    fn reached<W: Words<P, A>>(
+        &mut self,
+        world: &World<W, P, A>,
+        pass: &W::Pass,
+        asked: &Call<P>,
+        reach: usize,
+        made: Made,
+        group: &mut Vec<u16, A>,
+    ) -> Next<P>
+        requires of { IsOf P.meld (W.name world.now.words) (W.sight pass.now) }
+        requires reached { (old : Record) × (before : Sight P) × HasReached P.meld false (W.name world.now.words) asked.now made reach old before self.old (W.sight pass.now) }
+        ensures further { NextBelow 4 result }
+        ensures turns { (alone : Bool) (old : Record) (before : Sight P) → HasReached P.meld alone (W.name world.now.words) asked.now made reach old before self.old (W.sight pass.now) → NextIs P.meld alone (W.name world.now.words) asked.now old before result group.new.items self.new (W.sight pass.now) }
+    {
+        let number = self.number();
+        if has_rank(&self.failures()[..reach], number) {
+            self.refuse();
+            return Next::Ends(Reply::Refused(Refusal::SelfFailed));
+        }
+        let comm = comm_of(asked);
+        if self.make_room(comm, reach, group).is_err() {
+            return Next::Ends(Reply::Refused(Refusal::OutOfMemory));
+        }
+        if world.words.limits().comms == 1 {
+            self.close(comm);
+            return Next::Ends(Reply::Refused(Refusal::NoRoom));
+        }
+        let item = Item::Comm {
+            parent: comm,
+            round: made.round,
+        };
+        Next::Goes(Phase::Spawning {
+            append: Append::new(item, Caller::Rank(number)),
+            context: lowest_id(made.mask),
+            reach,
+        })
+    }
+
+    // A load or an exchange of the list of communicators, or all that are left, until it has the round's or is full.
+    pub(crate) fn go_spawning<W: Words<P, A>>(
+        &mut self,
+        world: &World<W, P, A>,
+        pass: &mut W::Pass,
+        asked: &Call<P>,
+        append: Append,
+        context: u8,
+        reach: usize,
+        whole: bool,
+        group: &mut Vec<u16, A>,
+    ) -> Next<P>
+        requires of { IsOf P.meld (W.name world.now.words) (W.sight pass.old) }
+        requires stands { StillStands P.meld (W.name world.now.words) asked.now (AtSpawning append context reach) group.old.items self.old (W.sight pass.old) }
+        ensures walks { Walks P.meld W.alone (W.name world.now.words) self.old.number (W.sight pass.old) (W.sight pass.new) }
+        ensures one { whole ≡ false → result ≢ NextEnds (Refused OutOfMemory) → (W.sight pass.new).steps ≡ (W.sight pass.old).steps + 1 }
+        ensures further { whole ≡ true → IsFurther (AtSpawning append context reach) result }
+        ensures turns { Turns P.meld W.alone (W.name world.now.words) asked.now (AtSpawning append context reach) group.old.items self.old (W.sight pass.old) result group.new.items self.new (W.sight pass.new) }
+    {
+        let comm = comm_of(asked);
+        let mut append = append;
+        match self.spawn(&world.words, pass, comm, &mut append, context, whole, group) {
+            Spawned::Unknown => Next::Goes(Phase::Spawning {
+                append,
+                context,
+                reach,
+            }),
+            Spawned::Made { comm, size } => Next::Ends(Reply::Shrunk {
+                comm,
+                context,
+                size,
+            }),
+            Spawned::Full => {
+                self.close(comm);
+                Next::Ends(Reply::Refused(Refusal::NoRoom))
+            }
+            Spawned::NoMemory => Next::Ends(Reply::Refused(Refusal::OutOfMemory)),
+        }
+    }
+}

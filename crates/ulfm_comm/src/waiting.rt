@@ -1,0 +1,80 @@
+// The steps of a barrier's poll: loads of arrivals, and last that of the revocation.
+ghost use Rattle.std.specs.Prelude.{ℕ, List, ◌≡◌, ◌+◌, false, true};
+ghost use Rattle.ulfm_comm.specs.Stages.{IsFurther, StillStands, Turns, Walks};
+ghost use Rattle.ulfm_comm.specs.declared.doing.Next.TheVariants.{Ends as NextEnds};
+ghost use Rattle.ulfm_comm.specs.declared.doing.Phase.TheVariants.{Waiting as AtWaiting, Checking as AtChecking};
+ghost use Rattle.ulfm_words.specs.Steps.{IsOf};
+
+use crate::doing::{Next, Phase};
+use crate::rank::Rank;
+use crate::refusal::comm_of;
+use crate::world::World;
+use std::alloc::Allocator;
+use ulfm_laws::meld::Packed;
+use ulfm_model::call::Call;
+use ulfm_model::refusal::Refusal;
+use ulfm_model::reply::Reply;
+use ulfm_steps::{Arrivals, Missing};
+use ulfm_words::{Words, load_revocation};
+
+impl<P: Packed, A: Allocator> Rank<P, A> {
+    // The load of a member's arrival, or of all that are left, up to the first who is missing.
+    #[inline(always)]
+    pub(crate) fn go_waiting<W: Words<P, A>>(
+        &self,
+        world: &World<W, P, A>,
+        pass: &mut W::Pass,
+        asked: &Call<P>,
+        arrivals: Arrivals,
+        whole: bool,
+    ) -> Next<P>
+        requires of { IsOf P.meld (W.name world.now.words) (W.sight pass.old) }
+        requires stands { (group : List ℕ) × StillStands P.meld (W.name world.now.words) asked.now (AtWaiting arrivals) group self.now (W.sight pass.old) }
+        ensures walks { Walks P.meld W.alone (W.name world.now.words) self.now.number (W.sight pass.old) (W.sight pass.new) }
+        ensures one { whole ≡ false → (W.sight pass.new).steps ≡ (W.sight pass.old).steps + 1 }
+        ensures further { whole ≡ true → IsFurther (AtWaiting arrivals) result }
+        ensures turns { (group : List ℕ) → Turns P.meld W.alone (W.name world.now.words) asked.now (AtWaiting arrivals) group self.now (W.sight pass.old) result group self.now (W.sight pass.new) }
+    {
+        let Some(x) = self.held(comm_of(asked)) else {
+            unreachable!()
+        };
+        let mut arrivals = arrivals;
+        match arrivals.advance(&world.words, pass, &x.group, self.failures(), whole) {
+            None => Next::Goes(Phase::Waiting { arrivals }),
+            Some(missing) => Next::Goes(Phase::Checking { missing }),
+        }
+    }
+
+    // The load of the revocation, which is read last: where it doesn't stand then, it didn't stand when somebody was found missing.
+    #[inline(always)]
+    pub(crate) fn go_checking<W: Words<P, A>>(
+        &mut self,
+        world: &World<W, P, A>,
+        pass: &mut W::Pass,
+        asked: &Call<P>,
+        missing: Missing,
+    ) -> Reply<P>
+        requires of { IsOf P.meld (W.name world.now.words) (W.sight pass.old) }
+        requires stands { (group : List ℕ) × StillStands P.meld (W.name world.now.words) asked.now (AtChecking missing) group self.old (W.sight pass.old) }
+        ensures walks { Walks P.meld W.alone (W.name world.now.words) self.old.number (W.sight pass.old) (W.sight pass.new) }
+        ensures one { (W.sight pass.new).steps ≡ (W.sight pass.old).steps + 1 }
+        ensures turns { (group : List ℕ) → Turns P.meld W.alone (W.name world.now.words) asked.now (AtChecking missing) group self.old (W.sight pass.old) (NextEnds result) group self.new (W.sight pass.new) }
+    {
+        let comm = comm_of(asked);
+        if load_revocation(&world.words, pass, comm) {
+            self.close(comm);
+            return Reply::Refused(Refusal::IsRevoked);
+        }
+        match missing {
+            Missing::Nobody => {
+                self.close(comm);
+                Reply::Done
+            }
+            Missing::Others => Reply::Pending,
+            Missing::Declared => {
+                self.close(comm);
+                Reply::Refused(Refusal::ProcFailed)
+            }
+        }
+    }
+}

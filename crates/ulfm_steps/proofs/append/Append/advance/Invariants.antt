@@ -1,0 +1,23 @@
+use Rattle.std.proofs.Common.{◌≡◌, ◌+◌, ◌*◌, ◌<◌, ◌≤◌, [], false}
+use Rattle.ulfm_model.specs.Runs.{Did}
+use Rattle.ulfm_words.specs.Steps.{IsOf}
+use Rattle.ulfm_steps.specs.{Appends.{MayAppend, Passed, room}, Turns.{turns_left}}
+use Rattle.ulfm_steps.proofs.append.Append.advance.Given as goal
+
+abbrev pub invariant-loop-end : goal.invariant-loop-end
+invariant-loop-end g l = record {
+  item : l.self.item ≡ l.initial.self.item;
+  by : l.self.by ≡ l.initial.self.by;
+  of : IsOf g.P.Meld.meld (g.W.Words.name l.words) (g.W.Words.sight l.pass);
+  did : Did g.W.Words.alone [] (g.W.Words.sight l.initial.pass).seen (g.W.Words.sight l.pass).seen;
+  may : MayAppend g.P.Meld.meld (g.W.Words.name l.words).limits (g.W.Words.sight l.pass).seen l.self.item;
+  passed : Passed (g.W.Words.sight l.pass).seen l.self.item l.self.index;
+  within : l.self.index < room l.self.item (g.W.Words.name l.words).limits;
+  first : l.whole ≡ false → (g.W.Words.sight l.pass).steps ≡ (g.W.Words.sight l.initial.pass).steps;
+  turn : l.whole ≡ false → l.self ≡ l.initial.self;
+  onward : (g.W.Words.sight l.initial.pass).steps ≤ (g.W.Words.sight l.pass).steps;
+  steps : (g.W.Words.sight l.pass).steps + turns_left (room l.self.item (g.W.Words.name l.words).limits) l.self ≤ (g.W.Words.sight l.initial.pass).steps + 2 * room l.initial.self.item (g.W.Words.name l.words).limits;
+}
+
+abbrev pub decreases-loop-end : goal.decreases-loop-end
+decreases-loop-end g l = turns_left (room l.self.item (g.W.Words.name l.words).limits) l.self

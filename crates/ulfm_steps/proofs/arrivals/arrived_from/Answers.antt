@@ -1,0 +1,97 @@
+use Rattle.std.proofs.Common.{◌≡◌, ◌<◌, true, [], length, slice_index_or, subst, ap, sym, ◌∙◌, arith}
+use Rattle.std.specs.List.{slice_index}
+use Rattle.ulfm_model.specs.History.{has_arrived}
+use Rattle.ulfm_words.proofs.Trails.{did_prefix, did_wait}
+use Rattle.ulfm_steps.specs.Arriving.{IsAsked, asked_before, asks, rank_at, ranks_of}
+use Rattle.ulfm_steps.proofs.{Arriving.{arrivals_stay, arrived_on, asked_at, asked_end, asked_fewer, asked_member, asked_missing, count_on, rank_is, within_ranks}, Groups.{round_rises}, Reading.{member_within, round_stays}}
+use Rattle.ulfm_steps.proofs.arrivals.arrived_from.Goals as goal
+use Rattle.ulfm_steps.proofs.arrivals.arrived_from.Goals.{Joined-others, After-is_asked-asked, then-others, else-others}
+
+-- the ranks that the loop goes through
+ranks_are : (g : _) (c : Joined-others g) → c.if-others.ranks.now ≡ ranks_of c.args.group.now c.args.declared.now c.args.others
+ranks_are g c =
+    elim c.if-others.branch [
+      | then-others w ↦ ap (λ r. r.now) w.ranks-is ∙ ap (ranks_of c.args.group.now c.args.declared.now) (sym w.if-others.true)
+      | else-others w ↦ ap (λ r. r.now) w.ranks-is ∙ ap (ranks_of c.args.group.now c.args.declared.now) (sym w.if-others.false)
+    ]
+
+below : (g : _) (c : After-is_asked-asked g) → c.loop-at.at < length (ranks_of c.args.group.now c.args.declared.now c.args.others)
+below g c = subst (λ xs. c.loop-at.at < length xs) (ranks_are g (goal.at.After-is_asked-asked g c).Joined-others) c.loop-at-test.true
+
+-- whether this one is asked about
+asks_it : (g : _) (c : After-is_asked-asked g) → c.is_asked-asked.result ≡ asks c.args.group.now c.args.declared.now c.args.others (slice_index (ranks_of c.args.group.now c.args.declared.now c.args.others) c.loop-at.at)
+asks_it g c = c.is_asked-asked.ensures ∙ ap (λ xs. asks c.args.group.now c.args.declared.now c.args.others (slice_index xs c.loop-at.at)) (ranks_are g (goal.at.After-is_asked-asked g c).Joined-others)
+
+it_is : (g : _) (c : After-is_asked-asked g) → slice_index_or c.if-others.ranks.now c.loop-at.at 0 ≡ rank_at c.args.group.now c.args.declared.now c.args.others c.loop-at.at
+it_is g c = ap (λ xs. slice_index xs c.loop-at.at) (ranks_are g (goal.at.After-is_asked-asked g c).Joined-others) ∙ sym (rank_is c.args.group.now c.args.declared.now c.args.others c.loop-at.at)
+
+here : (g : _) (c : After-is_asked-asked g) → c.is_asked-asked.result ≡ true → IsAsked c.args.group.now c.args.declared.now c.args.others c.loop-at.at
+here g c is = asked_at c.args.group.now c.args.declared.now c.args.others c.loop-at.at (below g c) (sym (asks_it g c) ∙ is)
+
+pub is_asked-asked-requires : goal.is_asked-asked-requires
+is_asked-asked-requires g c = round_rises (g.W.Words.name c.args.words.now).limits (g.W.Words.sight c.loop-at.pass).seen c.args.comm c.args.round c.args.group.now c.loop-at.invariant.round_of
+
+pub is_there-requires-clause-within : goal.is_there-requires-clause-within
+is_there-requires-clause-within g c asked =
+    let before = (goal.at.is_there-requires-clause-within g c).After-is_asked-asked in
+    let i = c.loop-at.invariant in
+    let group = c.args.group.now in
+    let declared = c.args.declared.now in
+    rw (it_is g before)
+    (member_within (g.W.Words.name c.args.words.now).limits g.P.Meld.meld (g.W.Words.sight c.loop-at.pass).seen c.args.comm c.args.round (rank_at group declared c.args.others c.loop-at.at) group i.of.legal i.of.may_open i.round_of
+    (asked_member group declared c.args.others c.loop-at.at (here g before asked)))
+
+pub returns-then-not-is_there-clause-goes : goal.returns-then-not-is_there-clause-goes
+returns-then-not-is_there-clause-goes g c =
+    let before = (goal.at.returns-then-not-is_there-clause-goes g c).After-is_asked-asked in
+    let i = c.loop-at.invariant in
+    let goes = c.is_there.ensures.goes in
+    let fewer = asked_fewer c.args.group.now c.args.declared.now c.args.others c.loop-at.at (here g before c.if-not-is_there.ensures.arrived.0) in
+    record {
+      of = goes.of;
+      did = did_wait g.W.Words.alone [] (g.W.Words.sight c.args.pass.now).seen (g.W.Words.sight c.loop-at.pass).seen (g.W.Words.sight c.is_there.new.pass).seen i.did goes.did;
+      onward = omega (arith, i.onward, goes.onward);
+      steps = omega (arith, i.steps, goes.steps, fewer);
+    }
+
+pub returns-then-not-is_there-clause-arrived : goal.returns-then-not-is_there-clause-arrived
+returns-then-not-is_there-clause-arrived g c =
+    let before = (goal.at.returns-then-not-is_there-clause-arrived g c).After-is_asked-asked in
+    let later = (g.W.Words.sight c.is_there.new.pass).seen in
+    let missing = c.if-not-is_there.ensures.arrived in
+    sym (asked_missing later c.args.comm c.args.round c.args.group.now c.args.declared.now c.args.others c.loop-at.at (here g before missing.0) (ap (has_arrived later c.args.comm c.args.round) (sym (it_is g before)) ∙ missing.1))
+
+pub loop-at-preserved : goal.loop-at-preserved
+loop-at-preserved g c =
+    let before = (goal.at.loop-at-preserved g c).After-is_asked-asked in
+    let i = c.loop-at.invariant in
+    let e = c.is_there.ensures in
+    let h = (g.W.Words.sight c.loop-at.pass).seen in
+    let later = (g.W.Words.sight c.is_there.new.pass).seen in
+    let begins = did_prefix g.W.Words.alone [] h later e.goes.did in
+    let group = c.args.group.now in
+    let declared = c.args.declared.now in
+    let others = c.args.others in
+    let at = c.loop-at.at in
+    let asked = c.is_asked-asked.result in
+    let counted = count_on group declared others at (below g before) asked (asks_it g before) in
+    record {
+      of = e.goes.of;
+      did = did_wait g.W.Words.alone [] (g.W.Words.sight c.args.pass.now).seen h later i.did e.goes.did;
+      round_of = round_stays (g.W.Words.name c.args.words.now).limits h later c.args.comm c.args.round group begins i.round_of;
+      onward = omega (arith, i.onward, e.goes.onward);
+      steps = omega (arith, i.steps, e.steps, counted);
+      arrived = arrived_on group declared others at (below g before) (has_arrived later c.args.comm c.args.round) asked (asks_it g before) (arrivals_stay h later c.args.comm c.args.round (asked_before group declared others at) begins i.arrived)
+          (λ is. ap (has_arrived later c.args.comm c.args.round) (sym (it_is g before)) ∙ c.if-not-is_there.ensures.arrived is);
+    }
+
+pub returns-clause-more : goal.returns-clause-more
+returns-clause-more g c asked =
+    let group = c.args.group.now in
+    let declared = c.args.declared.now in
+    let others = c.args.others in
+    let are = ap length (ranks_are g (goal.at.returns-clause-more g c).Joined-others) in
+    let within = within_ranks group declared others c.args.start c.requires.within in
+    let last : c.loop-at.at ≡ length (ranks_of group declared others) = omega (arith, c.loop-at-test.false, c.loop-at.auto.at-end, are, within) in
+    let all = ap (λ n. length (asked_before group declared others n)) last ∙ ap length (asked_end group declared others) in
+    omega (arith, c.loop-at.invariant.steps, all, asked_fewer group declared others c.args.start asked)

@@ -1,0 +1,52 @@
+use Rattle.std.proofs.Common.{refl, ◌∙◌, arith}
+use Rattle.ulfm_words.proofs.Trails.{did_prefix}
+use Rattle.ulfm_steps.specs.Marks.{HasMarked}
+use Rattle.ulfm_steps.proofs.Marking.{marked_none, marked_push, may_stays}
+use Rattle.ulfm_steps.proofs.mark_all.MarkAll.advance.Goals as goal
+use Rattle.ulfm_steps.proofs.mark_all.MarkAll.advance.Goals.{After-step}
+
+pub loop-self-init : goal.loop-self-init
+loop-self-init g c =
+    record {
+      rank = refl;
+      comm = refl;
+      round = refl;
+      may = c.requires.may;
+      at = c.requires.at;
+      onward = omega arith;
+      more = λ lt. absurd (omega arith);
+      first = λ _. refl;
+      none = λ _. refl;
+      marked = marked_none g.P.Meld.meld g.W.Words.alone (g.W.Words.name c.args.words.now) c.args.self.now c.args.group.now c.args.declared.now (g.W.Words.sight c.args.pass.now) c.requires.of;
+    }
+
+-- one more was marked
+marked : (g : _) (c : After-step g) → HasMarked g.P.Meld.meld g.W.Words.alone (g.W.Words.name c.args.words.now) c.args.self.now c.args.group.now c.args.declared.now c.step.new.self.next (g.W.Words.sight c.args.pass.now) (g.W.Words.sight c.step.new.pass)
+marked g c =
+    let inv = c.loop-self.invariant in
+    let e = c.step.ensures in
+    marked_push g.P.Meld.meld g.W.Words.alone (g.W.Words.name c.args.words.now) c.args.self.now c.loop-self.self c.step.new.self c.args.group.now c.args.declared.now (g.W.Words.sight c.args.pass.now) (g.W.Words.sight c.loop-self.pass) (g.W.Words.sight c.step.new.pass)
+    inv.rank inv.comm inv.round inv.may.begins c.loop-self-test.true e.further inv.marked e.marks
+
+pub loop-self-preserved : goal.loop-self-preserved
+loop-self-preserved g c =
+    let at = (goal.at.loop-self-preserved g c).After-step in
+    let now = (g.W.Words.sight c.loop-self.pass).seen in
+    let after = (g.W.Words.sight c.step.new.pass).seen in
+    let e = c.step.ensures in
+    let inv = c.loop-self.invariant in
+    record {
+      rank = e.rank ∙ inv.rank;
+      comm = e.comm ∙ inv.comm;
+      round = e.round ∙ inv.round;
+      may = rw (e.comm, e.round) (may_stays (g.W.Words.name c.args.words.now).limits now after c.loop-self.self.comm c.loop-self.self.round c.args.group.now c.args.declared.now (did_prefix g.W.Words.alone _ now after e.marks.marks.did) inv.may);
+      at = e.at;
+      onward = omega (arith, inv.onward, e.onward);
+      more = λ _. omega (arith, inv.marked.marks.onward, e.one);
+      first = λ not. absurd (cc (not, c.if-not-whole.false));
+      none = λ not. absurd (cc (not, c.if-not-whole.false));
+      marked = marked g at;
+    }
+
+pub returns-then-not-whole-clause-marks : goal.returns-then-not-whole-clause-marks
+returns-then-not-whole-clause-marks g c = marked g (goal.at.returns-then-not-whole-clause-marks g c).After-step

@@ -1,0 +1,20 @@
+use Rattle.std.proofs.Common.{◌≡◌, ◌-◌, ◌<◌, ◌≤◌, false, length}
+use Rattle.ulfm_steps.specs.Marks.{HasMarked, IsAt, MayMarkAll}
+use Rattle.ulfm_steps.proofs.mark_all.MarkAll.advance.Given as goal
+
+abbrev pub invariant-loop-self : goal.invariant-loop-self
+invariant-loop-self g l = record {
+  rank : l.self.rank ≡ l.initial.self.rank;
+  comm : l.self.comm ≡ l.initial.self.comm;
+  round : l.self.round ≡ l.initial.self.round;
+  may : MayMarkAll (g.W.Words.name l.words).limits (g.W.Words.sight l.pass).seen l.self.comm l.self.round l.group l.declared;
+  at : IsAt l.group l.declared l.self.next l.self.known;
+  onward : l.initial.self.next ≤ l.self.next;
+  more : l.initial.self.next < l.self.next → (g.W.Words.sight l.initial.pass).steps < (g.W.Words.sight l.pass).steps;
+  first : l.whole ≡ false → l.self.next ≡ l.initial.self.next;
+  none : l.whole ≡ false → (g.W.Words.sight l.pass).steps ≡ (g.W.Words.sight l.initial.pass).steps;
+  marked : HasMarked g.P.Meld.meld g.W.Words.alone (g.W.Words.name l.words) l.initial.self l.group l.declared l.self.next (g.W.Words.sight l.initial.pass) (g.W.Words.sight l.pass);
+}
+
+abbrev pub decreases-loop-self : goal.decreases-loop-self
+decreases-loop-self g l = length l.declared - l.self.next

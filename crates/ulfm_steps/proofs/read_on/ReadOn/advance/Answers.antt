@@ -1,0 +1,52 @@
+use Rattle.std.proofs.Common.{◌≡◌, ◌≤◌, [], length, vec_len, arith, rules}
+use Rattle.ulfm_model.specs.History.{failures}
+use Rattle.ulfm_model.proofs.Lists.{length_prefix, prefix_trans}
+use Rattle.ulfm_words.proofs.{Ranks.{failures_le}, Trails.{did_prefix, did_wait}}
+use Rattle.ulfm_steps.proofs.ReadingOn.{fewer_found, may_read_on_after}
+use Rattle.ulfm_steps.proofs.read_on.ReadOn.advance.Goals as goal
+use Rattle.ulfm_steps.proofs.read_on.ReadOn.advance.Goals.{After-step}
+
+-- no more failures were seen than there are ranks
+few : (g : _) (c : After-step g) → vec_len c.step.new.seen ≤ (g.W.Words.name c.args.words.now).limits.ranks
+few g c =
+    let h = (g.W.Words.sight c.step.new.pass).seen in
+    let long = length_prefix c.step.new.seen.items (failures h) c.step.ensures.begins in
+    let all = failures_le g.P.Meld.meld (g.W.Words.name c.args.words.now).limits h c.step.ensures.goes.of.legal in
+    let size : vec_len c.step.new.seen ≡ length c.step.new.seen.items = search rules in
+    omega (arith, long, all, size)
+
+pub returns-then-not-whole-clause-goes : goal.returns-then-not-whole-clause-goes
+returns-then-not-whole-clause-goes g c =
+    let i = c.loop-self.invariant in
+    let e = c.step.ensures in
+    let all = few g (goal.at.returns-then-not-whole-clause-goes g c).After-step in
+    record {
+      of = e.goes.of;
+      did = did_wait g.W.Words.alone [] (g.W.Words.sight c.args.pass.now).seen (g.W.Words.sight c.loop-self.pass).seen (g.W.Words.sight c.step.new.pass).seen i.did e.goes.did;
+      onward = omega (arith, i.onward, e.goes.onward);
+      steps = omega (arith, i.steps, e.one, e.further, all);
+    }
+
+pub loop-self-smaller : goal.loop-self-smaller
+loop-self-smaller g c = let all = few g (goal.at.loop-self-smaller g c).After-step in omega (arith, all, c.step.ensures.further)
+
+pub loop-self-preserved : goal.loop-self-preserved
+loop-self-preserved g c =
+    let i = c.loop-self.invariant in
+    let e = c.step.ensures in
+    let first = (g.W.Words.sight c.args.pass.now).seen in
+    let now = (g.W.Words.sight c.loop-self.pass).seen in
+    let after = (g.W.Words.sight c.step.new.pass).seen in
+    record {
+      of = e.goes.of;
+      did = did_wait g.W.Words.alone [] first now after i.did e.goes.did;
+      may = may_read_on_after now after c.args.group.now c.args.count c.loop-self.seen.items c.step.new.seen.items (did_prefix g.W.Words.alone [] now after e.goes.did) e.begins i.may;
+      at = e.at;
+      more = fewer_found c.is_done.result c.step.new.self.found c.args.count c.is_done.ensures c.if-is_done.false e.at.few;
+      goes_on = prefix_trans c.args.seen.now.items c.loop-self.seen.items c.step.new.seen.items i.goes_on e.goes_on;
+      steps = omega (arith, i.steps, e.one, e.further);
+      onward = omega (arith, i.onward, e.goes.onward);
+      first = λ single. let whole = c.if-not-whole.false in absurd (cc (whole, single));
+      room = omega (arith, i.room, e.room);
+      kept = omega (arith, i.kept, e.room);
+    }

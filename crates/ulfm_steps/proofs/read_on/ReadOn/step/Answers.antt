@@ -1,0 +1,74 @@
+use Rattle.std.proofs.Common.{◌≡◌, ◌<◌, ◌+◌, cond, [], ◌∷◌, ◌++◌, length, slice_get, refl, ap, sym, ◌∙◌, arith, rules, length-append}
+use Rattle.std.proofs.lemmas.Grind.{common_steps}
+use mathlib.Core.List.{IsPrefix}
+use Rattle.ulfm_model.specs.History.{failures, has}
+use Rattle.ulfm_model.proofs.{Histories.{failures_begin}, Lists.{prefix_trans}}
+use Rattle.ulfm_words.proofs.{Ranks.{failures_le}, Trails.{did_prefix}}
+use Rattle.ulfm_steps.proofs.{Looking.{more_found}, ReadingOn.{list_goes_on, no_end, rank_further}}
+use Rattle.ulfm_steps.proofs.read_on.ReadOn.step.Goals as goal
+use Rattle.ulfm_steps.proofs.read_on.ReadOn.step.Goals.{After-len, After-load_failure, After-push}
+
+-- what was seen doesn't have all ranks
+room_left : (g : _) (c : After-len g) → c.len.result < (g.W.Words.name c.args.words.now).limits.ranks
+room_left g c =
+    let h = (g.W.Words.sight c.args.pass.now).seen in
+    let below = list_goes_on c.args.group.now c.args.count c.args.self.now c.args.seen.now.items (failures h) c.requires.may c.requires.at c.requires.more in
+    let few = failures_le g.P.Meld.meld (g.W.Words.name c.args.words.now).limits h c.requires.of.legal in
+    let size = c.len.ensures in
+    grind (arith, common_steps, below, few, size)
+
+pub overflow_cast-len : goal.overflow_cast-len
+overflow_cast-len g c =
+    let left = room_left g c in
+    let ranks = c.requires.of.may_open.in_range.ranks in
+    search rules
+
+pub load_failure-requires-clause-within : goal.load_failure-requires-clause-within
+load_failure-requires-clause-within g c = room_left g (goal.at.load_failure-requires-clause-within g c).After-len
+
+-- the load was of the place past what was seen
+loaded : (g : _) (c : After-load_failure g) → slice_get (failures (g.W.Words.sight c.load_failure.new.pass).seen) (length c.args.seen.now.items) ≡ c.load_failure.result
+loaded g c =
+    let size : length c.args.seen.now.items ≡ c.len.result = search rules in
+    ap (slice_get (failures (g.W.Words.sight c.load_failure.new.pass).seen)) size ∙ sym c.load_failure.ensures.rank
+
+grown : (g : _) (c : After-load_failure g) → IsPrefix (failures (g.W.Words.sight c.args.pass.now).seen) (failures (g.W.Words.sight c.load_failure.new.pass).seen)
+grown g c =
+    let h = (g.W.Words.sight c.args.pass.now).seen in
+    let later = (g.W.Words.sight c.load_failure.new.pass).seen in
+    failures_begin h later (did_prefix g.W.Words.alone [] h later c.load_failure.ensures.loads.did)
+
+pub unreachable-requires : goal.unreachable-requires
+unreachable-requires g c =
+    let before = (goal.at.unreachable-requires g c).After-load_failure in
+    no_end c.args.group.now c.args.count c.args.self.now c.args.seen.now.items (failures (g.W.Words.sight c.args.pass.now).seen) c.requires.may c.requires.at c.requires.more (failures (g.W.Words.sight c.load_failure.new.pass).seen) (grown g before)
+    (loaded g before ∙ c.in_default.is)
+
+-- the rank was put behind what was seen
+pushed : (g : _) (c : After-push g) → c.push.new.self.items ≡ c.args.seen.now.items ++ c.in-Some.rank ∷ []
+pushed g c = let left = room_left g (goal.at.After-push g c).After-len in grind (arith, common_steps, left)
+
+pub returns-clause-at : goal.returns-clause-at
+returns-clause-at g c =
+    let seen = c.args.seen.now.items in
+    let new = pushed g (goal.at.returns-clause-at g c).After-push in
+    let member : c.from.result ≡ cond (has c.args.group.now c.in-Some.rank) 1 0 = search rules in
+    rw new
+    (rank_further c.args.group.now c.args.count c.args.self.now seen (failures (g.W.Words.sight c.args.pass.now).seen) c.requires.may c.requires.at c.requires.more c.in-Some.rank (record { reach = c.args.self.now.reach + 1; found = c.args.self.now.found + c.from.result })
+    refl (ap (λ n. c.args.self.now.found + n) member))
+
+pub returns-clause-further : goal.returns-clause-further
+returns-clause-further g c =
+    let new = pushed g (goal.at.returns-clause-further g c).After-push in
+    grind (arith, common_steps, ap length new, length-append c.args.seen.now.items (c.in-Some.rank ∷ []))
+
+pub returns-clause-goes_on : goal.returns-clause-goes_on
+returns-clause-goes_on g c = (c.in-Some.rank ∷ [], sym (pushed g (goal.at.returns-clause-goes_on g c).After-push))
+
+pub returns-clause-begins : goal.returns-clause-begins
+returns-clause-begins g c =
+    let all = goal.at.returns-clause-begins g c in
+    let whole = failures (g.W.Words.sight c.args.pass.now).seen in
+    let later = failures (g.W.Words.sight c.load_failure.new.pass).seen in
+    let begins = prefix_trans c.args.seen.now.items whole later c.requires.may.begins (grown g all.After-load_failure) in
+    rw (pushed g all.After-push) (more_found c.args.seen.now.items later c.in-Some.rank begins (loaded g all.After-load_failure ∙ c.in-Some.is))

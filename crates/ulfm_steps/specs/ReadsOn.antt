@@ -1,0 +1,27 @@
+-- Reading on in the list of failures, until so many members of a group are among those that were seen.
+use Rattle.std.specs.Prelude.{◌≡◌, ℕ, ◌<◌, ◌≤◌, List, filter, length, take}
+use Rattle.std.specs.List.Sorted.{IsStrictlyIncreasing}
+use mathlib.Core.List.{IsPrefix}
+use Rattle.ulfm_model.specs.History.{has}
+use Rattle.ulfm_steps.specs.declared.read_on.ReadOn.{ReadOn}
+
+-- of the list of failures this beginning was seen, and the list has so many members of the group
+pub record MayReadOn (group : List ℕ) (count : ℕ) (seen whole : List ℕ) : Type 0 where
+  pub rises : IsStrictlyIncreasing group
+  pub begins : IsPrefix seen whole
+  pub enough : count ≤ length (filter (has group) whole)
+
+-- The first of the failures that were seen, as many as were gone through, have as many members of the group as were found, and no
+-- more than are looked for; where fewer were found, all that were seen were gone through.
+pub record AtFailure (group : List ℕ) (count : ℕ) (at : ReadOn) (seen : List ℕ) : Type 0 where
+  pub within : at.reach ≤ length seen
+  pub counted : at.found ≡ length (filter (has group) (take at.reach seen))
+  pub few : at.found ≤ count
+  pub all : at.found < count → at.reach ≡ length seen
+
+-- A longer beginning of the list was seen, and its first ranks, so many as reached, have just so many members of the group.
+pub record ReadsOn (group : List ℕ) (count : ℕ) (old new whole : List ℕ) (reach : ℕ) : Type 0 where
+  pub goes_on : IsPrefix old new
+  pub begins : IsPrefix new whole
+  pub within : reach ≤ length new
+  pub counted : length (filter (has group) (take reach new)) ≡ count

@@ -1,0 +1,117 @@
+// Reading on in the list of failures, from what was seen, until so many members of a group are among the failures that were
+// seen. No place is loaded but those that have to be.
+ghost use Rattle.std.specs.Prelude.{◌≡◌, ◌==◌, ◌<◌, ◌≤◌, ◌+◌, false, true, vec_capacity, vec_len};
+ghost use Rattle.std.specs.List.Sorted.{IsStrictlyIncreasing};
+ghost use mathlib.Core.List.{IsPrefix};
+ghost use Rattle.ulfm_model.specs.History.{failures};
+ghost use Rattle.ulfm_words.specs.Steps.{IsOf, Goes};
+ghost use Rattle.ulfm_steps.specs.ReadsOn.{AtFailure, MayReadOn};
+
+use crate::group::is_member;
+use std::alloc::Allocator;
+use ulfm_laws::meld::Packed;
+use ulfm_words::{Words, load_failure};
+
+/// A reading on that is under way. The failures that were seen stand in a vector of the caller's, with room for all ranks.
+#[derive(Clone, Copy, Debug, PartialEq, Eq)]
+pub struct ReadOn {
+    /// How many of the failures that were seen were gone through, the first of them.
+    pub reach: usize,
+    /// How many members of the group are among these.
+    pub found: u16,
+}
+
+impl ReadOn {
+    /// A reading on that has loaded nothing yet: what was seen is gone through, up to so many members of the group, whose
+    /// ranks rise.
+    pub fn new(group: &[u16], count: u16, seen: &[u16]) -> ReadOn
+        requires { IsStrictlyIncreasing group.now }
+        ensures { AtFailure group.now count result seen.now }
+    {
+        let mut at = ReadOn { reach: 0, found: 0 };
+        for rank in seen {
+            if at.is_done(count) {
+                return at;
+            }
+            at.reach += 1;
+            at.found += u16::from(is_member(group, *rank));
+        }
+        at
+    }
+
+    /// Whether so many members were found, so that nothing is left.
+    #[inline(always)]
+    pub fn is_done(&self, count: u16) -> bool
+        ensures { result ≡ (self.now.found == count) }
+    {
+        self.found == count
+    }
+
+    /// One load, of the list's next place, which has a rank.
+    #[inline(always)]
+    pub fn step<P: Packed, A: Allocator, W: Words<P, A>, B: Allocator>(
+        &mut self,
+        words: &W,
+        pass: &mut W::Pass,
+        group: &[u16],
+        count: u16,
+        seen: &mut Vec<u16, B>,
+    )
+        requires of { IsOf P.meld (W.name words.now) (W.sight pass.old) }
+        requires may { MayReadOn group.now count seen.old.items (failures (W.sight pass.old).seen) }
+        requires at { AtFailure group.now count self.old seen.old.items }
+        requires more { self.old.found < count }
+        requires room { (W.name words.now).limits.ranks ≤ vec_capacity seen.old }
+        ensures goes { Goes P.meld W.alone (W.name words.now) 1 (W.sight pass.old) (W.sight pass.new) }
+        ensures one { (W.sight pass.new).steps ≡ (W.sight pass.old).steps + 1 }
+        ensures at { AtFailure group.now count self.new seen.new.items }
+        ensures further { vec_len seen.new ≡ vec_len seen.old + 1 }
+        ensures goes_on { IsPrefix seen.old.items seen.new.items }
+        ensures begins { IsPrefix seen.new.items (failures (W.sight pass.new).seen) }
+        ensures room { vec_capacity seen.old ≤ vec_capacity seen.new }
+    {
+        let Some(rank) = load_failure(words, pass, seen.len() as u16) else {
+            unreachable!()
+        };
+        let _ = seen.push(rank);
+        self.reach += 1;
+        self.found += u16::from(is_member(group, rank));
+    }
+
+    /// One step, or, where the whole call is made at once, all that are left: so many members were found then.
+    #[inline(always)]
+    pub fn advance<P: Packed, A: Allocator, W: Words<P, A>, B: Allocator>(
+        &mut self,
+        words: &W,
+        pass: &mut W::Pass,
+        group: &[u16],
+        count: u16,
+        seen: &mut Vec<u16, B>,
+        whole: bool,
+    )
+        requires of { IsOf P.meld (W.name words.now) (W.sight pass.old) }
+        requires may { MayReadOn group.now count seen.old.items (failures (W.sight pass.old).seen) }
+        requires at { AtFailure group.now count self.old seen.old.items }
+        requires more { self.old.found < count }
+        requires room { (W.name words.now).limits.ranks ≤ vec_capacity seen.old }
+        ensures goes { Goes P.meld W.alone (W.name words.now) (W.name words.now).limits.ranks (W.sight pass.old) (W.sight pass.new) }
+        ensures one { whole ≡ false → (W.sight pass.new).steps ≡ (W.sight pass.old).steps + 1 }
+        ensures more { (W.sight pass.old).steps < (W.sight pass.new).steps }
+        ensures at { AtFailure group.now count self.new seen.new.items }
+        ensures further { (W.sight pass.new).steps + vec_len seen.old ≡ (W.sight pass.old).steps + vec_len seen.new }
+        ensures goes_on { IsPrefix seen.old.items seen.new.items }
+        ensures begins { IsPrefix seen.new.items (failures (W.sight pass.new).seen) }
+        ensures room { vec_capacity seen.old ≤ vec_capacity seen.new }
+        ensures done { whole ≡ true → self.new.found ≡ count }
+    {
+        loop {
+            self.step(words, pass, group, count, seen);
+            if !whole || self.is_done(count) {
+                return;
+            }
+        }
+    }
+}
+
+#[cfg(test)]
+mod tests;
