@@ -7,11 +7,6 @@ use Rattle.ulfm_words.proofs.Trails.{did_none}
 use Rattle.ulfm_comm.specs.{Ends.{IsEndRun}, Looked.{Looked}}
 use Rattle.ulfm_comm.proofs.{Holding.{failed_is}, Replying.{held_before, replied}}
 
--- a rank that holds the communicator may ask for its failed group
-pub get_passes : {P : Type 0} (meld : P → P → P) (limits : Limits) (alone : Bool) (before look : History P) (old mid : Record) → Looked alone before look old mid → (rank c : ℕ) (x : Held) → held_at mid c ≡ Some x
-    → refusal_of {P = P} old (call.GetFailed rank c) ≡ None
-get_passes {P} meld limits alone before look old mid looked rank c x held = ap (λ w. refusal_on {P = P} old w (call.GetFailed rank c)) (held_before meld limits alone before look old mid looked c (Some x) held)
-
 module _ {P : Type 0} (meld : P → P → P) (limits : Limits) (alone : Bool) (before look : History P) (old mid : Record) (looked : Looked alone before look old mid) (legal : IsLegal meld limits look) (fits : Fits meld limits look mid)
     (rank c : ℕ) (x : Held) (held : held_at mid c ≡ Some x) where
   -- the failed group that the look found has so many ranks

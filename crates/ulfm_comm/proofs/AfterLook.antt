@@ -149,11 +149,6 @@ module _ {P : Type 0} (asked : Call P) (rank c r : ℕ) (mine : (traits_of asked
       let same = same_rank rank r (subst (λ (a : Call P). (traits_of a).by ≡ Rank r) is mine) in
       is ∙ ap₂ (λ n w. call.Barrier n w) same (sym (ap (λ (a : Call P). comm_of a) is))
 
-  pub own_poll : asked ≡ call.Poll rank c → asked ≡ call.Poll r (comm_of asked)
-  own_poll is =
-      let same = same_rank rank r (subst (λ (a : Call P). (traits_of a).by ≡ Rank r) is mine) in
-      is ∙ ap₂ (λ n w. call.Poll n w) same (sym (ap (λ (a : Call P). comm_of a) is))
-
   pub own_revoke : asked ≡ call.Revoke rank c → asked ≡ call.Revoke r (comm_of asked)
   own_revoke is =
       let same = same_rank rank r (subst (λ (a : Call P). (traits_of a).by ≡ Rank r) is mine) in

@@ -105,12 +105,3 @@ module _ {P : Type 0} (meld : P → P → P) (alone : Bool) (name : Name) (befor
       calls_waited meld alone name before after (call.Poll old.number c) old (missing_reply missing) new point of fits
       (barrier_waits meld name.limits alone before.seen look.seen old mid looked c k a point did legal missing new (standing_before point after.seen c (did_prefix alone [] point after.seen wait) standing)
       (subst (λ w. MissingAre point c k w (failures look.seen) missing) same (subst (λ w. MissingAre point c k group w missing) found are)) left) wait (missing_counts_none missing)
-
--- the last step of a barrier's poll isn't that of an agreement's
-pub ends_barrier : {P : Type 0} (meld : P → P → P) (alone : Bool) (name : Name) (c k : ℕ) (old : Record) (before : Sight P) (new : Record) (after : Sight P) (result : Result (Polled P) Refusal)
-    → polled_by {P = P} old (call.Poll old.number c) ≡ Some (Barrier k) → IfOk result (EndsIn meld alone name c old before new after)
-ends_barrier meld alone name c k old before new after (Ok Undecided) is = λ agrees. absurd (subst IsAgreement is agrees)
-ends_barrier meld alone name c k old before new after (Ok (WasAgreed value failed raised)) is = tt
-ends_barrier meld alone name c k old before new after (Ok (WasShrunk j context size)) is = tt
-ends_barrier meld alone name c k old before new after (Ok AllCame) is = tt
-ends_barrier meld alone name c k old before new after (Err refusal) is = tt

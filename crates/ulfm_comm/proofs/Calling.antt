@@ -105,20 +105,3 @@ module _ {P : Type 0} (meld : P → P → P) (alone : Bool) (name : Name) (befor
           record_is = is;
         };
       }
-
-  -- a call that ran out of memory right after its look
-  pub runs_out : (asked : Call P) (old mid : Record) → IsOf meld name after → Fits meld name.limits before.seen old → Looked alone before.seen after.seen old mid → refusal_of old asked ≡ None
-      → RunsOut meld alone name asked old before mid after
-  runs_out asked old mid of fits looked passed =
-      let seen : mid.seen ≡ failures after.seen = ap (λ (w : Record). w.seen) looked.record_is in
-      let view = view_at meld name.limits alone before.seen after.seen old after.seen [] in
-      let all : IsPrefix (failures after.seen) (failures after.seen) = ([], append-nil (failures after.seen)) in
-      runs_out_after asked old mid after.seen [] of fits (record { in_use = looked.in_use; did = looked.did; not_declared = looked.not_declared; record_is = refl }) (did_none alone after.seen) passed tt refl
-      (subst (Sees (is_shrink (polled_by old asked)) view) (sym seen) (sees_look (is_shrink (polled_by old asked)) view all))
-      (subst (λ s. IsPrefix s (failures after.seen)) (sym seen) all) (looked.record_is ∙ ap (λ s. record old { seen = s }) (sym seen))
-
-module _ {P : Type 0} (meld : P → P → P) (alone : Bool) (name : Name) (pass : Sight P) where
-  -- a rank that was refused for good before
-  pub calls_refused : (asked : Call P) (old : Record) → IsOf meld name pass → Fits meld name.limits pass.seen old → IsTrue old.refused → Calls meld alone name asked old pass (Refused SelfFailed) old pass
-  calls_refused asked old of fits refused =
-      record { of = of; fits = fits; run = inl (refused, refl, refl, refl); run_alone = λ here. inl (refused, refl, refl, refl); no_step = λ same. refl; counts = λ count is. absurd (cc is) }

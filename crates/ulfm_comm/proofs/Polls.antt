@@ -146,14 +146,6 @@ sees_begin : {P : Type 0} (view : View P) (seen : List ℕ) (shrinks : Bool) (k 
 sees_begin view seen false k is = ([], append-nil view.look ∙ sym is)
 sees_begin view seen true k is = is.0
 
-module _ {P : Type 0} (meld : P → P → P) (limits : Limits) (alone : Bool) (before look : History P) (old mid : Record) (looked : Looked alone before look old mid) (c : ℕ) (x : Held) (held : held_at mid c ≡ Some x) where
-  -- no request is open
-  pub poll_idle : (new : Record) → IsLegal meld limits look → x.request ≡ None → new ≡ mid → IsEndRun meld limits alone before look old (call.Poll old.number c) (Refused Idle) new
-  poll_idle new legal idle is =
-      let at = held_before meld limits alone before look old mid looked c (Some x) held in
-      refused meld limits alone before look old mid looked (call.Poll old.number c) Idle new legal (ap (λ w. refusal_on {P = P} old w (call.Poll old.number c)) at ∙ ap (λ request. first_refusal ((not (is_some request), Idle) ∷ [])) idle) is
-      (λ polls. ap request_of at ∙ idle)
-
 module _ {P : Type 0} (meld : P → P → P) (limits : Limits) (alone : Bool) (before : History P) (old mid : Record) (c : ℕ) (shrinks : Bool) (k : ℕ) (x : Held) (after : History P) (p : HasMarked meld limits alone c shrinks k x old before mid after) where
   abbrev pub asked : Call P
   asked = call.Poll old.number c
@@ -260,21 +252,3 @@ module _ {P : Type 0} (meld : P → P → P) (limits : Limits) (alone : Bool) (b
   poll_mismatch other is =
       let clash = clash_is all.body (read_flagged meld limits after mid c k x p.legal still p.held all read p.open_is) other in
       decides (Refused Mismatch) (inr (body_read meld limits after mid c k x p.legal still p.held all read ∙ clash, refl)) is
-
--- an answer that isn't pending ends in nothing further
-pub ends_answered : {P : Type 0} (meld : P → P → P) (alone : Bool) (name : Name) (c : ℕ) (old : Record) (before : Sight P) (new : Record) (after : Sight P) (result : Result (Polled P) Refusal) → IfOk result IsAnswer → IfOk result (EndsIn meld alone name c old before new after)
-ends_answered meld alone name c old before new after (Ok Undecided) answer = absurd answer
-ends_answered meld alone name c old before new after (Ok (WasAgreed value failed raised)) answer = tt
-ends_answered meld alone name c old before new after (Ok (WasShrunk j context size)) answer = tt
-ends_answered meld alone name c old before new after (Ok AllCame) answer = tt
-ends_answered meld alone name c old before new after (Err refusal) answer = tt
-
-module _ {P : Type 0} (meld : P → P → P) (alone : Bool) (name : Name) (asked : Call P) (old : Record) (before : Sight P) (new : Record) (after : Sight P) where
-  refused_of : (refusal : Refusal) (b : Bool) → EndsBy meld alone name asked old before refusal b new after → IsOf meld name after × Fits meld name.limits after.seen new
-  refused_of refusal true ended = (ended.of, ended.fits)
-  refused_of refusal false ended = (ended.of, ended.fits)
-
-  -- the poll of a shrink, with this result
-  pub polls_by : (result : Result (Polled P) Refusal) → PollIs meld alone name asked old before result new after → IsTrue (is_shrink (polled_by old asked)) → Polls meld alone name asked old before result new after
-  polls_by (Ok reply) is shrinks = record { of = is.of; fits = is.fits; run = is; memory = λ out. shrinks }
-  polls_by (Err refusal) is shrinks = let kept = refused_of refusal (is_out_of_memory refusal) is in record { of = kept.0; fits = kept.1; run = is; memory = λ out. shrinks }

@@ -47,13 +47,6 @@ marks_make_none by c k ranks (Arrive comm round rank ∷ own) all = absurd all.0
 marks_make_none by c k ranks (Revoke comm ∷ own) all = absurd all.0
 marks_make_none by c k ranks (Spawn j comm round ∷ own) all = absurd all.0
 
--- what was read of the one communicator of this number
-pub same_read : {P : Type 0} (meld : P → P → P) (limits : Limits) (h : History P) (c k : ℕ) (all : Summary P) (own : Record) (x : Held) → HasRead meld limits h c true k all own → held_at own c ≡ Some x → IsSummed meld h c k x.group all
-same_read meld limits h c k all own x read held =
-    let first = read.held in
-    let same : read.x ≡ x = cc (first, held) in
-    subst (λ (y : Held). IsSummed meld h c k y.group all) same read.read
-
 module _ {P : Type 0} (meld : P → P → P) (limits : Limits) (alone : Bool) (before : History P) (old mid : Record) (c k : ℕ) (x : Held) (h : History P) (p : HasMarked meld limits alone c true k x old before mid h) (all : Summary P)
     (read : IsSummed meld h c k x.group all) where
   abbrev poll : Call P

@@ -27,6 +27,10 @@ use ulfm_model::limits::Limits;
 use ulfm_steps::{Append, Look, ReadOn};
 use ulfm_words::Words;
 
+// The communicators that a rank has room for from the start. With room for one, what its calls write would share a cache line
+// with what another rank, on another thread, reads.
+const ROOM: usize = 4;
+
 /// A rank of a world. Contracts see it as its record.
 #[derive(Drop)]
 pub struct Rank<P: Packed, A: Allocator> {
@@ -65,7 +69,7 @@ impl<P: Packed, A: Allocator + Copy> Rank<P, A> {
     {
         let group = ranks.to_vec(alloc)?;
         let seen = Vec::with_capacity(alloc, limits.ranks as usize)?;
-        let mut held = Vec::with_capacity(alloc, 1)?;
+        let mut held = Vec::with_capacity(alloc, ROOM)?;
         held.push(HeldComm::new(0, 0, group))?;
         Ok(Rank {
             number,
