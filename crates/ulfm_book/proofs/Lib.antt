@@ -2,3 +2,4 @@ pub mod Opening
 pub mod Growing
 pub mod Moving
 pub mod Telling
+pub mod Jobs

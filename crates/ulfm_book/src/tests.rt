@@ -6,6 +6,7 @@ ghost use Rattle.ulfm_words.specs.Steps.{IsOf};
 mod calls;
 mod member;
 mod places;
+mod revoking;
 
 use crate::line::Line;
 use crate::rule::Law;

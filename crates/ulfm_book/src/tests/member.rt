@@ -58,9 +58,30 @@ impl<'a, P: Packed> Member<'a, P> {
         self.rank.ishrink(self.world, &mut self.pass, 0)
     }
 
+    /// Arrives in a barrier of all ranks.
+    pub(crate) fn arrive(&mut self) -> Result<(), Refusal>
+        ensures { self.new.name ≡ self.old.name }
+    {
+        self.rank.ibarrier(self.world, &mut self.pass, 0)
+    }
+
     /// Asks for the reply.
-    pub(crate) fn poll(&mut self) -> Result<Polled<P>, Refusal> {
+    pub(crate) fn poll(&mut self) -> Result<Polled<P>, Refusal>
+        ensures { self.new.name ≡ self.old.name }
+    {
         self.rank.poll(self.world, &mut self.pass, 0)
+    }
+
+    /// Revokes the communicator of all ranks: whether this call did it.
+    pub(crate) fn revoke(&mut self) -> Result<bool, Refusal>
+        ensures { self.new.name ≡ self.old.name }
+    {
+        self.rank.revoke(self.world, &mut self.pass, 0)
+    }
+
+    /// Whether the communicator of all ranks is revoked.
+    pub(crate) fn is_revoked(&mut self) -> Result<bool, Refusal> {
+        self.rank.is_revoked(self.world, &mut self.pass, 0)
     }
 
     /// The failed group of all ranks.
@@ -97,6 +118,13 @@ impl<'a, P: Packed> Member<'a, P> {
     /// The members of a communicator that it holds, and the context id.
     pub(crate) fn holds(&self, comm: u16) -> Option<(&[u16], u8)> {
         Some((self.rank.members(comm)?, self.rank.context(comm)?))
+    }
+
+    /// What it has seen, for others.
+    pub(crate) fn told(&self) -> BookTold<P>
+        ensures { result.name ≡ self.now.name }
+    {
+        self.world.told(&self.pass)
     }
 
     /// From now on it has seen what was told, too.
