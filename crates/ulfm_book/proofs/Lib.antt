@@ -1,3 +1,4 @@
+pub mod Seating
 pub mod Opening
 pub mod Growing
 pub mod Moving

@@ -9,11 +9,11 @@ use Rattle.logbook.specs.Pages.{Cell, Goes, Moves, View, cell, keeps, no_nib, st
 use Rattle.ulfm_model.specs.declared.{event.Entry.{Entry}, limits.Limits.{Limits}, place.Place.{Place}}
 use Rattle.ulfm_model.specs.{History.{History, IsLegal, MayFollow}, Words.{place_of, size_of, word_at, word_of}}
 use Rattle.ulfm_model.proofs.WordRules.{word_kept, word_set}
-use Rattle.ulfm_words.specs.Places.{IsWithin, key_in}
-use Rattle.ulfm_words.proofs.{Growing.{prefix_push}, Keys.{key_lt, one_key}}
+use Rattle.ulfm_words.specs.Places.{IsWithin}
+use Rattle.ulfm_words.proofs.Growing.{prefix_push}
 use Rattle.ulfm_book.specs.declared.{line.Line.{Line}, line.Line.TheVariants.{Made}}
-use Rattle.ulfm_book.specs.{Logs.{IsLog, history_in, limits_in}, Rules.{Adds, IsFound, IsKept, IsLast, Looks, Sees}}
-use Rattle.ulfm_book.proofs.Growing.{history_in-append, limits_stay, log_push, sees}
+use Rattle.ulfm_book.specs.{Logs.{IsLog, history_in, limits_in}, Rules.{Adds, IsFound, IsKept, IsLast, Looks, Sees}, Seats.{seat_in}}
+use Rattle.ulfm_book.proofs.{Growing.{history_in-append, limits_stay, log_push, sees}, Seating.{one_seat, seat_lt}}
 
 -- clients see nothing of the log
 abbrev pub shown : {P : Type 0} → List (Line P) → List (Line P)
@@ -55,7 +55,7 @@ module _ {P : Type 0} (meld : P → P → P) (pack : P → ℕ) where
     limits = limits_in log
 
     abbrev written : List Cell
-    written = slice_set cells (key_in limits p) (word_of pack e.event, true)
+    written = slice_set cells (seat_in limits p) (word_of pack e.event, true)
 
     abbrev longer : List (Line P)
     longer = log ++ Made e ∷ []
@@ -66,8 +66,8 @@ module _ {P : Type 0} (meld : P → P → P) (pack : P → ℕ) where
     limits_are : limits_in longer ≡ limits
     limits_are = limits_stay meld log (Made e ∷ []) kept.is_log
 
-    lt : key_in limits p < length cells
-    lt = omega (arith, kept.size, key_lt limits p within)
+    lt : seat_in limits p < length cells
+    lt = omega (arith, kept.size, seat_lt limits p within)
 
     -- its own word, and each other
     own : word_at pack (history_in longer) p ≡ word_of pack e.event
@@ -76,46 +76,46 @@ module _ {P : Type 0} (meld : P → P → P) (pack : P → ℕ) where
     other : (q : Place) → p ≢ q → word_at pack (history_in longer) q ≡ word_at pack (history_in log) q
     other q apart = ap (λ h. word_at pack h q) history_is ∙ word_kept pack meld limits (history_in log) e.by e.event q may (λ same. apart (sym at ∙ same))
 
-    word_after : (q : Place) → IsWithin limits q → (b : Bool) → (key_in limits q == key_in limits p) ≡ b → cell written (key_in limits q) ≡ (word_at pack (history_in longer) q, true)
+    word_after : (q : Place) → IsWithin limits q → (b : Bool) → (seat_in limits q == seat_in limits p) ≡ b → cell written (seat_in limits q) ≡ (word_at pack (history_in longer) q, true)
     word_after q there true is =
-        let key : key_in limits q ≡ key_in limits p = eqb-true (key_in limits q) (key_in limits p) is in
-        let one : p ≡ q = one_key limits p q within there (sym key) in
-        ap (cell written) key ∙ (get_or-set_same cells (key_in limits p) (word_of pack e.event, true) (0, false) lt ∙ ap (λ n. let c : Cell = (n, true) in c) (sym own ∙ ap (word_at pack (history_in longer)) one))
+        let key : seat_in limits q ≡ seat_in limits p = eqb-true (seat_in limits q) (seat_in limits p) is in
+        let one : p ≡ q = one_seat limits p q within there (sym key) in
+        ap (cell written) key ∙ (get_or-set_same cells (seat_in limits p) (word_of pack e.event, true) (0, false) lt ∙ ap (λ n. let c : Cell = (n, true) in c) (sym own ∙ ap (word_at pack (history_in longer)) one))
     word_after q there false is =
-        let keys : key_in limits q ≢ key_in limits p = λ same. let yes = eq-eqb (key_in limits q) (key_in limits p) same in absurd (cc (is, yes)) in
-        get_or-set_other cells (key_in limits p) (key_in limits q) (word_of pack e.event, true) (0, false) keys
-        ∙ (kept.words q there ∙ ap (λ n. let c : Cell = (n, true) in c) (sym (other q (λ same. keys (ap (key_in limits) (sym same))))))
+        let keys : seat_in limits q ≢ seat_in limits p = λ same. let yes = eq-eqb (seat_in limits q) (seat_in limits p) same in absurd (cc (is, yes)) in
+        get_or-set_other cells (seat_in limits p) (seat_in limits q) (word_of pack e.event, true) (0, false) keys
+        ∙ (kept.words q there ∙ ap (λ n. let c : Cell = (n, true) in c) (sym (other q (λ same. keys (ap (seat_in limits) (sym same))))))
 
     pub kept_after : IsKept meld pack written longer
     kept_after = record {
       is_log = log_push meld log e kept.is_log may;
-      size = length-set cells (key_in limits p) (word_of pack e.event, true) ∙ (kept.size ∙ ap size_of (sym limits_are));
-      words = subst (λ n. (q : Place) → IsWithin n q → cell written (key_in n q) ≡ (word_at pack (history_in longer) q, true)) (sym limits_are) (λ q there. word_after q there (key_in limits q == key_in limits p) refl);
+      size = length-set cells (seat_in limits p) (word_of pack e.event, true) ∙ (kept.size ∙ ap size_of (sym limits_are));
+      words = subst (λ n. (q : Place) → IsWithin n q → cell written (seat_in n q) ≡ (word_at pack (history_in longer) q, true)) (sym limits_are) (λ q there. word_after q there (seat_in limits q == seat_in limits p) refl);
     }
 
   -- the word of a place, in a log that goes on from what was seen
   record IsAt (p : Place) (old : List (Line P)) (k : ℕ) (cells : List Cell) (log : List (Line P)) : Type 0 where
     pub sees : Sees meld old log
     pub within : IsWithin (limits_in log) p
-    pub key : k ≡ key_in (limits_in log) p
+    pub key : k ≡ seat_in (limits_in log) p
     pub lt : k < length cells
     pub home : (cell cells k).1 ≡ true
 
-  is_at : (p : Place) (old : List (Line P)) (k : ℕ) (cells : List Cell) (log : List (Line P)) → IsLog meld old → IsWithin (limits_in old) p → k ≡ key_in (limits_in old) p → IsKept meld pack cells log → IsPrefix old log → IsAt p old k cells log
+  is_at : (p : Place) (old : List (Line P)) (k : ℕ) (cells : List Cell) (log : List (Line P)) → IsLog meld old → IsWithin (limits_in old) p → k ≡ seat_in (limits_in old) p → IsKept meld pack cells log → IsPrefix old log → IsAt p old k cells log
   is_at p old k cells log is within key kept begins =
       let s = sees meld old log is kept.is_log begins in
       let there : IsWithin (limits_in log) p = subst (λ n. IsWithin n p) (sym s.limits) within in
-      let here : k ≡ key_in (limits_in log) p = key ∙ ap (λ n. key_in n p) (sym s.limits) in
+      let here : k ≡ seat_in (limits_in log) p = key ∙ ap (λ n. seat_in n p) (sym s.limits) in
       record {
         sees = s;
         within = there;
         key = here;
-        lt = omega (arith, kept.size, key_lt (limits_in log) p there, here);
+        lt = omega (arith, kept.size, seat_lt (limits_in log) p there, here);
         home = ap (λ n. (cell cells n).1) here ∙ ap (λ (c : Cell). c.1) (kept.words p there);
       }
 
   -- a load keeps the rule, and finds the word
-  pub look_moves : (p : Place) (old : List (Line P)) (ask : Line P) (k : ℕ) → IsLog meld old → IsWithin (limits_in old) p → k ≡ key_in (limits_in old) p
+  pub look_moves : (p : Place) (old : List (Line P)) (ask : Line P) (k : ℕ) → IsLog meld old → IsWithin (limits_in old) p → k ≡ seat_in (limits_in old) p
       → Moves (IsKept meld pack) shown moved k (old, (no_nib, None)) (λ n. n) (Looks meld pack (step k 0 0 ask) (old, (no_nib, None)))
   look_moves p old ask k is within key cells log kept begins away =
       let at = is_at p old k cells log is within key kept begins in
@@ -146,7 +146,7 @@ module _ {P : Type 0} (meld : P → P → P) (pack : P → ℕ) where
         stays old (λ n. either (n == 0) w n) (Adds meld pack (step k 0 w (Made e)) (old, (no_nib, None))) cells log k kept at.home (rw is refl) (at.sees, rw is (is_found cells log k kept))
 
     -- an exchange keeps the rule: it adds the event where the word was 0, and otherwise finds the word that stands
-    pub add_moves : IsLog meld old → IsWithin (limits_in old) p → k ≡ key_in (limits_in old) p
+    pub add_moves : IsLog meld old → IsWithin (limits_in old) p → k ≡ seat_in (limits_in old) p
         → Moves (IsKept meld pack) shown moved k (old, (no_nib, None)) (λ n. either (n == 0) w n) (Adds meld pack (step k 0 w (Made e)) (old, (no_nib, None)))
     add_moves is within key cells log kept begins away =
         let at = is_at p old k cells log is within key kept begins in

@@ -4,9 +4,8 @@ use Rattle.std.proofs.lemmas.List.{get_or-replicate, length-replicate}
 use Rattle.logbook.specs.Pages.{Book, Cell, Named}
 use Rattle.ulfm_model.specs.declared.{limits.Limits.{Limits}, place.Place.{Place}, place.Place.TheVariants.{List as ListAt, Comm as CommAt, Revoked as RevokedAt, Slot as SlotAt, Arrival as ArrivalAt}}
 use Rattle.ulfm_model.specs.Words.{size_of, word_at}
-use Rattle.ulfm_words.specs.Places.{key_in}
-use Rattle.ulfm_words.proofs.Keys.{key_lt}
-use Rattle.ulfm_book.specs.{Logs.{log_of}, Rules.{IsKept, word_named}}
+use Rattle.ulfm_book.specs.{Logs.{log_of}, Rules.{IsKept, word_named}, Seats.{seat_in}}
+use Rattle.ulfm_book.proofs.Seating.{seat_lt}
 
 -- at first each word is 0
 zero_at : {P : Type 0} (pack : P → ℕ) (p : Place) → word_at pack [] p ≡ 0
@@ -23,7 +22,7 @@ opened_kept meld pack limits size is = record {
   is_log = record { log_is = refl; legal = tt };
   size = length-replicate size (0, true) ∙ is;
   words = λ p within.
-      get_or-replicate size (key_in limits p) (0, true) (0, false) (omega (arith, is, key_lt limits p within)) ∙ ap (λ n. let c : Cell = (n, true) in c) (sym (zero_at pack p));
+      get_or-replicate size (seat_in limits p) (0, true) (0, false) (omega (arith, is, seat_lt limits p within)) ∙ ap (λ n. let c : Cell = (n, true) in c) (sym (zero_at pack p));
 }
 
 -- the word under a key of the row is the book's

@@ -6,10 +6,10 @@ use Rattle.logbook.specs.Pages.{Book}
 use Rattle.ulfm_model.specs.declared.{event.Entry.{Entry}, place.Place.{Place}}
 use Rattle.ulfm_model.specs.{History.{History, IsLegal}, Runs.{Did}, Words.{MayOpen, word_at}}
 use Rattle.ulfm_words.specs.declared.{step.Last.{Last}, step.Step.{Step}}
-use Rattle.ulfm_words.specs.{Entries.{entry_of}, Pass.{last_of}, Places.{IsWithin, key_in}, Steps.{Heard, IsOf, Learns, Loads, Sets, Sight}}
+use Rattle.ulfm_words.specs.{Entries.{entry_of}, Pass.{last_of}, Places.{IsWithin}, Steps.{Heard, IsOf, Learns, Loads, Sets, Sight}}
 use Rattle.ulfm_words.proofs.Telling.{last_of-push}
 use Rattle.ulfm_book.specs.declared.{line.Line.{Line}, line.Line.TheVariants.{Made}}
-use Rattle.ulfm_book.specs.{Logs.{IsLog, history_in, limits_in}, Rules.{IsFound, IsLast, Sees, heard_of, name_of, sight_of}}
+use Rattle.ulfm_book.specs.{Logs.{IsLog, history_in, limits_in}, Rules.{IsFound, IsLast, Sees, heard_of, name_of, sight_of}, Seats.{seat_in}}
 use Rattle.ulfm_book.proofs.Growing.{history_in-append, sees}
 
 -- others' events may have come
@@ -22,8 +22,8 @@ module _ {P : Type 0} (meld : P → P → P) (pack : P → ℕ) where
   made p found load = (record { place = p; word = found; load = load }, load)
 
   -- what was found under a place's key is the place's word
-  found_at : (old new : List (Line P)) (p : Place) (k found : ℕ) → Sees meld old new → IsWithin (limits_in old) p → k ≡ key_in (limits_in old) p → IsFound pack k found new → word_at pack (history_in new) p ≡ found
-  found_at old new p k found s within key is = is p (subst (λ n. IsWithin n p) (sym s.limits) within) (key ∙ ap (λ n. key_in n p) (sym s.limits))
+  found_at : (old new : List (Line P)) (p : Place) (k found : ℕ) → Sees meld old new → IsWithin (limits_in old) p → k ≡ seat_in (limits_in old) p → IsFound pack k found new → word_at pack (history_in new) p ≡ found
+  found_at old new p k found s within key is = is p (subst (λ n. IsWithin n p) (sym s.limits) within) (key ∙ ap (λ n. seat_in n p) (sym s.limits))
 
   module _ (b b' : Book) (old new : List (Line P)) (trail trail' : List (Last × Bool)) where
     -- the pass is still of these words
@@ -42,7 +42,7 @@ module _ {P : Type 0} (meld : P → P → P) (pack : P → ℕ) where
 
     abbrev LoadTells : Place → ℕ → ℕ → Sight P → Type 0
     LoadTells p k found pass =
-        IsOf meld pass.name pass → IsWithin pass.name.limits p → k ≡ key_in pass.name.limits p → b' ≡ b → Sees meld old new × IsFound pack k found new → trail' ≡ trail ++ made p found true ∷ []
+        IsOf meld pass.name pass → IsWithin pass.name.limits p → k ≡ seat_in pass.name.limits p → b' ≡ b → Sees meld old new × IsFound pack k found new → trail' ≡ trail ++ made p found true ∷ []
         → Loads meld pack false pass.name p pass (sight_of b' new trail')
 
     -- a load
@@ -64,7 +64,7 @@ module _ {P : Type 0} (meld : P → P → P) (pack : P → ℕ) where
 
     abbrev WonTells : (ℕ → Option P) → Step → ℕ → ℕ → Line P → Entry P → Sight P → Type 0
     WonTells unpack s k found ask entry pass =
-        IsOf meld pass.name pass → IsWithin pass.name.limits s.place → k ≡ key_in pass.name.limits s.place → b' ≡ b → Finds s k found ask → trail' ≡ trail ++ made s.place found false ∷ []
+        IsOf meld pass.name pass → IsWithin pass.name.limits s.place → k ≡ seat_in pass.name.limits s.place → b' ≡ b → Finds s k found ask → trail' ≡ trail ++ made s.place found false ∷ []
         → entry_of unpack s ≡ Some entry → ask ≡ Made entry → found ≡ 0 → Sets meld pack unpack false pass.name s pass (Ok tt) (sight_of b' new trail')
 
     -- an exchange that was won
@@ -91,7 +91,7 @@ module _ {P : Type 0} (meld : P → P → P) (pack : P → ℕ) where
 
     abbrev LostTells : (ℕ → Option P) → Step → ℕ → ℕ → Line P → Sight P → Type 0
     LostTells unpack s k found ask pass =
-        IsOf meld pass.name pass → IsWithin pass.name.limits s.place → k ≡ key_in pass.name.limits s.place → b' ≡ b → Finds s k found ask → trail' ≡ trail ++ made s.place found false ∷ []
+        IsOf meld pass.name pass → IsWithin pass.name.limits s.place → k ≡ seat_in pass.name.limits s.place → b' ≡ b → Finds s k found ask → trail' ≡ trail ++ made s.place found false ∷ []
         → found ≢ 0 → Sets meld pack unpack false pass.name s pass (Err found) (sight_of b' new trail')
 
     -- an exchange that was lost

@@ -5,9 +5,9 @@ use Rattle.logbook.specs.Pages.{Book, Cell, Named, Step as Ask, View, cell}
 use Rattle.ulfm_model.specs.declared.{limits.Limits.{Limits}, limits.OpenFault.{OpenFault}, limits.OpenFault.TheVariants.{OutOfRange, TooLarge, OutOfMemory}, place.Place.{Place}}
 use Rattle.ulfm_model.specs.Words.{IsUnfit, MayOpen, size_of, word_at}
 use Rattle.ulfm_words.specs.declared.step.Last.{Last}
-use Rattle.ulfm_words.specs.{Pass.{last_of}, Places.{IsWithin, key_in}, Steps.{Heard, Name, Sight}}
+use Rattle.ulfm_words.specs.{Pass.{last_of}, Places.{IsWithin}, Steps.{Heard, Name, Sight}}
 use Rattle.ulfm_book.specs.declared.line.Line.{Line}
-use Rattle.ulfm_book.specs.Logs.{IsLog, history_in, limits_in}
+use Rattle.ulfm_book.specs.{Logs.{IsLog, history_in, limits_in}, Seats.{seat_in}}
 
 -- The one rule: the log is legal, there is a word for each place of its limits, and each is the word that the log's history
 -- has at its place. That word is 0 exactly where no event of the history sets it, and otherwise is that event's word; the
@@ -15,7 +15,7 @@ use Rattle.ulfm_book.specs.Logs.{IsLog, history_in, limits_in}
 pub record IsKept {P : Type 0} (meld : P → P → P) (pack : P → ℕ) (cells : List Cell) (log : List (Line P)) : Type 0 where
   pub is_log : IsLog meld log
   pub size : length cells ≡ size_of (limits_in log)
-  pub words : (p : Place) → IsWithin (limits_in log) p → cell cells (key_in (limits_in log) p) ≡ (word_at pack (history_in log) p, true)
+  pub words : (p : Place) → IsWithin (limits_in log) p → cell cells (seat_in (limits_in log) p) ≡ (word_at pack (history_in log) p, true)
 
 -- the name of the words of a book, and the book of such a name
 abbrev pub name_of : Book → Limits → Name
@@ -43,7 +43,7 @@ pub record Sees {P : Type 0} (meld : P → P → P) (old new : List (Line P)) : 
 
 -- the word found under a key is that of the log's history
 abbrev pub IsFound : {P : Type 0} → (P → ℕ) → ℕ → ℕ → List (Line P) → Type 0
-IsFound pack key found log = (p : Place) → IsWithin (limits_in log) p → key ≡ key_in (limits_in log) p → word_at pack (history_in log) p ≡ found
+IsFound pack key found log = (p : Place) → IsWithin (limits_in log) p → key ≡ seat_in (limits_in log) p → word_at pack (history_in log) p ≡ found
 
 -- a load sees the log, and the word that its history has
 abbrev pub Looks : {P : Type 0} → (P → P → P) → (P → ℕ) → Ask (Line P) → View (Line P) ℕ → ℕ → View (Line P) ℕ → Type 0

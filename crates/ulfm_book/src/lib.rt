@@ -12,6 +12,7 @@
 mod line;
 mod pass;
 mod rule;
+mod seats;
 #[cfg(test)]
 mod tests;
 mod words;

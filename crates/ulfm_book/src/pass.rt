@@ -1,10 +1,11 @@
 ghost use Rattle.std.specs.Prelude.{◌≡◌, [], false};
 ghost use Rattle.ulfm_model.specs.History.{IsLegal};
 ghost use Rattle.ulfm_model.specs.Words.{word_at};
-ghost use Rattle.ulfm_words.specs.Places.{IsWithin, key_in};
+ghost use Rattle.ulfm_words.specs.Places.{IsWithin};
 ghost use Rattle.ulfm_words.specs.Steps.{IsOf, Loads, MaySet, Sets, Learns};
 ghost use Rattle.ulfm_book.specs.Logs.{IsLog};
 ghost use Rattle.ulfm_book.specs.Rules.{book_of, sight_of, word_named};
+ghost use Rattle.ulfm_book.specs.Seats.{seat_in};
 
 use crate::line::Line;
 use crate::rule::{Add, Law, Look, Nothing};
@@ -70,7 +71,7 @@ impl<P: Packed> BookPass<P> {
     pub(crate) fn load(&mut self, word: &Word<Line<P>, u64, Law<P>>, place: Place) -> u64
         requires of { IsOf P.meld self.old.name self.old }
         requires within { IsWithin self.old.name.limits place }
-        requires word { word.now ≡ word_named (book_of self.old.name) (key_in self.old.name.limits place) }
+        requires word { word.now ≡ word_named (book_of self.old.name) (seat_in self.old.name.limits place) }
         ensures loads { Loads P.meld P.pack false self.old.name place self.old self.new }
         ensures found { result ≡ word_at P.pack self.new.seen place }
     {
@@ -103,7 +104,7 @@ impl<P: Packed> BookPass<P> {
     ) -> Result<(), u64>
         requires of { IsOf P.meld self.old.name self.old }
         requires within { IsWithin self.old.name.limits step.place }
-        requires word { word.now ≡ word_named (book_of self.old.name) (key_in self.old.name.limits step.place) }
+        requires word { word.now ≡ word_named (book_of self.old.name) (seat_in self.old.name.limits step.place) }
         requires may { MaySet P.meld P.pack P.unpack self.old.name.limits self.old.seen step }
         ensures { Sets P.meld P.pack P.unpack false self.old.name step self.old result self.new }
     {

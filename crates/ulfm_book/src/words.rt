@@ -1,24 +1,26 @@
 ghost use Rattle.std.specs.Prelude.{◌≡◌, true, false, IfOk, IfErr};
 ghost use Rattle.ulfm_model.specs.Words.{MayOpen, size_of};
-ghost use Rattle.ulfm_words.specs.Places.{IsWithin, key_in};
+ghost use Rattle.ulfm_words.specs.Places.{IsWithin};
 ghost use Rattle.ulfm_book.specs.Rules.{IsFault, book_of, word_named};
+ghost use Rattle.ulfm_book.specs.Seats.{seat_in};
 
 use crate::line::Line;
 use crate::pass::{BookPass, BookTold};
 use crate::rule::{Law, Opens};
+use crate::seats::place_in_row;
 use logbook::{Seen, Start, Word};
 use std::alloc::{AllocError, Allocator, Global};
 use std::marker::Model;
 use ulfm_laws::meld::Packed;
 use ulfm_model::limits::{Limits, OpenFault};
 use ulfm_model::place::Place;
-use ulfm_words::{Step, Words, key_of};
+use ulfm_words::{Step, Words};
 
 /// The words of a world, shared by threads: eight bytes each. All passes have seen beginnings of one history. Contracts see
 /// the words as their name.
 #[derive(Drop)]
 pub struct BookWords<P: Packed, A: Allocator = Global> {
-    // One for each place, by its key.
+    // One for each place, in the order of `place_in_row`.
     words: Vec<Word<Line<P>, u64, Law<P>>, A>,
     limits: Limits,
     // The log as it was opened, from which new passes go on.
@@ -76,9 +78,9 @@ impl<P: Packed, A: Allocator> BookWords<P, A> {
     // The word of a place.
     fn word(&self, place: Place) -> &Word<Line<P>, u64, Law<P>>
         requires { IsWithin self.now.limits place }
-        ensures { result.now ≡ word_named (book_of self.now) (key_in self.now.limits place) }
+        ensures { result.now ≡ word_named (book_of self.now) (seat_in self.now.limits place) }
     {
-        &self.words[key_of(place, self.limits)]
+        &self.words[place_in_row(place, self.limits)]
     }
 }
 

@@ -1,0 +1,38 @@
+//! Where each place's word stands in the row of shared words.
+ghost use Rattle.std.specs.Prelude.{◌≡◌};
+ghost use Rattle.ulfm_book.specs.Seats.{seat_in};
+ghost use Rattle.ulfm_model.specs.Words.{MayOpen};
+ghost use Rattle.ulfm_words.specs.Places.{IsWithin};
+
+use ulfm_model::limits::Limits;
+use ulfm_model::place::Place;
+
+/// Where the word of this place stands in the row: the lists, the communicators, the revocations, all slots, and then all
+/// arrivals. Two places have two positions, all below the world's size.
+///
+/// The row of shared words has its full length from the start. So the slots of all rounds stand side by side, and several
+/// rounds share a cache line. A row of plain words grows round after round, so `key_of` puts the arrivals of each round
+/// right after its slots.
+#[inline(always)]
+pub(crate) fn place_in_row(place: Place, limits: Limits) -> usize
+    requires open { MayOpen limits }
+    requires within { IsWithin limits place }
+    ensures { result ≡ seat_in limits place }
+{
+    let ranks = limits.ranks as usize;
+    let comms = limits.comms as usize;
+    let rounds = limits.rounds as usize;
+    let slots = ranks + 2 * comms;
+    let arrivals = slots + comms * rounds * ranks;
+    match place {
+        Place::List { index } => index as usize,
+        Place::Comm { comm } => ranks + comm as usize,
+        Place::Revoked { comm } => ranks + comms + comm as usize,
+        Place::Slot { comm, round, rank } => {
+            slots + (comm as usize * rounds + round as usize) * ranks + rank as usize
+        }
+        Place::Arrival { comm, round, rank } => {
+            arrivals + (comm as usize * rounds + round as usize) * ranks + rank as usize
+        }
+    }
+}
