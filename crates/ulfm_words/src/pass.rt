@@ -22,6 +22,9 @@ pub(crate) struct Setting {
     pub by: Caller,
 }
 
+// A row of at most so many words has all of them from the start.
+const SHORT: usize = 4096;
+
 /// The words of one owner, and the journal of what was set. Contracts see it as a `Sight`.
 #[derive(Drop)]
 pub struct PlainPass<P: Packed, A: Allocator = Global> {
@@ -86,43 +89,42 @@ fn row_length(limits: Limits, rounds: u16) -> usize
     ranks + 2 * comms + rounds as usize * (2 * comms * ranks)
 }
 
-// Sees to it that the word of a place stands in the row: how many rounds the row has then. It takes no memory.
+// Sees to it that the word of a place stands in the row, and how many rounds the row has then. It takes no memory.
 #[inline(always)]
-fn reach<A: Allocator>(words: &mut Vec<u64, A>, rounds: u16, place: Place, limits: Limits) -> u16
-    requires open { MayOpen limits }
-    requires within { IsWithin limits place }
-    requires rounds { HasRounds limits rounds words.old.items }
-    requires room { size_of limits ≤ vec_capacity words.old }
-    ensures stands { StandsIn result place }
-    ensures rounds { HasRounds limits result words.new.items }
+fn reach<A: Allocator>(words: &mut Vec<u64, A>, rounds: &mut u16, place: Place, limits: &Limits)
+    requires open { MayOpen limits.now }
+    requires within { IsWithin limits.now place }
+    requires rounds { HasRounds limits.now rounds.old words.old.items }
+    requires room { size_of limits.now ≤ vec_capacity words.old }
+    ensures stands { StandsIn rounds.new place }
+    ensures rounds { HasRounds limits.now rounds.new words.new.items }
     ensures zeros { IsLonger words.old.items words.new.items }
     ensures room { vec_capacity words.old ≤ vec_capacity words.new }
 {
     match place {
         Place::Slot { round, .. } | Place::Arrival { round, .. } => {
-            if round < rounds {
-                return rounds;
+            if round >= *rounds {
+                *rounds = lengthen(words, round, limits);
             }
-            lengthen(words, round, limits)
         }
-        Place::List { .. } | Place::Comm { .. } | Place::Revoked { .. } => rounds,
+        Place::List { .. } | Place::Comm { .. } | Place::Revoked { .. } => (),
     }
 }
 
 // Makes the words of all rounds up to this one and of as many more, all 0: so a world makes them a few times in all.
 #[inline(never)]
-fn lengthen<A: Allocator>(words: &mut Vec<u64, A>, round: u16, limits: Limits) -> u16
-    requires open { MayOpen limits }
-    requires within { round < limits.rounds }
-    requires row { length words.old.items ≤ row_of limits round }
-    requires room { size_of limits ≤ vec_capacity words.old }
+fn lengthen<A: Allocator>(words: &mut Vec<u64, A>, round: u16, limits: &Limits) -> u16
+    requires open { MayOpen limits.now }
+    requires within { round < limits.now.rounds }
+    requires row { length words.old.items ≤ row_of limits.now round }
+    requires room { size_of limits.now ≤ vec_capacity words.old }
     ensures stands { round < result }
-    ensures rounds { HasRounds limits result words.new.items }
+    ensures rounds { HasRounds limits.now result words.new.items }
     ensures zeros { IsLonger words.old.items words.new.items }
     ensures room { vec_capacity words.old ≤ vec_capacity words.new }
 {
     let rounds = (2 * round + 1).min(limits.rounds);
-    let _ = words.resize(row_length(limits, rounds), 0);
+    let _ = words.resize(row_length(*limits, rounds), 0);
     rounds
 }
 
@@ -133,13 +135,14 @@ impl<P: Packed, A: Allocator + Copy> PlainPass<P, A> {
         ensures { IfOk result (λ p. IsNew P.meld (plain_name limits) p) }
     {
         let size = limits.size() as usize;
+        let rounds = if size <= SHORT { limits.rounds } else { 0 };
         let mut words = Vec::with_capacity(alloc, size)?;
-        words.resize(row_length(limits, 0), 0)?;
+        words.resize(row_length(limits, rounds), 0)?;
         let journal = Vec::with_capacity(alloc, size)?;
         Ok(PlainPass {
             limits,
             words,
-            rounds: 0,
+            rounds,
             journal,
             trail: Log::new(),
             flags: PhantomData,
@@ -188,7 +191,7 @@ impl<P: Packed, A: Allocator + Copy> PlainPass<P, A> {
     {
         let place = step.place;
         let index = key_of(place, self.limits);
-        self.rounds = reach(&mut self.words, self.rounds, place, self.limits);
+        reach(&mut self.words, &mut self.rounds, place, &self.limits);
         let word = self.words[index];
         let load = false;
         self.trail = self.trail.and(&Last { place, word, load }, &load);

@@ -5,5 +5,5 @@ use Rattle.ulfm_words.proofs.pass.lengthen.Goals as goal
 pub returns-clause-zeros : goal.returns-clause-zeros
 returns-clause-zeros g c =
     let later : c.args.round ≤ c.min-rounds.result = omega (arith, c.requires.within, c.min-rounds.ensures) in
-    let fits : length c.args.words.now.items ≤ c.row_length.result = omega (arith, c.requires.row, row_grows c.args.limits c.args.round c.min-rounds.result later, c.row_length.ensures) in
+    let fits : length c.args.words.now.items ≤ c.row_length.result = omega (arith, c.requires.row, row_grows c.args.limits.now c.args.round c.min-rounds.result later, c.row_length.ensures) in
     zeros_more c.args.words.now.items c.resize.new.self.items c.row_length.result (c.row_length.result - vec_len c.args.words.now) c.resize.result c.resize.ensures.items fits

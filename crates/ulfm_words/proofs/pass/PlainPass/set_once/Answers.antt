@@ -9,41 +9,41 @@ use Rattle.ulfm_words.proofs.{Growing.{prefix_self}, Keys.{key_inside, read_is, 
 use Rattle.ulfm_words.proofs.pass.PlainPass.set_once.Goals as goal
 use Rattle.ulfm_words.proofs.pass.PlainPass.set_once.Goals.{After-push}
 
-pub reach-self-inside-requires-clause-within : goal.reach-self-inside-requires-clause-within
-reach-self-inside-requires-clause-within g c =
+pub reach-requires-clause-within : goal.reach-requires-clause-within
+reach-requires-clause-within g c =
     within_is g.P.Meld.meld g.P.Packed.pack g.P.Packed.unpack c.self.inside.limits c.args.self.now c.self.inside.words.items c.self.inside.journal.items c.self.inside.trail.items c.args.step.place c.self.view_is c.requires.within
 
 pub index-word-requires : goal.index-word-requires
 index-word-requires g c =
     let within = within_is g.P.Meld.meld g.P.Packed.pack g.P.Packed.unpack c.self.inside.limits c.args.self.now c.self.inside.words.items c.self.inside.journal.items c.self.inside.trail.items c.args.step.place c.self.view_is c.requires.within in
-    let below = key_inside c.self.inside.limits c.reach-self-inside.result c.reach-self-inside.new.words.items c.args.step.place c.key_of-index.result c.reach-self-inside.ensures.rounds within c.reach-self-inside.ensures.stands c.key_of-index.ensures in
-    omega (arith, below, c.reach-self-inside.new.words.ok.0)
+    let below = key_inside c.self.inside.limits c.reach.new.rounds c.reach.new.words.items c.args.step.place c.key_of-index.result c.reach.ensures.rounds within c.reach.ensures.stands c.key_of-index.ensures in
+    omega (arith, below, c.reach.new.words.ok.0)
 
 pub index_mut-requires : goal.index_mut-requires
 index_mut-requires g c =
     let within = within_is g.P.Meld.meld g.P.Packed.pack g.P.Packed.unpack c.self.inside.limits c.args.self.now c.self.inside.words.items c.self.inside.journal.items c.self.inside.trail.items c.args.step.place c.self.view_is c.requires.within in
-    let below = key_inside c.self.inside.limits c.reach-self-inside.result c.reach-self-inside.new.words.items c.args.step.place c.key_of-index.result c.reach-self-inside.ensures.rounds within c.reach-self-inside.ensures.stands c.key_of-index.ensures in
-    omega (arith, below, c.reach-self-inside.new.words.ok.0)
+    let below = key_inside c.self.inside.limits c.reach.new.rounds c.reach.new.words.items c.args.step.place c.key_of-index.result c.reach.ensures.rounds within c.reach.ensures.stands c.key_of-index.ensures in
+    omega (arith, below, c.reach.new.words.ok.0)
 
 pub invariant_of-self : goal.invariant_of-self
 invariant_of-self g c = (
-  tied_longer g.P.Meld.meld g.P.Packed.pack g.P.Packed.unpack c.self.inside.limits c.self.inside.words.items c.reach-self-inside.new.words.items c.self.inside.journal.items (vec_capacity c.self.inside.journal) c.self.invariant.0 c.reach-self-inside.ensures.zeros (rounds_fit c.self.inside.limits c.reach-self-inside.result c.reach-self-inside.new.words.items c.reach-self-inside.ensures.rounds),
-  c.reach-self-inside.ensures.rounds,
-  omega (arith, c.self.invariant.2, c.reach-self-inside.ensures.room),
+  tied_longer g.P.Meld.meld g.P.Packed.pack g.P.Packed.unpack c.self.inside.limits c.self.inside.words.items c.reach.new.words.items c.self.inside.journal.items (vec_capacity c.self.inside.journal) c.self.invariant.0 c.reach.ensures.zeros (rounds_fit c.self.inside.limits c.reach.new.rounds c.reach.new.words.items c.reach.ensures.rounds),
+  c.reach.ensures.rounds,
+  omega (arith, c.self.invariant.2, c.reach.ensures.room),
 )
 
 pub returns-then-word-ne0 : goal.returns-then-word-ne0
 returns-then-word-ne0 g c =
     let unpack = g.P.Packed.unpack in
     let limits = c.self.inside.limits in
-    let ws = c.reach-self-inside.new.words.items in
+    let ws = c.reach.new.words.items in
     let js = c.self.inside.journal.items in
     let ts = c.self.inside.trail.items in
     let place = c.args.step.place in
-    let tied = tied_longer g.P.Meld.meld g.P.Packed.pack unpack limits c.self.inside.words.items ws js (vec_capacity c.self.inside.journal) c.self.invariant.0 c.reach-self-inside.ensures.zeros (rounds_fit c.self.inside.limits c.reach-self-inside.result c.reach-self-inside.new.words.items c.reach-self-inside.ensures.rounds) in
-    let seen = same_sight unpack limits c.self.inside.words.items ws c.reach-self-inside.ensures.zeros c.args.self.now js ts c.self.view_is in
+    let tied = tied_longer g.P.Meld.meld g.P.Packed.pack unpack limits c.self.inside.words.items ws js (vec_capacity c.self.inside.journal) c.self.invariant.0 c.reach.ensures.zeros (rounds_fit c.self.inside.limits c.reach.new.rounds c.reach.new.words.items c.reach.ensures.rounds) in
+    let seen = same_sight unpack limits c.self.inside.words.items ws c.reach.ensures.zeros c.args.self.now js ts c.self.view_is in
     let within = within_is g.P.Meld.meld g.P.Packed.pack unpack limits c.args.self.now c.self.inside.words.items js ts place c.self.view_is c.requires.within in
-    let inside = key_inside limits c.reach-self-inside.result ws place c.key_of-index.result c.reach-self-inside.ensures.rounds within c.reach-self-inside.ensures.stands c.key_of-index.ensures in
+    let inside = key_inside limits c.reach.new.rounds ws place c.key_of-index.result c.reach.ensures.rounds within c.reach.ensures.stands c.key_of-index.ensures in
     let word = read_is limits ws place c.key_of-index.result c.index-word.result.now inside c.key_of-index.ensures c.index-word.ensures in
     sets_lost g.P.Meld.meld g.P.Packed.pack unpack limits c.args.self.now ws js (vec_capacity c.self.inside.journal) ts c.and-self-inside.result.items c.args.step c.index-word.result.now
     seen tied c.requires.within word c.if-word-ne0.true c.and-self-inside.ensures
@@ -51,28 +51,28 @@ returns-then-word-ne0 g c =
 within_of : (g : _) (c : After-push g) → IsWithin c.self.inside.limits c.args.step.place
 within_of g c = within_is g.P.Meld.meld g.P.Packed.pack g.P.Packed.unpack c.self.inside.limits c.args.self.now c.self.inside.words.items c.self.inside.journal.items c.self.inside.trail.items c.args.step.place c.self.view_is c.requires.within
 
-tied : (g : _) (c : After-push g) → IsTied g.P.Meld.meld g.P.Packed.pack g.P.Packed.unpack c.self.inside.limits c.reach-self-inside.new.words.items c.self.inside.journal.items (vec_capacity c.self.inside.journal)
-tied g c = tied_longer g.P.Meld.meld g.P.Packed.pack g.P.Packed.unpack c.self.inside.limits c.self.inside.words.items c.reach-self-inside.new.words.items c.self.inside.journal.items (vec_capacity c.self.inside.journal) c.self.invariant.0 c.reach-self-inside.ensures.zeros (rounds_fit c.self.inside.limits c.reach-self-inside.result c.reach-self-inside.new.words.items c.reach-self-inside.ensures.rounds)
+tied : (g : _) (c : After-push g) → IsTied g.P.Meld.meld g.P.Packed.pack g.P.Packed.unpack c.self.inside.limits c.reach.new.words.items c.self.inside.journal.items (vec_capacity c.self.inside.journal)
+tied g c = tied_longer g.P.Meld.meld g.P.Packed.pack g.P.Packed.unpack c.self.inside.limits c.self.inside.words.items c.reach.new.words.items c.self.inside.journal.items (vec_capacity c.self.inside.journal) c.self.invariant.0 c.reach.ensures.zeros (rounds_fit c.self.inside.limits c.reach.new.rounds c.reach.new.words.items c.reach.ensures.rounds)
 
-seen : (g : _) (c : After-push g) → sight_of g.P.Packed.unpack c.self.inside.limits c.reach-self-inside.new.words.items c.self.inside.journal.items c.self.inside.trail.items ≡ c.args.self.now
-seen g c = same_sight g.P.Packed.unpack c.self.inside.limits c.self.inside.words.items c.reach-self-inside.new.words.items c.reach-self-inside.ensures.zeros c.args.self.now c.self.inside.journal.items c.self.inside.trail.items c.self.view_is
+seen : (g : _) (c : After-push g) → sight_of g.P.Packed.unpack c.self.inside.limits c.reach.new.words.items c.self.inside.journal.items c.self.inside.trail.items ≡ c.args.self.now
+seen g c = same_sight g.P.Packed.unpack c.self.inside.limits c.self.inside.words.items c.reach.new.words.items c.reach.ensures.zeros c.args.self.now c.self.inside.journal.items c.self.inside.trail.items c.self.view_is
 
-below : (g : _) (c : After-push g) → c.key_of-index.result < length c.reach-self-inside.new.words.items
-below g c = key_inside c.self.inside.limits c.reach-self-inside.result c.reach-self-inside.new.words.items c.args.step.place c.key_of-index.result c.reach-self-inside.ensures.rounds (within_of g c) c.reach-self-inside.ensures.stands c.key_of-index.ensures
+below : (g : _) (c : After-push g) → c.key_of-index.result < length c.reach.new.words.items
+below g c = key_inside c.self.inside.limits c.reach.new.rounds c.reach.new.words.items c.args.step.place c.key_of-index.result c.reach.ensures.rounds (within_of g c) c.reach.ensures.stands c.key_of-index.ensures
 
-word_is : (g : _) (c : After-push g) → c.index-word.result.now ≡ slice_index c.reach-self-inside.new.words.items (key_in c.self.inside.limits c.args.step.place)
-word_is g c = read_is c.self.inside.limits c.reach-self-inside.new.words.items c.args.step.place c.key_of-index.result c.index-word.result.now (below g c) c.key_of-index.ensures c.index-word.ensures
+word_is : (g : _) (c : After-push g) → c.index-word.result.now ≡ slice_index c.reach.new.words.items (key_in c.self.inside.limits c.args.step.place)
+word_is g c = read_is c.self.inside.limits c.reach.new.words.items c.args.step.place c.key_of-index.result c.index-word.result.now (below g c) c.key_of-index.ensures c.index-word.ensures
 
-may_in : (g : _) (c : After-push g) → MaySet g.P.Meld.meld g.P.Packed.pack g.P.Packed.unpack c.self.inside.limits (entries g.P.Packed.unpack c.self.inside.limits c.reach-self-inside.new.words.items c.self.inside.journal.items) c.args.step
+may_in : (g : _) (c : After-push g) → MaySet g.P.Meld.meld g.P.Packed.pack g.P.Packed.unpack c.self.inside.limits (entries g.P.Packed.unpack c.self.inside.limits c.reach.new.words.items c.self.inside.journal.items) c.args.step
 may_in g c = subst (λ o. MaySet g.P.Meld.meld g.P.Packed.pack g.P.Packed.unpack o.name.limits o.seen c.args.step) (sym (seen g c)) c.requires.may
 
 index : (g : _) (c : After-push g) → key_in c.self.inside.limits c.args.step.place ≡ c.key_of-index.result
 index g c = sym c.key_of-index.ensures
 
-was_zero : (g : _) (c : After-push g) → slice_index c.reach-self-inside.new.words.items c.key_of-index.result ≡ 0
-was_zero g c = ap (slice_index c.reach-self-inside.new.words.items) c.key_of-index.ensures ∙ (sym (word_is g c) ∙ c.if-word-ne0.false)
+was_zero : (g : _) (c : After-push g) → slice_index c.reach.new.words.items c.key_of-index.result ≡ 0
+was_zero g c = ap (slice_index c.reach.new.words.items) c.key_of-index.ensures ∙ (sym (word_is g c) ∙ c.if-word-ne0.false)
 
-none : (g : _) (c : After-push g) → word_at g.P.Packed.pack (entries g.P.Packed.unpack c.self.inside.limits c.reach-self-inside.new.words.items c.self.inside.journal.items) c.args.step.place ≡ 0
+none : (g : _) (c : After-push g) → word_at g.P.Packed.pack (entries g.P.Packed.unpack c.self.inside.limits c.reach.new.words.items c.self.inside.journal.items) c.args.step.place ≡ 0
 none g c = sym ((tied g c).same c.args.step.place (within_of g c)) ∙ (sym (word_is g c) ∙ c.if-word-ne0.false)
 
 room : (g : _) (c : After-push g) → vec_len c.self.inside.journal < vec_capacity c.self.inside.journal
@@ -80,7 +80,7 @@ room g c =
     let may = may_in g c in
     let some = word_some g.P.Packed.pack may.entry.event in
     let set : c.args.step.word ≢ 0 = omega (arith, may.word, some) in
-    omega (arith, count-set c.reach-self-inside.new.words.items c.key_of-index.result c.args.step.word (was_zero g c) (below g c) set, (tied g c).room, (tied g c).size, c.self.inside.journal.ok.0)
+    omega (arith, count-set c.reach.new.words.items c.key_of-index.result c.args.step.word (was_zero g c) (below g c) set, (tied g c).room, (tied g c).size, c.self.inside.journal.ok.0)
 
 pushed : (g : _) (c : After-push g) → c.push.new.self.items ≡ c.self.inside.journal.items ++ record { place = c.args.step.place; by = c.args.step.by } ∷ []
 pushed g c = let fits = room g c in grind (arith, common_steps)
@@ -89,11 +89,11 @@ pub invariant_of-self-2 : goal.invariant_of-self-2
 invariant_of-self-2 g c =
     let at = (goal.at.invariant_of-self-2 g c).After-push in
     let may = may_in g at in
-    let ok = may.legal (entries g.P.Packed.unpack c.self.inside.limits c.reach-self-inside.new.words.items c.self.inside.journal.items) (prefix_self _) (tied g at).legal (none g at) in (
-      tied_set g.P.Meld.meld g.P.Packed.pack g.P.Packed.unpack c.self.inside.limits c.reach-self-inside.new.words.items c.self.inside.journal.items c.push.new.self.items (vec_capacity c.self.inside.journal) (vec_capacity c.push.new.self) c.args.step c.key_of-index.result may.entry
+    let ok = may.legal (entries g.P.Packed.unpack c.self.inside.limits c.reach.new.words.items c.self.inside.journal.items) (prefix_self _) (tied g at).legal (none g at) in (
+      tied_set g.P.Meld.meld g.P.Packed.pack g.P.Packed.unpack c.self.inside.limits c.reach.new.words.items c.self.inside.journal.items c.push.new.self.items (vec_capacity c.self.inside.journal) (vec_capacity c.push.new.self) c.args.step c.key_of-index.result may.entry
           (tied g at) (within_of g at) (index g at) (was_zero g at) (below g at) may.is_entry may.word ok.0 ok.1 (pushed g at) c.push.ensures.capacity,
-      record { most = c.reach-self-inside.ensures.rounds.most; row = length-set c.reach-self-inside.new.words.items c.key_of-index.result c.args.step.word ∙ c.reach-self-inside.ensures.rounds.row },
-      omega (arith, c.self.invariant.2, c.reach-self-inside.ensures.room),
+      record { most = c.reach.ensures.rounds.most; row = length-set c.reach.new.words.items c.key_of-index.result c.args.step.word ∙ c.reach.ensures.rounds.row },
+      omega (arith, c.self.invariant.2, c.reach.ensures.room),
     )
 
 pub returns : goal.returns
@@ -101,7 +101,7 @@ returns g c =
     let at = (goal.at.returns g c).After-push in
     let unpack = g.P.Packed.unpack in
     let limits = c.self.inside.limits in
-    let ws = c.reach-self-inside.new.words.items in
+    let ws = c.reach.new.words.items in
     let js = c.self.inside.journal.items in
     let may = may_in g at in
     let ok = may.legal (entries unpack limits ws js) (prefix_self _) (tied g at).legal (none g at) in
