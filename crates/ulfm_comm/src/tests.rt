@@ -1,28 +1,25 @@
 // Worked scripts over plain words, memory that is refused, and others' events that come in between.
-ghost use Rattle.ulfm_model.specs.Records.{Fits};
-ghost use Rattle.ulfm_words.specs.Steps.{IsOf};
-
+mod lone;
 mod play;
 mod step_by_step;
 
-use crate::{Job, Polled, Rank, World};
+use self::lone::Lone;
+use crate::{Job, Polled, World};
 use linked_list_allocator::LocalHeap;
-use std::alloc::{Allocator, Global};
+use std::alloc::{AllocError, Allocator, Global};
 use std::process::Abort;
 use std::test::Fail;
 use ulfm_laws::acked::Acked;
 use ulfm_laws::flag_and::FlagAnd;
 use ulfm_laws::known::Known;
-use ulfm_laws::meld::Packed;
 use ulfm_model::call::Call;
 use ulfm_model::contribution::{Contribution, Offer};
 use ulfm_model::event::{Caller, Entry, Event};
 use ulfm_model::limits::Limits;
-use ulfm_model::place::Place;
 use ulfm_model::refusal::Refusal;
 use ulfm_model::reply::Reply;
 use ulfm_steps::Intruder;
-use ulfm_words::{PlainWords, Words};
+use ulfm_words::PlainWords;
 
 /// A call on the world's own communicator, but for a get on any.
 #[derive(Clone, Copy, Debug)]
@@ -64,6 +61,15 @@ fn agreed(bits: u32, failed: u16, raised: bool) -> Reply<FlagAnd> {
     }
 }
 
+/// A call's reply. It promises nothing, so that the proof of a test has nothing to carry along.
+fn apply(
+    job: &mut Job<PlainWords<FlagAnd>, FlagAnd, Global>,
+    asked: &Call<FlagAnd>,
+    group: &mut Vec<u16>,
+) -> Result<Reply<FlagAnd>, AllocError> {
+    job.apply(asked, group)
+}
+
 /// A job over plain words that has answered a script as it should.
 fn run(
     rt: &impl Abort,
@@ -80,7 +86,7 @@ fn run(
     let mut job = Job::open(alloc, PlainWords::open(limits)?)?;
     let mut group = Vec::new(alloc);
     for line in script {
-        let reply = job.apply(&call(line.0), &mut group)?;
+        let reply = apply(&mut job, &call(line.0), &mut group)?;
         assert!(rt; reply == line.1, "{:?} is answered {reply:?}", line.0);
     }
     Ok(job)
@@ -295,39 +301,27 @@ const THREE: Limits = Limits {
     rounds: 4,
 };
 
-// Declares a rank, while another's record fits.
-fn declare<P: Packed, A: Allocator + Copy, W: Words<P, A>>(
-    world: &World<W, P, A>,
-    pass: &mut W::Pass,
-    own: &Rank<P, A>,
-    rank: u16,
-) -> Result<bool, Refusal>
-    requires of { IsOf P.meld (W.name world.now.words) (W.sight pass.old) }
-    requires fits { Fits P.meld (W.name world.now.words).limits (W.sight pass.old).seen own.now }
-    ensures of { IsOf P.meld (W.name world.now.words) (W.sight pass.new) }
-    ensures fits { Fits P.meld (W.name world.now.words).limits (W.sight pass.new).seen own.now }
-{
-    let _ = own;
-    world.fail(pass, rank)
+// Rank 0 asks for the failed group, into a vector that gets no memory: its record has the failure, and is else as it was.
+fn get_refused(rt: &impl Abort, alloc: Global, full: &LocalHeap) -> Result<(), Fail> {
+    let words = PlainWords::<FlagAnd>::open(THREE)?;
+    let mut lone = Lone::open(rt, alloc, words, 3)?;
+    let mut found = Vec::new(full);
+    assert!(rt; lone.declare(1) == Ok(true));
+    let refused = lone.get_failed(0, &mut found);
+    assert!(rt; refused == Err(Refusal::OutOfMemory));
+    assert!(rt; found.is_empty());
+    let own = lone.own();
+    assert_eq!(rt; own.failures(), [1].as_slice());
+    assert!(rt; own.members(0) == Some([0, 1, 2].as_slice()));
+    assert!(rt; own.context(0) == Some(0));
+    Ok(())
 }
 
 #[test]
 fn refused_memory_leaves_the_record(rt: HostRuntime) -> Result<(), Fail> {
-    let words = PlainWords::<FlagAnd>::open(THREE)?;
-    let (world, mut ranks) = World::open(rt.alloc(), words)?;
-    let mut pass = world.pass(rt.alloc())?;
     let heap = LocalHeap::new(rt.alloc(), 16)?;
     let all_of_it = Vec::<u8, &LocalHeap>::with_capacity(&heap, 16)?;
-    let mut found = Vec::new(&heap);
-    assert!(rt; ranks.len() == 3);
-    let own = &mut ranks[0];
-    assert!(rt; declare(&world, &mut pass, own, 1) == Ok(true));
-    let refused = own.get_failed(&world, &mut pass, 0, &mut found);
-    assert!(rt; refused == Err(Refusal::OutOfMemory));
-    assert!(rt; found.is_empty());
-    assert_eq!(rt; own.failures(), [1].as_slice());
-    assert!(rt; own.members(0) == Some([0, 1, 2].as_slice()));
-    assert!(rt; own.context(0) == Some(0));
+    get_refused(&rt, rt.alloc(), &heap)?;
     drop(all_of_it);
     Ok(())
 }
@@ -364,13 +358,10 @@ fn own_place_is_taken(rt: HostRuntime) -> Result<(), Fail> {
             given,
         },
     };
-    let (world, mut ranks) = World::open(rt.alloc(), Intruder { plain, guest })?;
-    let mut pass = world.pass(rt.alloc())?;
-    assert!(rt; ranks.len() == 3);
-    let own = &mut ranks[0];
+    let mut lone = Lone::open(&rt, rt.alloc(), Intruder { plain, guest }, 3)?;
     // Just before the exchange: the look makes one load.
-    pass.wait(1);
-    let refused = own.iagree(&world, &mut pass, 0, FlagAnd { bits: 0x3 });
+    lone.wait(1);
+    let refused = lone.iagree(0, FlagAnd { bits: 0x3 });
     assert!(rt; refused == Err(Refusal::Twice));
     Ok(())
 }
@@ -378,22 +369,15 @@ fn own_place_is_taken(rt: HostRuntime) -> Result<(), Fail> {
 #[test]
 fn shrink_offers_free_ids(rt: HostRuntime) -> Result<(), Fail> {
     let words = PlainWords::<FlagAnd>::open(THREE)?;
-    let (world, mut ranks) = World::open(rt.alloc(), words)?;
-    let mut pass = world.pass(rt.alloc())?;
-    assert!(rt; ranks.len() == 3);
-    let own = &mut ranks[0];
-    assert!(rt; declare(&world, &mut pass, own, 1) == Ok(true));
-    assert!(rt; own.ishrink(&world, &mut pass, 1) == Err(Refusal::NoSuchComm));
-    assert!(rt; own.ishrink(&world, &mut pass, 0) == Ok(()));
-    let comm = 0;
-    let round = 0;
-    let rank = 0;
-    let place = Place::Slot { comm, round, rank };
+    let mut lone = Lone::open(&rt, rt.alloc(), words, 3)?;
+    assert!(rt; lone.declare(1) == Ok(true));
+    assert!(rt; lone.ishrink(1) == Err(Refusal::NoSuchComm));
+    assert!(rt; lone.ishrink(0) == Ok(()));
     // All ids but 0, one failure that is known, and none that is acknowledged.
-    assert_eq!(rt; world.words.load(&mut pass, place), 0x01ff_ffff_fc00_000d);
-    assert!(rt; own.ishrink(&world, &mut pass, 0) == Err(Refusal::Busy));
-    assert!(rt; own.free(&world, &mut pass, 1) == Err(Refusal::NoSuchComm));
-    assert!(rt; own.free(&world, &mut pass, 0) == Err(Refusal::WorldKept));
+    assert!(rt; lone.slot(0, 0, 0) == Some(0x01ff_ffff_fc00_000d));
+    assert!(rt; lone.ishrink(0) == Err(Refusal::Busy));
+    assert!(rt; lone.free(1) == Err(Refusal::NoSuchComm));
+    assert!(rt; lone.free(0) == Err(Refusal::WorldKept));
     Ok(())
 }
 
@@ -405,16 +389,13 @@ fn last_round_is_kept_for_a_shrink(rt: HostRuntime) -> Result<(), Fail> {
         rounds: 1,
     };
     let words = PlainWords::<FlagAnd>::open(limits)?;
-    let (world, mut ranks) = World::open(rt.alloc(), words)?;
-    let mut pass = world.pass(rt.alloc())?;
-    assert!(rt; ranks.len() == 2);
-    let own = &mut ranks[0];
-    let refused = own.iagree(&world, &mut pass, 0, FlagAnd { bits: 0x3 });
+    let mut lone = Lone::open(&rt, rt.alloc(), words, 2)?;
+    let refused = lone.iagree(0, FlagAnd { bits: 0x3 });
     assert!(rt; refused == Err(Refusal::RoundsUsedUp));
-    assert!(rt; own.ishrink(&world, &mut pass, 0) == Ok(()));
-    assert!(rt; declare(&world, &mut pass, own, 0) == Ok(true));
-    assert!(rt; own.ishrink(&world, &mut pass, 0) == Err(Refusal::SelfFailed));
-    assert!(rt; own.free(&world, &mut pass, 1) == Err(Refusal::SelfFailed));
+    assert!(rt; lone.ishrink(0) == Ok(()));
+    assert!(rt; lone.declare(0) == Ok(true));
+    assert!(rt; lone.ishrink(0) == Err(Refusal::SelfFailed));
+    assert!(rt; lone.free(1) == Err(Refusal::SelfFailed));
     Ok(())
 }
 
@@ -427,33 +408,30 @@ const THREE_COMMS: Limits = Limits {
 #[test]
 fn survivor_shrinks(rt: HostRuntime) -> Result<(), Fail> {
     let words = PlainWords::<FlagAnd>::open(THREE_COMMS)?;
-    let (world, mut ranks) = World::open(rt.alloc(), words)?;
-    let mut pass = world.pass(rt.alloc())?;
-    assert!(rt; ranks.len() == 3);
-    let own = &mut ranks[0];
-    assert!(rt; declare(&world, &mut pass, own, 2) == Ok(true));
-    assert!(rt; own.ishrink(&world, &mut pass, 0) == Ok(()));
-    assert!(rt; own.poll(&world, &mut pass, 0) == Ok(Polled::Pending));
-    assert!(rt; declare(&world, &mut pass, own, 1) == Ok(true));
+    let mut lone = Lone::open(&rt, rt.alloc(), words, 3)?;
+    assert!(rt; lone.declare(2) == Ok(true));
+    assert!(rt; lone.ishrink(0) == Ok(()));
+    assert!(rt; lone.poll(0) == Ok(Polled::Pending));
+    assert!(rt; lone.declare(1) == Ok(true));
     let alone = Polled::Shrunk {
         comm: 1,
         context: 1,
         size: 1,
     };
-    assert!(rt; own.poll(&world, &mut pass, 0) == Ok(alone));
-    assert!(rt; own.poll(&world, &mut pass, 0) == Err(Refusal::Idle));
-    assert!(rt; own.members(1) == Some([0].as_slice()));
-    assert!(rt; own.context(1) == Some(1));
-    assert!(rt; own.ishrink(&world, &mut pass, 1) == Ok(()));
+    assert!(rt; lone.poll(0) == Ok(alone));
+    assert!(rt; lone.poll(0) == Err(Refusal::Idle));
+    assert!(rt; lone.own().members(1) == Some([0].as_slice()));
+    assert!(rt; lone.own().context(1) == Some(1));
+    assert!(rt; lone.ishrink(1) == Ok(()));
     let again = Polled::Shrunk {
         comm: 2,
         context: 2,
         size: 1,
     };
-    assert!(rt; own.poll(&world, &mut pass, 1) == Ok(again));
-    assert!(rt; own.ishrink(&world, &mut pass, 2) == Ok(()));
-    assert!(rt; own.poll(&world, &mut pass, 2) == Err(Refusal::NoRoom));
-    assert!(rt; own.poll(&world, &mut pass, 2) == Err(Refusal::Idle));
+    assert!(rt; lone.poll(1) == Ok(again));
+    assert!(rt; lone.ishrink(2) == Ok(()));
+    assert!(rt; lone.poll(2) == Err(Refusal::NoRoom));
+    assert!(rt; lone.poll(2) == Err(Refusal::Idle));
     Ok(())
 }
 
@@ -484,22 +462,19 @@ fn shrink_with<R: Abort, A: Allocator + Copy, B: Allocator + Copy>(
         rounds: 2,
     };
     let words = PlainWords::<FlagAnd>::open(limits)?;
-    let (world, mut ranks) = World::open(alloc, words)?;
-    let mut pass = world.pass(alloc)?;
-    assert!(rt; ranks.len() == 1);
-    let own = &mut ranks[0];
-    assert!(rt; own.ishrink(&world, &mut pass, 0) == Ok(()));
+    let mut lone = Lone::open(rt, alloc, words, 1)?;
+    assert!(rt; lone.ishrink(0) == Ok(()));
     let taken = rest_of(alloc, outside);
-    assert!(rt; own.poll(&world, &mut pass, 0) == Err(Refusal::OutOfMemory));
-    assert!(rt; own.poll(&world, &mut pass, 0) == Err(Refusal::OutOfMemory));
-    assert!(rt; own.members(1).is_none());
+    assert!(rt; lone.poll(0) == Err(Refusal::OutOfMemory));
+    assert!(rt; lone.poll(0) == Err(Refusal::OutOfMemory));
+    assert!(rt; lone.own().members(1).is_none());
     drop(taken);
     let made = Polled::Shrunk {
         comm: 1,
         context: 1,
         size: 1,
     };
-    assert!(rt; own.poll(&world, &mut pass, 0) == Ok(made));
+    assert!(rt; lone.poll(0) == Ok(made));
     Ok(())
 }
 
@@ -526,15 +501,12 @@ fn agree_meets_a_shrink(rt: HostRuntime) -> Result<(), Fail> {
             given,
         },
     };
-    let (world, mut ranks) = World::open(rt.alloc(), Intruder { plain, guest })?;
-    let mut pass = world.pass(rt.alloc())?;
-    assert!(rt; ranks.len() == 3);
-    let own = &mut ranks[0];
-    assert!(rt; declare(&world, &mut pass, own, 2) == Ok(true));
-    assert!(rt; own.ishrink(&world, &mut pass, 0) == Ok(()));
+    let mut lone = Lone::open(&rt, rt.alloc(), Intruder { plain, guest }, 3)?;
+    assert!(rt; lone.declare(2) == Ok(true));
+    assert!(rt; lone.ishrink(0) == Ok(()));
     // Just before the place of rank 1 is read: the look makes two loads, one mark is made, and the first place is read.
-    pass.wait(4);
-    assert!(rt; own.poll(&world, &mut pass, 0) == Err(Refusal::Mismatch));
-    assert!(rt; own.poll(&world, &mut pass, 0) == Err(Refusal::Idle));
+    lone.wait(4);
+    assert!(rt; lone.poll(0) == Err(Refusal::Mismatch));
+    assert!(rt; lone.poll(0) == Err(Refusal::Idle));
     Ok(())
 }
