@@ -1,7 +1,7 @@
 // Calls that are taken step by step, in turns.
 
-use super::agreed;
 use super::play::{Play, Verb, call_of};
+use super::{agreed, apply};
 use crate::StepName::{Arrival, Arrive, Comm, List, Mark, Revocation, Revoke, Settle, Slot, Spawn};
 use crate::{Job, StepName};
 use std::alloc::{AllocError, Global};
@@ -14,7 +14,7 @@ use ulfm_model::limits::Limits;
 use ulfm_model::refusal::Refusal;
 use ulfm_model::reply::Reply;
 use ulfm_steps::Intruder;
-use ulfm_words::PlainWords;
+use ulfm_words::{PlainWords, Words};
 
 type Plain = Play<PlainWords<FlagAnd>, FlagAnd, Global>;
 
@@ -51,10 +51,10 @@ fn agree(bits: u32) -> Verb<FlagAnd> {
 }
 
 /// A rank's call, from its beginning to its reply, with nobody in between: it is answered so, by steps of these names.
-fn takes(
+fn takes<W: Words<FlagAnd, Global>>(
     rt: &impl Abort,
     alloc: Global,
-    play: &mut Plain,
+    play: &mut Play<W, FlagAnd, Global>,
     asked: (u16, u16, Verb<FlagAnd>),
     names: &[StepName],
     reply: Reply<FlagAnd>,
@@ -72,164 +72,172 @@ fn takes(
     Ok(())
 }
 
+/// A move in a play, and what is to come of it.
+#[derive(Clone, Copy, Debug)]
+enum Move<'a> {
+    /// The outside declares a rank, which wasn't declared before.
+    Fail(u16),
+    /// A rank begins a call, on a communicator.
+    Begin(u16, u16, Verb<FlagAnd>),
+    /// The steps of a rank's call up to its next one of this name, which isn't made: so many.
+    Before(u16, StepName, usize),
+    /// The name of the next step of a rank's call.
+    Next(u16, Option<StepName>),
+    /// The next step of a rank's call, with the reply, where it is the last.
+    Step(u16, Option<Reply<FlagAnd>>),
+    /// All steps of a rank's call that are left, with its reply.
+    Finish(u16, Reply<FlagAnd>),
+    /// The same, where the steps have these names.
+    FinishBy(u16, &'a [StepName], Reply<FlagAnd>),
+    /// A rank's call on a communicator, with nobody in between: its reply, and the names of its steps.
+    Call(u16, u16, Verb<FlagAnd>, &'a [StepName], Reply<FlagAnd>),
+    /// The first so many of the failures that a rank has seen among the members of a communicator that it holds.
+    Group(u16, u16, u16, &'a [u16]),
+}
+
+/// Makes a move: whether that comes of it which is to.
+fn comes<W: Words<FlagAnd, Global>>(
+    rt: &impl Abort,
+    alloc: Global,
+    play: &mut Play<W, FlagAnd, Global>,
+    made: Move,
+) -> Result<bool, Fail> {
+    let mut taken = Vec::new(alloc);
+    match made {
+        Move::Fail(rank) => Ok(play.fail(rank) == Ok(true)),
+        Move::Begin(rank, comm, verb) => Ok(play.begin(rank, comm, verb)),
+        Move::Before(rank, name, count) => Ok(play.before(rank, name) == count),
+        Move::Next(rank, name) => Ok(play.next(rank) == name),
+        Move::Step(rank, reply) => Ok(play.step(rank) == reply),
+        Move::Finish(rank, reply) => Ok(play.finish(rank, &mut taken)? == Some(reply)),
+        Move::FinishBy(rank, names, reply) => {
+            let answered = play.finish(rank, &mut taken)?;
+            assert!(rt; taken.as_slice() == names, "{made:?} takes {taken:?}");
+            Ok(answered == Some(reply))
+        }
+        Move::Call(rank, comm, verb, names, reply) => {
+            takes(rt, alloc, play, (rank, comm, verb), names, reply)?;
+            Ok(true)
+        }
+        Move::Group(rank, comm, count, group) => {
+            match first_of(alloc, play, rank, comm, count)? {
+                Some(found) => Ok(found.as_slice() == group),
+                None => Ok(false),
+            }
+        }
+    }
+}
+
+/// Makes the moves of a play, one after another.
+fn goes<W: Words<FlagAnd, Global>>(
+    rt: &impl Abort,
+    alloc: Global,
+    play: &mut Play<W, FlagAnd, Global>,
+    moves: &[Move],
+) -> Result<(), Fail> {
+    for made in moves {
+        let came = comes(rt, alloc, play, *made)?;
+        assert!(rt; came, "{made:?}");
+    }
+    Ok(())
+}
+
 #[test]
 fn revoked_between_loads(rt: HostRuntime) -> Result<(), Fail> {
-    let alloc = rt.alloc();
-    let mut play = open(alloc, limits(2, 1, 2))?;
-    let arrives = [List, Arrive];
-    let revokes = [List, Revoke];
-    for rank in [0, 1] {
-        let asked = (rank, 0, Verb::Barrier);
-        takes(&rt, alloc, &mut play, asked, &arrives, Reply::Started)?;
-    }
-    assert!(rt; play.begin(0, 0, Verb::Poll));
-    // The look makes one load, and two arrivals are read.
-    assert_eq!(rt; play.before(0, Revocation), 3);
-    let asked = (1, 0, Verb::Revoke);
-    takes(&rt, alloc, &mut play, asked, &revokes, Reply::Revoked)?;
-    assert!(rt; play.next(0) == Some(Revocation));
-    assert!(rt; play.step(0) == Some(Reply::Refused(Refusal::IsRevoked)));
-    assert!(rt; play.next(0) == None);
-    Ok(())
+    let moves = [
+        Move::Call(0, 0, Verb::Barrier, &[List, Arrive], Reply::Started),
+        Move::Call(1, 0, Verb::Barrier, &[List, Arrive], Reply::Started),
+        Move::Begin(0, 0, Verb::Poll),
+        // The look makes one load, and two arrivals are read.
+        Move::Before(0, Revocation, 3),
+        Move::Call(1, 0, Verb::Revoke, &[List, Revoke], Reply::Revoked),
+        Move::Next(0, Some(Revocation)),
+        Move::Step(0, Some(Reply::Refused(Refusal::IsRevoked))),
+        Move::Next(0, None),
+    ];
+    let mut play = open(rt.alloc(), limits(2, 1, 2))?;
+    goes(&rt, rt.alloc(), &mut play, &moves)
 }
 
 #[test]
 fn late_arrival(rt: HostRuntime) -> Result<(), Fail> {
-    let alloc = rt.alloc();
-    let mut play = open(alloc, limits(2, 1, 2))?;
-    let arrives = [List, List, Arrive];
-    assert!(rt; play.begin(1, 0, Verb::Barrier));
-    assert_eq!(rt; play.before(1, Arrive), 1);
-    assert!(rt; play.fail(1) == Ok(true));
-    let asked = (0, 0, Verb::Barrier);
-    takes(&rt, alloc, &mut play, asked, &arrives, Reply::Started)?;
-    assert!(rt; play.begin(0, 0, Verb::Poll));
-    // The look makes two loads, and rank 1 is missing when its arrival is read.
-    assert_eq!(rt; play.before(0, Revocation), 3);
-    assert!(rt; play.step(1) == Some(Reply::Started));
-    assert!(rt; play.step(0) == Some(Reply::Refused(Refusal::ProcFailed)));
-    takes(
-        &rt,
-        alloc,
-        &mut play,
-        (1, 0, Verb::Poll),
-        &[List; 2],
-        FAILED,
-    )?;
-    takes(&rt, alloc, &mut play, (1, 0, Verb::Poll), &[], FAILED)
+    let moves = [
+        Move::Begin(1, 0, Verb::Barrier),
+        Move::Before(1, Arrive, 1),
+        Move::Fail(1),
+        Move::Call(0, 0, Verb::Barrier, &[List, List, Arrive], Reply::Started),
+        Move::Begin(0, 0, Verb::Poll),
+        // The look makes two loads, and rank 1 is missing when its arrival is read.
+        Move::Before(0, Revocation, 3),
+        Move::Step(1, Some(Reply::Started)),
+        Move::Step(0, Some(Reply::Refused(Refusal::ProcFailed))),
+        Move::Call(1, 0, Verb::Poll, &[List; 2], FAILED),
+        Move::Call(1, 0, Verb::Poll, &[], FAILED),
+    ];
+    let mut play = open(rt.alloc(), limits(2, 1, 2))?;
+    goes(&rt, rt.alloc(), &mut play, &moves)
 }
 
 #[test]
 fn reads_on_after_its_look(rt: HostRuntime) -> Result<(), Fail> {
-    let alloc = rt.alloc();
-    let mut play = open(alloc, limits(3, 2, 2))?;
-    let settles = [List, Settle];
-    takes(
-        &rt,
-        alloc,
-        &mut play,
-        (0, 0, Verb::Shrink),
-        &settles,
-        Reply::Started,
-    )?;
-    assert!(rt; play.begin(0, 0, Verb::Poll));
-    assert_eq!(rt; play.before(0, Slot), 1);
-    assert!(rt; play.fail(2) == Ok(true));
-    assert!(rt; play.begin(1, 0, Verb::Shrink));
-    let mut names = Vec::new(alloc);
-    assert!(rt; play.finish(1, &mut names)? == Some(Reply::Started));
-    // Rank 1 marks rank 2, so that the round is decided, and makes the communicator.
-    assert!(rt; play.begin(1, 0, Verb::Poll));
-    assert!(rt; play.finish(1, &mut names)? == Some(PAIR));
-    assert!(rt; play.finish(0, &mut names)? == Some(PAIR));
-    assert!(rt;
-        names.as_slice() == [Slot, Slot, Slot, List, Comm].as_slice(),
-        "{names:?}"
-    );
-    Ok(())
+    let moves = [
+        Move::Call(0, 0, Verb::Shrink, &[List, Settle], Reply::Started),
+        Move::Begin(0, 0, Verb::Poll),
+        Move::Before(0, Slot, 1),
+        Move::Fail(2),
+        Move::Begin(1, 0, Verb::Shrink),
+        Move::Finish(1, Reply::Started),
+        // Rank 1 marks rank 2, so that the round is decided, and makes the communicator.
+        Move::Begin(1, 0, Verb::Poll),
+        Move::Finish(1, PAIR),
+        Move::FinishBy(0, &[Slot, Slot, Slot, List, Comm], PAIR),
+    ];
+    let mut play = open(rt.alloc(), limits(3, 2, 2))?;
+    goes(&rt, rt.alloc(), &mut play, &moves)
 }
 
 #[test]
 fn names_in_order(rt: HostRuntime) -> Result<(), Fail> {
-    let alloc = rt.alloc();
-    let mut play = open(alloc, limits(3, 2, 3))?;
-    assert!(rt; play.fail(1) == Ok(true));
-    assert!(rt; play.fail(2) == Ok(true));
     let group = Reply::FailedGroup { count: 2 };
-    takes(&rt, alloc, &mut play, (0, 0, Verb::Get), &[List; 3], group)?;
-    let settles = [List, List, List, Settle];
-    takes(
-        &rt,
-        alloc,
-        &mut play,
-        (0, 0, agree(0x3)),
-        &settles,
-        Reply::Started,
-    )?;
-    let reads = [List, List, List, Mark, Mark, Slot, Slot, Slot];
-    takes(
-        &rt,
-        alloc,
-        &mut play,
-        (0, 0, Verb::Poll),
-        &reads,
-        agreed(0x3, 2, true),
-    )?;
-    takes(
-        &rt,
-        alloc,
-        &mut play,
-        (0, 0, Verb::Shrink),
-        &settles,
-        Reply::Started,
-    )?;
-    let spawns = [List, List, List, Mark, Mark, Slot, Slot, Slot, Comm, Spawn];
-    takes(&rt, alloc, &mut play, (0, 0, Verb::Poll), &spawns, ALONE)?;
-    let arrives = [List, List, List, Arrive];
-    takes(
-        &rt,
-        alloc,
-        &mut play,
-        (0, 1, Verb::Barrier),
-        &arrives,
-        Reply::Started,
-    )?;
-    let waits = [List, List, List, Arrival, Revocation];
-    takes(
-        &rt,
-        alloc,
-        &mut play,
-        (0, 1, Verb::Poll),
-        &waits,
-        Reply::Done,
-    )?;
-    let revokes = [List, List, List, Revoke];
-    takes(
-        &rt,
-        alloc,
-        &mut play,
-        (0, 1, Verb::Revoke),
-        &revokes,
-        Reply::Revoked,
-    )?;
-    let asks = [List, List, List, Revocation];
+    let settles = &[List, List, List, Settle];
+    let reads = &[List, List, List, Mark, Mark, Slot, Slot, Slot];
+    let spawns = &[List, List, List, Mark, Mark, Slot, Slot, Slot, Comm, Spawn];
+    let waits = &[List, List, List, Arrival, Revocation];
     let revoked = Reply::Standing { revoked: true };
-    takes(
-        &rt,
-        alloc,
-        &mut play,
-        (0, 1, Verb::Standing),
-        &asks,
-        revoked,
-    )?;
-    takes(
-        &rt,
-        alloc,
-        &mut play,
-        (0, 1, Verb::Free),
-        &[List; 3],
-        Reply::Freed,
-    )
+    let moves = [
+        Move::Fail(1),
+        Move::Fail(2),
+        Move::Call(0, 0, Verb::Get, &[List; 3], group),
+        Move::Call(0, 0, agree(0x3), settles, Reply::Started),
+        Move::Call(0, 0, Verb::Poll, reads, agreed(0x3, 2, true)),
+        Move::Call(0, 0, Verb::Shrink, settles, Reply::Started),
+        Move::Call(0, 0, Verb::Poll, spawns, ALONE),
+        Move::Call(
+            0,
+            1,
+            Verb::Barrier,
+            &[List, List, List, Arrive],
+            Reply::Started,
+        ),
+        Move::Call(0, 1, Verb::Poll, waits, Reply::Done),
+        Move::Call(
+            0,
+            1,
+            Verb::Revoke,
+            &[List, List, List, Revoke],
+            Reply::Revoked,
+        ),
+        Move::Call(
+            0,
+            1,
+            Verb::Standing,
+            &[List, List, List, Revocation],
+            revoked,
+        ),
+        Move::Call(0, 1, Verb::Free, &[List; 3], Reply::Freed),
+    ];
+    let mut play = open(rt.alloc(), limits(3, 2, 3))?;
+    goes(&rt, rt.alloc(), &mut play, &moves)
 }
 
 /// A line of a script: the outside declares a rank, or a rank is asked, on a communicator.
@@ -277,7 +285,7 @@ fn both(
             Line::Fail(rank) => Call::Fail { rank },
             Line::Ask(rank, comm, verb) => call_of(rank, comm, verb),
         };
-        let whole = job.apply(&asked, &mut group)?;
+        let whole = apply(&mut job, &asked, &mut group)?;
         assert!(rt; whole == *reply, "{line:?} is answered {whole:?}");
         let (answered, taken) = stepped(alloc, &mut play, *line)?;
         assert!(rt;
@@ -428,9 +436,9 @@ fn shrinks_as_whole(rt: HostRuntime) -> Result<(), Fail> {
 }
 
 /// The first so many of the failures that a rank has seen among the members of a communicator that it holds.
-fn first_of(
+fn first_of<W: Words<FlagAnd, Global>>(
     alloc: Global,
-    play: &Plain,
+    play: &Play<W, FlagAnd, Global>,
     rank: u16,
     comm: u16,
     count: u16,
@@ -452,64 +460,66 @@ fn first_of(
 
 #[test]
 fn counts_stand_for_groups(rt: HostRuntime) -> Result<(), Fail> {
-    let alloc = rt.alloc();
-    let mut play = open(alloc, limits(4, 2, 2))?;
-    assert!(rt; play.fail(3) == Ok(true));
-    let settles = [List, List, Settle];
-    for rank in [0, 1, 2] {
-        takes(
-            &rt,
-            alloc,
-            &mut play,
-            (rank, 0, Verb::Shrink),
-            &settles,
-            Reply::Started,
-        )?;
-    }
-    assert!(rt; play.begin(0, 0, Verb::Poll));
     let made = Reply::Shrunk {
         comm: 1,
         context: 1,
         size: 3,
     };
-    assert!(rt; play.finish(0, &mut Vec::new(alloc))? == Some(made));
-    assert!(rt; play.fail(1) == Ok(true));
-    assert!(rt; play.begin(0, 1, Verb::Get));
-    assert!(rt; play.step(0) == None);
-    assert!(rt; play.step(0) == None);
     let one = Reply::FailedGroup { count: 1 };
-    assert!(rt; play.step(0) == Some(one));
-    // What is declared after the look isn't among them.
-    assert!(rt; play.fail(2) == Ok(true));
-    assert!(rt; first_of(alloc, &play, 0, 1, 1)? == Some(vec![in alloc; 1u16]?));
     let three = Reply::FailedGroup { count: 3 };
-    takes(&rt, alloc, &mut play, (0, 0, Verb::Get), &[List; 4], three)?;
-    assert!(rt; first_of(alloc, &play, 0, 0, 3)? == Some(vec![in alloc; 3u16, 1, 2]?));
-    assert!(rt; first_of(alloc, &play, 0, 1, 2)? == Some(vec![in alloc; 1u16, 2]?));
-    Ok(())
+    let moves = [
+        Move::Fail(3),
+        Move::Call(0, 0, Verb::Shrink, &[List, List, Settle], Reply::Started),
+        Move::Call(1, 0, Verb::Shrink, &[List, List, Settle], Reply::Started),
+        Move::Call(2, 0, Verb::Shrink, &[List, List, Settle], Reply::Started),
+        Move::Begin(0, 0, Verb::Poll),
+        Move::Finish(0, made),
+        Move::Fail(1),
+        Move::Begin(0, 1, Verb::Get),
+        Move::Step(0, None),
+        Move::Step(0, None),
+        Move::Step(0, Some(one)),
+        // What is declared after the look isn't among them.
+        Move::Fail(2),
+        Move::Group(0, 1, 1, &[1]),
+        Move::Call(0, 0, Verb::Get, &[List; 4], three),
+        Move::Group(0, 0, 3, &[3, 1, 2]),
+        Move::Group(0, 1, 2, &[1, 2]),
+    ];
+    let mut play = open(rt.alloc(), limits(4, 2, 2))?;
+    goes(&rt, rt.alloc(), &mut play, &moves)
 }
 
 #[test]
 fn refused_for_good_without_a_step(rt: HostRuntime) -> Result<(), Fail> {
+    let alloc = rt.alloc();
     let guest = Entry {
         by: Caller::Outside,
         event: Event::Fail { rank: 0 },
     };
     let plain = PlainWords::<FlagAnd>::open(limits(2, 1, 2))?;
-    let mut play = Play::open(rt.alloc(), Intruder { plain, guest })?;
-    assert!(rt; play.fail(1) == Ok(true));
-    assert!(rt; play.begin(1, 0, Verb::Get));
-    assert!(rt; play.finish(1, &mut Vec::new(rt.alloc()))? == Some(FAILED));
+    let mut play = Play::open(alloc, Intruder { plain, guest })?;
+    let fails = [
+        Move::Fail(1),
+        Move::Begin(1, 0, Verb::Get),
+        Move::Finish(1, FAILED),
+    ];
+    goes(&rt, alloc, &mut play, &fails)?;
     // Just before the next step rank 0 is declared, too.
     play.wait(0);
-    assert!(rt; play.begin(1, 0, Verb::Get));
-    assert!(rt; play.next(1) == None);
-    assert!(rt; play.step(1) == Some(FAILED));
+    let makes_none = [
+        Move::Begin(1, 0, Verb::Get),
+        Move::Next(1, None),
+        Move::Step(1, Some(FAILED)),
+    ];
+    goes(&rt, alloc, &mut play, &makes_none)?;
     assert!(rt; play.nth(1).is_none());
-    assert!(rt; play.begin(0, 0, Verb::Get));
-    assert!(rt; play.next(0) == Some(List));
-    assert!(rt; play.step(0) == None);
+    let looks = [
+        Move::Begin(0, 0, Verb::Get),
+        Move::Next(0, Some(List)),
+        Move::Step(0, None),
+    ];
+    goes(&rt, alloc, &mut play, &looks)?;
     assert!(rt; play.nth(1).is_some());
-    assert!(rt; play.step(0) == Some(FAILED));
-    Ok(())
+    goes(&rt, alloc, &mut play, &[Move::Step(0, Some(FAILED))])
 }
