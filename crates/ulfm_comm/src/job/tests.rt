@@ -3,7 +3,7 @@ ghost use Rattle.std.specs.Prelude.{◌≡◌};
 
 use crate::Job;
 use linked_list_allocator::LocalHeap;
-use std::alloc::{AllocError, Global};
+use std::alloc::{AllocError, Allocator, Global};
 use std::process::Abort;
 use std::test::Fail;
 use ulfm_laws::flag_and::FlagAnd;
@@ -13,7 +13,7 @@ use ulfm_model::limits::{Limits, OpenFault};
 use ulfm_model::place::Place;
 use ulfm_model::reply::Reply;
 use ulfm_steps::Intruder;
-use ulfm_words::{PlainWords, Step};
+use ulfm_words::{PlainWords, Step, Words};
 
 const FOUR: Limits = Limits {
     ranks: 4,
@@ -35,6 +35,15 @@ fn call(asked: Asked) -> Call<FlagAnd> {
         Asked::Shrink(rank, comm) => Call::Shrink { rank, comm },
         Asked::Poll(rank, comm) => Call::Poll { rank, comm },
     }
+}
+
+/// A call's reply. It promises nothing, so that the proof of a test has nothing to carry along.
+fn apply<W: Words<FlagAnd, A>, A: Allocator + Copy>(
+    job: &mut Job<W, FlagAnd, A>,
+    asked: Asked,
+    group: &mut Vec<u16, A>,
+) -> Result<Reply<FlagAnd>, AllocError> {
+    job.apply(&call(asked), group)
 }
 
 /// The reply with communicator 1, which ranks 0, 2 and 3 are left in.
@@ -68,9 +77,8 @@ impl Job<Intruder<FlagAnd>, FlagAnd, Global> {
     }
 }
 
-/// A job in which rank 1 was declared, and then the others started a shrink of the world: four events. Rank 2 is to make the
-/// communicator of its round, as soon as it may.
-fn shrinking(rt: &impl Abort, alloc: Global) -> Result<Disturbed, Fail> {
+/// A new job, in which rank 2 is to make the communicator of the first round of the world, as soon as it may.
+fn disturbed(alloc: Global) -> Result<Disturbed, Fail> {
     let plain = PlainWords::open(FOUR)?;
     let guest = Entry {
         by: Caller::Rank(2),
@@ -80,11 +88,16 @@ fn shrinking(rt: &impl Abort, alloc: Global) -> Result<Disturbed, Fail> {
             round: 0,
         },
     };
-    let mut job = Job::open(alloc, Intruder { plain, guest })?;
+    Ok(Job::open(alloc, Intruder { plain, guest })?)
+}
+
+/// Such a job, in which rank 1 was declared, and then the others started a shrink of the world: four events.
+fn shrinking(rt: &impl Abort, alloc: Global) -> Result<Disturbed, Fail> {
+    let mut job = disturbed(alloc)?;
     let mut group = Vec::new(alloc);
-    assert!(rt; job.apply(&call(Asked::Fail(1)), &mut group)? == Reply::Declared);
+    assert!(rt; apply(&mut job, Asked::Fail(1), &mut group)? == Reply::Declared);
     for rank in [3, 0, 2] {
-        let reply = job.apply(&call(Asked::Shrink(rank, 0)), &mut group)?;
+        let reply = apply(&mut job, Asked::Shrink(rank, 0), &mut group)?;
         assert!(rt; reply == Reply::Started);
     }
     Ok(job)
@@ -98,18 +111,23 @@ fn spawn_after(rt: &impl Abort, alloc: Global, steps: u32, by: Caller) -> Result
     let mut group = Vec::new(alloc);
     job.wait(steps);
     for rank in [3, 0, 2] {
-        let reply = job.apply(&call(Asked::Poll(rank, 0)), &mut group)?;
+        let reply = apply(&mut job, Asked::Poll(rank, 0), &mut group)?;
         assert!(rt;
             reply == FIRST,
             "rank {rank} is answered {reply:?} after {steps}"
         );
         assert_eq!(rt; group.as_slice(), [0, 2, 3].as_slice());
     }
+    is_made(rt, &job, steps, by);
+    Ok(())
+}
+
+/// The communicator is the last thing that was made, just after the mark, in this name.
+fn is_made(rt: &impl Abort, job: &Disturbed, steps: u32, by: Caller) {
     let made = job.nth(5).expect(rt, "after the mark");
     assert!(rt; made.place == Place::Comm { comm: 1 });
     assert!(rt; made.by == by, "made by {:?} after {steps}", made.by);
     assert!(rt; job.nth(6).is_none());
-    Ok(())
 }
 
 #[test]
@@ -172,7 +190,7 @@ fn apply_refused<'a>(
     let made = communicators(job);
     for count in 0..64usize {
         let blocks = filled(alloc, heap, count * 16)?;
-        let answered = job.apply(&call(line.0), group);
+        let answered = apply(job, line.0, group);
         drop(blocks);
         if let Ok(reply) = answered {
             assert!(rt; reply == line.1, "{:?} is answered {reply:?}", line.0);
@@ -217,16 +235,24 @@ fn shrinks_are_refused_memory(rt: HostRuntime) -> Result<(), Fail> {
     Ok(())
 }
 
+/// Whether a job can be opened in a heap. Where it can't, that is for lack of memory.
+fn opens(rt: &impl Abort, heap: &LocalHeap) -> Result<bool, Fail> {
+    match Job::open(heap, PlainWords::<FlagAnd>::open(FOUR)?) {
+        Err(fault) => {
+            assert!(rt; fault == OpenFault::OutOfMemory);
+            Ok(false)
+        }
+        Ok(_) => Ok(true),
+    }
+}
+
 #[test]
 fn opening_is_refused_memory(rt: HostRuntime) -> Result<(), Fail> {
     for count in 0..512usize {
         let heap = LocalHeap::new(rt.alloc(), count * 16)?;
-        match Job::open(&heap, PlainWords::<FlagAnd>::open(FOUR)?) {
-            Err(fault) => assert!(rt; fault == OpenFault::OutOfMemory),
-            Ok(_) => {
-                assert!(rt; count > 0);
-                return Ok(());
-            }
+        if opens(&rt, &heap)? {
+            assert!(rt; count > 0);
+            return Ok(());
         }
     }
     assert!(rt; false, "no opening succeeds");
