@@ -177,6 +177,21 @@ fn communicators(job: &Heaped) -> u16 {
     made
 }
 
+/// A call, while a heap has no more than so many bytes of room: its reply, if it gets the memory.
+fn apply_in<'a>(
+    heap: &'a LocalHeap,
+    room: usize,
+    job: &mut Heaped<'a>,
+    group: &mut Vec<u16, &'a LocalHeap>,
+    alloc: Global,
+    asked: Asked,
+) -> Result<Option<Reply<FlagAnd>>, AllocError> {
+    let blocks = filled(alloc, heap, room)?;
+    let answered = apply(job, asked, group);
+    drop(blocks);
+    Ok(answered.ok())
+}
+
 /// A call, with more room each time until it is answered, as it should be: how many times it lacked memory. Before that it makes
 /// no communicator.
 fn apply_refused<'a>(
@@ -189,10 +204,7 @@ fn apply_refused<'a>(
 ) -> Result<usize, Fail> {
     let made = communicators(job);
     for count in 0..64usize {
-        let blocks = filled(alloc, heap, count * 16)?;
-        let answered = apply(job, line.0, group);
-        drop(blocks);
-        if let Ok(reply) = answered {
+        if let Some(reply) = apply_in(heap, count * 16, job, group, alloc, line.0)? {
             assert!(rt; reply == line.1, "{:?} is answered {reply:?}", line.0);
             return Ok(count);
         }

@@ -270,7 +270,32 @@ fn stepped(
     }
 }
 
-/// A script is answered so, whole and step by step, with so many steps.
+/// A line is answered so, whole and step by step, with so many steps.
+fn one_line(
+    rt: &impl Abort,
+    job: &mut Job<PlainWords<FlagAnd>, FlagAnd, Global>,
+    play: &mut Plain,
+    group: &mut Vec<u16>,
+    alloc: Global,
+    script: (Line, Reply<FlagAnd>, usize),
+) -> Result<(), Fail> {
+    let (line, reply, count) = script;
+    let asked = match line {
+        Line::Fail(rank) => Call::Fail { rank },
+        Line::Ask(rank, comm, verb) => call_of(rank, comm, verb),
+    };
+    let whole = apply(job, &asked, group)?;
+    assert!(rt; whole == reply, "{line:?} is answered {whole:?}");
+    let (answered, taken) = stepped(alloc, play, line)?;
+    assert!(rt;
+        answered == Some(reply),
+        "{line:?} is answered {answered:?} by steps"
+    );
+    assert!(rt; taken == count, "{line:?} takes {taken} steps");
+    Ok(())
+}
+
+/// A script is answered so, line by line.
 fn both(
     rt: &impl Abort,
     alloc: Global,
@@ -280,19 +305,8 @@ fn both(
     let mut job = Job::open(alloc, PlainWords::open(limits)?)?;
     let mut play = open(alloc, limits)?;
     let mut group = Vec::new(alloc);
-    for (line, reply, count) in script {
-        let asked = match *line {
-            Line::Fail(rank) => Call::Fail { rank },
-            Line::Ask(rank, comm, verb) => call_of(rank, comm, verb),
-        };
-        let whole = apply(&mut job, &asked, &mut group)?;
-        assert!(rt; whole == *reply, "{line:?} is answered {whole:?}");
-        let (answered, taken) = stepped(alloc, &mut play, *line)?;
-        assert!(rt;
-            answered == Some(*reply),
-            "{line:?} is answered {answered:?} by steps"
-        );
-        assert!(rt; taken == *count, "{line:?} takes {taken} steps");
+    for line in script {
+        one_line(rt, &mut job, &mut play, &mut group, alloc, *line)?;
     }
     Ok(())
 }
