@@ -63,11 +63,11 @@ fn takes<W: Words<FlagAnd, Global>>(
     let mut taken = Vec::new(alloc);
     assert!(rt; play.begin(rank, comm, verb));
     let answered = play.finish(rank, &mut taken)?;
+    let same = answered == Some(reply) && taken.as_slice() == names;
     assert!(rt;
-        answered == Some(reply),
-        "{asked:?} is answered {answered:?}"
+        same,
+        "{asked:?} is answered {answered:?} and takes {taken:?}"
     );
-    assert!(rt; taken.as_slice() == names, "{asked:?} takes {taken:?}");
     assert!(rt; play.next(rank) == None);
     Ok(())
 }
@@ -285,13 +285,12 @@ fn one_line(
         Line::Ask(rank, comm, verb) => call_of(rank, comm, verb),
     };
     let whole = apply(job, &asked, group)?;
-    assert!(rt; whole == reply, "{line:?} is answered {whole:?}");
     let (answered, taken) = stepped(alloc, play, line)?;
+    let same = whole == reply && answered == Some(reply) && taken == count;
     assert!(rt;
-        answered == Some(reply),
-        "{line:?} is answered {answered:?} by steps"
+        same,
+        "{line:?} is answered {whole:?}, and {answered:?} by {taken} steps"
     );
-    assert!(rt; taken == count, "{line:?} takes {taken} steps");
     Ok(())
 }
 
