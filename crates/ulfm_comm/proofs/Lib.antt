@@ -7,6 +7,7 @@ pub mod Entering
 pub mod Exchanging
 pub mod Excluding
 pub mod AfterLook
+pub mod Applying
 pub mod Failing
 pub mod Freeing
 pub mod Helds
