@@ -1,6 +1,6 @@
 use Rattle.std.proofs.Common.{inl, inr, ◌∙◌}
 use Rattle.ulfm_model.specs.declared.call.Call.TheVariants as call
-use Rattle.ulfm_comm.proofs.{Applying.{applied_begins, applied_step, at_value}, Jobs.{at_error}}
+use Rattle.ulfm_comm.proofs.{Applying.{applied_begins, applied_job, applied_step, at_value}, Jobs.{at_error}}
 use Rattle.ulfm_comm.proofs.job.Job.apply.Goals as goal
 
 pub returns-in-Fail : goal.returns-in-Fail
@@ -92,3 +92,33 @@ returns-in-Free g c =
       memory = tt;
       begins = applied_begins g.P.Meld.meld g.W.Words.alone (g.W.Words.name c.self.inside.world.words) (g.W.Words.sight c.self.inside.pass) c.args.self.now (g.W.Words.sight c.free_by.new.pass) c.self.inside.ranks c.deref_mut-in-Free.result.now c.free_by.new.ranks c.deref_mut-in-Free.ensures.value (c.free_by.auto.ranks ∙ c.deref_mut-in-Free.ensures.len) c.self.view_is c.free_by.ensures.step.begins;
     }
+
+pub invariant_of-self-in-GetFailed : goal.invariant_of-self-in-GetFailed
+invariant_of-self-in-GetFailed g c = applied_job g.P.Meld.meld g.W.Words.alone (g.W.Words.name c.self.inside.world.words) (g.W.Words.sight c.self.inside.pass) c.args.self.now (g.W.Words.sight c.get_by.new.pass) c.self.inside.ranks c.deref_mut.result.now c.get_by.new.ranks c.deref_mut.ensures.value (c.get_by.auto.ranks ∙ c.deref_mut.ensures.len) c.self.view_is c.get_by.ensures.job
+
+pub invariant_of-self-in-Poll : goal.invariant_of-self-in-Poll
+invariant_of-self-in-Poll g c = applied_job g.P.Meld.meld g.W.Words.alone (g.W.Words.name c.self.inside.world.words) (g.W.Words.sight c.self.inside.pass) c.args.self.now (g.W.Words.sight c.poll_by.new.pass) c.self.inside.ranks c.deref_mut-in-Poll.result.now c.poll_by.new.ranks c.deref_mut-in-Poll.ensures.value (c.poll_by.auto.ranks ∙ c.deref_mut-in-Poll.ensures.len) c.self.view_is c.poll_by.ensures.job
+
+pub invariant_of-self-in-Ack : goal.invariant_of-self-in-Ack
+invariant_of-self-in-Ack g c = applied_job g.P.Meld.meld g.W.Words.alone (g.W.Words.name c.self.inside.world.words) (g.W.Words.sight c.self.inside.pass) c.args.self.now (g.W.Words.sight c.ack_by.new.pass) c.self.inside.ranks c.deref_mut-in-Ack.result.now c.ack_by.new.ranks c.deref_mut-in-Ack.ensures.value (c.ack_by.auto.ranks ∙ c.deref_mut-in-Ack.ensures.len) c.self.view_is c.ack_by.ensures.step.job
+
+pub invariant_of-self-in-Agree : goal.invariant_of-self-in-Agree
+invariant_of-self-in-Agree g c = applied_job g.P.Meld.meld g.W.Words.alone (g.W.Words.name c.self.inside.world.words) (g.W.Words.sight c.self.inside.pass) c.args.self.now (g.W.Words.sight c.agree_by.new.pass) c.self.inside.ranks c.deref_mut-in-Agree.result.now c.agree_by.new.ranks c.deref_mut-in-Agree.ensures.value (c.agree_by.auto.ranks ∙ c.deref_mut-in-Agree.ensures.len) c.self.view_is c.agree_by.ensures.step.job
+
+pub invariant_of-self-in-Shrink : goal.invariant_of-self-in-Shrink
+invariant_of-self-in-Shrink g c = applied_job g.P.Meld.meld g.W.Words.alone (g.W.Words.name c.self.inside.world.words) (g.W.Words.sight c.self.inside.pass) c.args.self.now (g.W.Words.sight c.shrink_by.new.pass) c.self.inside.ranks c.deref_mut-in-Shrink.result.now c.shrink_by.new.ranks c.deref_mut-in-Shrink.ensures.value (c.shrink_by.auto.ranks ∙ c.deref_mut-in-Shrink.ensures.len) c.self.view_is c.shrink_by.ensures.step.job
+
+pub invariant_of-self-in-Barrier : goal.invariant_of-self-in-Barrier
+invariant_of-self-in-Barrier g c = applied_job g.P.Meld.meld g.W.Words.alone (g.W.Words.name c.self.inside.world.words) (g.W.Words.sight c.self.inside.pass) c.args.self.now (g.W.Words.sight c.barrier_by.new.pass) c.self.inside.ranks c.deref_mut-in-Barrier.result.now c.barrier_by.new.ranks c.deref_mut-in-Barrier.ensures.value (c.barrier_by.auto.ranks ∙ c.deref_mut-in-Barrier.ensures.len) c.self.view_is c.barrier_by.ensures.step.job
+
+pub invariant_of-self-in-Revoke : goal.invariant_of-self-in-Revoke
+invariant_of-self-in-Revoke g c = applied_job g.P.Meld.meld g.W.Words.alone (g.W.Words.name c.self.inside.world.words) (g.W.Words.sight c.self.inside.pass) c.args.self.now (g.W.Words.sight c.revoke_by.new.pass) c.self.inside.ranks c.deref_mut-in-Revoke.result.now c.revoke_by.new.ranks c.deref_mut-in-Revoke.ensures.value (c.revoke_by.auto.ranks ∙ c.deref_mut-in-Revoke.ensures.len) c.self.view_is c.revoke_by.ensures.step.job
+
+pub invariant_of-self-in-IsRevoked : goal.invariant_of-self-in-IsRevoked
+invariant_of-self-in-IsRevoked g c = applied_job g.P.Meld.meld g.W.Words.alone (g.W.Words.name c.self.inside.world.words) (g.W.Words.sight c.self.inside.pass) c.args.self.now (g.W.Words.sight c.standing_by.new.pass) c.self.inside.ranks c.deref_mut-in-IsRevoked.result.now c.standing_by.new.ranks c.deref_mut-in-IsRevoked.ensures.value (c.standing_by.auto.ranks ∙ c.deref_mut-in-IsRevoked.ensures.len) c.self.view_is c.standing_by.ensures.step.job
+
+pub invariant_of-self-in-Free : goal.invariant_of-self-in-Free
+invariant_of-self-in-Free g c = applied_job g.P.Meld.meld g.W.Words.alone (g.W.Words.name c.self.inside.world.words) (g.W.Words.sight c.self.inside.pass) c.args.self.now (g.W.Words.sight c.free_by.new.pass) c.self.inside.ranks c.deref_mut-in-Free.result.now c.free_by.new.ranks c.deref_mut-in-Free.ensures.value (c.free_by.auto.ranks ∙ c.deref_mut-in-Free.ensures.len) c.self.view_is c.free_by.ensures.step.job
+
+pub invariant_of-self : goal.invariant_of-self
+invariant_of-self g c = rw c.deref.ensures.value at c.fail_by.ensures.step.job
