@@ -202,7 +202,10 @@ fn names_in_order(rt: HostRuntime) -> Result<(), Fail> {
     let settles = &[List, List, List, Settle];
     let reads = &[List, List, List, Mark, Mark, Slot, Slot, Slot];
     let spawns = &[List, List, List, Mark, Mark, Slot, Slot, Slot, Comm, Spawn];
+    let arrives = &[List, List, List, Arrive];
     let waits = &[List, List, List, Arrival, Revocation];
+    let revokes = &[List, List, List, Revoke];
+    let asks = &[List, List, List, Revocation];
     let revoked = Reply::Standing { revoked: true };
     let moves = [
         Move::Fail(1),
@@ -212,28 +215,10 @@ fn names_in_order(rt: HostRuntime) -> Result<(), Fail> {
         Move::Call(0, 0, Verb::Poll, reads, agreed(0x3, 2, true)),
         Move::Call(0, 0, Verb::Shrink, settles, Reply::Started),
         Move::Call(0, 0, Verb::Poll, spawns, ALONE),
-        Move::Call(
-            0,
-            1,
-            Verb::Barrier,
-            &[List, List, List, Arrive],
-            Reply::Started,
-        ),
+        Move::Call(0, 1, Verb::Barrier, arrives, Reply::Started),
         Move::Call(0, 1, Verb::Poll, waits, Reply::Done),
-        Move::Call(
-            0,
-            1,
-            Verb::Revoke,
-            &[List, List, List, Revoke],
-            Reply::Revoked,
-        ),
-        Move::Call(
-            0,
-            1,
-            Verb::Standing,
-            &[List, List, List, Revocation],
-            revoked,
-        ),
+        Move::Call(0, 1, Verb::Revoke, revokes, Reply::Revoked),
+        Move::Call(0, 1, Verb::Standing, asks, revoked),
         Move::Call(0, 1, Verb::Free, &[List; 3], Reply::Freed),
     ];
     let mut play = open(rt.alloc(), limits(3, 2, 3))?;
