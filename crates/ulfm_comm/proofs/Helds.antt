@@ -126,3 +126,8 @@ room_pushed limits capacity c f made xs new old contexts fresh is =
           subst (IsDistinct nat_eq) (sym (contexts_push (change_at c f xs) made))
           (distinct_push nat_eq (contexts_of (change_at c f xs)) made.context rest.contexts (any_none (λ i. nat_eq i made.context) (contexts_of (change_at c f xs)) others));
     })
+
+-- the place of what is found is within the list
+pub position_below : {X : Type 0} (p : X → Bool) (xs : List X) (i : ℕ) → position p xs ≡ Some i → i < length xs
+position_below p [] i is = absurd (cc is)
+position_below p (x ∷ xs) i is = (position-Some p (x ∷ xs) i x is).0

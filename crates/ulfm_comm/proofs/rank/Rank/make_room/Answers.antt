@@ -1,9 +1,12 @@
-use Rattle.std.proofs.Common.{◌≡◌, List, None, Some, take, ap, ap₂, sym, ◌∙◌}
+use Rattle.std.proofs.Common.{◌≡◌, ◌<◌, ◌≤◌, List, None, Some, length, take, refl, ap, ap₂, sym, ◌∙◌, subst}
 use Rattle.std.specs.Prelude.{IfOk, Result, Ok, Err}
 use Rattle.std.specs.List.{position}
+use Rattle.std.specs.Vec.{vec_capacity}
+use Rattle.std.proofs.lemmas.List.{length-take-le}
 use Rattle.ulfm_model.specs.History.{without}
 use Rattle.ulfm_model.specs.Records.{Held, Record, held_at}
-use Rattle.ulfm_comm.proofs.Helds.{find_is, find_missing, is_of}
+use Rattle.ulfm_comm.specs.Ranks.{HasRoom}
+use Rattle.ulfm_comm.proofs.Helds.{find_is, find_missing, is_of, position_below}
 use Rattle.ulfm_comm.proofs.rank.Rank.make_room.Goals as goal
 
 pub unreachable-requires : goal.unreachable-requires
@@ -29,3 +32,22 @@ returns-clause-left g c =
     let group = c.deref-2.ensures.value ∙ ap (λ (y : Held). y.group) (c.behind-self.view_is ∙ same) in
     let seen = c.deref-3.ensures.value ∙ ap (λ (own : Record). own.seen) c.self.view_is in
     c.in_ok-group.ensures ∙ ap₂ (λ ms s. without ms (take c.args.reach s)) group seen)
+
+pub same-self-in_err-group : goal.same-self-in_err-group
+same-self-in_err-group g c = refl
+
+pub invariant_of-self : goal.invariant_of-self
+invariant_of-self g c = subst (HasRoom c.self.inside.limits (vec_capacity c.self.inside.seen)) (sym c.reserve.ensures.items) c.self.invariant
+
+pub returns-clause-kept : goal.returns-clause-kept
+returns-clause-kept g c =
+    let as_record : List Held → Record = λ hs. record { number = c.self.inside.number; limits = c.self.inside.limits; held = hs; seen = c.self.inside.seen.items; refused = c.self.inside.refused } in
+    ap as_record c.reserve.ensures.items ∙ c.self.view_is
+
+pub index-requires : goal.index-requires
+index-requires g c = subst (λ n. c.in-Some.i < n) c.deref.ensures.len (position_below (is_of c.args.comm) c.deref.result.now c.in-Some.i (sym c.place_of.ensures ∙ c.in-Some.is))
+
+pub slice_bounds-without-end : goal.slice_bounds-without-end
+slice_bounds-without-end g c =
+    let seen = c.deref-3.ensures.value ∙ ap (λ (own : Record). own.seen) c.self.view_is in
+    sym (length-take-le c.args.reach c.deref-3.result.now (subst (λ xs. c.args.reach ≤ length xs) (sym seen) c.requires.within))

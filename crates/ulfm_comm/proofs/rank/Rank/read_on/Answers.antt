@@ -1,9 +1,10 @@
-use Rattle.std.proofs.Common.{List, ℕ, ◌≡◌, None, Some, ap, sym, ◌∙◌, subst}
+use Rattle.std.proofs.Common.{List, ◌<◌, ℕ, ◌≡◌, None, Some, ap, sym, ◌∙◌, subst, arith}
 use Rattle.std.specs.List.{position}
+use mathlib.Core.List.{IsPrefix}
 use Rattle.ulfm_model.specs.History.{failures}
 use Rattle.ulfm_model.specs.Records.{Held, Record, held_at}
 use Rattle.ulfm_steps.specs.ReadsOn.{AtFailure, MayReadOn}
-use Rattle.ulfm_comm.proofs.Helds.{find_is, find_missing, is_of}
+use Rattle.ulfm_comm.proofs.Helds.{find_is, find_missing, is_of, position_below}
 use Rattle.ulfm_comm.proofs.rank.Rank.read_on.Goals as goal
 use Rattle.ulfm_comm.proofs.rank.Rank.read_on.Goals.{After-deref-2}
 
@@ -42,3 +43,29 @@ pub returns-clause-at : goal.returns-clause-at
 returns-clause-at g c = λ x held.
     let group = group_is g (goal.at.returns-clause-at g c).After-deref-2 x held in
     subst (λ ms. AtFailure ms c.args.count c.advance.new.self c.advance.new.seen.items) group c.advance.ensures.at
+
+pub invariant_of-self : goal.invariant_of-self
+invariant_of-self g c =
+    let was = c.self.invariant in
+    record { may_open = was.may_open; room = omega (arith, was.room, c.advance.ensures.room); contexts = was.contexts }
+
+pub returns-clause-goes : goal.returns-clause-goes
+returns-clause-goes g c = c.advance.ensures.goes
+
+pub returns-clause-one : goal.returns-clause-one
+returns-clause-one g c = c.advance.ensures.one
+
+pub returns-clause-kept : goal.returns-clause-kept
+returns-clause-kept g c = ap (λ (own : Record). record own { seen = c.advance.new.seen.items }) c.self.view_is
+
+pub returns-clause-goes_on : goal.returns-clause-goes_on
+returns-clause-goes_on g c = subst (λ (own : Record). IsPrefix own.seen c.advance.new.seen.items) c.self.view_is c.advance.ensures.goes_on
+
+pub returns-clause-begins : goal.returns-clause-begins
+returns-clause-begins g c = c.advance.ensures.begins
+
+pub returns-clause-done : goal.returns-clause-done
+returns-clause-done g c = c.advance.ensures.done
+
+pub index-requires : goal.index-requires
+index-requires g c = subst (λ n. c.in-Some.i < n) c.deref.ensures.len (position_below (is_of c.args.comm) c.deref.result.now c.in-Some.i (sym c.place_of.ensures ∙ c.in-Some.is))
