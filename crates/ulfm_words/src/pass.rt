@@ -111,7 +111,7 @@ fn reach<A: Allocator>(words: &mut Vec<u64, A>, rounds: &mut u16, place: Place, 
     }
 }
 
-// Makes the words of all rounds up to this one and of as many more, all 0: so a world makes them a few times in all.
+// Makes the words of all rounds up to this one, all 0. Where rounds come one after another, these are the words of one round.
 #[inline(never)]
 fn lengthen<A: Allocator>(words: &mut Vec<u64, A>, round: u16, limits: &Limits) -> u16
     requires open { MayOpen limits.now }
@@ -123,7 +123,7 @@ fn lengthen<A: Allocator>(words: &mut Vec<u64, A>, round: u16, limits: &Limits) 
     ensures zeros { IsLonger words.old.items words.new.items }
     ensures room { vec_capacity words.old ≤ vec_capacity words.new }
 {
-    let rounds = (2 * round + 1).min(limits.rounds);
+    let rounds = round + 1;
     let _ = words.resize(row_length(*limits, rounds), 0);
     rounds
 }
