@@ -14,9 +14,6 @@ ghost use Rattle.ulfm_record.specs.Kept.{rank_of, record_of};
 ghost use Rattle.ulfm_model.specs.declared.event.Caller.TheVariants.{Rank};
 ghost use Rattle.ulfm_model.specs.declared.limits.OpenFault.TheVariants.{OutOfMemory};
 
-#[cfg(test)]
-mod tests;
-
 use crate::leaves::leave;
 use crate::outcome::outcome_of;
 use std::alloc::{AllocError, Allocator};
@@ -212,6 +209,20 @@ impl<P: Meld, A: Allocator + Copy + Drop> Object<P, A> {
             &mut self.records,
             asked,
         )
+    }
+
+    /// What has happened, in order.
+    pub fn history(&self) -> &[Entry<P>]
+        ensures { result.now ≡ self.now.history }
+    {
+        &self.log
+    }
+
+    /// What each rank holds, rank after rank.
+    pub fn records(&self) -> &[RankRecord<A>]
+        ensures { map (record_of self.now.limits) result.now ≡ self.now.records }
+    {
+        &self.records
     }
 
     /// The members of a communicator, in order; nobody where it doesn't exist.

@@ -1,0 +1,155 @@
+//! Memory that is refused: a call that gets none leaves the object as it was.
+use crate::calls::{
+    Line, acknowledgements_script, fail, free, limits, one_rank_script, poll, shrink, shrunk,
+};
+use linked_list_allocator::LocalHeap;
+use std::alloc::{AllocError, Allocator, Global};
+use std::process::Abort;
+use std::test::Fail;
+use ulfm_laws::flag_and::FlagAnd;
+use ulfm_model::limits::{Limits, OpenFault};
+use ulfm_model::reply::Reply;
+use ulfm_object::Object;
+use ulfm_record::record::{HeldComm, RankRecord};
+
+/// Fills a heap, block by block, until it has no more than so many bytes of room. The room comes back with what is
+/// answered.
+fn filled<'a>(
+    alloc: Global,
+    heap: &'a LocalHeap,
+    room: usize,
+) -> Result<Vec<Vec<u8, &'a LocalHeap>, Global>, AllocError> {
+    let mut blocks = Vec::new(alloc);
+    for _ in 0..1024usize {
+        if heap.free() > room {
+            blocks.push(Vec::with_capacity(heap, 16)?)?;
+        }
+    }
+    Ok(blocks)
+}
+
+/// Whether two ranks hold the same communicator in the same way.
+fn are_held_alike<A: Allocator, B: Allocator>(one: &HeldComm<A>, other: &HeldComm<B>) -> bool {
+    one.comm == other.comm
+        && one.group.as_slice() == other.group.as_slice()
+        && one.context == other.context
+        && one.acked == other.acked
+        && one.next_agreement == other.next_agreement
+        && one.next_barrier == other.next_barrier
+        && one.request == other.request
+}
+
+/// Whether two records say the same.
+fn are_alike<A: Allocator, B: Allocator>(one: &RankRecord<A>, other: &RankRecord<B>) -> bool {
+    one.number == other.number
+        && one.seen.as_slice() == other.seen.as_slice()
+        && one.refused == other.refused
+        && one.held.len() == other.held.len()
+        && one
+            .held
+            .iter()
+            .zip(other.held.iter())
+            .all(|(x, y)| are_held_alike(x, y))
+}
+
+/// Fails where the objects differ in what has happened or in what a rank holds.
+fn expect_alike<'a>(
+    rt: &impl Abort,
+    object: &Object<FlagAnd, &'a LocalHeap>,
+    twin: &Object<FlagAnd, Global>,
+) -> Result<(), Fail> {
+    assert!(rt; object.history() == twin.history());
+    assert!(rt; object.records().len() == twin.records().len());
+    for (one, other) in object.records().iter().zip(twin.records().iter()) {
+        assert!(rt; are_alike(one, other), "rank {} differs", other.number);
+    }
+    Ok(())
+}
+
+/// A call, with more room each time until it isn't refused any more; before that it must leave the object as it was. Answers
+/// how many times it was refused.
+fn apply_refused<'a>(
+    rt: &impl Abort,
+    alloc: Global,
+    heap: &'a LocalHeap,
+    object: &mut Object<FlagAnd, &'a LocalHeap>,
+    twin: &mut Object<FlagAnd, Global>,
+    line: &Line,
+) -> Result<usize, Fail> {
+    for count in 0..200usize {
+        let blocks = filled(alloc, heap, count * 16)?;
+        let answered = object.apply(&line.0);
+        drop(blocks);
+        if let Ok(reply) = answered {
+            assert!(rt; reply == line.1, "{:?} is answered {reply:?}", line.0);
+            twin.apply(&line.0)?;
+            return Ok(count);
+        }
+        expect_alike(rt, object, twin)?;
+    }
+    assert!(rt; false, "{:?} is never answered", line.0);
+    Ok(0)
+}
+
+/// A script, each call of which is refused its memory until there is enough. Answers how many times one was refused.
+fn run_refused(
+    rt: &impl Abort,
+    alloc: Global,
+    limits: Limits,
+    script: &[Line],
+) -> Result<usize, Fail> {
+    let heap = LocalHeap::new(alloc, 1 << 14)?;
+    let mut object = Object::open(&heap, limits)?;
+    let mut twin = Object::open(alloc, limits)?;
+    let mut refused = 0usize;
+    for line in script {
+        let more = apply_refused(rt, alloc, &heap, &mut object, &mut twin, line)?;
+        refused = refused.saturating_add(more);
+    }
+    expect_alike(rt, &object, &twin)?;
+    Ok(refused)
+}
+
+#[test]
+fn one_rank_is_refused_memory(rt: HostRuntime) -> Result<(), Fail> {
+    let refused = run_refused(&rt, rt.alloc(), limits(1, 1, 2), &one_rank_script())?;
+    assert!(rt; refused > 0, "no call was refused");
+    Ok(())
+}
+
+#[test]
+fn acknowledgements_are_refused_memory(rt: HostRuntime) -> Result<(), Fail> {
+    let script = acknowledgements_script();
+    let refused = run_refused(&rt, rt.alloc(), limits(3, 1, 2), &script)?;
+    assert!(rt; refused > 0, "no call was refused");
+    Ok(())
+}
+
+#[test]
+fn shrinks_are_refused_memory(rt: HostRuntime) -> Result<(), Fail> {
+    let script = [
+        (fail(1), Reply::Declared),
+        (shrink(0, 0), Reply::Started),
+        (poll(0, 0), shrunk(1, 1, 1)),
+        (free(0, 1), Reply::Freed),
+    ];
+    let refused = run_refused(&rt, rt.alloc(), limits(2, 2, 2), &script)?;
+    assert!(rt; refused > 0, "no call was refused");
+    Ok(())
+}
+
+#[test]
+fn openings_are_refused_memory(rt: HostRuntime) -> Result<(), Fail> {
+    for count in 0..200usize {
+        let heap = LocalHeap::new(rt.alloc(), count * 16)?;
+        match Object::<FlagAnd, &LocalHeap>::open(&heap, limits(3, 1, 2)) {
+            Err(fault) => assert!(rt; fault == OpenFault::OutOfMemory),
+            Ok(object) => {
+                assert!(rt; count > 1 && object.history().is_empty());
+                return Ok(());
+            }
+        }
+    }
+    assert!(rt; false, "no opening succeeds");
+    Ok(())
+}
