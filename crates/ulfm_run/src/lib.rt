@@ -8,6 +8,3 @@ pub mod running;
 pub use over_object::ObjectMachine;
 pub use over_words::WordsMachine;
 pub use running::run_calls;
-
-#[cfg(test)]
-mod tests;

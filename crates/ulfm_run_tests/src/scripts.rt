@@ -1,9 +1,10 @@
+//! Scripts with what they print, over words and over the sequential object.
 ghost use Rattle.std.specs.Prelude.{◌<◌};
 
-use crate::{ObjectMachine, run_calls};
 use std::alloc::Global;
 use std::io::{self, Write};
 use std::test::Fail;
+use ulfm_run::{ObjectMachine, run_calls};
 use ulfm_script::{LineKind, RunFault, run_script};
 
 fn line(number: u32, kind: LineKind) -> Result<(), RunFault> {
