@@ -31,4 +31,3 @@ pub mod Spawning
 pub mod Starts
 pub mod Tested
 pub mod Typed
-pub mod Seats

@@ -12,4 +12,3 @@ pub mod Fails
 pub mod Jobs
 pub mod Replies
 pub mod Stages
-pub mod Seats

@@ -29,7 +29,8 @@ where
     W: Words<P, A>,
 {
     world: World<W, P, A>,
-    pass: W::Pass,
+    /// The pass that all calls are made over. What it has seen is the state's history.
+    pub pass: W::Pass,
     // In the order of their numbers.
     ranks: Vec<Rank<P, A>, A>,
 }
@@ -120,6 +121,3 @@ where
         }
     }
 }
-
-#[cfg(test)]
-mod tests;

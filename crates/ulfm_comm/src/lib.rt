@@ -36,6 +36,3 @@ pub use job::Job;
 pub use polled::Polled;
 pub use rank::Rank;
 pub use world::World;
-
-#[cfg(test)]
-mod tests;

@@ -1,0 +1,88 @@
+-- A rank whose calls are taken step by step, among others over one pass.
+use Rattle.std.proofs.Common.{◌≡◌, ◌⊎◌, ℕ, zero, suc, ◌<◌, ◌∷◌, length, get_or, Bool, true, false, List, [], Some, None, refl, sym, subst, arith, append-nil, inl, inr, IsTrue, set}
+use Rattle.std.specs.{List.{AllByRecursion}, Prelude.{MatchOption, Option}}
+use Rattle.ulfm_model.specs.declared.{call.Call.{Call}, event.Caller.TheVariants.{Rank}, refusal.Refusal.TheVariants.{SelfFailed}, reply.Reply.{Reply}, reply.Reply.TheVariants.{Refused}}
+use Rattle.ulfm_model.specs.{Answers.{traits_of}, History.{History, IsLegal, entries_by}, Records.{Fits, Record}, Runs.{Did}}
+use Rattle.ulfm_model.proofs.{LeftRuns.{fail_legal}, Lists.{each_from, prefix_trans}, Stable.{fits_stays}}
+use Rattle.ulfm_words.specs.Steps.{IsOf, Name, Sight}
+use Rattle.ulfm_words.proofs.Trails.{did_prefix, did_wait}
+use Rattle.ulfm_comm.specs.{Calls.{EndsAs, EndsReply, wants_memory}, Fails.{Fails}, Stages.{Answered, Stands, UnderWay, Waits, Walks}}
+use Rattle.ulfm_comm.proofs.{InOrder.{each_set}, Loosely.{did_among}}
+use Rattle.ulfm_comm_tests.specs.Seats.{HasStood, IsPlay, Seated, Sits}
+use mathlib.Core.List.{IsPrefix}
+
+-- what holds of each holds at an index
+pub each_at : {X : Type 0} (Q : X → Type 0) (xs : List X) (i : ℕ) (d : X) → AllByRecursion Q xs → i < length xs → Q (get_or xs i d)
+each_at Q [] i d all below = absurd (omega (arith, below))
+each_at Q (x ∷ xs) zero d all below = all.0
+each_at Q (x ∷ xs) (suc i) d all below = each_at Q xs i d all.1 (omega (arith, below))
+
+module _ {P : Type 0} (meld : P → P → P) (name : Name) where
+  -- what was seen has grown
+  waits_begin : (now after : Sight P) → Waits false now after → IsPrefix now.seen after.seen
+  waits_begin now after waits = did_prefix false [] now.seen after.seen waits.did
+
+  -- nothing has come
+  pub waits_none : (now : Sight P) → Waits false now now
+  waits_none now = record { did = did_among now.seen now.seen ([], append-nil now.seen); onward = omega arith }
+
+  -- more has come
+  waits_on : (stood now after : Sight P) → Waits false stood now → Waits false now after → Waits false stood after
+  waits_on stood now after p q = record { did = did_wait false [] stood.seen now.seen after.seen p.did q.did; onward = omega (arith, p.onward, q.onward) }
+
+  -- for the others a rank's steps are others' events
+  pub walks_waits : (quiet : Bool) (rank : ℕ) (now after : Sight P) → Walks meld quiet name rank now after → Waits false now after
+  walks_waits quiet rank now after walks =
+      record { did = did_among now.seen after.seen (did_prefix quiet (entries_by (Rank rank) walks.own) now.seen after.seen walks.did); onward = walks.onward }
+
+  -- a call that has just begun
+  pub stood_first : (own : Record) (now : Sight P) (doing : UnderWay P) → Stands meld false name own now doing own now → HasStood meld name own now doing
+  stood_first own now doing stands = record { old = own; before = now; stood = now; stands = stands; waits = waits_none now; begins = ([], append-nil now.seen) }
+
+  module _ (own : Record) (now : Sight P) (doing : UnderWay P) (was : HasStood meld name own now doing) (after : Sight P) (waits : Waits false now after) where
+    still_begins : IsPrefix was.before.seen after.seen
+    still_begins = prefix_trans was.before.seen now.seen after.seen was.begins (waits_begin now after waits)
+
+    -- others step
+    pub stood_on : HasStood meld name own after doing
+    stood_on = record { old = was.old; before = was.before; stood = was.stood; stands = was.stands; waits = waits_on was.stood now after was.waits waits; begins = still_begins }
+
+    -- its own step leads on
+    pub stood_next : (own' : Record) (doing' : UnderWay P) → ((old : Record) (before stood : Sight P) → Stands meld false name old before doing own stood → Waits false stood now → Stands meld false name old before doing' own' after) → HasStood meld name own' after doing'
+    stood_next own' doing' turns =
+        record { old = was.old; before = was.before; stood = after; stands = turns was.old was.before was.stood was.stands was.waits; waits = waits_none after; begins = still_begins }
+
+    ends_fit : (asked : Call P) (reply : Reply P) (old own' : Record) (before : Sight P) (b : Bool) → EndsAs meld false name asked old before reply b own' after → Fits meld name.limits after.seen own'
+    ends_fit asked reply old own' before true ends = ends.0.fits
+    ends_fit asked reply old own' before false ends = ends.fits
+
+    -- it is the last one
+    pub answered_fits : (own' : Record) (asked : Call P) (reply : Reply P) → IsLegal meld name.limits after.seen
+        → ((old : Record) (before stood : Sight P) → Stands meld false name old before doing own stood → Waits false stood now → Answered meld false name asked old before reply own' after) → Fits meld name.limits after.seen own'
+    answered_fits own' asked reply legal turns = go (turns was.old was.before was.stood was.stands was.waits).ends
+      where
+        go : (IsTrue was.old.refused × (reply ≡ Refused SelfFailed) × (own' ≡ was.old)) ⊎ EndsReply meld false name asked was.old was.before reply own' after → Fits meld name.limits after.seen own'
+        go (inl (refused, reply_is, same)) = subst (λ r. Fits meld name.limits after.seen r) (sym same) (fits_stays meld name.limits was.before.seen after.seen was.old still_begins legal was.stands.fits)
+        go (inr ends) = ends_fit asked reply was.old own' was.before (wants_memory reply) ends
+
+  -- others step
+  pub sits_on : (now after : Sight P) → IsLegal meld name.limits after.seen → Waits false now after → (seat : Seated P) → Sits meld name now seat → Sits meld name after seat
+  sits_on now after legal waits seat sits = go seat.own seat.doing sits
+    where
+      go : (own : Record) (doing : Option (UnderWay P)) → MatchOption doing (Fits meld name.limits now.seen own) (HasStood meld name own now) → MatchOption doing (Fits meld name.limits after.seen own) (HasStood meld name own after)
+      go own None fits = fits_stays meld name.limits now.seen after.seen own (waits_begin now after waits) legal fits
+      go own (Some doing) stood = stood_on own now doing stood after waits
+
+  -- all sit on, among others' steps
+  pub play_on : (now after : Sight P) (seats : List (Seated P)) → IsPlay meld name now seats → IsOf meld name after → Waits false now after → IsPlay meld name after seats
+  play_on now after seats play of waits = record { of = of; sits = each_from (Sits meld name now) (Sits meld name after) (sits_on now after of.legal waits) seats play.sits }
+
+  -- a rank is declared
+  pub play_failed : (now after : Sight P) (seats : List (Seated P)) (quiet : Bool) (rank : ℕ) (reply : Reply P) → IsPlay meld name now seats → Fails meld quiet name rank now reply after → IsPlay meld name after seats
+  play_failed now after seats quiet rank reply play fails =
+      play_on now after seats play fails.of (record { did = did_among now.seen after.seen (fail_legal meld name.limits quiet now.seen after.seen rank reply fails.run).0; onward = fails.onward })
+
+  -- one of them has made its step
+  pub play_next : (now after : Sight P) (seats : List (Seated P)) (i : ℕ) (seat : Seated P) → IsPlay meld name now seats → IsOf meld name after → Waits false now after → Sits meld name after seat → IsPlay meld name after (set seats i seat)
+  play_next now after seats i seat play of waits sits =
+      record { of = of; sits = each_set (Sits meld name after) seats i seat (play_on now after seats play of waits).sits sits }

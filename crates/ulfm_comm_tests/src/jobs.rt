@@ -1,0 +1,270 @@
+// Shrinks of a world in one hand: another's communicator that comes in between, and memory that is refused.
+ghost use Rattle.std.specs.Prelude.{◌≡◌};
+
+use linked_list_allocator::LocalHeap;
+use std::alloc::{AllocError, Allocator, Global};
+use std::process::Abort;
+use std::test::Fail;
+use ulfm_comm::Job;
+use ulfm_laws::flag_and::FlagAnd;
+use ulfm_model::call::Call;
+use ulfm_model::event::{Caller, Entry, Event};
+use ulfm_model::limits::{Limits, OpenFault};
+use ulfm_model::place::Place;
+use ulfm_model::reply::Reply;
+use ulfm_steps::Intruder;
+use ulfm_words::{PlainWords, Step, Words};
+
+const FOUR: Limits = Limits {
+    ranks: 4,
+    comms: 4,
+    rounds: 4,
+};
+
+/// A declaration; or a rank's shrink of a communicator, or poll of one.
+#[derive(Clone, Copy, Debug)]
+enum Asked {
+    Fail(u16),
+    Shrink(u16, u16),
+    Poll(u16, u16),
+}
+
+fn call(asked: Asked) -> Call<FlagAnd> {
+    match asked {
+        Asked::Fail(rank) => Call::Fail { rank },
+        Asked::Shrink(rank, comm) => Call::Shrink { rank, comm },
+        Asked::Poll(rank, comm) => Call::Poll { rank, comm },
+    }
+}
+
+/// A call's reply. It promises nothing, so that the proof of a test has nothing to carry along.
+fn apply<W: Words<FlagAnd, A>, A: Allocator + Copy>(
+    job: &mut Job<W, FlagAnd, A>,
+    asked: Asked,
+    group: &mut Vec<u16, A>,
+) -> Result<Reply<FlagAnd>, AllocError> {
+    job.apply(&call(asked), group)
+}
+
+/// The reply with communicator 1, which ranks 0, 2 and 3 are left in.
+const FIRST: Reply<FlagAnd> = Reply::Shrunk {
+    comm: 1,
+    context: 1,
+    size: 3,
+};
+
+/// The reply with communicator 2, which ranks 2 and 3 are left in.
+const SECOND: Reply<FlagAnd> = Reply::Shrunk {
+    comm: 2,
+    context: 2,
+    size: 2,
+};
+
+/// A job over words into which another's event comes.
+type Disturbed = Job<Intruder<FlagAnd>, FlagAnd, Global>;
+
+// The other's event comes after so many further steps.
+fn wait(job: &mut Disturbed, steps: u32)
+    ensures { job.new ≡ job.old }
+{
+    job.pass.wait(steps);
+}
+
+// The step that was set as the `i`-th.
+fn nth(job: &Disturbed, i: usize) -> Option<Step> {
+    job.pass.plain.nth(i)
+}
+
+/// A new job, in which rank 2 is to make the communicator of the first round of the world, as soon as it may.
+fn disturbed(alloc: Global) -> Result<Disturbed, Fail> {
+    let plain = PlainWords::open(FOUR)?;
+    let guest = Entry {
+        by: Caller::Rank(2),
+        event: Event::Spawn {
+            comm: 1,
+            parent: 0,
+            round: 0,
+        },
+    };
+    Ok(Job::open(alloc, Intruder { plain, guest })?)
+}
+
+/// Such a job, in which rank 1 was declared, and then the others started a shrink of the world: four events.
+fn shrinking(rt: &impl Abort, alloc: Global) -> Result<Disturbed, Fail> {
+    let mut job = disturbed(alloc)?;
+    let mut group = Vec::new(alloc);
+    assert!(rt; apply(&mut job, Asked::Fail(1), &mut group)? == Reply::Declared);
+    for rank in [3, 0, 2] {
+        let reply = apply(&mut job, Asked::Shrink(rank, 0), &mut group)?;
+        assert!(rt; reply == Reply::Started);
+    }
+    Ok(job)
+}
+
+/// The poll of rank 3 takes two steps to look, one to mark rank 1, four to read the round, and then a load and an exchange of
+/// the first place in the list of communicators. The other comes after so many of them: the communicator is made in this
+/// name, and all ranks have it.
+fn spawn_after(rt: &impl Abort, alloc: Global, steps: u32, by: Caller) -> Result<(), Fail> {
+    let mut job = shrinking(rt, alloc)?;
+    let mut group = Vec::new(alloc);
+    wait(&mut job, steps);
+    for rank in [3, 0, 2] {
+        let reply = apply(&mut job, Asked::Poll(rank, 0), &mut group)?;
+        assert!(rt;
+            reply == FIRST,
+            "rank {rank} is answered {reply:?} after {steps}"
+        );
+        assert_eq!(rt; group.as_slice(), [0, 2, 3].as_slice());
+    }
+    is_made(rt, &job, steps, by);
+    Ok(())
+}
+
+/// The communicator is the last thing that was made, just after the mark, in this name.
+fn is_made(rt: &impl Abort, job: &Disturbed, steps: u32, by: Caller) {
+    let made = nth(job, 5).expect(rt, "after the mark");
+    assert!(rt; made.place == Place::Comm { comm: 1 });
+    assert!(rt; made.by == by, "made by {:?} after {steps}", made.by);
+    assert!(rt; nth(job, 6).is_none());
+}
+
+#[test]
+fn one_spawn(rt: HostRuntime) -> Result<(), Fail> {
+    // Before the mark the round isn't decided, so the other doesn't come.
+    spawn_after(&rt, rt.alloc(), 2, Caller::Rank(3))?;
+    spawn_after(&rt, rt.alloc(), 3, Caller::Rank(2))?;
+    // Just before the exchange, and just after it.
+    spawn_after(&rt, rt.alloc(), 8, Caller::Rank(2))?;
+    spawn_after(&rt, rt.alloc(), 9, Caller::Rank(3))
+}
+
+/// Fills a heap, block by block, until it has no more than so many bytes of room. The room comes back with what is
+/// answered.
+fn filled<'a>(
+    alloc: Global,
+    heap: &'a LocalHeap,
+    room: usize,
+) -> Result<Vec<Vec<u8, &'a LocalHeap>, Global>, AllocError> {
+    let mut blocks = Vec::new(alloc);
+    for _ in 0..1024usize {
+        if heap.free() <= room {
+            break;
+        }
+        blocks.push(Vec::with_capacity(heap, 16)?)?;
+    }
+    Ok(blocks)
+}
+
+/// A job over plain words in a heap.
+type Heaped<'a> = Job<PlainWords<FlagAnd>, FlagAnd, &'a LocalHeap>;
+
+/// How many communicators were made.
+fn communicators(job: &Heaped) -> u16 {
+    let mut made: u16 = 0;
+    for i in 0..32 {
+        if let Some(
+            Step {
+                place: Place::Comm { .. },
+                ..
+            },
+        ) = job.pass.nth(i)
+        {
+            made = made.saturating_add(1);
+        }
+    }
+    made
+}
+
+/// A call, while a heap has no more than so many bytes of room: its reply, if it gets the memory.
+fn apply_in<'a>(
+    heap: &'a LocalHeap,
+    room: usize,
+    job: &mut Heaped<'a>,
+    group: &mut Vec<u16, &'a LocalHeap>,
+    alloc: Global,
+    asked: Asked,
+) -> Result<Option<Reply<FlagAnd>>, AllocError> {
+    let blocks = filled(alloc, heap, room)?;
+    let answered = apply(job, asked, group);
+    drop(blocks);
+    Ok(answered.ok())
+}
+
+/// A call, with more room each time until it is answered, as it should be: how many times it lacked memory. Before that it makes
+/// no communicator.
+fn apply_refused<'a>(
+    rt: &impl Abort,
+    heap: &'a LocalHeap,
+    job: &mut Heaped<'a>,
+    group: &mut Vec<u16, &'a LocalHeap>,
+    alloc: Global,
+    line: (Asked, Reply<FlagAnd>),
+) -> Result<usize, Fail> {
+    let made = communicators(job);
+    for count in 0..64usize {
+        if let Some(reply) = apply_in(heap, count * 16, job, group, alloc, line.0)? {
+            assert!(rt; reply == line.1, "{:?} is answered {reply:?}", line.0);
+            return Ok(count);
+        }
+        assert_eq!(rt; communicators(job), made);
+    }
+    assert!(rt; false, "{:?} is never answered", line.0);
+    Ok(0)
+}
+
+#[test]
+fn shrinks_are_refused_memory(rt: HostRuntime) -> Result<(), Fail> {
+    let heap = LocalHeap::new(rt.alloc(), 1 << 14)?;
+    let mut job = Job::open(&heap, PlainWords::open(FOUR)?)?;
+    // It has room for all ranks, so that nothing but the call itself lacks memory.
+    let mut group = Vec::with_capacity(&heap, 4)?;
+    let script = [
+        (Asked::Fail(1), Reply::Declared),
+        (Asked::Shrink(3, 0), Reply::Started),
+        (Asked::Shrink(0, 0), Reply::Started),
+        (Asked::Shrink(2, 0), Reply::Started),
+        (Asked::Poll(3, 0), FIRST),
+        (Asked::Poll(0, 0), FIRST),
+        (Asked::Poll(2, 0), FIRST),
+        (Asked::Fail(0), Reply::Declared),
+        (Asked::Shrink(3, 1), Reply::Started),
+        (Asked::Shrink(2, 1), Reply::Started),
+        (Asked::Poll(3, 1), SECOND),
+        (Asked::Poll(2, 1), SECOND),
+    ];
+    for line in script {
+        let refused = apply_refused(&rt, &heap, &mut job, &mut group, rt.alloc(), line)?;
+        let polls = matches!(line.0, Asked::Poll(_, _));
+        assert!(rt;
+            (refused > 0) == polls,
+            "{:?} lacked memory {refused} times",
+            line.0
+        );
+    }
+    assert_eq!(rt; communicators(&job), 2);
+    Ok(())
+}
+
+/// Whether a job can be opened in a heap. Where it can't, that is for lack of memory.
+fn opens(rt: &impl Abort, heap: &LocalHeap) -> Result<bool, Fail> {
+    match Job::open(heap, PlainWords::<FlagAnd>::open(FOUR)?) {
+        Err(fault) => {
+            assert!(rt; fault == OpenFault::OutOfMemory);
+            Ok(false)
+        }
+        Ok(_) => Ok(true),
+    }
+}
+
+#[test]
+fn opening_is_refused_memory(rt: HostRuntime) -> Result<(), Fail> {
+    for count in 0..512usize {
+        let heap = LocalHeap::new(rt.alloc(), count * 16)?;
+        if opens(&rt, &heap)? {
+            assert!(rt; count > 0);
+            return Ok(());
+        }
+    }
+    assert!(rt; false, "no opening succeeds");
+    Ok(())
+}

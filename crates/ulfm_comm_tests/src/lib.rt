@@ -1,0 +1,13 @@
+//! Tests of a world and its ranks: whole calls, calls that are taken step by step, and calls of a job.
+#![tactic(auto)]
+
+#[cfg(test)]
+mod jobs;
+#[cfg(test)]
+mod lone;
+#[cfg(test)]
+mod play;
+#[cfg(test)]
+mod scripts;
+#[cfg(test)]
+mod step_by_step;

@@ -1,0 +1,251 @@
+// A world whose ranks take the steps of their calls in turns, over one pass.
+ghost use Rattle.std.specs.Prelude.{◌≡◌, [], IfOk, false};
+ghost use Rattle.std.specs.List.{AllByRecursion};
+ghost use Rattle.ulfm_model.specs.Answers.{traits_of};
+ghost use Rattle.ulfm_model.specs.Records.{Fits};
+ghost use Rattle.ulfm_model.specs.declared.event.Caller.TheVariants.{Rank as OfRank};
+ghost use Rattle.ulfm_words.specs.Steps.{IsNew, IsOf};
+ghost use Rattle.ulfm_comm_tests.specs.Seats.{IsPlay, Sits};
+ghost use Rattle.ulfm_comm.specs.Stages.{Waits};
+
+use std::alloc::{AllocError, Allocator, Global};
+use std::marker::Model;
+use std::test::Fail;
+use ulfm_comm::{Doing, Rank, StepName, World};
+use ulfm_laws::flag_and::FlagAnd;
+use ulfm_laws::meld::Packed;
+use ulfm_model::call::Call;
+use ulfm_model::refusal::Refusal;
+use ulfm_model::reply::Reply;
+use ulfm_steps::Intruder;
+use ulfm_words::{Step, Words};
+
+/// What a rank is asked, on a communicator.
+#[derive(Clone, Copy, Debug)]
+pub(crate) enum Verb<P> {
+    Get,
+    Ack(u16),
+    Agree(P),
+    Shrink,
+    Barrier,
+    Poll,
+    Revoke,
+    Standing,
+    Free,
+}
+
+/// The call of this rank.
+pub(crate) fn call_of<P: Packed>(rank: u16, comm: u16, verb: Verb<P>) -> Call<P>
+    ensures { (traits_of result).by ≡ OfRank rank }
+{
+    match verb {
+        Verb::Get => Call::GetFailed { rank, comm },
+        Verb::Ack(count) => Call::Ack { rank, comm, count },
+        Verb::Agree(value) => Call::Agree { rank, comm, value },
+        Verb::Shrink => Call::Shrink { rank, comm },
+        Verb::Barrier => Call::Barrier { rank, comm },
+        Verb::Poll => Call::Poll { rank, comm },
+        Verb::Revoke => Call::Revoke { rank, comm },
+        Verb::Standing => Call::IsRevoked { rank, comm },
+        Verb::Free => Call::Free { rank, comm },
+    }
+}
+
+/// A rank, and its call under way, if there is one.
+#[derive(Drop)]
+struct Seat<P: Packed, A: Allocator> {
+    own: Rank<P, A>,
+    doing: Option<Doing<P, A>>,
+}
+
+impl<P: Packed, A: Allocator> Model for Seat<P, A> {
+    ghost use Rattle.ulfm_comm_tests.specs.Seats.{Seated};
+
+    ghost Value = { Seated P };
+
+    ghost view = { λ a. record { own = a.own; doing = a.doing } };
+}
+
+impl<P: Packed, A: Allocator + Copy> Seat<P, A> {
+    /// The rank begins a call: whether it had none under way.
+    fn begin<W: Words<P, A>>(
+        &mut self,
+        world: &World<W, P, A>,
+        pass: &W::Pass,
+        comm: u16,
+        verb: Verb<P>,
+    ) -> bool
+        requires of { IsOf P.meld (W.name world.now.words) (W.sight pass.now) }
+        requires sits { Sits P.meld (W.name world.now.words) (W.sight pass.now) self.old }
+        ensures sits { Sits P.meld (W.name world.now.words) (W.sight pass.now) self.new }
+    {
+        let _ = world;
+        let _ = pass;
+        match self.doing {
+            Some(_) => false,
+            None => {
+                let asked = call_of(self.own.number(), comm, verb);
+                self.doing = Some(self.own.begin(asked));
+                true
+            }
+        }
+    }
+
+    /// The next step of its call: the reply, where it is the last.
+    fn step<W: Words<P, A>>(
+        &mut self,
+        world: &World<W, P, A>,
+        pass: &mut W::Pass,
+    ) -> Option<Reply<P>>
+        requires of { IsOf P.meld (W.name world.now.words) (W.sight pass.old) }
+        requires sits { Sits P.meld (W.name world.now.words) (W.sight pass.old) self.old }
+        ensures of { IsOf P.meld (W.name world.now.words) (W.sight pass.new) }
+        ensures waits { Waits false (W.sight pass.old) (W.sight pass.new) }
+        ensures sits { Sits P.meld (W.name world.now.words) (W.sight pass.new) self.new }
+    {
+        let Some(mut doing) = self.doing.take() else {
+            return None;
+        };
+        match self.own.step(world, pass, &mut doing) {
+            None => {
+                self.doing = Some(doing);
+                None
+            }
+            Some(reply) => Some(reply),
+        }
+    }
+}
+
+/// A seat for each rank, in order.
+fn seats_of<P: Packed, A: Allocator + Copy, W: Words<P, A>>(
+    alloc: A,
+    world: &World<W, P, A>,
+    pass: &W::Pass,
+    ranks: Vec<Rank<P, A>, A>,
+) -> Result<Vec<Seat<P, A>, A>, AllocError>
+    requires new { IsNew P.meld (W.name world.now.words) (W.sight pass.now) }
+    requires fits { AllByRecursion (Fits P.meld (W.name world.now.words).limits []) ranks.items }
+    ensures { IfOk result (λ seats. IsPlay P.meld (W.name world.now.words) (W.sight pass.now) seats.items) }
+{
+    let _ = world;
+    let _ = pass;
+    let mut seats = Vec::with_capacity(alloc, ranks.len())?;
+    for own in ranks {
+        seats.push(Seat { own, doing: None })?;
+    }
+    Ok(seats)
+}
+
+/// A world, all its ranks and one pass. Each rank may have a call under way.
+#[derive(Drop)]
+pub(crate) struct Play<W, P: Packed, A: Allocator>
+where
+    W: Words<P, A>,
+{
+    world: World<W, P, A>,
+    pass: W::Pass,
+    // In the order of their numbers.
+    seats: Vec<Seat<P, A>, A>,
+}
+
+impl<W, P: Packed, A: Allocator> Model for Play<W, P, A>
+where
+    W: Words<P, A>,
+{
+    ghost use Rattle.ulfm_words.specs.Steps.{Name};
+    ghost use Rattle.ulfm_comm_tests.specs.Seats.{IsPlay};
+
+    ghost Value = { Name };
+
+    ghost view = { λ a. W.name a.world.words };
+
+    ghost invariant = { λ a. IsPlay P.meld (W.name a.world.words) (W.sight a.pass) a.seats.items };
+}
+
+impl<W, P: Packed, A: Allocator + Copy> Play<W, P, A>
+where
+    W: Words<P, A>,
+{
+    /// A world over new words, and no call.
+    pub(crate) fn open(alloc: A, words: W) -> Result<Play<W, P, A>, Fail>
+    where
+        W: Drop,
+    {
+        let (world, ranks) = World::open(alloc, words)?;
+        let pass = world.pass(alloc)?;
+        let seats = seats_of(alloc, &world, &pass, ranks)?;
+        Ok(Play { world, pass, seats })
+    }
+
+    /// A rank begins a call: whether it is there and had none under way.
+    pub(crate) fn begin(&mut self, rank: u16, comm: u16, verb: Verb<P>) -> bool {
+        if rank as usize >= self.seats.len() {
+            return false;
+        }
+        self.seats[rank as usize].begin(&self.world, &self.pass, comm, verb)
+    }
+
+    /// The next step of a rank's call: the reply, where it is the last.
+    pub(crate) fn step(&mut self, rank: u16) -> Option<Reply<P>> {
+        if rank as usize >= self.seats.len() {
+            return None;
+        }
+        self.seats[rank as usize].step(&self.world, &mut self.pass)
+    }
+
+    /// The outside declares a rank.
+    pub(crate) fn fail(&mut self, rank: u16) -> Result<bool, Refusal> {
+        self.world.fail(&mut self.pass, rank)
+    }
+
+    /// The name of the next step of a rank's call.
+    pub(crate) fn next(&self, rank: u16) -> Option<StepName> {
+        self.seats.get(rank as usize)?.doing.as_ref()?.next()
+    }
+
+    /// A rank, if there is one of this number.
+    pub(crate) fn rank(&self, rank: u16) -> Option<&Rank<P, A>> {
+        Some(&self.seats.get(rank as usize)?.own)
+    }
+
+    /// The steps of a rank's call up to its next one of this name, which isn't made: how many.
+    pub(crate) fn before(&mut self, rank: u16, name: StepName) -> usize {
+        for count in 0..64usize {
+            if self.next(rank) == Some(name) {
+                return count;
+            }
+            let _ = self.step(rank);
+        }
+        64
+    }
+
+    /// All steps of a rank's call, with their names: the reply.
+    pub(crate) fn finish(
+        &mut self,
+        rank: u16,
+        names: &mut Vec<StepName, A>,
+    ) -> Result<Option<Reply<P>>, Fail> {
+        names.clear();
+        for _ in 0..64usize {
+            if let Some(name) = self.next(rank) {
+                names.push(name)?;
+            }
+            if let Some(reply) = self.step(rank) {
+                return Ok(Some(reply));
+            }
+        }
+        Ok(None)
+    }
+}
+
+impl Play<Intruder<FlagAnd>, FlagAnd, Global> {
+    /// The other's event comes after so many further steps.
+    pub(crate) fn wait(&mut self, steps: u32) {
+        self.pass.wait(steps);
+    }
+
+    /// The step that was set as the `i`-th.
+    pub(crate) fn nth(&self, i: usize) -> Option<Step> {
+        self.pass.plain.nth(i)
+    }
+}
