@@ -1,8 +1,8 @@
 -- A rank whose calls are taken step by step, among others over one pass.
-use Rattle.std.proofs.Common.{◌≡◌, ◌⊎◌, ℕ, zero, suc, ◌<◌, ◌∷◌, length, get_or, Bool, true, false, List, [], Some, None, refl, sym, subst, arith, append-nil, inl, inr, IsTrue, set}
+use Rattle.std.proofs.Common.{◌≡◌, ◌⊎◌, ℕ, zero, suc, ◌<◌, ◌∷◌, length, get_or, Bool, true, false, List, [], Some, None, sym, subst, arith, append-nil, inl, inr, IsTrue, set}
 use Rattle.std.specs.{List.{AllByRecursion}, Prelude.{MatchOption, Option}}
 use Rattle.ulfm_model.specs.declared.{call.Call.{Call}, event.Caller.TheVariants.{Rank}, refusal.Refusal.TheVariants.{SelfFailed}, reply.Reply.{Reply}, reply.Reply.TheVariants.{Refused}}
-use Rattle.ulfm_model.specs.{Answers.{traits_of}, History.{History, IsLegal, entries_by}, Records.{Fits, Record}, Runs.{Did}}
+use Rattle.ulfm_model.specs.{History.{IsLegal, entries_by}, Records.{Fits, Record}}
 use Rattle.ulfm_model.proofs.{LeftRuns.{fail_legal}, Lists.{each_from, prefix_trans}, Stable.{fits_stays}}
 use Rattle.ulfm_words.specs.Steps.{IsOf, Name, Sight}
 use Rattle.ulfm_words.proofs.Trails.{did_prefix, did_wait}

@@ -281,6 +281,11 @@ fn one_line(
     Ok(())
 }
 
+/// A line that is refused so, with so many steps.
+fn refused(line: Line, refusal: Refusal, count: usize) -> (Line, Reply<FlagAnd>, usize) {
+    (line, Reply::Refused(refusal), count)
+}
+
 /// A script is answered so, line by line.
 fn both(
     rt: &impl Abort,
@@ -315,25 +320,13 @@ fn agreements_as_whole(rt: HostRuntime) -> Result<(), Fail> {
         ),
         (Line::Ask(0, 0, Verb::Ack(9)), Reply::Acked { count: 1 }, 2),
         (Line::Ask(0, 0, agree(0xf)), Reply::Started, 3),
-        (
-            Line::Ask(0, 0, agree(0xf)),
-            Reply::Refused(Refusal::Busy),
-            2,
-        ),
+        refused(Line::Ask(0, 0, agree(0xf)), Refusal::Busy, 2),
         (Line::Ask(0, 0, Verb::Poll), Reply::Pending, 5),
         (Line::Ask(1, 0, agree(0x7)), Reply::Started, 3),
         (Line::Ask(0, 0, Verb::Poll), agreed(0x5, 1, true), 6),
         (Line::Ask(1, 0, Verb::Poll), agreed(0x5, 1, true), 6),
-        (
-            Line::Ask(1, 0, Verb::Poll),
-            Reply::Refused(Refusal::Idle),
-            2,
-        ),
-        (
-            Line::Ask(0, 1, Verb::Get),
-            Reply::Refused(Refusal::NoSuchComm),
-            2,
-        ),
+        refused(Line::Ask(1, 0, Verb::Poll), Refusal::Idle, 2),
+        refused(Line::Ask(0, 1, Verb::Get), Refusal::NoSuchComm, 2),
         (Line::Ask(2, 0, Verb::Poll), FAILED, 2),
         (Line::Ask(2, 0, Verb::Poll), FAILED, 0),
         (Line::Ask(2, 9, Verb::Free), FAILED, 0),
@@ -351,16 +344,8 @@ fn barriers_as_whole(rt: HostRuntime) -> Result<(), Fail> {
         (Line::Ask(0, 0, Verb::Poll), Reply::Done, 5),
         (Line::Fail(2), Reply::Declared, 0),
         (Line::Ask(0, 0, Verb::Barrier), Reply::Started, 3),
-        (
-            Line::Ask(0, 0, Verb::Barrier),
-            Reply::Refused(Refusal::Busy),
-            2,
-        ),
-        (
-            Line::Ask(0, 0, Verb::Poll),
-            Reply::Refused(Refusal::ProcFailed),
-            4,
-        ),
+        refused(Line::Ask(0, 0, Verb::Barrier), Refusal::Busy, 2),
+        refused(Line::Ask(0, 0, Verb::Poll), Refusal::ProcFailed, 4),
         (
             Line::Ask(0, 0, Verb::Standing),
             Reply::Standing { revoked: false },
@@ -373,22 +358,10 @@ fn barriers_as_whole(rt: HostRuntime) -> Result<(), Fail> {
             Reply::Standing { revoked: true },
             3,
         ),
-        (
-            Line::Ask(1, 0, Verb::Poll),
-            Reply::Refused(Refusal::IsRevoked),
-            6,
-        ),
+        refused(Line::Ask(1, 0, Verb::Poll), Refusal::IsRevoked, 6),
         (Line::Ask(0, 0, Verb::Barrier), Reply::Started, 3),
-        (
-            Line::Ask(0, 0, Verb::Poll),
-            Reply::Refused(Refusal::IsRevoked),
-            4,
-        ),
-        (
-            Line::Ask(0, 0, Verb::Barrier),
-            Reply::Refused(Refusal::RoundsUsedUp),
-            2,
-        ),
+        refused(Line::Ask(0, 0, Verb::Poll), Refusal::IsRevoked, 4),
+        refused(Line::Ask(0, 0, Verb::Barrier), Refusal::RoundsUsedUp, 2),
     ];
     both(&rt, rt.alloc(), limits(3, 1, 3), &script)
 }
@@ -403,34 +376,14 @@ fn shrinks_as_whole(rt: HostRuntime) -> Result<(), Fail> {
         (Line::Ask(0, 0, Verb::Poll), PAIR, 8),
         (Line::Ask(1, 0, Verb::Poll), PAIR, 7),
         (Line::Ask(0, 1, Verb::Shrink), Reply::Started, 3),
-        (
-            Line::Ask(0, 0, Verb::Shrink),
-            Reply::Refused(Refusal::ShrinkOpen),
-            2,
-        ),
+        refused(Line::Ask(0, 0, Verb::Shrink), Refusal::ShrinkOpen, 2),
         (Line::Ask(0, 0, agree(0x1)), Reply::Started, 3),
         (Line::Ask(1, 0, Verb::Shrink), Reply::Started, 3),
-        (
-            Line::Ask(0, 0, Verb::Poll),
-            Reply::Refused(Refusal::Mismatch),
-            6,
-        ),
-        (
-            Line::Ask(1, 0, Verb::Poll),
-            Reply::Refused(Refusal::Mismatch),
-            6,
-        ),
+        refused(Line::Ask(0, 0, Verb::Poll), Refusal::Mismatch, 6),
+        refused(Line::Ask(1, 0, Verb::Poll), Refusal::Mismatch, 6),
         (Line::Ask(1, 1, Verb::Free), Reply::Freed, 2),
-        (
-            Line::Ask(1, 1, Verb::Free),
-            Reply::Refused(Refusal::NoSuchComm),
-            2,
-        ),
-        (
-            Line::Ask(1, 0, Verb::Free),
-            Reply::Refused(Refusal::WorldKept),
-            2,
-        ),
+        refused(Line::Ask(1, 1, Verb::Free), Refusal::NoSuchComm, 2),
+        refused(Line::Ask(1, 0, Verb::Free), Refusal::WorldKept, 2),
     ];
     both(&rt, rt.alloc(), limits(3, 3, 4), &script)
 }

@@ -1,4 +1,4 @@
-use Rattle.std.proofs.Common.{[], None, refl, subst, sym}
+use Rattle.std.proofs.Common.{[], None, subst, sym}
 use Rattle.std.specs.List.{AllByRecursion}
 use Rattle.ulfm_model.specs.Records.{Fits}
 use Rattle.ulfm_model.proofs.Lists.{each_push}
