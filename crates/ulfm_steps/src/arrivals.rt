@@ -260,6 +260,3 @@ impl Arrivals {
         Missing::Nobody
     }
 }
-
-#[cfg(test)]
-mod tests;

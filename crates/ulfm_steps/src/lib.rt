@@ -22,10 +22,3 @@ pub use mark_all::MarkAll;
 pub use read_on::ReadOn;
 pub use read_round::ReadRound;
 pub use settle::Settle;
-
-#[cfg(test)]
-mod counted;
-#[cfg(test)]
-mod stepped;
-#[cfg(test)]
-mod tests;

@@ -112,6 +112,3 @@ impl ReadOn {
         }
     }
 }
-
-#[cfg(test)]
-mod tests;

@@ -1,7 +1,0 @@
-use Rattle.std.proofs.Common.{arith}
-use Rattle.ulfm_steps.proofs.Welcome.{world_place}
-use Rattle.ulfm_steps.proofs.tests.give.Goals as goal
-
-pub finish-requires-clause-may : goal.finish-requires-clause-may
-finish-requires-clause-may g c =
-    record { place = world_place g.P.Meld.meld (g.W.Words.name c.args.words.now).limits (g.W.Words.sight c.args.pass.now).seen 0 c.args.rank c.requires.rounds c.requires.there; known = omega arith }

@@ -1,0 +1,152 @@
+// The machines, each run to its end at once.
+ghost use Rattle.std.specs.Prelude.{◌≡◌, ◌<◌, ◌≤◌, vec_capacity};
+ghost use Rattle.ulfm_model.specs.History.{first_ranks};
+ghost use Rattle.ulfm_words.specs.Steps.{IsOf};
+
+use crate::counted::Counted;
+use std::alloc::Allocator;
+use std::test::Fail;
+use ulfm_laws::acked::Acked;
+use ulfm_laws::body::Body;
+use ulfm_laws::flag_and::FlagAnd;
+use ulfm_laws::known::Known;
+use ulfm_laws::meld::Packed;
+use ulfm_laws::summary::Summary;
+use ulfm_model::contribution::{Contribution, Offer};
+use ulfm_model::event::{Caller, Entry, Event};
+use ulfm_model::limits::Limits;
+use ulfm_steps::mark_all::mark_all;
+use ulfm_steps::{Append, Appended, Intruder, Item, Look, ReadRound, Settle};
+use ulfm_words::{PlainWords, Words};
+
+const LIMITS: Limits = Limits {
+    ranks: 3,
+    comms: 2,
+    rounds: 4,
+};
+
+// Declares a rank.
+fn declare<P: Packed, A: Allocator, W: Words<P, A>>(
+    words: &W,
+    pass: &mut W::Pass,
+    rank: u16,
+) -> Appended
+    requires of { IsOf P.meld (W.name words.now) (W.sight pass.old) }
+    requires there { rank < (W.name words.now).limits.ranks }
+    ensures { IsOf P.meld (W.name words.now) (W.sight pass.new) }
+{
+    Append::new(Item::Failure { rank }, Caller::Outside).finish(words, pass)
+}
+
+// A rank, which knows of no failure, contributes a flag to the world's first round.
+fn give<P: Packed, A: Allocator, W: Words<P, A>>(
+    words: &W,
+    pass: &mut W::Pass,
+    rank: u16,
+    flag: P,
+) -> bool
+    requires of { IsOf P.meld (W.name words.now) (W.sight pass.old) }
+    requires there { rank < (W.name words.now).limits.ranks }
+    requires rounds { 0 < (W.name words.now).limits.rounds }
+    ensures { IsOf P.meld (W.name words.now) (W.sight pass.new) }
+{
+    let given = Contribution {
+        offer: Offer::Flag(flag),
+        known: Known { count: 0 },
+        acked: Acked { count: 0 },
+    };
+    let (comm, round) = (0, 0);
+    let settle = Settle {
+        comm,
+        round,
+        rank,
+        given,
+    };
+    settle.finish(words, pass).is_ok()
+}
+
+// What rank 0's poll of that round does: it looks, marks and reads.
+fn poll<P: Packed, A: Allocator, W: Words<P, A>, B: Allocator>(
+    words: &W,
+    pass: &mut W::Pass,
+    group: &[u16],
+    found: &mut Vec<u16, B>,
+) -> Option<Summary<P>>
+    requires of { IsOf P.meld (W.name words.now) (W.sight pass.old) }
+    requires group { group.now ≡ first_ranks (W.name words.now).limits.ranks }
+    requires rounds { 0 < (W.name words.now).limits.rounds }
+    requires room { (W.name words.now).limits.ranks ≤ vec_capacity found.old }
+    ensures of { IsOf P.meld (W.name words.now) (W.sight pass.new) }
+    ensures room { vec_capacity found.old ≤ vec_capacity found.new }
+{
+    Look::new(found).finish(words, pass, found);
+    mark_all(words, pass, 0, 0, 0, group, found);
+    ReadRound::new(0, 0).finish(words, pass, group)
+}
+
+#[test]
+fn declared_once(rt: HostRuntime) -> Result<(), Fail> {
+    let words = PlainWords::<FlagAnd>::open(LIMITS)?;
+    let mut pass = words.pass(rt.alloc())?;
+    assert!(rt; declare(&words, &mut pass, 2) == Appended::Won(0));
+    assert!(rt; declare(&words, &mut pass, 0) == Appended::Won(1));
+    assert!(rt; declare(&words, &mut pass, 2) == Appended::Found(0));
+    Ok(())
+}
+
+#[test]
+fn anothers_failure_comes_first(rt: HostRuntime) -> Result<(), Fail> {
+    let plain = PlainWords::<FlagAnd>::open(LIMITS)?;
+    let guest = Entry {
+        by: Caller::Outside,
+        event: Event::Fail { rank: 1 },
+    };
+    let words = Intruder { plain, guest };
+    let mut pass = words.pass(rt.alloc())?;
+    // Just before the exchange, which is the second step.
+    pass.wait(1);
+    assert!(rt; declare(&words, &mut pass, 1) == Appended::Found(0));
+    Ok(())
+}
+
+#[test]
+fn look_finds_what_came(rt: HostRuntime) -> Result<(), Fail> {
+    let plain = PlainWords::<FlagAnd>::open(LIMITS)?;
+    let guest = Entry {
+        by: Caller::Outside,
+        event: Event::Fail { rank: 2 },
+    };
+    let words = Intruder { plain, guest };
+    let mut pass = words.pass(rt.alloc())?;
+    let mut found = Vec::with_capacity(rt.alloc(), 3)?;
+    pass.wait(0);
+    Look::new(&mut found).finish(&words, &mut pass, &mut found);
+    assert_eq!(rt; found.as_slice(), [2].as_slice());
+    Ok(())
+}
+
+#[test]
+fn steps_over_own_words(rt: HostRuntime) -> Result<(), Fail> {
+    let plain = PlainWords::<FlagAnd>::open(LIMITS)?;
+    let words = Counted { plain };
+    let mut pass = words.pass(rt.alloc())?;
+    let mut found = Vec::with_capacity(rt.alloc(), 3)?;
+    let group = [0, 1, 2];
+    assert!(rt; give(&words, &mut pass, 0, FlagAnd { bits: 0xf }));
+    assert!(rt; poll(&words, &mut pass, &group, &mut found).is_none());
+    // One load of the list, then the places of ranks 0 and 1.
+    assert_eq!(rt; (pass.loads, pass.exchanges), (3, 1));
+    assert!(rt; give(&words, &mut pass, 1, FlagAnd { bits: 0x3c }));
+    assert!(rt; declare(&words, &mut pass, 2) == Appended::Won(0));
+    assert_eq!(rt; (pass.loads, pass.exchanges), (4, 3));
+    let all = poll(&words, &mut pass, &group, &mut found);
+    // Two loads of the list, the mark of rank 2, and the places of all.
+    assert_eq!(rt; (pass.loads, pass.exchanges), (9, 4));
+    let agreed = Summary {
+        body: Body::Flag(FlagAnd { bits: 0xc }),
+        known: Known { count: 1 },
+        acked: Acked { count: 0 },
+    };
+    assert!(rt; all == Some(agreed));
+    Ok(())
+}
