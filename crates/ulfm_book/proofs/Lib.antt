@@ -3,4 +3,3 @@ pub mod Opening
 pub mod Growing
 pub mod Moving
 pub mod Telling
-pub mod Jobs

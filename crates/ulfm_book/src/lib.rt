@@ -13,8 +13,6 @@ mod line;
 mod pass;
 mod rule;
 mod seats;
-#[cfg(test)]
-mod tests;
 mod words;
 
 pub use pass::{BookPass, BookTold};

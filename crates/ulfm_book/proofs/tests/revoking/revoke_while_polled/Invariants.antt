@@ -1,6 +1,0 @@
-use Rattle.std.proofs.Common.{◌≡◌}
-use Rattle.std.specs.List.{AllByRecursion}
-use Rattle.ulfm_book.proofs.tests.revoking.revoke_while_polled.Given as goal
-
-abbrev pub invariant-loop-replies : goal.invariant-loop-replies
-invariant-loop-replies g l = AllByRecursion (λ d. d.1.name ≡ l.told.name) l.replies-iterator.rest.items

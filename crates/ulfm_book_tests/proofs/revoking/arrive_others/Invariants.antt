@@ -1,0 +1,7 @@
+use Rattle.std.proofs.Common.{◌≡◌}
+use Rattle.std.specs.List.{AllByRecursion}
+use Rattle.ulfm_book_tests.proofs.revoking.arrive_others.Given as goal
+
+abbrev pub invariant-loop-member : goal.invariant-loop-member
+invariant-loop-member g l =
+    (l.world ≡ l.fn.world) × AllByRecursion (λ m. m.name ≡ l.world.words) l.member-iterator.rest.items × AllByRecursion (λ m. m.name ≡ l.world.words) l.ready.items

@@ -1,0 +1,138 @@
+// A communicator is revoked on one thread while ranks poll a barrier of it on others. No function here may wait.
+ghost use Rattle.std.specs.Prelude.{◌≡◌, IfOk};
+ghost use Rattle.std.specs.List.{AllByRecursion};
+
+use crate::member::{Member, Shared, members, open};
+use std::alloc::{AllocError, Global};
+use std::cmp::Ordering;
+use std::process::Abort;
+use std::test::Fail;
+use std::thread::{self, Threads};
+use ulfm_book::BookTold;
+use ulfm_comm::Polled;
+use ulfm_laws::FlagAnd;
+use ulfm_model::Refusal;
+
+type Reply = Result<Polled<FlagAnd>, Refusal>;
+
+/// The rank that revokes. Its thread and that of rank 0 start together, so that the polls of rank 0 may come before the
+/// revocation as well as after it.
+const REVOKER: u16 = 1;
+
+/// What a rank's calls on its thread replied.
+#[derive(Drop)]
+enum Replies {
+    Revoke(Result<bool, Refusal>),
+    Polls([Reply; 4]),
+}
+
+/// All ranks but the one that revokes arrive in a barrier.
+fn arrive_others<'a, R: Abort>(
+    rt: &R,
+    alloc: Global,
+    world: &'a Shared<FlagAnd>,
+    all: Vec<Member<'a, FlagAnd>>,
+) -> Result<Vec<Member<'a, FlagAnd>>, AllocError>
+    requires { AllByRecursion (λ m. m.name ≡ world.now.words) all.items }
+    ensures { IfOk result (λ ready. AllByRecursion (λ m. m.name ≡ world.now.words) ready.items) }
+{
+    let mut ready = Vec::with_capacity(alloc, all.len())?;
+    for mut member in all {
+        if member.number() != REVOKER {
+            assert_eq!(rt; member.arrive(), Ok(()));
+        }
+        ready.push(member)?;
+    }
+    Ok(ready)
+}
+
+/// The rank that revokes does so, and each other polls four times in a row.
+fn revoke_or_poll<'a>(mut member: Member<'a, FlagAnd>) -> (Replies, Member<'a, FlagAnd>)
+    ensures { result.1.name ≡ member.entry.name }
+{
+    let replies = if member.number() == REVOKER {
+        Replies::Revoke(member.revoke())
+    } else {
+        Replies::Polls([member.poll(), member.poll(), member.poll(), member.poll()])
+    };
+    (replies, member)
+}
+
+/// Each does so on a thread of its own, and comes back with its replies.
+fn run_all<'a, R: Threads + Sync>(
+    rt: &R,
+    world: &'a Shared<FlagAnd>,
+    all: Vec<Member<'a, FlagAnd>>,
+) -> Result<Vec<(Replies, Member<'a, FlagAnd>)>, AllocError>
+    requires { AllByRecursion (λ m. m.name ≡ world.now.words) all.items }
+    ensures { IfOk result (λ done. AllByRecursion (λ d. d.1.name ≡ world.now.words) done.items) }
+{
+    thread::map_vec(rt, all, &|member| revoke_or_poll(member))
+}
+
+/// The polls of one rank are pending until one sees the revocation. That one is refused and ends the request, so none is
+/// open for those after it. Whether all four were pending.
+fn stays_open<R: Abort>(rt: &R, polls: [Reply; 4]) -> bool {
+    let pending = polls
+        .iter()
+        .position(|reply| *reply != Ok(Polled::Pending))
+        .unwrap_or(polls.len());
+    for (index, reply) in polls.iter().enumerate() {
+        let expected = match index.cmp(&pending) {
+            Ordering::Less => Ok(Polled::Pending),
+            Ordering::Equal => Err(Refusal::IsRevoked),
+            Ordering::Greater => Err(Refusal::Idle),
+        };
+        assert_eq!(rt; *reply, expected);
+    }
+    pending == polls.len()
+}
+
+/// A rank learns what the one that revoked saw. It then agrees that the communicator is revoked, and a request that was
+/// open is refused.
+fn learn_then_poll<'a, R: Abort>(
+    rt: &R,
+    mut member: Member<'a, FlagAnd>,
+    told: &BookTold<FlagAnd>,
+    open: bool,
+)
+    requires { told.now.name ≡ member.name }
+{
+    member.learn(told);
+    assert_eq!(rt; member.is_revoked(), Ok(true));
+    let expected = if open {
+        Refusal::IsRevoked
+    } else {
+        Refusal::Idle
+    };
+    assert_eq!(rt; member.poll(), Err(expected));
+}
+
+/// Of four ranks one revokes, while the others poll the barrier in which they arrived.
+fn revoke_while_polled<R: Threads + Sync + Abort>(rt: &R, alloc: Global) -> Result<(), Fail> {
+    let (shared, ranks) = open(alloc, 4)?;
+    let world = shared;
+    let all = members(alloc, &world, ranks)?;
+    let ready = arrive_others(rt, alloc, &world, all)?;
+    let mut done = run_all(rt, &world, ready)?;
+    assert_eq!(rt; done.len(), 4);
+    let (reply, revoker) = done.remove(usize::from(REVOKER));
+    assert!(rt; matches!(reply, Replies::Revoke(Ok(true))));
+    let told = revoker.told();
+    for (replies, member) in done {
+        let Replies::Polls(polls) = replies else {
+            panic!(rt; "another rank revoked")
+        };
+        let open = stays_open(rt, polls);
+        learn_then_poll(rt, member, &told, open);
+    }
+    Ok(())
+}
+
+#[test]
+fn revoked_while_polled(rt: HostRuntime) -> Result<(), Fail> {
+    for _ in 0..16 {
+        revoke_while_polled(&rt, rt.alloc())?;
+    }
+    Ok(())
+}
