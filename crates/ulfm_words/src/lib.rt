@@ -19,6 +19,3 @@ pub use sets::{put_slot, set_arrival, set_comm, set_failure, set_revocation, set
 pub use slots::{read_slot, read_written, slot_word};
 pub use step::{Last, Step};
 pub use words::Words;
-
-#[cfg(test)]
-mod tests;
