@@ -9,8 +9,6 @@ pub mod limits;
 pub mod place;
 pub mod refusal;
 pub mod reply;
-#[cfg(test)]
-mod tests;
 
 pub use call::{Call, Request};
 pub use contribution::{Contribution, MarkCount, Offer, Slot};

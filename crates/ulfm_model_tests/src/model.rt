@@ -1,13 +1,13 @@
-use crate::contribution::{Contribution, Offer, Slot};
-use crate::event::{Caller, Entry, Event};
-use crate::laws;
-use crate::limits::{Limits, OpenFault};
-use crate::refusal::{Refusal, refusal_number};
 use std::fmt::Write;
 use std::test::Fail;
 use ulfm_laws::acked::Acked;
 use ulfm_laws::flag_and::FlagAnd;
 use ulfm_laws::known::Known;
+use ulfm_model::contribution::{Contribution, Offer, Slot};
+use ulfm_model::event::{Caller, Entry, Event};
+use ulfm_model::laws;
+use ulfm_model::limits::{Limits, OpenFault};
+use ulfm_model::refusal::{Refusal, refusal_number};
 
 fn checked(ranks: u16, comms: u16, rounds: u16) -> Result<(), OpenFault> {
     Limits {
