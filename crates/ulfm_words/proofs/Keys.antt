@@ -100,14 +100,14 @@ read_is limits ws p key w within size is read = read ∙ (sym (get_or_default ws
 
 -- and so where it was read by its page
 pub paged_is : (limits : Limits) (pages words numbers : List ℕ) (room : ℕ) (p : Place) (key i w : ℕ) → ArePages pages words room → IsWithin limits p → size_of limits ≤ length (row_of pages words) → key ≡ key_in limits p
-    → numbers ≡ pages → i ≡ slice_index numbers (key / 512) + key % 512 → w ≡ slice_index_or words i w → w ≡ slice_index (row_of pages words) (key_in limits p)
+    → numbers ≡ pages → i ≡ slice_index numbers (key / 64) * 64 + key % 64 → w ≡ slice_index_or words i w → w ≡ slice_index (row_of pages words) (key_in limits p)
 paged_is limits pages words numbers room p key i w are within size is same at read =
-    let there : i ≡ slice_index pages (key / 512) + key % 512 = at ∙ ap (λ xs. slice_index xs (key / 512) + key % 512) same in
+    let there : i ≡ slice_index pages (key / 64) * 64 + key % 64 = at ∙ ap (λ xs. slice_index xs (key / 64) * 64 + key % 64) same in
     let lt : i < length words = omega (arith, there, place_inside pages words room key are) in
-    let inside : key < length pages * 512 = omega (arith, key_inside limits (row_of pages words) p key within size is, row_length pages words) in
+    let inside : key < length pages * 64 = omega (arith, key_inside limits (row_of pages words) p key within size is, row_length pages words) in
     read ∙ (sym (get_or_default words i 0 w lt) ∙ (ap (slice_index words) there ∙ (sym (row_at pages words key inside) ∙ ap (slice_index (row_of pages words)) is)))
 
 -- a place's key has a page
-pub key_paged : (limits : Limits) (pages words numbers : List ℕ) (p : Place) (key : ℕ) → IsWithin limits p → size_of limits ≤ length (row_of pages words) → key ≡ key_in limits p → numbers ≡ pages → key < length numbers * 512
+pub key_paged : (limits : Limits) (pages words numbers : List ℕ) (p : Place) (key : ℕ) → IsWithin limits p → size_of limits ≤ length (row_of pages words) → key ≡ key_in limits p → numbers ≡ pages → key < length numbers * 64
 key_paged limits pages words numbers p key within size is same =
     omega (arith, key_inside limits (row_of pages words) p key within size is, row_length pages words, ap length same)

@@ -11,14 +11,17 @@ use Rattle.std.proofs.lemmas.List.FromFn.{get_or-map-range_with_len, length-map-
 use Rattle.std.proofs.lemmas.List.Sums.{count_by-le-length, sum_by-set}
 use Rattle.ulfm_words.specs.Pages.{ArePages, is_made, row_of, word_in}
 
-split : (key : ℕ) → key ≡ key / 512 * 512 + key % 512
+split : (key : ℕ) → key ≡ key / 64 * 64 + key % 64
 split key = omega arith
 
-rest : (key : ℕ) → key % 512 < 512
+rest : (key : ℕ) → key % 64 < 64
 rest key = omega arith
 
 same_or_not : (a b : ℕ) → (a ≡ b) ⊎ (a ≢ b)
 same_or_not a b = grind arith
+
+digits : (a r b s : ℕ) → r < 64 → s < 64 → a * 64 + r ≡ b * 64 + s → (a ≡ b) × (r ≡ s)
+digits a r b s r_lt s_lt e = (omega arith, omega arith)
 
 pub zeros : (n i : ℕ) → slice_index (replicate n 0) i ≡ 0
 zeros zero i = refl
@@ -26,38 +29,37 @@ zeros (suc n) zero = refl
 zeros (suc n) (suc i) = zeros n i
 
 -- as many words as the pages have room for
-pub row_length : (pages words : List ℕ) → length (row_of pages words) ≡ length pages * 512
-row_length pages words = length-map-range_with_len (word_in pages words) 0 (length pages * 512)
+pub row_length : (pages words : List ℕ) → length (row_of pages words) ≡ length pages * 64
+row_length pages words = length-map-range_with_len (word_in pages words) 0 (length pages * 64)
 
 -- the word that was read stands in the row
-pub row_at : (pages words : List ℕ) (key : ℕ) → key < length pages * 512 → slice_index (row_of pages words) key ≡ word_in pages words key
-row_at pages words key lt = get_or-map-range_with_len (word_in pages words) 0 (length pages * 512) key key 0 lt (omega arith)
+pub row_at : (pages words : List ℕ) (key : ℕ) → key < length pages * 64 → slice_index (row_of pages words) key ≡ word_in pages words key
+row_at pages words key lt = get_or-map-range_with_len (word_in pages words) 0 (length pages * 64) key key 0 lt (omega arith)
 
 -- a row of these words, one by one
-row_is : (pages words row : List ℕ) → length row ≡ length pages * 512 → ((key : ℕ) → key < length pages * 512 → word_in pages words key ≡ slice_index row key) → row_of pages words ≡ row
+row_is : (pages words row : List ℕ) → length row ≡ length pages * 64 → ((key : ℕ) → key < length pages * 64 → word_in pages words key ≡ slice_index row key) → row_of pages words ≡ row
 row_is pages words row long same =
     ext_get_or 0 (row_of pages words) row (row_length pages words ∙ sym long) (λ key lt.
-    let inside : key < length pages * 512 = omega (arith, lt, row_length pages words) in
+    let inside : key < length pages * 64 = omega (arith, lt, row_length pages words) in
     row_at pages words key inside ∙ same key inside)
 
 -- pages of which none was made
-pub pages_new : (n room : ℕ) → (n + 1) * 512 ≤ room → n < 16384 → ArePages (replicate n 0) (replicate 512 0) room
+pub pages_new : (n room : ℕ) → (n + 1) * 64 ≤ room → n < 131072 → ArePages (replicate n 0) (replicate 64 0) room
 pages_new n room fits few =
     let none : count_by is_made (replicate n 0) ≡ 0 = omega (arith, sum_by-replicate (λ x. cond (is_made x) 1 0) n 0) in
     record {
-      zeros = λ i lt. zeros 512 i;
-      made = omega (arith, none, length-replicate {A = ℕ} 512 0);
-      below = λ i. omega (arith, zeros n i, length-replicate {A = ℕ} 512 0);
-      own = λ i j r t r_lt t_lt same some. absurd (some (zeros n i));
-      past = λ i some. absurd (some (zeros n i));
+      zeros = λ i lt. zeros 64 i;
+      made = omega (arith, none, length-replicate {A = ℕ} 64 0);
+      below = λ i. omega (arith, zeros n i, length-replicate {A = ℕ} 64 0);
+      own = λ i j same some. absurd (some (zeros n i));
       room = omega (arith, fits, length-replicate {A = ℕ} n 0);
       few = omega (arith, few, length-replicate {A = ℕ} n 0);
     }
 
-pub row_new : (n : ℕ) → row_of (replicate n 0) (replicate 512 0) ≡ replicate (n * 512) 0
+pub row_new : (n : ℕ) → row_of (replicate n 0) (replicate 64 0) ≡ replicate (n * 64) 0
 row_new n =
-    row_is (replicate n 0) (replicate 512 0) (replicate (n * 512) 0) (length-replicate {A = ℕ} (n * 512) 0 ∙ ap (λ k. k * 512) (sym (length-replicate {A = ℕ} n 0))) (λ key lt.
-    zeros 512 (slice_index (replicate n 0) (key / 512) + key % 512) ∙ sym (zeros (n * 512) key))
+    row_is (replicate n 0) (replicate 64 0) (replicate (n * 64) 0) (length-replicate {A = ℕ} (n * 64) 0 ∙ ap (λ k. k * 64) (sym (length-replicate {A = ℕ} n 0))) (λ key lt.
+    zeros 64 (slice_index (replicate n 0) (key / 64) * 64 + key % 64) ∙ sym (zeros (n * 64) key))
 
 count_more : (pages : List ℕ) (i n : ℕ) → i < length pages → slice_index pages i ≡ 0 → n ≢ 0 → count_by is_made (slice_set pages i n) ≡ count_by is_made pages + 1
 count_more pages i n lt none some = go (count_by is_made (slice_set pages i n)) (count_by is_made pages) (get_or pages i 0) (sum_by-set (λ x. cond (is_made x) 1 0) pages i n 0 lt) none
@@ -67,17 +69,17 @@ count_more pages i n lt none some = go (count_by is_made (slice_set pages i n)) 
 
 -- memory that holds more
 pub more_room : (pages words : List ℕ) (a b : ℕ) → ArePages pages words a → a ≤ b → ArePages pages words b
-more_room pages words a b are more = record { zeros = are.zeros; made = are.made; below = are.below; own = are.own; past = are.past; room = omega (arith, are.room, more); few = are.few }
+more_room pages words a b are more = record { zeros = are.zeros; made = are.made; below = are.below; own = are.own; room = omega (arith, are.room, more); few = are.few }
 
 -- where a page isn't made, there is room for it
-pub room_left : (pages words : List ℕ) (room i : ℕ) → ArePages pages words room → i < length pages → slice_index pages i ≡ 0 → length words + 512 ≤ room
+pub room_left : (pages words : List ℕ) (room i : ℕ) → ArePages pages words room → i < length pages → slice_index pages i ≡ 0 → length words + 64 ≤ room
 room_left pages words room i are lt none =
     let one_more = count_more pages i 1 lt none (λ e. absurd (omega (arith, e))) in
     let most = count_by-le-length is_made (slice_set pages i 1) in
     omega (arith, one_more, most, length-set pages i 1, are.made, are.room)
 
 -- words that were filled up with a page of words that are 0
-pub grown : (old new : List ℕ) (n m : ℕ) (r : Result (Unit {0}) AllocError) → new ≡ (if is_ok r then take n old ++ replicate m 0 else old) → IsOk r → n ≡ length old + 512 → m ≡ 512 → new ≡ old ++ replicate 512 0
+pub grown : (old new : List ℕ) (n m : ℕ) (r : Result (Unit {0}) AllocError) → new ≡ (if is_ok r then take n old ++ replicate m 0 else old) → IsOk r → n ≡ length old + 64 → m ≡ 64 → new ≡ old ++ replicate 64 0
 grown old new n m (Ok done) is ok long more = is ∙ ap₂ (λ (xs : List ℕ) (k : ℕ). xs ++ replicate k 0) (take_all n old (omega (arith, long))) more
 grown old new n m (Err fault) is ok long more = absurd (cc ok)
 
@@ -90,95 +92,80 @@ pub filled : (old new : List ℕ) (n m : ℕ) → new ≡ take n old ++ replicat
 filled old new n m is none same = is ∙ (ap (λ xs. take n xs ++ replicate m 0) none ∙ (ap (λ xs. xs ++ replicate m 0) (take_none n) ∙ ap (λ k. replicate k 0) same))
 
 -- the word of a key stands in a page that there is
-pub place_inside : (pages words : List ℕ) (room key : ℕ) → ArePages pages words room → slice_index pages (key / 512) + key % 512 < length words
-place_inside pages words room key are = omega (arith, are.below (key / 512), rest key)
+pub place_inside : (pages words : List ℕ) (room key : ℕ) → ArePages pages words room → slice_index pages (key / 64) * 64 + key % 64 < length words
+place_inside pages words room key are = omega (arith, are.below (key / 64), rest key)
 
 -- a page more, of words that are 0
-module _ (pages words : List ℕ) (room : ℕ) (are : ArePages pages words room) (i : ℕ) (lt : i < length pages) (none : slice_index pages i ≡ 0) where
-  some : 512 ≤ length words
-  some = let made = are.made in omega (arith, made)
+module _ (pages words : List ℕ) (room : ℕ) (are : ArePages pages words room) (i n : ℕ) (lt : i < length pages) (none : slice_index pages i ≡ 0) (end : length words ≡ n * 64) where
+  some : n ≢ 0
+  some = let made = are.made in omega (arith, made, end)
 
-  made_there : slice_index (slice_set pages i (length words)) i ≡ length words
-  made_there = get_or-set_same pages i (length words) 0 lt
+  made_there : slice_index (slice_set pages i n) i ≡ n
+  made_there = get_or-set_same pages i n 0 lt
 
-  pub page_made : slice_index (slice_set pages i (length words)) i ≢ 0
-  page_made z = absurd (omega (arith, made_there, some, z))
+  same_page : (j : ℕ) → j ≢ i → slice_index (slice_set pages i n) j ≡ slice_index pages j
+  same_page j other = get_or-set_other pages i j n 0 other
 
-  same_page : (j : ℕ) → j ≢ i → slice_index (slice_set pages i (length words)) j ≡ slice_index pages j
-  same_page j other = get_or-set_other pages i j (length words) 0 other
+  kept : (k : ℕ) → k < length words → slice_index (words ++ replicate 64 0) k ≡ slice_index words k
+  kept k inside = get_or_append_left words (replicate 64 0) 0 k inside
 
-  kept : (k : ℕ) → k < length words → slice_index (words ++ replicate 512 0) k ≡ slice_index words k
-  kept k inside = get_or_append_left words (replicate 512 0) 0 k inside
+  added : (k : ℕ) → k < 64 → slice_index (words ++ replicate 64 0) (n * 64 + k) ≡ 0
+  added k small = ap (λ m. slice_index (words ++ replicate 64 0) (m + k)) (sym end) ∙ (get_or-append-add words (replicate 64 0) k 0 ∙ get_or-replicate 64 k 0 0 small)
 
-  added : (k : ℕ) → k < 512 → slice_index (words ++ replicate 512 0) (length words + k) ≡ 0
-  added k small = get_or-append-add words (replicate 512 0) k 0 ∙ get_or-replicate 512 k 0 0 small
-
-  same_word : (key : ℕ) → (key / 512 ≡ i) ⊎ (key / 512 ≢ i) → word_in (slice_set pages i (length words)) (words ++ replicate 512 0) key ≡ word_in pages words key
+  same_word : (key : ℕ) → (key / 64 ≡ i) ⊎ (key / 64 ≢ i) → word_in (slice_set pages i n) (words ++ replicate 64 0) key ≡ word_in pages words key
   same_word key (inl here) =
-      let first : 0 + key % 512 ≡ key % 512 = omega arith in
-      ap (λ p. slice_index (words ++ replicate 512 0) (p + key % 512)) (ap (slice_index (slice_set pages i (length words))) here ∙ made_there)
-      ∙ (added (key % 512) (rest key)
-      ∙ sym (ap (λ p. slice_index words (p + key % 512)) (ap (slice_index pages) here ∙ none) ∙ (ap (slice_index words) first ∙ are.zeros (key % 512) (rest key))))
+      let first : 0 * 64 + key % 64 ≡ key % 64 = omega arith in
+      ap (λ p. slice_index (words ++ replicate 64 0) (p * 64 + key % 64)) (ap (slice_index (slice_set pages i n)) here ∙ made_there)
+      ∙ (added (key % 64) (rest key)
+      ∙ sym (ap (λ p. slice_index words (p * 64 + key % 64)) (ap (slice_index pages) here ∙ none) ∙ (ap (slice_index words) first ∙ are.zeros (key % 64) (rest key))))
   same_word key (inr other) =
-      ap (λ p. slice_index (words ++ replicate 512 0) (p + key % 512)) (same_page (key / 512) other)
-      ∙ kept (slice_index pages (key / 512) + key % 512) (omega (arith, are.below (key / 512), rest key))
+      ap (λ p. slice_index (words ++ replicate 64 0) (p * 64 + key % 64)) (same_page (key / 64) other)
+      ∙ kept (slice_index pages (key / 64) * 64 + key % 64) (omega (arith, are.below (key / 64), rest key))
 
-  pub row_kept : row_of (slice_set pages i (length words)) (words ++ replicate 512 0) ≡ row_of pages words
+  pub row_kept : row_of (slice_set pages i n) (words ++ replicate 64 0) ≡ row_of pages words
   row_kept =
-      row_is (slice_set pages i (length words)) (words ++ replicate 512 0) (row_of pages words) (row_length pages words ∙ ap (λ m. m * 512) (sym (length-set pages i (length words)))) (λ key inside.
-      same_word key (same_or_not (key / 512) i) ∙ sym (row_at pages words key (omega (arith, inside, length-set pages i (length words)))))
+      row_is (slice_set pages i n) (words ++ replicate 64 0) (row_of pages words) (row_length pages words ∙ ap (λ m. m * 64) (sym (length-set pages i n))) (λ key inside.
+      same_word key (same_or_not (key / 64) i) ∙ sym (row_at pages words key (omega (arith, inside, length-set pages i n))))
 
-  long : length (words ++ replicate 512 0) ≡ length words + 512
-  long = length-append words (replicate 512 0) ∙ ap (λ m. length words + m) (length-replicate {A = ℕ} 512 0)
+  long : length (words ++ replicate 64 0) ≡ length words + 64
+  long = length-append words (replicate 64 0) ∙ ap (λ m. length words + m) (length-replicate {A = ℕ} 64 0)
 
-  there : (j : ℕ) → j ≡ i → slice_index (slice_set pages i (length words)) j ≡ length words
-  there j here = ap (slice_index (slice_set pages i (length words))) here ∙ made_there
-
-  below_more : (j : ℕ) → (j ≡ i) ⊎ (j ≢ i) → slice_index (slice_set pages i (length words)) j + 512 ≤ length (words ++ replicate 512 0)
-  below_more j (inl here) = omega (arith, there j here, long)
+  below_more : (j : ℕ) → (j ≡ i) ⊎ (j ≢ i) → slice_index (slice_set pages i n) j * 64 + 64 ≤ length (words ++ replicate 64 0)
+  below_more j (inl here) = omega (arith, ap (slice_index (slice_set pages i n)) here ∙ made_there, long, end)
   below_more j (inr other) = omega (arith, same_page j other, are.below j, long)
 
-  own_more : (j k r s : ℕ) → (j ≡ i) ⊎ (j ≢ i) → (k ≡ i) ⊎ (k ≢ i) → r < 512 → s < 512 → slice_index (slice_set pages i (length words)) j + r ≡ slice_index (slice_set pages i (length words)) k + s → slice_index (slice_set pages i (length words)) j ≢ 0 → j ≡ k
-  own_more j k r s (inl a) (inl b) r_lt s_lt same set = a ∙ sym b
-  own_more j k r s (inl a) (inr b) r_lt s_lt same set = absurd (omega (arith, there j a, same, same_page k b, are.below k, s_lt))
-  own_more j k r s (inr a) (inl b) r_lt s_lt same set = absurd (omega (arith, there k b, same, same_page j a, are.below j, r_lt))
-  own_more j k r s (inr a) (inr b) r_lt s_lt same set =
-      are.own j k r s r_lt s_lt (ap (λ n. n + r) (sym (same_page j a)) ∙ (same ∙ ap (λ n. n + s) (same_page k b))) (λ z. set (same_page j a ∙ z))
+  own_more : (j k : ℕ) → (j ≡ i) ⊎ (j ≢ i) → (k ≡ i) ⊎ (k ≢ i) → slice_index (slice_set pages i n) j ≡ slice_index (slice_set pages i n) k → slice_index (slice_set pages i n) j ≢ 0 → j ≡ k
+  own_more j k (inl a) (inl b) same set = a ∙ sym b
+  own_more j k (inl a) (inr b) same set = absurd (omega (arith, ap (slice_index (slice_set pages i n)) a ∙ made_there, same, same_page k b, are.below k, end))
+  own_more j k (inr a) (inl b) same set = absurd (omega (arith, ap (slice_index (slice_set pages i n)) b ∙ made_there, same, same_page j a, are.below j, end))
+  own_more j k (inr a) (inr b) same set = are.own j k (sym (same_page j a) ∙ (same ∙ same_page k b)) (λ z. set (same_page j a ∙ z))
 
-  past_more : (j : ℕ) → (j ≡ i) ⊎ (j ≢ i) → slice_index (slice_set pages i (length words)) j ≢ 0 → 512 ≤ slice_index (slice_set pages i (length words)) j
-  past_more j (inl here) set = omega (arith, there j here, some)
-  past_more j (inr other) set = omega (arith, same_page j other, are.past j (λ z. set (same_page j other ∙ z)))
-
-  pub pages_more : ArePages (slice_set pages i (length words)) (words ++ replicate 512 0) room
+  pub pages_more : ArePages (slice_set pages i n) (words ++ replicate 64 0) room
   pages_more =
       record {
-        zeros = λ k small. kept k (omega (arith, small, some)) ∙ are.zeros k small;
-        made = omega (arith, long, are.made, count_more pages i (length words) lt none (λ z. absurd (omega (arith, z, some))));
+        zeros = λ k small. kept k (omega (arith, small, are.made)) ∙ are.zeros k small;
+        made = omega (arith, long, are.made, count_more pages i n lt none some);
         below = λ j. below_more j (same_or_not j i);
-        own = λ j k r s r_lt s_lt. own_more j k r s (same_or_not j i) (same_or_not k i) r_lt s_lt;
-        past = λ j. past_more j (same_or_not j i);
-        room = omega (arith, are.room, length-set pages i (length words));
-        few = omega (arith, are.few, length-set pages i (length words));
+        own = λ j k. own_more j k (same_or_not j i) (same_or_not k i);
+        room = omega (arith, are.room, length-set pages i n);
+        few = omega (arith, are.few, length-set pages i n);
       }
 
 -- a word is set in a page that was made
-module _ (pages words : List ℕ) (room : ℕ) (are : ArePages pages words room) (key w : ℕ) (lt : key < length pages * 512) (set : slice_index pages (key / 512) ≢ 0) where
+module _ (pages words : List ℕ) (room : ℕ) (are : ArePages pages words room) (key w : ℕ) (lt : key < length pages * 64) (set : slice_index pages (key / 64) ≢ 0) where
   abbrev at : ℕ → ℕ
-  at k = slice_index pages (k / 512) + k % 512
+  at k = slice_index pages (k / 64) * 64 + k % 64
 
   pub inside : at key < length words
-  inside = omega (arith, are.below (key / 512), rest key)
-
-  past : 512 ≤ at key
-  past = omega (arith, are.past (key / 512) set)
+  inside = omega (arith, are.below (key / 64), rest key)
 
   apart : (k : ℕ) → k ≢ key → at k ≢ at key
   apart k other same =
-      let page = are.own (key / 512) (k / 512) (key % 512) (k % 512) (rest key) (rest k) (sym same) set in
-      let digit : k % 512 ≡ key % 512 = omega (arith, same, ap (slice_index pages) page) in
-      other (split k ∙ (ap (λ p. p * 512 + k % 512) (sym page) ∙ (ap (λ r. key / 512 * 512 + r) digit ∙ sym (split key))))
+      let both = digits (slice_index pages (k / 64)) (k % 64) (slice_index pages (key / 64)) (key % 64) (rest k) (rest key) same in
+      let page = are.own (k / 64) (key / 64) both.0 (λ z. set (sym both.0 ∙ z)) in
+      other (split k ∙ (ap (λ p. p * 64 + k % 64) page ∙ (ap (λ r. key / 64 * 64 + r) both.1 ∙ sym (split key))))
 
-  read : (k : ℕ) → k < length pages * 512 → (k ≡ key) ⊎ (k ≢ key) → word_in pages (slice_set words (at key) w) k ≡ slice_index (slice_set (row_of pages words) key w) k
+  read : (k : ℕ) → k < length pages * 64 → (k ≡ key) ⊎ (k ≢ key) → word_in pages (slice_set words (at key) w) k ≡ slice_index (slice_set (row_of pages words) key w) k
   read k k_lt (inl here) =
       ap (word_in pages (slice_set words (at key) w)) here
       ∙ (get_or-set_same words (at key) w 0 inside
@@ -191,24 +178,20 @@ module _ (pages words : List ℕ) (room : ℕ) (are : ArePages pages words room)
 
   pub pages_set : ArePages pages (slice_set words (at key) w) room
   pages_set =
+      let page : slice_index pages (key / 64) ≢ 0 = set in
       record {
-        zeros = λ i small. get_or-set_other words (at key) i w 0 (λ e. absurd (omega (arith, e, small, past))) ∙ are.zeros i small;
+        zeros = λ i small. get_or-set_other words (at key) i w 0 (λ e. set (omega (arith, e, small))) ∙ are.zeros i small;
         made = length-set words (at key) w ∙ are.made;
         below = λ i. omega (arith, are.below i, length-set words (at key) w);
         own = are.own;
-        past = are.past;
         room = are.room;
         few = are.few;
       }
 
 -- a word is set in a page that was made for it
-pub row_put : (pages words old : List ℕ) (room key index w : ℕ) → ArePages pages words room → row_of pages words ≡ old → key < length pages * 512 → slice_index pages (key / 512) ≢ 0 → index ≡ slice_index pages (key / 512) + key % 512
+pub row_put : (pages words old : List ℕ) (room key index w : ℕ) → ArePages pages words room → row_of pages words ≡ old → key < length pages * 64 → slice_index pages (key / 64) ≢ 0 → index ≡ slice_index pages (key / 64) * 64 + key % 64
     → row_of pages (slice_set words index w) ≡ slice_set old key w
 row_put pages words old room key index w are same lt set is = rw is (row_set pages words room are key w lt set ∙ ap (λ row. slice_set row key w) same)
 
-pub pages_put : (pages words : List ℕ) (room key index w : ℕ) → ArePages pages words room → key < length pages * 512 → slice_index pages (key / 512) ≢ 0 → index ≡ slice_index pages (key / 512) + key % 512 → ArePages pages (slice_set words index w) room
+pub pages_put : (pages words : List ℕ) (room key index w : ℕ) → ArePages pages words room → key < length pages * 64 → slice_index pages (key / 64) ≢ 0 → index ≡ slice_index pages (key / 64) * 64 + key % 64 → ArePages pages (slice_set words index w) room
 pages_put pages words room key index w are lt set is = rw is (pages_set pages words room are key w lt set)
-
--- a word past the first page stands in a page that was made
-pub was_made : (pages : List ℕ) (key index : ℕ) → index ≡ slice_index pages (key / 512) + key % 512 → 512 ≤ index → slice_index pages (key / 512) ≢ 0
-was_made pages key index is past z = absurd (omega (arith, is, past, z, rest key))

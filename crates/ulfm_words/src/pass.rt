@@ -24,18 +24,15 @@ pub(crate) struct Setting {
 }
 
 // So many words stand in a page.
-const PAGE: usize = 512;
-
-// A row of at most so many pages has all of them from the start.
-const SHORT: usize = 8;
+const PAGE: usize = 64;
 
 /// The words of one owner, and the journal of what was set. Contracts see it as a `Sight`.
 #[derive(Drop)]
 pub struct PlainPass<P: Packed, A: Allocator = Global> {
     limits: Limits,
-    // Of each 512 keys, where the page begins that has their words; 0 until the first of them is set.
+    // Of the keys of each 64 places, the number of the page that has their words; 0 until the first of them is set.
     pages: Vec<u32, A>,
-    // Page after page. There is room for all; the first has no word that is set.
+    // Page after page. There is room for all; page 0 has no word that is set.
     words: Vec<u64, A>,
     // In the order of setting. It has room for each word that is still 0.
     journal: Vec<Setting, A>,
@@ -60,13 +57,13 @@ impl<P: Packed, A: Allocator> Model for PlainPass<P, A> {
 // Where the word of a key stands.
 #[inline(always)]
 fn index_of(pages: &[u32], key: usize) -> usize
-    requires key { key < length pages.now * 512 }
-    ensures { result ≡ slice_index pages.now (key / 512) + key % 512 }
+    requires key { key < length pages.now * 64 }
+    ensures { result ≡ slice_index pages.now (key / 64) * 64 + key % 64 }
 {
-    pages[key / PAGE] as usize + key % PAGE
+    pages[key / PAGE] as usize * PAGE + key % PAGE
 }
 
-// Makes one more page, of words that are 0, for 512 keys whose words are all 0. It takes no memory.
+// Makes one more page, of words that are 0, for 64 keys whose words are all 0. It takes no memory.
 #[inline(never)]
 fn make_page<A: Allocator>(pages: &mut Vec<u32, A>, words: &mut Vec<u64, A>, at: usize)
     requires are { ArePages pages.old.items words.old.items (vec_capacity words.old) }
@@ -77,46 +74,37 @@ fn make_page<A: Allocator>(pages: &mut Vec<u32, A>, words: &mut Vec<u64, A>, at:
     ensures made { slice_index pages.new.items at ≢ 0 }
     ensures pages { length pages.new.items ≡ length pages.old.items }
 {
-    pages[at] = words.len() as u32;
+    pages[at] = (words.len() / PAGE) as u32;
     let _ = words.resize(words.len() + PAGE, 0);
 }
 
-// Makes the first so many pages, as far as they aren't made. It takes no memory.
-fn make_first<A: Allocator>(pages: &mut Vec<u32, A>, words: &mut Vec<u64, A>, count: usize)
+// Sees to it that the page is made.
+#[inline(always)]
+fn reach<A: Allocator>(pages: &mut Vec<u32, A>, words: &mut Vec<u64, A>, at: usize)
     requires are { ArePages pages.old.items words.old.items (vec_capacity words.old) }
-    requires count { count ≤ length pages.old.items }
+    requires at { at < length pages.old.items }
     ensures are { ArePages pages.new.items words.new.items (vec_capacity words.new) }
     ensures row { row_of pages.new.items words.new.items ≡ row_of pages.old.items words.old.items }
+    ensures made { slice_index pages.new.items at ≢ 0 }
+    ensures pages { length pages.new.items ≡ length pages.old.items }
 {
-    for at in 0..count {
-        if pages[at] == 0 {
-            make_page(pages, words, at);
-        }
+    if pages[at] != 0 {
+        return;
     }
+    make_page(pages, words, at)
 }
 
-// Sets the word of a key, which stands at this index where its page is made. It takes no memory.
+// Sets the word of a key. It takes no memory.
 #[inline(always)]
-fn put<A: Allocator>(
-    pages: &mut Vec<u32, A>,
-    words: &mut Vec<u64, A>,
-    key: usize,
-    index: usize,
-    word: u64,
-)
+fn put<A: Allocator>(pages: &mut Vec<u32, A>, words: &mut Vec<u64, A>, key: usize, word: u64)
     requires are { ArePages pages.old.items words.old.items (vec_capacity words.old) }
-    requires key { key < length pages.old.items * 512 }
-    requires index { index ≡ slice_index pages.old.items (key / 512) + key % 512 }
+    requires key { key < length pages.old.items * 64 }
     ensures are { ArePages pages.new.items words.new.items (vec_capacity words.new) }
     ensures row { row_of pages.new.items words.new.items ≡ slice_set (row_of pages.old.items words.old.items) key word }
 {
-    if index >= PAGE {
-        words[index] = word;
-        return;
-    }
-    make_page(pages, words, key / PAGE);
-    let made = index_of(pages, key);
-    words[made] = word;
+    reach(pages, words, key / PAGE);
+    let index = index_of(pages, key);
+    words[index] = word;
 }
 
 impl<P: Packed, A: Allocator + Copy> PlainPass<P, A> {
@@ -130,11 +118,6 @@ impl<P: Packed, A: Allocator + Copy> PlainPass<P, A> {
         pages.resize(count, 0)?;
         let mut words = Vec::with_capacity(alloc, (count + 1) * PAGE)?;
         words.resize(PAGE, 0)?;
-        make_first(
-            &mut pages,
-            &mut words,
-            if count <= SHORT { count } else { 0 },
-        );
         let journal = Vec::with_capacity(alloc, count * PAGE)?;
         Ok(PlainPass {
             limits,
@@ -190,14 +173,13 @@ impl<P: Packed, A: Allocator + Copy> PlainPass<P, A> {
     {
         let place = step.place;
         let key = key_of(step.place, self.limits);
-        let index = index_of(&self.pages, key);
-        let word = self.words[index];
+        let word = self.words[index_of(&self.pages, key)];
         let load = false;
         self.trail = self.trail.and(&Last { place, word, load }, &load);
         if word != 0 {
             return Err(word);
         }
-        put(&mut self.pages, &mut self.words, key, index, step.word);
+        put(&mut self.pages, &mut self.words, key, step.word);
         let _ = self.journal.push(Setting { place, by: step.by });
         Ok(())
     }

@@ -4,20 +4,14 @@ use Rattle.ulfm_model.specs.Words.{size_of}
 use Rattle.ulfm_words.proofs.{Paging.{filled, pages_new, row_new}, Tied.{tied_new}}
 use Rattle.ulfm_words.proofs.pass.PlainPass.new.Goals as goal
 
-pub make_first-requires-clause-are : goal.make_first-requires-clause-are
-make_first-requires-clause-are g c =
-    let count = c.size.result / 512 + 1 in
-    let pages_are = filled _ c.resize.new.self.items count _ c.in_ok-resize.ensures.items c.in_ok-pages.ensures.items (omega (arith, c.in_ok-pages.ensures.len)) in
-    let words_are = filled _ c.resize-2.new.self.items 512 _ c.in_ok-resize-2.ensures.items c.in_ok-words.ensures.items (omega (arith, c.in_ok-words.ensures.len)) in
-    let few : count < 16384 = omega (arith, c.size.ensures, c.requires.small) in
-    let room : (count + 1) * 512 ≤ vec_capacity c.resize-2.new.self = omega (arith, c.in_ok-words.ensures.capacity, c.in_ok-resize-2.ensures.capacity) in
-    rw (pages_are, words_are) (pages_new count (vec_capacity c.resize-2.new.self) room few)
-
 pub invariant_of-result : goal.invariant_of-result
 invariant_of-result g c =
-    let count = c.size.result / 512 + 1 in
+    let count = c.size.result / 64 + 1 in
     let pages_are = filled _ c.resize.new.self.items count _ c.in_ok-resize.ensures.items c.in_ok-pages.ensures.items (omega (arith, c.in_ok-pages.ensures.len)) in
-    let words_are = filled _ c.resize-2.new.self.items 512 _ c.in_ok-resize-2.ensures.items c.in_ok-words.ensures.items (omega (arith, c.in_ok-words.ensures.len)) in
-    let size : size_of c.args.limits ≤ count * 512 = omega (arith, c.size.ensures) in
-    let journal : count * 512 ≤ vec_capacity c.in_ok-journal.journal = omega (arith, c.in_ok-journal.ensures.capacity) in
-    (rw (c.make_first.ensures.row, pages_are, words_are, c.in_ok-journal.ensures.items, row_new count) (tied_new g.P.Meld.meld g.P.Packed.pack g.P.Packed.unpack c.args.limits (count * 512) (vec_capacity c.in_ok-journal.journal) c.requires size journal), c.make_first.ensures.are)
+    let words_are = filled _ c.resize-2.new.self.items 64 _ c.in_ok-resize-2.ensures.items c.in_ok-words.ensures.items (omega (arith, c.in_ok-words.ensures.len)) in
+    let size : size_of c.args.limits ≤ count * 64 = omega (arith, c.size.ensures) in
+    let few : count < 131072 = omega (arith, c.size.ensures, c.requires.small) in
+    let journal : count * 64 ≤ vec_capacity c.in_ok-journal.journal = omega (arith, c.in_ok-journal.ensures.capacity) in
+    let room : (count + 1) * 64 ≤ vec_capacity c.resize-2.new.self = omega (arith, c.in_ok-words.ensures.capacity, c.in_ok-resize-2.ensures.capacity) in
+    rw (pages_are, words_are, c.in_ok-journal.ensures.items, row_new count)
+    (tied_new g.P.Meld.meld g.P.Packed.pack g.P.Packed.unpack c.args.limits (count * 64) (vec_capacity c.in_ok-journal.journal) c.requires size journal, pages_new count (vec_capacity c.resize-2.new.self) room few)

@@ -8,8 +8,8 @@ use Rattle.ulfm_words.proofs.{Growing.{prefix_self}, Keys.{key_inside, key_paged
 use Rattle.ulfm_words.proofs.pass.PlainPass.set_once.Goals as goal
 use Rattle.ulfm_words.proofs.pass.PlainPass.set_once.Goals.{After-push}
 
-pub index_of-index-requires : goal.index_of-index-requires
-index_of-index-requires g c =
+pub index_of-requires : goal.index_of-requires
+index_of-requires g c =
     let limits = c.self.inside.limits in
     let ps = c.self.inside.pages.items in
     let ws = c.self.inside.words.items in
@@ -33,7 +33,7 @@ returns-then-word-ne0 g c =
     let js = c.self.inside.journal.items in
     let ts = c.self.inside.trail.items in
     let within = within_is g.P.Meld.meld g.P.Packed.pack unpack limits c.args.self.now (row_of ps ws) js ts c.args.step.place c.self.view_is c.requires.within in
-    let word = paged_is limits ps ws c.deref.result.now (vec_capacity c.self.inside.words) c.args.step.place c.key_of-key.result c.index_of-index.result c.index-word.result.now c.self.invariant.1 within c.self.invariant.0.size c.key_of-key.ensures c.deref.ensures.value c.index_of-index.ensures c.index-word.ensures in
+    let word = paged_is limits ps ws c.deref.result.now (vec_capacity c.self.inside.words) c.args.step.place c.key_of-key.result c.index_of.result c.index-word.result.now c.self.invariant.1 within c.self.invariant.0.size c.key_of-key.ensures c.deref.ensures.value c.index_of.ensures c.index-word.ensures in
     sets_lost g.P.Meld.meld g.P.Packed.pack unpack limits c.args.self.now (row_of ps ws) js (vec_capacity c.self.inside.journal) ts c.and-self-inside.result.items c.args.step c.index-word.result.now
     c.self.view_is c.self.invariant.0 c.requires.within word c.if-word-ne0.true c.and-self-inside.ensures
 
@@ -45,8 +45,8 @@ below g c = key_inside c.self.inside.limits (row_of c.self.inside.pages.items c.
 
 word_is : (g : _) (c : After-push g) → c.index-word.result.now ≡ slice_index (row_of c.self.inside.pages.items c.self.inside.words.items) (key_in c.self.inside.limits c.args.step.place)
 word_is g c =
-    paged_is c.self.inside.limits c.self.inside.pages.items c.self.inside.words.items c.deref.result.now (vec_capacity c.self.inside.words) c.args.step.place c.key_of-key.result c.index_of-index.result c.index-word.result.now c.self.invariant.1
-    (within_of g c) c.self.invariant.0.size c.key_of-key.ensures c.deref.ensures.value c.index_of-index.ensures c.index-word.ensures
+    paged_is c.self.inside.limits c.self.inside.pages.items c.self.inside.words.items c.deref.result.now (vec_capacity c.self.inside.words) c.args.step.place c.key_of-key.result c.index_of.result c.index-word.result.now c.self.invariant.1
+    (within_of g c) c.self.invariant.0.size c.key_of-key.ensures c.deref.ensures.value c.index_of.ensures c.index-word.ensures
 
 may_in : (g : _) (c : After-push g) → MaySet g.P.Meld.meld g.P.Packed.pack g.P.Packed.unpack c.self.inside.limits (entries g.P.Packed.unpack c.self.inside.limits (row_of c.self.inside.pages.items c.self.inside.words.items) c.self.inside.journal.items) c.args.step
 may_in g c = subst (λ o. MaySet g.P.Meld.meld g.P.Packed.pack g.P.Packed.unpack o.name.limits o.seen c.args.step) (sym c.self.view_is) c.requires.may
