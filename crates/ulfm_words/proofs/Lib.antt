@@ -1,9 +1,9 @@
 pub mod SlotWords
 pub mod SummaryWords
 pub mod Keys
-pub mod Paging
 pub mod Trails
 pub mod Growing
+pub mod Longer
 pub mod Tied
 pub mod Telling
 pub mod Ranks

@@ -2,6 +2,5 @@ pub mod Places
 pub mod Slots
 pub mod Entries
 pub mod Steps
-pub mod Pages
 pub mod Pass
 pub mod Tries

@@ -1,9 +1,8 @@
-ghost use Rattle.std.specs.Prelude.{◌≡◌, ◌≢◌, ◌+◌, ◌*◌, ◌/◌, ◌%◌, ◌<◌, ◌≤◌, ℕ, true, IfOk, MatchOption, length, slice_get, slice_index, slice_set, vec_capacity};
-ghost use Rattle.ulfm_model.specs.Words.{MayOpen, word_at};
+ghost use Rattle.std.specs.Prelude.{◌≡◌, ◌<◌, ◌≤◌, true, IfOk, MatchBool, MatchOption, length, slice_get, slice_index, vec_capacity};
+ghost use Rattle.ulfm_model.specs.Words.{MayOpen, size_of, word_at};
 ghost use Rattle.ulfm_words.specs.Entries.{entry_of};
-ghost use Rattle.ulfm_words.specs.Pages.{ArePages, row_of};
-ghost use Rattle.ulfm_words.specs.Pass.{plain_name};
-ghost use Rattle.ulfm_words.specs.Places.{IsWithin};
+ghost use Rattle.ulfm_words.specs.Pass.{HasRounds, IsLonger, StandsIn, plain_name, row_of};
+ghost use Rattle.ulfm_words.specs.Places.{IsWithin, key_in};
 ghost use Rattle.ulfm_words.specs.Steps.{IsOf, IsNew, Loads, MaySet, Sets};
 
 use crate::places::key_of;
@@ -23,17 +22,17 @@ pub(crate) struct Setting {
     pub by: Caller,
 }
 
-// So many words stand in a page.
-const PAGE: usize = 64;
+// A row of at most so many words has all of them from the start.
+const SHORT: usize = 4096;
 
 /// The words of one owner, and the journal of what was set. Contracts see it as a `Sight`.
 #[derive(Drop)]
 pub struct PlainPass<P: Packed, A: Allocator = Global> {
     limits: Limits,
-    // Of the keys of each 64 places, the number of the page that has their words; 0 until the first of them is set.
-    pages: Vec<u32, A>,
-    // Page after page. There is room for all; page 0 has no word that is set.
+    // By the keys of their places. It has room for all, and those of later rounds are made as the rounds come.
     words: Vec<u64, A>,
+    // How many rounds have words. All others are 0.
+    rounds: u16,
     // In the order of setting. It has room for each word that is still 0.
     journal: Vec<Setting, A>,
     // The steps so far. It takes no memory, and only contracts read it.
@@ -43,68 +42,90 @@ pub struct PlainPass<P: Packed, A: Allocator = Global> {
 
 impl<P: Packed, A: Allocator> Model for PlainPass<P, A> {
     ghost use Rattle.ulfm_words.specs.Steps.{Sight};
-    ghost use Rattle.std.specs.Prelude.{vec_capacity};
-    ghost use Rattle.ulfm_words.specs.Pages.{row_of, ArePages};
-    ghost use Rattle.ulfm_words.specs.Pass.{sight_of, IsTied};
+    ghost use Rattle.std.specs.Prelude.{◌≤◌, vec_capacity};
+    ghost use Rattle.ulfm_model.specs.Words.{size_of};
+    ghost use Rattle.ulfm_words.specs.Pass.{sight_of, HasRounds, IsTied};
 
     ghost Value = { Sight P };
 
-    ghost view = { λ a. sight_of P.unpack a.limits (row_of a.pages.items a.words.items) a.journal.items a.trail.items };
+    ghost view = { λ a. sight_of P.unpack a.limits a.words.items a.journal.items a.trail.items };
 
-    ghost invariant = { λ a. IsTied P.meld P.pack P.unpack a.limits (row_of a.pages.items a.words.items) a.journal.items (vec_capacity a.journal) × ArePages a.pages.items a.words.items (vec_capacity a.words) };
+    ghost invariant = { λ a. IsTied P.meld P.pack P.unpack a.limits a.words.items a.journal.items (vec_capacity a.journal) × HasRounds a.limits a.rounds a.words.items × (size_of a.limits ≤ vec_capacity a.words) };
 }
 
-// Where the word of a key stands.
+// Whether the word of a place stands in a row that has so many rounds.
 #[inline(always)]
-fn index_of(pages: &[u32], key: usize) -> usize
-    requires key { key < length pages.now * 64 }
-    ensures { result ≡ slice_index pages.now (key / 64) * 64 + key % 64 }
+fn stands(place: Place, rounds: u16) -> bool
+    ensures { MatchBool result (StandsIn rounds place) (StandsIn rounds place → ⊥) }
 {
-    pages[key / PAGE] as usize * PAGE + key % PAGE
-}
-
-// Makes one more page, of words that are 0, for 64 keys whose words are all 0. It takes no memory.
-#[inline(never)]
-fn make_page<A: Allocator>(pages: &mut Vec<u32, A>, words: &mut Vec<u64, A>, at: usize)
-    requires are { ArePages pages.old.items words.old.items (vec_capacity words.old) }
-    requires at { at < length pages.old.items }
-    requires unmade { slice_index pages.old.items at ≡ 0 }
-    ensures are { ArePages pages.new.items words.new.items (vec_capacity words.new) }
-    ensures row { row_of pages.new.items words.new.items ≡ row_of pages.old.items words.old.items }
-    ensures made { slice_index pages.new.items at ≢ 0 }
-    ensures pages { length pages.new.items ≡ length pages.old.items }
-{
-    pages[at] = (words.len() / PAGE) as u32;
-    let _ = words.resize(words.len() + PAGE, 0);
-}
-
-// Sees to it that the page is made.
-#[inline(always)]
-fn reach<A: Allocator>(pages: &mut Vec<u32, A>, words: &mut Vec<u64, A>, at: usize)
-    requires are { ArePages pages.old.items words.old.items (vec_capacity words.old) }
-    requires at { at < length pages.old.items }
-    ensures are { ArePages pages.new.items words.new.items (vec_capacity words.new) }
-    ensures row { row_of pages.new.items words.new.items ≡ row_of pages.old.items words.old.items }
-    ensures made { slice_index pages.new.items at ≢ 0 }
-    ensures pages { length pages.new.items ≡ length pages.old.items }
-{
-    if pages[at] != 0 {
-        return;
+    match place {
+        Place::Slot { round, .. } | Place::Arrival { round, .. } => round < rounds,
+        Place::List { .. } | Place::Comm { .. } | Place::Revoked { .. } => true,
     }
-    make_page(pages, words, at)
 }
 
-// Sets the word of a key. It takes no memory.
+// The word of a place, 0 where its round has no words yet. In a loop over the ranks of a round that is tested once.
 #[inline(always)]
-fn put<A: Allocator>(pages: &mut Vec<u32, A>, words: &mut Vec<u64, A>, key: usize, word: u64)
-    requires are { ArePages pages.old.items words.old.items (vec_capacity words.old) }
-    requires key { key < length pages.old.items * 64 }
-    ensures are { ArePages pages.new.items words.new.items (vec_capacity words.new) }
-    ensures row { row_of pages.new.items words.new.items ≡ slice_set (row_of pages.old.items words.old.items) key word }
+fn word_of(words: &[u64], rounds: u16, place: Place, limits: Limits) -> u64
+    requires open { MayOpen limits }
+    requires within { IsWithin limits place }
+    requires rounds { HasRounds limits rounds words.now }
+    ensures { result ≡ slice_index words.now (key_in limits place) }
 {
-    reach(pages, words, key / PAGE);
-    let index = index_of(pages, key);
-    words[index] = word;
+    if !stands(place, rounds) {
+        return 0;
+    }
+    words[key_of(place, limits)]
+}
+
+// How many words a row has with so many rounds.
+fn row_length(limits: Limits, rounds: u16) -> usize
+    requires open { MayOpen limits }
+    requires most { rounds ≤ limits.rounds }
+    ensures { result ≡ row_of limits rounds }
+{
+    let ranks = limits.ranks as usize;
+    let comms = limits.comms as usize;
+    ranks + 2 * comms + rounds as usize * (2 * comms * ranks)
+}
+
+// Sees to it that the word of a place stands in the row, and how many rounds the row has then. It takes no memory.
+#[inline(always)]
+fn reach<A: Allocator>(words: &mut Vec<u64, A>, rounds: &mut u16, place: Place, limits: &Limits)
+    requires open { MayOpen limits.now }
+    requires within { IsWithin limits.now place }
+    requires rounds { HasRounds limits.now rounds.old words.old.items }
+    requires room { size_of limits.now ≤ vec_capacity words.old }
+    ensures stands { StandsIn rounds.new place }
+    ensures rounds { HasRounds limits.now rounds.new words.new.items }
+    ensures zeros { IsLonger words.old.items words.new.items }
+    ensures room { vec_capacity words.old ≤ vec_capacity words.new }
+{
+    match place {
+        Place::Slot { round, .. } | Place::Arrival { round, .. } => {
+            if round >= *rounds {
+                *rounds = lengthen(words, round, limits);
+            }
+        }
+        Place::List { .. } | Place::Comm { .. } | Place::Revoked { .. } => (),
+    }
+}
+
+// Makes the words of all rounds up to this one, all 0. Where rounds come one after another, these are the words of one round.
+#[inline(never)]
+fn lengthen<A: Allocator>(words: &mut Vec<u64, A>, round: u16, limits: &Limits) -> u16
+    requires open { MayOpen limits.now }
+    requires within { round < limits.now.rounds }
+    requires row { length words.old.items ≤ row_of limits.now round }
+    requires room { size_of limits.now ≤ vec_capacity words.old }
+    ensures stands { round < result }
+    ensures rounds { HasRounds limits.now result words.new.items }
+    ensures zeros { IsLonger words.old.items words.new.items }
+    ensures room { vec_capacity words.old ≤ vec_capacity words.new }
+{
+    let rounds = round + 1;
+    let _ = words.resize(row_length(*limits, rounds), 0);
+    rounds
 }
 
 impl<P: Packed, A: Allocator + Copy> PlainPass<P, A> {
@@ -113,16 +134,15 @@ impl<P: Packed, A: Allocator + Copy> PlainPass<P, A> {
         requires { MayOpen limits }
         ensures { IfOk result (λ p. IsNew P.meld (plain_name limits) p) }
     {
-        let count = limits.size() as usize / PAGE + 1;
-        let mut pages = Vec::with_capacity(alloc, count)?;
-        pages.resize(count, 0)?;
-        let mut words = Vec::with_capacity(alloc, (count + 1) * PAGE)?;
-        words.resize(PAGE, 0)?;
-        let journal = Vec::with_capacity(alloc, count * PAGE)?;
+        let size = limits.size() as usize;
+        let rounds = if size <= SHORT { limits.rounds } else { 0 };
+        let mut words = Vec::with_capacity(alloc, size)?;
+        words.resize(row_length(limits, rounds), 0)?;
+        let journal = Vec::with_capacity(alloc, size)?;
         Ok(PlainPass {
             limits,
-            pages,
             words,
+            rounds,
             journal,
             trail: Log::new(),
             flags: PhantomData,
@@ -134,8 +154,7 @@ impl<P: Packed, A: Allocator + Copy> PlainPass<P, A> {
         ensures { MatchOption result (length self.now.seen ≤ i) (λ s. (i < length self.now.seen) × (slice_get self.now.seen i ≡ entry_of P.unpack s)) }
     {
         let setting = *self.journal.get(i)?;
-        let key = key_of(setting.place, self.limits);
-        let word = self.words[index_of(&self.pages, key)];
+        let word = word_of(&self.words, self.rounds, setting.place, self.limits);
         Some(Step {
             place: setting.place,
             word,
@@ -157,8 +176,7 @@ impl<P: Packed, A: Allocator + Copy> PlainPass<P, A> {
         ensures loads { Loads P.meld P.pack true self.old.name place self.old self.new }
         ensures word { result ≡ word_at P.pack self.new.seen place }
     {
-        let key = key_of(place, self.limits);
-        let word = self.words[index_of(&self.pages, key)];
+        let word = word_of(&self.words, self.rounds, place, self.limits);
         let load = true;
         self.trail = self.trail.and(&Last { place, word, load }, &load);
         word
@@ -172,14 +190,15 @@ impl<P: Packed, A: Allocator + Copy> PlainPass<P, A> {
         ensures { Sets P.meld P.pack P.unpack true self.old.name step self.old result self.new }
     {
         let place = step.place;
-        let key = key_of(step.place, self.limits);
-        let word = self.words[index_of(&self.pages, key)];
+        let index = key_of(place, self.limits);
+        reach(&mut self.words, &mut self.rounds, place, &self.limits);
+        let word = self.words[index];
         let load = false;
         self.trail = self.trail.and(&Last { place, word, load }, &load);
         if word != 0 {
             return Err(word);
         }
-        put(&mut self.pages, &mut self.words, key, step.word);
+        self.words[index] = step.word;
         let _ = self.journal.push(Setting { place, by: step.by });
         Ok(())
     }
