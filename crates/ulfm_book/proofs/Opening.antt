@@ -4,17 +4,9 @@ use Rattle.std.proofs.lemmas.List.{get_or-replicate, length-replicate}
 use Rattle.logbook.specs.Pages.{Book, Cell, Named}
 use Rattle.ulfm_model.specs.declared.{limits.Limits.{Limits}, place.Place.{Place}, place.Place.TheVariants.{List as ListAt, Comm as CommAt, Revoked as RevokedAt, Slot as SlotAt, Arrival as ArrivalAt}}
 use Rattle.ulfm_model.specs.Words.{size_of, word_at}
+use Rattle.ulfm_words.proofs.Tied.{zero_at}
 use Rattle.ulfm_book.specs.{Logs.{log_of}, Rules.{IsKept, word_named}, Seats.{seat_in}}
 use Rattle.ulfm_book.proofs.Seating.{seat_lt}
-
--- at first each word is 0
-zero_at : {P : Type 0} (pack : P → ℕ) (p : Place) → word_at pack [] p ≡ 0
-zero_at pack (ListAt i) = refl
-zero_at pack (CommAt zero) = refl
-zero_at pack (CommAt (suc j)) = refl
-zero_at pack (RevokedAt c) = refl
-zero_at pack (SlotAt c k r) = refl
-zero_at pack (ArrivalAt c k r) = refl
 
 -- zeros are the words of the log that has no event
 pub opened_kept : {P : Type 0} (meld : P → P → P) (pack : P → ℕ) (limits : Limits) (size : ℕ) → size ≡ size_of limits → IsKept meld pack (replicate size (0, true)) (log_of limits [])

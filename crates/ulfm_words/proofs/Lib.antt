@@ -3,7 +3,7 @@ pub mod SummaryWords
 pub mod Keys
 pub mod Trails
 pub mod Growing
-pub mod Longer
+pub mod Paging
 pub mod Tied
 pub mod Telling
 pub mod Ranks

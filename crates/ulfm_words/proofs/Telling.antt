@@ -12,10 +12,6 @@ last_of-push [] x = refl
 last_of-push (y ∷ []) x = refl
 last_of-push (y ∷ z ∷ xs) x = last_of-push (z ∷ xs) x
 
--- the word that was read stands at the place
-pub word_found : (limits : Limits) (ws xs : List ℕ) (p : Place) (w : ℕ) → xs ≡ ws → w ≡ slice_index xs (key_in limits p) → w ≡ slice_index ws (key_in limits p)
-word_found limits ws xs p w same is = is ∙ ap (λ ys. slice_index ys (key_in limits p)) same
-
 module _ {P : Type 0} (meld : P → P → P) (pack : P → ℕ) (unpack : ℕ → Option P) (limits : Limits) where
   abbrev made : Place → ℕ → Bool → Last × Bool
   made p w load = (record { place = p; word = w; load = load }, load)

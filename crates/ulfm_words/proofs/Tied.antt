@@ -1,17 +1,28 @@
 -- What setting a word does to a journal's history.
 use Rattle.std.proofs.Common.{◌≡◌, ◌≢◌, ◌⊎◌, inl, inr, ℕ, zero, suc, ◌+◌, ◌≤◌, ◌<◌, ◌==◌, cond, Option, Some, List, [], ◌∷◌, ◌++◌, length, get_or, refl, sym, ◌∙◌, ap, ap₂, arith, get_or-set_other, get_or-set_same, length-append}
-use Rattle.std.specs.Prelude.{slice_index, slice_set, count_by}
+use Rattle.std.specs.Prelude.{slice_index, slice_set, count_by, replicate}
 use Rattle.std.specs.List.{slice_get, cons_option, AllByRecursion}
 use Rattle.std.proofs.Math.ListN.{length-set}
 use Rattle.std.proofs.lemmas.Grind.{common_steps}
+use Rattle.std.proofs.lemmas.List.{length-replicate}
+use Rattle.std.proofs.lemmas.List.Folds.{sum_by-replicate}
 use Rattle.std.proofs.lemmas.List.Sums.{sum_by-set}
 use Rattle.std.proofs.lemmas.Option.{slice_get_read}
-use Rattle.ulfm_model.specs.declared.{event.Entry.{Entry}, limits.Limits.{Limits}, place.Place.{Place}}
-use Rattle.ulfm_model.specs.{History.{History, MayFollow}, Words.{place_of, word_at, word_of}}
+use Rattle.ulfm_model.specs.declared.{event.Entry.{Entry}, limits.Limits.{Limits}, place.Place.{Place}, place.Place.TheVariants.{List as ListAt, Comm as CommAt, Revoked as RevokedAt, Slot as SlotAt, Arrival as ArrivalAt}}
+use Rattle.ulfm_model.specs.{History.{History, MayFollow}, Words.{MayOpen, place_of, size_of, word_at, word_of}}
 use Rattle.ulfm_model.proofs.{Histories.{legal_push}, WordRules.{word_set, word_kept, word_some}}
 use Rattle.ulfm_words.specs.declared.{pass.Setting.{Setting}, step.Step.{Step}}
 use Rattle.ulfm_words.specs.{Entries.{entry_of}, Pass.{entry_at, entries, IsMade, is_zero, IsTied}, Places.{IsWithin, key_in}}
-use Rattle.ulfm_words.proofs.Keys.{one_key}
+use Rattle.ulfm_words.proofs.{Keys.{key_lt, one_key}, Paging.{zeros}}
+
+-- where nothing has happened each word is 0
+pub zero_at : {P : Type 0} (pack : P → ℕ) (p : Place) → word_at pack [] p ≡ 0
+zero_at pack (ListAt i) = refl
+zero_at pack (CommAt zero) = refl
+zero_at pack (CommAt (suc j)) = refl
+zero_at pack (RevokedAt c) = refl
+zero_at pack (SlotAt c k r) = refl
+zero_at pack (ArrivalAt c k r) = refl
 
 -- the setting that a read gave
 pub setting_found : (xs ms : List Setting) (i : ℕ) (m : Setting) → xs ≡ ms → i < length xs → m ≡ get_or xs i m → slice_get ms i ≡ Some m
@@ -88,10 +99,11 @@ module _ {P : Type 0} (meld : P → P → P) (pack : P → ℕ) (unpack : ℕ �
 
   -- the words and the journal stay tied where a word that was 0 is set
   pub tied_set : (ws : List ℕ) (ms ms' : List Setting) (cap cap' : ℕ) (s : Step) (i : ℕ) (e : Entry P) → IsTied meld pack unpack limits ws ms cap → IsWithin limits s.place → key_in limits s.place ≡ i → slice_index ws i ≡ 0
-      → i < length ws → entry_of unpack s ≡ Some e → word_of pack e.event ≡ s.word → MayFollow meld limits (entries unpack limits ws ms) e.event → place_of (entries unpack limits ws ms) e.event ≡ s.place
+      → entry_of unpack s ≡ Some e → word_of pack e.event ≡ s.word → MayFollow meld limits (entries unpack limits ws ms) e.event → place_of (entries unpack limits ws ms) e.event ≡ s.place
       → (let m : Setting = record { place = s.place; by = s.by } in ms' ≡ ms ++ m ∷ []) → cap ≤ cap' → IsTied meld pack unpack limits (slice_set ws i s.word) ms' cap'
-  tied_set ws ms ms' cap cap' s i e tied within at z lt is word may there pushed more =
+  tied_set ws ms ms' cap cap' s i e tied within at z is word may there pushed more =
       let m : Setting = record { place = s.place; by = s.by } in
+      let lt : i < length ws = omega (arith, key_lt limits s.place within, tied.size, at) in
       let n : s.word ≢ 0 = let some = word_some pack e.event in omega (arith, word, some) in
       let history : entries unpack limits (slice_set ws i s.word) (ms ++ m ∷ []) ≡ entries unpack limits ws ms ++ e ∷ [] = entries-set unpack limits ws i s.word m e z lt at is ms tied.made in
       let fewer = count-set ws i s.word z lt n in
@@ -101,5 +113,17 @@ module _ {P : Type 0} (meld : P → P → P) (pack : P → ℕ) (unpack : ℕ �
         made = made-set unpack limits ws i s.word m e z lt at is n within ms tied.made;
         same = λ p q. same-set ws (entries unpack limits ws ms) s i e tied.same within at lt word may there p q (same_or_not (key_in limits p) i) ∙ ap (λ (h : History P). word_at pack h p) (sym history);
         legal = rw history (legal_push meld limits (entries unpack limits ws ms) e tied.legal may);
-        room = omega (arith, fewer, length-append ms (m ∷ []), length-set ws i s.word, tied.room, more);
+        room = omega (arith, fewer, length-append ms (m ∷ []), tied.room, more);
       })
+
+  -- words that are all 0, and a journal of nothing
+  pub tied_new : (n room : ℕ) → MayOpen limits → size_of limits ≤ n → n ≤ room → IsTied meld pack unpack limits (replicate n 0) [] room
+  tied_new n room may fits enough =
+      record {
+        may_open = may;
+        size = omega (arith, fits, length-replicate {A = ℕ} n 0);
+        made = tt;
+        same = λ p within. zeros n (key_in limits p) ∙ sym (zero_at pack p);
+        legal = tt;
+        room = omega (arith, enough, sum_by-replicate (λ x. cond (is_zero x) 1 0) n 0);
+      }

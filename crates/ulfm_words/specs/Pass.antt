@@ -1,7 +1,7 @@
 -- How the words and the journal of a plain pass are tied.
-use Rattle.std.specs.Prelude.{◌≡◌, ◌≢◌, ℕ, ◌+◌, ◌*◌, ◌≤◌, ◌<◌, ◌==◌, Bool, List, [], ◌∷◌, ◌++◌, length, replicate, count_by, slice_index, filter_map, Option, Some, None}
+use Rattle.std.specs.Prelude.{◌≡◌, ◌≢◌, ℕ, ◌+◌, ◌≤◌, ◌==◌, Bool, List, [], ◌∷◌, length, count_by, slice_index, filter_map, Option, Some, None}
 use Rattle.std.specs.List.{AllByRecursion}
-use Rattle.ulfm_model.specs.declared.{event.Entry.{Entry}, limits.Limits.{Limits}, place.Place.{Place}, place.Place.TheVariants.{List as ListAt, Comm as CommAt, Revoked as RevokedAt, Slot as SlotAt, Arrival as ArrivalAt}}
+use Rattle.ulfm_model.specs.declared.{event.Entry.{Entry}, limits.Limits.{Limits}, place.Place.{Place}}
 use Rattle.ulfm_model.specs.{History.{History, IsLegal}, Words.{MayOpen, size_of, word_at}}
 use Rattle.ulfm_words.specs.declared.{pass.Setting.{Setting}, step.Last.{Last}}
 use Rattle.ulfm_words.specs.{Entries.{entry_of}, Places.{IsWithin, key_in}, Steps.{Name, Sight}}
@@ -15,27 +15,6 @@ abbrev pub last_of : List (Last × Bool) → Option Last
 last_of [] = None
 last_of (step ∷ []) = Some step.0
 last_of (step ∷ next ∷ steps) = last_of (next ∷ steps)
-
--- more words stand there, which are 0
-abbrev pub IsLonger : List ℕ → List ℕ → Type 0
-IsLonger words longer = (more : ℕ) × (longer ≡ words ++ replicate more 0)
-
--- a place's word stands in a row that has so many rounds
-abbrev pub StandsIn : ℕ → Place → Type 0
-StandsIn rounds (ListAt i) = Unit {0}
-StandsIn rounds (CommAt j) = Unit {0}
-StandsIn rounds (RevokedAt c) = Unit {0}
-StandsIn rounds (SlotAt c k r) = k < rounds
-StandsIn rounds (ArrivalAt c k r) = k < rounds
-
--- how many words a row has with so many rounds
-abbrev pub row_of : Limits → ℕ → ℕ
-row_of limits rounds = limits.ranks + 2 * limits.comms + rounds * (2 * limits.comms * limits.ranks)
-
--- a row has the words of the lists, the revocations and so many rounds
-pub record HasRounds (limits : Limits) (rounds : ℕ) (words : List ℕ) : Type 0 where
-  pub most : rounds ≤ limits.rounds
-  pub row : length words ≡ row_of limits rounds
 
 -- a word that was not set
 abbrev pub is_zero : ℕ → Bool
@@ -61,12 +40,11 @@ module _ {P : Type 0} (unpack : ℕ → Option P) (limits : Limits) where
   abbrev pub sight_of : List ℕ → List Setting → List (Last × Bool) → Sight P
   sight_of words journal trail = record { name = plain_name limits; seen = entries words journal; steps = length trail; last = last_of trail }
 
--- The words are those of the journal's history, which is legal, and the journal has room for all that are not set. The words past
--- the last that stands there are 0.
+-- the words are those of the journal's history, which is legal, and the journal has room for all that are not set
 pub record IsTied {P : Type 0} (meld : P → P → P) (pack : P → ℕ) (unpack : ℕ → Option P) (limits : Limits) (words : List ℕ) (journal : List Setting) (capacity : ℕ) : Type 0 where
   pub may_open : MayOpen limits
-  pub size : length words ≤ size_of limits
+  pub size : size_of limits ≤ length words
   pub made : AllByRecursion (IsMade unpack limits words) journal
   pub same : (p : Place) → IsWithin limits p → slice_index words (key_in limits p) ≡ word_at pack (entries unpack limits words journal) p
   pub legal : IsLegal meld limits (entries unpack limits words journal)
-  pub room : length journal + count_by is_zero words + size_of limits ≤ capacity + length words
+  pub room : length journal + count_by is_zero words ≤ capacity

@@ -6,6 +6,7 @@ pub mod loads;
 pub mod pass;
 pub mod places;
 pub mod plain;
+mod row;
 pub mod sets;
 pub mod slots;
 pub mod step;

@@ -1,0 +1,59 @@
+-- A row of words, of which those of rounds are made line by line.
+use Rattle.std.specs.Prelude.{◌≡◌, ◌≢◌, ℕ, ◌+◌, ◌*◌, ◌/◌, ◌%◌, ◌≤◌, ◌<◌, ◌==◌, Bool, not, List, ◌++◌, length, map, count_by, slice_index}
+use Rattle.std.specs.List.{range_with_len}
+use Rattle.ulfm_model.specs.declared.{limits.Limits.{Limits}, place.Place.{Place}}
+use Rattle.ulfm_words.specs.declared.row.Seat.{Seat}
+use Rattle.ulfm_words.specs.declared.row.Seat.TheVariants.{Head, Cell}
+use Rattle.ulfm_words.specs.Places.{key_in}
+
+-- the words that come first in a row: those of the lists and the revocations
+abbrev pub heads_of : Limits → ℕ
+heads_of limits = limits.ranks + 2 * limits.comms
+
+-- each round has a line of slots and one of arrivals for each communicator, with a word for each rank
+abbrev pub lines_of : Limits → ℕ
+lines_of limits = limits.comms * (2 * limits.rounds)
+
+-- the word of a cell, counted through all lines: where the page of its line begins is looked up
+abbrev pub word_in : ℕ → List ℕ → List ℕ → ℕ → ℕ
+word_in ranks pages words cell = slice_index words (slice_index pages (cell / ranks) + cell % ranks)
+
+-- the words of all lines, in order
+abbrev pub cells_of : ℕ → List ℕ → List ℕ → List ℕ
+cells_of ranks pages words = map (word_in ranks pages words) (range_with_len 0 (length pages * ranks))
+
+-- the words of a row, in the order of their keys
+abbrev pub row_of : ℕ → List ℕ → List ℕ → List ℕ → List ℕ
+row_of ranks heads pages words = heads ++ cells_of ranks pages words
+
+-- a page was made
+abbrev pub is_made : ℕ → Bool
+is_made page = not (page == 0)
+
+-- The words of the first page are never set: it stands for each page that wasn't made. Each other was made for a line of its own.
+-- There is room for all, and their places are small.
+pub record ArePages (ranks : ℕ) (pages words : List ℕ) (capacity : ℕ) : Type 0 where
+  pub some : 0 < ranks
+  pub zeros : (i : ℕ) → i < ranks → slice_index words i ≡ 0
+  pub made : length words ≡ (count_by is_made pages + 1) * ranks
+  pub below : (i : ℕ) → slice_index pages i + ranks ≤ length words
+  pub own : (i j r s : ℕ) → r < ranks → s < ranks → slice_index pages i + r ≡ slice_index pages j + s → slice_index pages i ≢ 0 → i ≡ j
+  pub past : (i : ℕ) → slice_index pages i ≢ 0 → ranks ≤ slice_index pages i
+  pub room : (length pages + 1) * ranks ≤ capacity
+  pub few : (length pages + 1) * ranks < 4294967296
+
+-- a row has all words that come first, and a page for each line, made or not
+pub record IsRow (limits : Limits) (heads pages words : List ℕ) (capacity : ℕ) : Type 0 where
+  pub first : length heads ≡ heads_of limits
+  pub lines : length pages ≡ lines_of limits
+  pub made : ArePages limits.ranks pages words capacity
+
+-- the seat of a place: among the words that come first by its key, or in a line by its rank
+abbrev pub HasSeat : Limits → Place → Seat → Type 0
+HasSeat limits place (Head index) = (index ≡ key_in limits place) × (index < heads_of limits)
+HasSeat limits place (Cell line rank) = (key_in limits place ≡ heads_of limits + (line * limits.ranks + rank)) × (line < lines_of limits) × (rank < limits.ranks)
+
+-- what contracts see of a row: the words by their keys
+pub record Filled : Type 0 where
+  pub limits : Limits
+  pub words : List ℕ

@@ -1,0 +1,178 @@
+//! A row of words, each 0 until it is set. Those of rounds are made line by line, so that no step walks past a line's ranks.
+ghost use Rattle.std.specs.Prelude.{◌≡◌, ◌≢◌, ◌<◌, ◌≤◌, ◌*◌, IfOk, length, replicate, slice_index, slice_set, vec_capacity};
+ghost use Rattle.ulfm_model.specs.Words.{MayOpen, size_of};
+ghost use Rattle.ulfm_words.specs.Places.{IsWithin, key_in};
+ghost use Rattle.ulfm_words.specs.Rows.{ArePages, HasSeat, cells_of};
+
+use crate::places::key_of;
+use std::alloc::{AllocError, Allocator};
+use std::marker::Model;
+use ulfm_model::limits::Limits;
+use ulfm_model::place::Place;
+
+/// Where a word stands: among the words that come first, or in a line as that of a rank.
+#[derive(Clone, Copy)]
+pub(crate) enum Seat {
+    Head { index: usize },
+    Cell { line: usize, rank: usize },
+}
+
+// The seat of a place. In a loop over the ranks of a round the line is found once.
+#[inline(always)]
+fn seat_of(place: Place, limits: Limits) -> Seat
+    requires open { MayOpen limits }
+    requires within { IsWithin limits place }
+    ensures { HasSeat limits place result }
+{
+    let comms = limits.comms as usize;
+    match place {
+        Place::List { .. } | Place::Comm { .. } | Place::Revoked { .. } => Seat::Head {
+            index: key_of(place, limits),
+        },
+        Place::Slot { comm, round, rank } => Seat::Cell {
+            line: 2 * round as usize * comms + comm as usize,
+            rank: rank as usize,
+        },
+        Place::Arrival { comm, round, rank } => Seat::Cell {
+            line: (2 * round as usize + 1) * comms + comm as usize,
+            rank: rank as usize,
+        },
+    }
+}
+
+// Makes the page of a line, of words that are 0. It takes no memory.
+#[inline(never)]
+fn make_page<A: Allocator>(
+    pages: &mut Vec<u32, A>,
+    words: &mut Vec<u64, A>,
+    line: usize,
+    ranks: usize,
+)
+    requires are { ArePages ranks pages.old.items words.old.items (vec_capacity words.old) }
+    requires line { line < length pages.old.items }
+    requires unmade { slice_index pages.old.items line ≡ 0 }
+    ensures are { ArePages ranks pages.new.items words.new.items (vec_capacity words.new) }
+    ensures cells { cells_of ranks pages.new.items words.new.items ≡ cells_of ranks pages.old.items words.old.items }
+    ensures made { slice_index pages.new.items line ≢ 0 }
+    ensures lines { length pages.new.items ≡ length pages.old.items }
+{
+    pages[line] = words.len() as u32;
+    let _ = words.resize(words.len() + ranks, 0);
+}
+
+// Sees to it that the page of a line is made. It takes no memory.
+#[inline(always)]
+fn reach<A: Allocator>(pages: &mut Vec<u32, A>, words: &mut Vec<u64, A>, line: usize, ranks: usize)
+    requires are { ArePages ranks pages.old.items words.old.items (vec_capacity words.old) }
+    requires line { line < length pages.old.items }
+    ensures are { ArePages ranks pages.new.items words.new.items (vec_capacity words.new) }
+    ensures cells { cells_of ranks pages.new.items words.new.items ≡ cells_of ranks pages.old.items words.old.items }
+    ensures made { slice_index pages.new.items line ≢ 0 }
+    ensures lines { length pages.new.items ≡ length pages.old.items }
+{
+    if pages[line] == 0 {
+        make_page(pages, words, line, ranks);
+    }
+}
+
+// Makes the pages of the first so many lines, as far as they aren't made. It takes no memory.
+fn make_first<A: Allocator>(
+    pages: &mut Vec<u32, A>,
+    words: &mut Vec<u64, A>,
+    count: usize,
+    ranks: usize,
+)
+    requires are { ArePages ranks pages.old.items words.old.items (vec_capacity words.old) }
+    requires count { count ≤ length pages.old.items }
+    ensures are { ArePages ranks pages.new.items words.new.items (vec_capacity words.new) }
+    ensures cells { cells_of ranks pages.new.items words.new.items ≡ cells_of ranks pages.old.items words.old.items }
+    ensures lines { length pages.new.items ≡ length pages.old.items }
+{
+    for line in 0..count {
+        reach(pages, words, line, ranks);
+    }
+}
+
+// A row of at most so many words has all of them from the start.
+const SHORT: usize = 4096;
+
+/// The words of a world. Contracts see its limits, and the words by their keys.
+#[derive(Drop)]
+pub(crate) struct Row<A: Allocator> {
+    pub limits: Limits,
+    // Those of the lists and the revocations.
+    heads: Vec<u64, A>,
+    // Of each line where its page begins; 0 until the first of its words is set.
+    pages: Vec<u32, A>,
+    // Page after page, with a word for each rank. There is room for all; the first has no word that is set.
+    words: Vec<u64, A>,
+}
+
+impl<A: Allocator> Model for Row<A> {
+    ghost use Rattle.std.specs.Prelude.{vec_capacity};
+    ghost use Rattle.ulfm_model.specs.Words.{MayOpen};
+    ghost use Rattle.ulfm_words.specs.Rows.{Filled, IsRow, row_of};
+
+    ghost Value = { Filled };
+
+    ghost view = { λ a. record { limits = a.limits; words = row_of a.limits.ranks a.heads.items a.pages.items a.words.items } };
+
+    ghost invariant = { λ a. MayOpen a.limits × IsRow a.limits a.heads.items a.pages.items a.words.items (vec_capacity a.words) };
+}
+
+impl<A: Allocator + Copy> Row<A> {
+    /// A row of words that are all 0. All memory that it needs later is taken here.
+    pub(crate) fn new(alloc: A, limits: Limits) -> Result<Row<A>, AllocError>
+        requires { MayOpen limits }
+        ensures { IfOk result (λ r. (r.limits ≡ limits) × (r.words ≡ replicate (size_of limits) 0)) }
+    {
+        let ranks = limits.ranks as usize;
+        let comms = limits.comms as usize;
+        let first = ranks + 2 * comms;
+        let lines = comms * (2 * limits.rounds as usize);
+        let mut heads = Vec::with_capacity(alloc, first)?;
+        heads.resize(first, 0)?;
+        let mut pages = Vec::with_capacity(alloc, lines)?;
+        pages.resize(lines, 0)?;
+        let mut words = Vec::with_capacity(alloc, (lines + 1) * ranks)?;
+        words.resize(ranks, 0)?;
+        let made = if lines * ranks <= SHORT { lines } else { 0 };
+        make_first(&mut pages, &mut words, made, ranks);
+        Ok(Row {
+            limits,
+            heads,
+            pages,
+            words,
+        })
+    }
+
+    /// The word of a place.
+    #[inline(always)]
+    pub(crate) fn get(&self, place: Place) -> u64
+        requires { IsWithin self.now.limits place }
+        ensures { result ≡ slice_index self.now.words (key_in self.now.limits place) }
+    {
+        match seat_of(place, self.limits) {
+            Seat::Head { index } => self.heads[index],
+            Seat::Cell { line, rank } => self.words[self.pages[line] as usize + rank],
+        }
+    }
+
+    /// Sets the word of a place. It takes no memory.
+    #[inline(always)]
+    pub(crate) fn set(&mut self, place: Place, word: u64)
+        requires { IsWithin self.old.limits place }
+        ensures limits { self.new.limits ≡ self.old.limits }
+        ensures words { self.new.words ≡ slice_set self.old.words (key_in self.old.limits place) word }
+    {
+        match seat_of(place, self.limits) {
+            Seat::Head { index } => self.heads[index] = word,
+            Seat::Cell { line, rank } => {
+                let ranks = self.limits.ranks as usize;
+                reach(&mut self.pages, &mut self.words, line, ranks);
+                let index = self.pages[line] as usize + rank;
+                self.words[index] = word;
+            }
+        }
+    }
+}
