@@ -41,6 +41,7 @@ fn seat_of(place: Place, limits: Limits) -> Seat
 }
 
 // Makes the page of a line, of words that are 0. It takes no memory.
+#[cold]
 #[inline(never)]
 fn make_page<A: Allocator>(
     pages: &mut Vec<u32, A>,
