@@ -5,13 +5,13 @@ use Rattle.std.specs.declared.alloc.AllocError.{AllocError}
 use Rattle.std.proofs.Math.ListN.{length-set}
 use Rattle.std.proofs.Math.Nat.{div-add-mod, mod-lt, mul-le-mul_right}
 use Rattle.std.proofs.lemmas.Grind.{common_steps}
-use Rattle.std.proofs.lemmas.List.{ext_get_or, get_or_append_left, get_or_default, get_or-append-add, get_or-replicate, length-replicate, set-append_left, set-append_right, take_all}
+use Rattle.std.proofs.lemmas.List.{ext_get_or, get_or_append_left, get_or_default, get_or-append-add, get_or-replicate, length-replicate, replicate-append-replicate, set-append_left, set-append_right, take_all}
 use Rattle.std.proofs.lemmas.List.Folds.{sum_by-replicate}
 use Rattle.std.proofs.lemmas.List.FromFn.{get_or-map-range_with_len, length-map-range_with_len}
 use Rattle.std.proofs.lemmas.List.Sums.{count_by-le-length, sum_by-set}
 use Rattle.std.proofs.lemmas.Nat.{div-mul-add, mod-mul-add, mul-add-lt}
 use Rattle.ulfm_model.specs.declared.{limits.Limits.{Limits}, place.Place.{Place}}
-use Rattle.ulfm_model.specs.Words.{MayOpen}
+use Rattle.ulfm_model.specs.Words.{MayOpen, size_of}
 use Rattle.ulfm_words.specs.declared.row.Seat.TheVariants.{Cell, Head}
 use Rattle.ulfm_words.specs.{Places.{key_in}, Rows.{ArePages, HasSeat, IsRow, cells_of, heads_of, is_made, lines_of, row_of, word_in}}
 use Rattle.ulfm_words.proofs.Keys.{row_size}
@@ -71,7 +71,7 @@ pages_new ranks n room some fits few =
       few = rw long few;
     }
 
-pub cells_new : (ranks n : ℕ) → cells_of ranks (replicate n 0) (replicate ranks 0) ≡ replicate (n * ranks) 0
+cells_new : (ranks n : ℕ) → cells_of ranks (replicate n 0) (replicate ranks 0) ≡ replicate (n * ranks) 0
 cells_new ranks n =
     cells_are ranks (replicate n 0) (replicate ranks 0) (replicate (n * ranks) 0) (length-replicate {A = ℕ} (n * ranks) 0 ∙ ap (λ k. k * ranks) (sym (length-replicate {A = ℕ} n 0))) (λ cell lt.
     zeros ranks (slice_index (replicate n 0) (cell / ranks) + cell % ranks) ∙ sym (zeros (n * ranks) cell))
@@ -263,6 +263,13 @@ module _ (limits : Limits) (heads pages words : List ℕ) (room : ℕ) (is : IsR
       ap (λ n. row_of limits.ranks heads made (slice_set filled (n + rank) w)) page_is
       ∙ (ap (λ cs. heads ++ cs) (cells_set limits.ranks made filled cap are line rank w line_lt seat.2 some ∙ ap (λ cs. slice_set cs (line * limits.ranks + rank) w) same)
       ∙ sym (ap (λ k. slice_set (row_of limits.ranks heads pages words) k w) seat.0 ∙ set_after (cells_of limits.ranks pages words) (line * limits.ranks + rank) w))
+
+-- at first all words are 0
+pub row_new : (limits : Limits) → row_of limits.ranks (replicate (heads_of limits) 0) (replicate (lines_of limits) 0) (replicate limits.ranks 0) ≡ replicate (size_of limits) 0
+row_new limits =
+    let cells : replicate (heads_of limits) 0 ++ replicate (lines_of limits * limits.ranks) 0 ≡ replicate (heads_of limits + lines_of limits * limits.ranks) 0 = replicate-append-replicate (heads_of limits) (lines_of limits * limits.ranks) 0 in
+    let all : replicate (heads_of limits + lines_of limits * limits.ranks) 0 ≡ replicate (size_of limits) 0 = ap (λ n. replicate n 0) (row_size limits) in
+    rw (cells_new limits.ranks (lines_of limits)) (cells ∙ all)
 
 -- a world's lines are few
 pub few_lines : (limits : Limits) → MayOpen limits → (lines_of limits + 1) * limits.ranks < 4294967296

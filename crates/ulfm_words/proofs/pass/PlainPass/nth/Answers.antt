@@ -1,5 +1,6 @@
 use Rattle.std.proofs.Common.{arith, ◌≡◌, ◌<◌, ◌≤◌, ◌∙◌, ap, sym, length}
-use Rattle.ulfm_words.specs.{Entries.{entry_of}}
+use Rattle.std.specs.List.{slice_index}
+use Rattle.ulfm_words.specs.{Entries.{entry_of}, Places.{key_in}}
 use Rattle.ulfm_words.proofs.Tied.{made-get, entries-get, entries-length, setting_found}
 use Rattle.ulfm_words.proofs.pass.PlainPass.nth.Goals as goal
 
@@ -31,4 +32,5 @@ returns g c =
     let len = entries-length unpack limits ws js c.self.invariant.made in
     let items : length c.deref.result.now ≡ length js = ap length c.deref.ensures.value in
     let below : c.args.i < length c.deref.result.now = e.3.0 in
-    rw (← c.self.view_is) (omega (arith, below, items, len), entry ∙ ap (λ n. entry_of unpack (record { place = m.place; word = n; by = m.by })) (sym c.get-word.ensures))
+    let word : c.get-word.result ≡ slice_index ws (key_in limits m.place) = c.get-word.ensures in
+    rw (← c.self.view_is) (omega (arith, below, items, len), entry ∙ ap (λ n. entry_of unpack (record { place = m.place; word = n; by = m.by })) (sym word))

@@ -1,8 +1,6 @@
-use Rattle.std.proofs.Common.{◌++◌, ◌+◌, ◌*◌, ◌≤◌, ◌∙◌, ap, refl, arith, vec_capacity}
-use Rattle.std.specs.Prelude.{replicate}
-use Rattle.std.proofs.lemmas.List.{replicate-append-replicate}
+use Rattle.std.proofs.Common.{◌+◌, ◌*◌, ◌≤◌, refl, arith, vec_capacity}
 use Rattle.ulfm_words.specs.Rows.{heads_of, lines_of}
-use Rattle.ulfm_words.proofs.{Keys.{row_size}, Paging.{cells_new, few_lines, filled, pages_new}}
+use Rattle.ulfm_words.proofs.{Paging.{few_lines, filled, pages_new, row_new}}
 use Rattle.ulfm_words.proofs.row.Row.new.Goals as goal
 
 pub make_first-requires-clause-are : goal.make_first-requires-clause-are
@@ -19,4 +17,4 @@ returns g c =
     let heads_are = filled _ c.resize.new.self.items (heads_of limits) _ c.in_ok-resize.ensures.items c.in_ok-heads.ensures.items (omega (arith, c.in_ok-heads.ensures.len)) in
     let pages_are = filled _ c.resize-2.new.self.items (lines_of limits) _ c.in_ok-resize-2.ensures.items c.in_ok-pages.ensures.items (omega (arith, c.in_ok-pages.ensures.len)) in
     let words_are = filled _ c.resize-3.new.self.items limits.ranks _ c.in_ok-resize-3.ensures.items c.in_ok-words.ensures.items (omega (arith, c.in_ok-words.ensures.len)) in
-    (refl, rw (c.make_first.ensures.cells, heads_are, pages_are, words_are) (ap (λ cs. replicate (heads_of limits) 0 ++ cs) (cells_new limits.ranks (lines_of limits)) ∙ (replicate-append-replicate (heads_of limits) (lines_of limits * limits.ranks) 0 ∙ ap (λ n. replicate n 0) (row_size limits))))
+    (refl, rw (c.make_first.ensures.cells, heads_are, pages_are, words_are) (row_new limits))
