@@ -256,10 +256,9 @@ module _ (limits : Limits) (heads pages words : List ℕ) (room : ℕ) (is : IsR
 
   -- a word is set in a line whose page was made
   pub cell_put : (made filled : List ℕ) (cap : ℕ) (p : Place) (line rank page w : ℕ) → ArePages limits.ranks made filled cap → cells_of limits.ranks made filled ≡ cells_of limits.ranks pages words → length made ≡ length pages → slice_index made line ≢ 0
-      → HasSeat limits p (Cell line rank) → page ≡ slice_index_or made line page → row_of limits.ranks heads made (slice_set filled (page + rank) w) ≡ slice_set (row_of limits.ranks heads pages words) (key_in limits p) w
-  cell_put made filled cap p line rank page w are same lines some seat at =
+      → HasSeat limits p (Cell line rank) → page ≡ slice_index made line → row_of limits.ranks heads made (slice_set filled (page + rank) w) ≡ slice_set (row_of limits.ranks heads pages words) (key_in limits p) w
+  cell_put made filled cap p line rank page w are same lines some seat page_is =
       let line_lt : line < length made = rw (lines, is.lines) seat.1 in
-      let page_is : page ≡ slice_index made line = at ∙ sym (get_or_default made line 0 page line_lt) in
       ap (λ n. row_of limits.ranks heads made (slice_set filled (n + rank) w)) page_is
       ∙ (ap (λ cs. heads ++ cs) (cells_set limits.ranks made filled cap are line rank w line_lt seat.2 some ∙ ap (λ cs. slice_set cs (line * limits.ranks + rank) w) same)
       ∙ sym (ap (λ k. slice_set (row_of limits.ranks heads pages words) k w) seat.0 ∙ set_after (cells_of limits.ranks pages words) (line * limits.ranks + rank) w))

@@ -102,13 +102,12 @@ impl<P: Packed, A: Allocator + Copy> PlainPass<P, A> {
         ensures { Sets P.meld P.pack P.unpack true self.old.name step self.old result self.new }
     {
         let place = step.place;
-        let word = self.row.get(step.place);
+        let word = self.row.set_once(place, step.word);
         let load = false;
         self.trail = self.trail.and(&Last { place, word, load }, &load);
         if word != 0 {
             return Err(word);
         }
-        self.row.set(step.place, step.word);
         let _ = self.journal.push(Setting { place, by: step.by });
         Ok(())
     }

@@ -61,19 +61,29 @@ fn make_page<A: Allocator>(
     let _ = words.resize(words.len() + ranks, 0);
 }
 
-// Sees to it that the page of a line is made. It takes no memory.
+// Where the page of a line begins, which begins there so far, once it is made. It takes no memory.
 #[inline(always)]
-fn reach<A: Allocator>(pages: &mut Vec<u32, A>, words: &mut Vec<u64, A>, line: usize, ranks: usize)
+fn reach<A: Allocator>(
+    pages: &mut Vec<u32, A>,
+    words: &mut Vec<u64, A>,
+    line: usize,
+    ranks: usize,
+    begin: u32,
+) -> usize
     requires are { ArePages ranks pages.old.items words.old.items (vec_capacity words.old) }
     requires line { line < length pages.old.items }
+    requires begin { begin ≡ slice_index pages.old.items line }
     ensures are { ArePages ranks pages.new.items words.new.items (vec_capacity words.new) }
     ensures cells { cells_of ranks pages.new.items words.new.items ≡ cells_of ranks pages.old.items words.old.items }
     ensures made { slice_index pages.new.items line ≢ 0 }
     ensures lines { length pages.new.items ≡ length pages.old.items }
+    ensures begins { result ≡ slice_index pages.new.items line }
 {
-    if pages[line] == 0 {
-        make_page(pages, words, line, ranks);
+    if begin != 0 {
+        return begin as usize;
     }
+    make_page(pages, words, line, ranks);
+    pages[line] as usize
 }
 
 // Makes the pages of the first so many lines, as far as they aren't made. It takes no memory.
@@ -90,7 +100,8 @@ fn make_first<A: Allocator>(
     ensures lines { length pages.new.items ≡ length pages.old.items }
 {
     for line in 0..count {
-        reach(pages, words, line, ranks);
+        let begin = pages[line];
+        reach(pages, words, line, ranks, begin);
     }
 }
 
@@ -159,20 +170,33 @@ impl<A: Allocator + Copy> Row<A> {
         }
     }
 
-    /// Sets the word of a place. It takes no memory.
+    /// The word of a place, which is set where it is 0. It takes no memory.
     #[inline(always)]
-    pub(crate) fn set(&mut self, place: Place, word: u64)
+    pub(crate) fn set_once(&mut self, place: Place, word: u64) -> u64
         requires { IsWithin self.old.limits place }
+        ensures stood { result ≡ slice_index self.old.words (key_in self.old.limits place) }
         ensures limits { self.new.limits ≡ self.old.limits }
-        ensures words { self.new.words ≡ slice_set self.old.words (key_in self.old.limits place) word }
+        ensures set { result ≡ 0 → self.new.words ≡ slice_set self.old.words (key_in self.old.limits place) word }
+        ensures kept { result ≢ 0 → self.new.words ≡ self.old.words }
     {
         match seat_of(place, self.limits) {
-            Seat::Head { index } => self.heads[index] = word,
+            Seat::Head { index } => {
+                let stood = self.heads[index];
+                if stood == 0 {
+                    self.heads[index] = word;
+                }
+                stood
+            }
             Seat::Cell { line, rank } => {
-                let ranks = self.limits.ranks as usize;
-                reach(&mut self.pages, &mut self.words, line, ranks);
-                let index = self.pages[line] as usize + rank;
-                self.words[index] = word;
+                let begin = self.pages[line];
+                let stood = self.words[begin as usize + rank];
+                if stood == 0 {
+                    let ranks = self.limits.ranks as usize;
+                    let (pages, words) = (&mut self.pages, &mut self.words);
+                    let begin = reach(pages, words, line, ranks, begin);
+                    self.words[begin + rank] = word;
+                }
+                stood
             }
         }
     }

@@ -1,4 +1,4 @@
-use Rattle.std.proofs.Common.{arith, ◌≡◌, ◌≢◌, ◌<◌, ◌∙◌, ap, ap₂, refl, sym, subst, true, Ok, [], ◌∷◌, ◌++◌, length, vec_len, vec_capacity, get_or-set_same}
+use Rattle.std.proofs.Common.{arith, ◌≡◌, ◌≢◌, ◌<◌, ◌∙◌, ap, ap₂, refl, sym, subst, true, Err, Ok, [], ◌∷◌, ◌++◌, length, vec_len, vec_capacity, get_or-set_same}
 use Rattle.std.specs.List.{slice_index, slice_set}
 use Rattle.std.proofs.lemmas.Grind.{common_steps}
 use Rattle.ulfm_model.specs.Words.{word_at}
@@ -11,8 +11,12 @@ use Rattle.ulfm_words.proofs.pass.PlainPass.set_once.Goals.{After-push}
 pub returns-then-word-ne0 : goal.returns-then-word-ne0
 returns-then-word-ne0 g c =
     let row = c.self.inside.row in
-    sets_lost g.P.Meld.meld g.P.Packed.pack g.P.Packed.unpack row.limits c.args.self.now row.words c.self.inside.journal.items (vec_capacity c.self.inside.journal) c.self.inside.trail.items c.and-self-inside.result.items c.args.step c.get-word.result
-    c.self.view_is c.self.invariant c.requires.within c.get-word.ensures c.if-word-ne0.true c.and-self-inside.ensures
+    let unpack = g.P.Packed.unpack in
+    let js = c.self.inside.journal.items in
+    let row_is : c.set_once-word.new.self ≡ row = ap₂ (λ limits words. let r : Filled = record { limits = limits; words = words } in r) c.set_once-word.ensures.limits (c.set_once-word.ensures.kept c.if-word-ne0.true) in
+    subst (λ (r : Filled). Sets g.P.Meld.meld g.P.Packed.pack unpack true c.args.self.now.name c.args.step c.args.self.now (Err c.set_once-word.result) (sight_of unpack r.limits r.words js c.and-self-inside.result.items)) (sym row_is)
+    (sets_lost g.P.Meld.meld g.P.Packed.pack unpack row.limits c.args.self.now row.words js (vec_capacity c.self.inside.journal) c.self.inside.trail.items c.and-self-inside.result.items c.args.step c.set_once-word.result
+    c.self.view_is c.self.invariant c.requires.within c.set_once-word.ensures.stood c.if-word-ne0.true c.and-self-inside.ensures)
 
 within_of : (g : _) (c : After-push g) → IsWithin c.self.inside.row.limits c.args.step.place
 within_of g c = within_is g.P.Meld.meld g.P.Packed.pack g.P.Packed.unpack c.self.inside.row.limits c.args.self.now c.self.inside.row.words c.self.inside.journal.items c.self.inside.trail.items c.args.step.place c.self.view_is c.requires.within
@@ -24,7 +28,7 @@ may_in : (g : _) (c : After-push g) → MaySet g.P.Meld.meld g.P.Packed.pack g.P
 may_in g c = subst (λ o. MaySet g.P.Meld.meld g.P.Packed.pack g.P.Packed.unpack o.name.limits o.seen c.args.step) (sym c.self.view_is) c.requires.may
 
 was_zero : (g : _) (c : After-push g) → slice_index c.self.inside.row.words (key_in c.self.inside.row.limits c.args.step.place) ≡ 0
-was_zero g c = sym c.get-word.ensures ∙ c.if-word-ne0.false
+was_zero g c = sym c.set_once-word.ensures.stood ∙ c.if-word-ne0.false
 
 none : (g : _) (c : After-push g) → word_at g.P.Packed.pack (entries g.P.Packed.unpack c.self.inside.row.limits c.self.inside.row.words c.self.inside.journal.items) c.args.step.place ≡ 0
 none g c = sym (c.self.invariant.same c.args.step.place (within_of g c)) ∙ was_zero g c
@@ -51,11 +55,11 @@ tied g c =
     c.self.invariant (within_of g c) refl (was_zero g c) may.is_entry may.word ok.0 ok.1 (pushed g c) c.push.ensures.capacity
 
 -- the row after the word was set
-row_is : (g : _) (c : After-push g) → c.set.new.self ≡ record { limits = c.self.inside.row.limits; words = slice_set c.self.inside.row.words (key_in c.self.inside.row.limits c.args.step.place) c.args.step.word }
-row_is g c = ap₂ (λ limits words. let r : Filled = record { limits = limits; words = words } in r) c.set.ensures.limits c.set.ensures.words
+row_is : (g : _) (c : After-push g) → c.set_once-word.new.self ≡ record { limits = c.self.inside.row.limits; words = slice_set c.self.inside.row.words (key_in c.self.inside.row.limits c.args.step.place) c.args.step.word }
+row_is g c = ap₂ (λ limits words. let r : Filled = record { limits = limits; words = words } in r) c.set_once-word.ensures.limits (c.set_once-word.ensures.set c.if-word-ne0.false)
 
 pub invariant_of-self-2 : goal.invariant_of-self-2
-invariant_of-self-2 g c = rw (c.set.ensures.limits, c.set.ensures.words) (tied g (goal.at.invariant_of-self-2 g c).After-push)
+invariant_of-self-2 g c = rw (c.set_once-word.ensures.limits, c.set_once-word.ensures.set c.if-word-ne0.false) (tied g (goal.at.invariant_of-self-2 g c).After-push)
 
 pub returns : goal.returns
 returns g c =
@@ -71,5 +75,5 @@ returns g c =
     ∙ entries-set unpack limits ws key c.args.step.word (record { place = c.args.step.place; by = c.args.step.by }) may.entry (was_zero g at) (below g at) refl may.is_entry js c.self.invariant.made in
     let set : slice_index (slice_set ws key c.args.step.word) key ≡ c.args.step.word = get_or-set_same ws key c.args.step.word 0 (below g at) in
     subst (λ (r : Filled). Sets g.P.Meld.meld g.P.Packed.pack unpack true c.args.self.now.name c.args.step c.args.self.now (Ok tt) (sight_of unpack r.limits r.words c.push.new.self.items c.and-self-inside.result.items)) (sym (row_is g at))
-    (sets_won g.P.Meld.meld g.P.Packed.pack unpack limits c.args.self.now ws (slice_set ws key c.args.step.word) js c.push.new.self.items (vec_capacity c.push.new.self) c.self.inside.trail.items c.and-self-inside.result.items c.args.step c.get-word.result
+    (sets_won g.P.Meld.meld g.P.Packed.pack unpack limits c.args.self.now ws (slice_set ws key c.args.step.word) js c.push.new.self.items (vec_capacity c.push.new.self) c.self.inside.trail.items c.and-self-inside.result.items c.args.step c.set_once-word.result
     c.self.view_is (tied g at) c.requires.within may.entry may.is_entry added set c.if-word-ne0.false c.and-self-inside.ensures)
