@@ -11,7 +11,7 @@ use ulfm_model::place::Place;
 /// arrivals. Two places have two positions, all below the world's size.
 ///
 /// The row of shared words has its full length from the start. So the slots of all rounds stand side by side, and several
-/// rounds share a cache line. A row of plain words grows round after round, so `key_of` puts the arrivals of each round
+/// rounds share a cache line. Plain words are made line by line as rounds come, so `key_of` puts the arrivals of each round
 /// right after its slots.
 #[inline(always)]
 pub(crate) fn place_in_row(place: Place, limits: Limits) -> usize

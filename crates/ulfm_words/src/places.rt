@@ -2,6 +2,7 @@ ghost use Rattle.std.specs.Prelude.{◌≡◌, ◌↔◌, IsTrue};
 ghost use Rattle.ulfm_model.specs.Words.{MayOpen};
 ghost use Rattle.ulfm_words.specs.Places.{IsWithin, key_in};
 
+use crate::row::{Seat, seat_of};
 use ulfm_model::limits::Limits;
 use ulfm_model::place::Place;
 
@@ -28,18 +29,11 @@ pub fn key_of(place: Place, limits: Limits) -> usize
     requires within { IsWithin limits place }
     ensures { result ≡ key_in limits place }
 {
-    let ranks = limits.ranks as usize;
-    let comms = limits.comms as usize;
-    let lists = ranks + 2 * comms;
-    match place {
-        Place::List { index } => index as usize,
-        Place::Comm { comm } => ranks + comm as usize,
-        Place::Revoked { comm } => ranks + comms + comm as usize,
-        Place::Slot { comm, round, rank } => {
-            lists + (2 * round as usize * comms + comm as usize) * ranks + rank as usize
-        }
-        Place::Arrival { comm, round, rank } => {
-            lists + ((2 * round as usize + 1) * comms + comm as usize) * ranks + rank as usize
+    match seat_of(place, limits) {
+        Seat::Head { index } => index,
+        Seat::Cell { line, rank } => {
+            let ranks = limits.ranks as usize;
+            ranks + 2 * limits.comms as usize + line * ranks + rank
         }
     }
 }

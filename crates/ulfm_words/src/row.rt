@@ -4,7 +4,6 @@ ghost use Rattle.ulfm_model.specs.Words.{MayOpen, size_of};
 ghost use Rattle.ulfm_words.specs.Places.{IsWithin, key_in};
 ghost use Rattle.ulfm_words.specs.Rows.{ArePages, HasSeat, cells_of};
 
-use crate::places::key_of;
 use std::alloc::{AllocError, Allocator};
 use std::marker::Model;
 use ulfm_model::limits::Limits;
@@ -19,15 +18,22 @@ pub(crate) enum Seat {
 
 // The seat of a place. In a loop over the ranks of a round the line is found once.
 #[inline(always)]
-fn seat_of(place: Place, limits: Limits) -> Seat
+pub(crate) fn seat_of(place: Place, limits: Limits) -> Seat
     requires open { MayOpen limits }
     requires within { IsWithin limits place }
     ensures { HasSeat limits place result }
 {
+    let ranks = limits.ranks as usize;
     let comms = limits.comms as usize;
     match place {
-        Place::List { .. } | Place::Comm { .. } | Place::Revoked { .. } => Seat::Head {
-            index: key_of(place, limits),
+        Place::List { index } => Seat::Head {
+            index: index as usize,
+        },
+        Place::Comm { comm } => Seat::Head {
+            index: ranks + comm as usize,
+        },
+        Place::Revoked { comm } => Seat::Head {
+            index: ranks + comms + comm as usize,
         },
         Place::Slot { comm, round, rank } => Seat::Cell {
             line: 2 * round as usize * comms + comm as usize,
