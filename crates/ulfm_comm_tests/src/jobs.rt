@@ -22,7 +22,7 @@ const FOUR: Limits = Limits {
 };
 
 /// A declaration; or a rank's shrink of a communicator, or poll of one.
-#[derive(Clone, Copy, Debug)]
+#[derive(Clone, Copy)]
 enum Asked {
     Fail(u16),
     Shrink(u16, u16),
@@ -110,21 +110,18 @@ fn spawn_after(rt: &impl Abort, alloc: Global, steps: u32, by: Caller) -> Result
     wait(&mut job, steps);
     for rank in [3, 0, 2] {
         let reply = apply(&mut job, Asked::Poll(rank, 0), &mut group)?;
-        assert!(rt;
-            reply == FIRST,
-            "rank {rank} is answered {reply:?} after {steps}"
-        );
+        assert_eq!(rt; reply, FIRST);
         assert_eq!(rt; group.as_slice(), [0, 2, 3].as_slice());
     }
-    is_made(rt, &job, steps, by);
+    is_made(rt, &job, by);
     Ok(())
 }
 
 /// The communicator is the last thing that was made, just after the mark, in this name.
-fn is_made(rt: &impl Abort, job: &Disturbed, steps: u32, by: Caller) {
+fn is_made(rt: &impl Abort, job: &Disturbed, by: Caller) {
     let made = nth(job, 5).expect(rt, "after the mark");
     assert!(rt; made.place == Place::Comm { comm: 1 });
-    assert!(rt; made.by == by, "made by {:?} after {steps}", made.by);
+    assert_eq!(rt; made.by, by);
     assert!(rt; nth(job, 6).is_none());
 }
 
@@ -203,12 +200,12 @@ fn apply_refused<'a>(
     let made = communicators(job);
     for count in 0..64usize {
         if let Some(reply) = apply_in(heap, count * 16, job, group, alloc, line.0)? {
-            assert!(rt; reply == line.1, "{:?} is answered {reply:?}", line.0);
+            assert_eq!(rt; reply, line.1);
             return Ok(count);
         }
         assert_eq!(rt; communicators(job), made);
     }
-    assert!(rt; false, "{:?} is never answered", line.0);
+    assert!(rt; false, "a call is never answered");
     Ok(0)
 }
 
@@ -235,11 +232,7 @@ fn shrinks_are_refused_memory(rt: HostRuntime) -> Result<(), Fail> {
     for line in script {
         let refused = apply_refused(&rt, &heap, &mut job, &mut group, rt.alloc(), line)?;
         let polls = matches!(line.0, Asked::Poll(_, _));
-        assert!(rt;
-            (refused > 0) == polls,
-            "{:?} lacked memory {refused} times",
-            line.0
-        );
+        assert_eq!(rt; refused > 0, polls);
     }
     assert_eq!(rt; communicators(&job), 2);
     Ok(())

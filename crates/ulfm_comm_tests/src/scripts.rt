@@ -19,7 +19,7 @@ use ulfm_steps::Intruder;
 use ulfm_words::PlainWords;
 
 /// A call on the world's own communicator, but for a get on any.
-#[derive(Clone, Copy, Debug)]
+#[derive(Clone, Copy)]
 enum Asked {
     Fail(u16),
     Get(u16, u16),
@@ -84,7 +84,7 @@ fn run(
     let mut group = Vec::new(alloc);
     for line in script {
         let reply = apply(&mut job, &call(line.0), &mut group)?;
-        assert!(rt; reply == line.1, "{:?} is answered {reply:?}", line.0);
+        assert_eq!(rt; reply, line.1);
     }
     Ok(job)
 }

@@ -65,11 +65,8 @@ fn takes<W: Words<FlagAnd, Global>>(
     let mut taken = Vec::new(alloc);
     assert!(rt; play.begin(rank, comm, verb));
     let answered = play.finish(rank, &mut taken)?;
-    let same = answered == Some(reply) && taken.as_slice() == names;
-    assert!(rt;
-        same,
-        "{asked:?} is answered {answered:?} and takes {taken:?}"
-    );
+    assert_eq!(rt; answered, Some(reply));
+    assert_eq!(rt; taken.as_slice(), names);
     assert!(rt; play.next(rank) == None);
     Ok(())
 }
@@ -114,7 +111,7 @@ fn comes<W: Words<FlagAnd, Global>>(
         Move::Finish(rank, reply) => Ok(play.finish(rank, &mut taken)? == Some(reply)),
         Move::FinishBy(rank, names, reply) => {
             let answered = play.finish(rank, &mut taken)?;
-            assert!(rt; taken.as_slice() == names, "{made:?} takes {taken:?}");
+            assert_eq!(rt; taken.as_slice(), names);
             Ok(answered == Some(reply))
         }
         Move::Call(rank, comm, verb, names, reply) => {
@@ -228,7 +225,7 @@ fn names_in_order(rt: HostRuntime) -> Result<(), Fail> {
 }
 
 /// A line of a script: the outside declares a rank, or a rank is asked, on a communicator.
-#[derive(Clone, Copy, Debug)]
+#[derive(Clone, Copy)]
 enum Line {
     Fail(u16),
     Ask(u16, u16, Verb<FlagAnd>),
@@ -273,11 +270,9 @@ fn one_line(
     };
     let whole = apply(job, &asked, group)?;
     let (answered, taken) = stepped(alloc, play, line)?;
-    let same = whole == reply && answered == Some(reply) && taken == count;
-    assert!(rt;
-        same,
-        "{line:?} is answered {whole:?}, and {answered:?} by {taken} steps"
-    );
+    assert_eq!(rt; whole, reply);
+    assert_eq!(rt; answered, Some(reply));
+    assert_eq!(rt; taken, count);
     Ok(())
 }
 
