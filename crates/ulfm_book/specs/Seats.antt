@@ -10,12 +10,20 @@ cell_in limits c k r = (c * limits.rounds + k) * limits.ranks + r
 abbrev pub cells_of : Limits → ℕ
 cells_of limits = limits.comms * limits.rounds * limits.ranks
 
+-- where the slots begin
+abbrev pub slots_from : Limits → ℕ
+slots_from limits = limits.ranks + 2 * limits.comms
+
+-- where the arrivals begin
+abbrev pub arrivals_from : Limits → ℕ
+arrivals_from limits = slots_from limits + cells_of limits
+
 -- The lists come first, then the communicators, the revocations, all slots and all arrivals. The slots and the arrivals go
 -- communicator by communicator, round by round and rank by rank. So the slots of all rounds stand side by side, and several
--- rounds share a cache line. The row of plain words grows round after round, so there a round's arrivals follow its slots.
+-- rounds share a cache line.
 abbrev pub seat_in : Limits → Place → ℕ
 seat_in limits (ListAt i) = i
 seat_in limits (CommAt j) = limits.ranks + j
 seat_in limits (RevokedAt c) = limits.ranks + limits.comms + c
-seat_in limits (SlotAt c k r) = limits.ranks + 2 * limits.comms + cell_in limits c k r
-seat_in limits (ArrivalAt c k r) = limits.ranks + 2 * limits.comms + cells_of limits + cell_in limits c k r
+seat_in limits (SlotAt c k r) = slots_from limits + cell_in limits c k r
+seat_in limits (ArrivalAt c k r) = arrivals_from limits + cell_in limits c k r

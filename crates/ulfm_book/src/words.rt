@@ -7,7 +7,7 @@ ghost use Rattle.ulfm_book.specs.Seats.{seat_in};
 use crate::line::Line;
 use crate::pass::{BookPass, BookTold};
 use crate::rule::{Law, Opens};
-use crate::seats::place_in_row;
+use crate::seats::{Starts, place_in_row, starts_in};
 use logbook::{Seen, Start, Word};
 use std::alloc::{AllocError, Allocator, Global};
 use std::marker::Model;
@@ -23,6 +23,7 @@ pub struct BookWords<P: Packed, A: Allocator = Global> {
     // One for each place, in the order of `place_in_row`.
     words: Vec<Word<Line<P>, u64, Law<P>>, A>,
     limits: Limits,
+    starts: Starts,
     // The log as it was opened, from which new passes go on.
     start: Seen<Line<P>, u64, Law<P>>,
 }
@@ -33,12 +34,13 @@ impl<P: Packed, A: Allocator> Model for BookWords<P, A> {
     ghost use Rattle.ulfm_words.specs.Steps.{Name};
     ghost use Rattle.ulfm_book.specs.Logs.{log_of};
     ghost use Rattle.ulfm_book.specs.Rules.{name_of, word_named};
+    ghost use Rattle.ulfm_book.specs.Seats.{arrivals_from, slots_from};
 
     ghost Value = { Name };
 
     ghost view = { λ w. name_of w.start.book w.limits };
 
-    ghost invariant = { λ w. MayOpen w.limits × (w.start.log ≡ log_of w.limits []) × (vec_len w.words ≡ size_of w.limits) × ((key : ℕ) → key < size_of w.limits → slice_get w.words.items key ≡ Some (word_named w.start.book key)) };
+    ghost invariant = { λ w. MayOpen w.limits × (w.start.log ≡ log_of w.limits []) × (vec_len w.words ≡ size_of w.limits) × ((key : ℕ) → key < size_of w.limits → slice_get w.words.items key ≡ Some (word_named w.start.book key)) × (w.starts.slots ≡ slots_from w.limits) × (w.starts.arrivals ≡ arrivals_from w.limits) };
 }
 
 impl<P: Packed, A: Allocator> BookWords<P, A> {
@@ -71,6 +73,7 @@ impl<P: Packed, A: Allocator> BookWords<P, A> {
         Ok(BookWords {
             words,
             limits,
+            starts: starts_in(limits),
             start,
         })
     }
@@ -80,7 +83,7 @@ impl<P: Packed, A: Allocator> BookWords<P, A> {
         requires { IsWithin self.now.limits place }
         ensures { result.now ≡ word_named (book_of self.now) (seat_in self.now.limits place) }
     {
-        &self.words[place_in_row(place, self.limits)]
+        &self.words[place_in_row(place, self.limits, self.starts)]
     }
 }
 
