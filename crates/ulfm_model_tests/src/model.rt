@@ -82,4 +82,9 @@ fn laws_hold_for_flags() {
     laws::events_happen_once::<FlagAnd>();
     laws::unheld_ids_are_offered::<FlagAnd>();
     laws::words_tell_events::<FlagAnd>();
+    laws::states_stay_sound::<FlagAnd>();
+    laws::calls_have_one_step::<FlagAnd>();
+    laws::calls_keep_records::<FlagAnd>();
+    laws::holders_agree::<FlagAnd>();
+    laws::shrinks_exclude_failures::<FlagAnd>();
 }
