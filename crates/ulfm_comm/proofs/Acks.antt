@@ -1,8 +1,8 @@
 -- Queries of the failed group, and acknowledgements.
-use Rattle.std.proofs.Common.{◌≡◌, ℕ, Bool, [], length, filter, max, min, Some, None, refl, ap, ◌∙◌}
+use Rattle.std.proofs.Common.{◌≡◌, ℕ, Bool, [], length, filter, max, min, Some, refl, ap, ◌∙◌}
 use Rattle.ulfm_model.specs.declared.call.Call.TheVariants as call
 use Rattle.ulfm_model.specs.declared.{limits.Limits.{Limits}, reply.Reply.TheVariants.{Acked, FailedGroup}}
-use Rattle.ulfm_model.specs.{Answers.{refusal_of, refusal_on}, History.{History, IsLegal, failures, has}, Records.{Fits, Held, Record, held_at, with_held}}
+use Rattle.ulfm_model.specs.{Answers.{refusal_on}, History.{History, IsLegal, failures, has}, Records.{Fits, Held, Record, held_at, with_held}}
 use Rattle.ulfm_words.proofs.Trails.{did_none}
 use Rattle.ulfm_comm.specs.{Ends.{IsEndRun}, Looked.{Looked}}
 use Rattle.ulfm_comm.proofs.{Holding.{failed_is}, Replying.{held_before, replied}}

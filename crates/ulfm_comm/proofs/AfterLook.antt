@@ -1,15 +1,15 @@
 -- What comes after the look of a call.
-use Rattle.std.proofs.Common.{◌≡◌, ◌⊎◌, ℕ, ◌+◌, ◌<◌, ◌≤◌, ◌==◌, Bool, true, false, not, List, [], ◌∷◌, length, filter, max, min, Option, Some, None, is_some, refl, ap, ap₂, sym, ◌∙◌, subst, append-nil, arith, inl, inr, IsTrue, IsFalse, if◌then◌else◌}
+use Rattle.std.proofs.Common.{◌≡◌, ℕ, ◌<◌, ◌==◌, Bool, true, false, not, List, [], ◌∷◌, length, filter, max, min, Option, Some, None, is_some, refl, ap, ap₂, sym, ◌∙◌, subst, arith, inr, IsTrue, if◌then◌else◌}
 use Rattle.std.specs.List.{AllByRecursion}
 use Rattle.ulfm_laws.specs.declared.ctx_mask.CtxMask.{CtxMask}
 use Rattle.ulfm_model.specs.declared.call.Call.TheVariants as call
 use Rattle.ulfm_model.specs.declared.{call.Call.{Call}, call.Request.{Request}, call.Request.TheVariants.{Agree, Shrink}, contribution.Offer.{Offer}, contribution.Offer.TheVariants.{Flag, Ctx}, event.Caller.TheVariants.{Rank}, refusal.Refusal.{Refusal}, refusal.Refusal.TheVariants.{Idle, NoSuchComm, SelfFailed}, reply.Reply.{Reply}, reply.Reply.TheVariants.{Acked, FailedGroup, Freed, Pending, Refused}}
-use Rattle.ulfm_model.specs.{Answers.{Effect, first_refusal, left_by, polled_by, printed, refusal_of, refused_with, traits_of}, Answers.Effect.{Keeps}, History.{History, IsLegal, failures, has}, Records.{Fits, Held, Record, free_ids, held_at, with_held}, Runs.{Did}}
+use Rattle.ulfm_model.specs.{Answers.{Effect, first_refusal, printed, refused_with, traits_of}, Answers.Effect.{Keeps}, History.{failures, has}, Records.{Fits, Held, Record, free_ids, held_at, with_held}, Runs.{Did}}
 use Rattle.ulfm_model.proofs.Terms.{comm_of, request_of, tests_of}
 use Rattle.ulfm_words.specs.Steps.{IsOf, Name, Sight}
 use Rattle.ulfm_words.proofs.Trails.{did_none}
 use Rattle.ulfm_steps.specs.Looks.{LookIs}
-use Rattle.ulfm_comm.specs.{Calls.{Calls, EndsAs, EndsReply, is_out_of_memory, wants_memory}, Looked.{Looked}, Polls.{EndsInMissing, IsAgreement}, declared.doing.Phase.TheVariants.{Begun, Looking}, Stages.{Answered, HasLooked, JustLooked, Passes, Stands, StartsWith}}
+use Rattle.ulfm_comm.specs.{Calls.{Calls, EndsAs, is_out_of_memory, wants_memory}, declared.doing.Phase.TheVariants.{Begun, Looking}, Stages.{Answered, HasLooked, JustLooked, Stands, StartsWith}}
 use Rattle.ulfm_comm.proofs.{Acks.{ack_failed_is, get_failed_is}, Calling.{calls_declared, calls_is, calls_missing, looked_fits}, Freeing.{calls_freed}, Replying.{held_before, refused}, Tested.{by_tests}}
 
 -- what each test of a call refuses leaves the record as it is, and isn't want of memory

@@ -1,10 +1,10 @@
 -- The poll of a barrier.
 use Rattle.std.proofs.Common.{◌≡◌, ◌⊎◌, ℕ, ◌<◌, Bool, true, false, not, List, [], ◌∷◌, filter, Some, is_some, refl, ap, ap₂, sym, ◌∙◌, subst, arith, inl, inr, if◌then◌else◌}
-use Rattle.std.specs.Prelude.{Result, Ok, Err, IfOk}
+use Rattle.std.specs.Prelude.{Err}
 use Rattle.std.specs.List.{list_all}
 use Rattle.std.proofs.lemmas.List.Elements.{Contains-push_cases}
 use Rattle.ulfm_model.specs.declared.call.Call.TheVariants as call
-use Rattle.ulfm_model.specs.declared.{call.Call.{Call}, call.Request.TheVariants.{Barrier}, event.Caller.TheVariants.{Rank}, event.Entry.{Entry}, event.Event.TheVariants.{Arrive}, limits.Limits.{Limits}, refusal.Refusal.{Refusal}, refusal.Refusal.TheVariants.{Idle, IsRevoked, ProcFailed}, reply.Reply.{Reply}, reply.Reply.TheVariants.{Done, FailedGroup, Pending, Refused}}
+use Rattle.ulfm_model.specs.declared.{call.Call.{Call}, call.Request.TheVariants.{Barrier}, event.Caller.TheVariants.{Rank}, event.Entry.{Entry}, event.Event.TheVariants.{Arrive}, limits.Limits.{Limits}, refusal.Refusal.TheVariants.{Idle, IsRevoked, ProcFailed}, reply.Reply.{Reply}, reply.Reply.TheVariants.{Done, FailedGroup, Pending, Refused}}
 use Rattle.ulfm_model.specs.{Answers.{PollReplies, View, barrier_reply, closed, first_refusal, left_by, polled_by, refusal_on}, History.{History, IsLegal, MayFollow, failures, has, has_arrived, is_revoked}, Records.{Fits, FitsRequest, Record, held_at}, Runs.{Did, unsettled_of}}
 use Rattle.ulfm_model.proofs.Terms.{IsOwn, contexts_of, request_of}
 use Rattle.ulfm_model.proofs.{Histories.{by_events}}
@@ -13,8 +13,7 @@ use Rattle.ulfm_words.proofs.Trails.{did_prefix}
 use Rattle.ulfm_steps.specs.Rounds.{IsRoundOf}
 use Rattle.ulfm_steps.specs.Arriving.{MissingAre}
 use Rattle.ulfm_steps.specs.declared.arrivals.{Missing.{Missing}, Missing.TheVariants.{Nobody, Others, Declared}}
-use Rattle.ulfm_comm.specs.declared.polled.{Polled.{Polled}, Polled.TheVariants.{Pending as Undecided, Agreed as WasAgreed, Shrunk as WasShrunk, Done as AllCame}}
-use Rattle.ulfm_comm.specs.{Barriers.{Awaits, missing_leaves, missing_reply}, Calls.{Calls}, Ends.{IsEndRun}, Looked.{Looked}, Polls.{EndsIn, IsAgreement, Polls}}
+use Rattle.ulfm_comm.specs.{Barriers.{Awaits, missing_leaves, missing_reply}, Calls.{Calls}, Ends.{IsEndRun}, Looked.{Looked}, Polls.{Polls}}
 use Rattle.ulfm_comm.proofs.{Calling.{calls_is, calls_waited}, Revoking.{standing_before}, Holding.{comm_is, exists_is, group_is, holds}, Replying.{held_before, replied}}
 
 -- an arrival of a legal history is in a round that there is

@@ -1,5 +1,5 @@
 -- What a call promises, by its run.
-use Rattle.std.proofs.Common.{◌≡◌, ℕ, Bool, true, false, List, [], None, refl, ap, sym, ◌∙◌, subst, append-nil, inl, inr, IsTrue}
+use Rattle.std.proofs.Common.{◌≡◌, ℕ, Bool, true, false, List, [], None, refl, ap, sym, ◌∙◌, subst, append-nil, inr, IsTrue}
 use Rattle.std.specs.List.{AllByRecursion}
 use mathlib.Core.List.{IsPrefix}
 use Rattle.ulfm_model.specs.declared.{call.Call.{Call}, event.Caller.TheVariants.{Rank}, event.Event.{Event}, refusal.Refusal.TheVariants.{NoSuchComm, SelfFailed}, reply.Reply.{Reply}, reply.Reply.TheVariants.{FailedGroup, Refused}}
@@ -10,7 +10,7 @@ use Rattle.ulfm_words.specs.Steps.{IsOf, Name, Sight}
 use Rattle.ulfm_words.proofs.Trails.{did_none, did_prefix, did_quiet, did_wait}
 use Rattle.ulfm_comm.specs.{Calls.{Calls, RunsOut}, Ends.{IsAloneCall, IsEndRun}, Looked.{Looked}}
 use Rattle.ulfm_comm.proofs.ReplyKinds.{counted_seen}
-use Rattle.ulfm_comm.proofs.Replying.{alone_of, call_of, refused_missing, sees_look, self_failed, view_at}
+use Rattle.ulfm_comm.proofs.Replying.{alone_of, call_of, refused_missing, self_failed, view_at}
 
 module _ {P : Type 0} (meld : P → P → P) (alone : Bool) (name : Name) (before after : Sight P) where
   -- a call with its point at its end

@@ -1,12 +1,12 @@
 -- The end of a shrink's poll, step by step.
-use Rattle.std.proofs.Common.{◌≡◌, ℕ, ◌+◌, ◌-◌, ◌<◌, ◌≤◌, ◌^◌, ◌==◌, ◌&&◌, Bool, true, false, not, List, [], ◌∷◌, ◌++◌, length, filter, take, nat_eq, Some, None, refl, ap, ap₂, sym, ◌∙◌, subst, append-nil, arith, inr, IsTrue, IsFalse}
+use Rattle.std.proofs.Common.{◌≡◌, ℕ, ◌<◌, ◌≤◌, ◌==◌, ◌&&◌, Bool, true, false, not, List, [], ◌∷◌, ◌++◌, length, take, nat_eq, Some, refl, ap, ap₂, sym, ◌∙◌, subst, append-nil, arith, inr, IsTrue}
 use Rattle.std.specs.List.{AllByRecursion, list_any}
 use Rattle.std.specs.List.Sorted.{IsStrictlyIncreasing}
 use mathlib.Core.List.{IsPrefix}
 use Rattle.ulfm_laws.specs.declared.{body.Body.TheVariants.{Ctx as OfIds}, ctx_mask.CtxMask.{CtxMask}, summary.Summary.{Summary}}
 use Rattle.ulfm_model.specs.declared.call.Call.TheVariants as call
 use Rattle.ulfm_model.specs.declared.{call.Call.{Call}, event.Caller.TheVariants.{Rank}, event.Event.{Event}, limits.Limits.{Limits}, refusal.Refusal.TheVariants.{Mismatch, NoContext, NoRoom, OutOfMemory, SelfFailed}, reply.Reply.{Reply}, reply.Reply.TheVariants.{Pending, Refused, Shrunk}}
-use Rattle.ulfm_model.specs.{Answers.{closed, polled_by}, History.{History, IsLegal, entries_by, failures, has, is_made, spawns, without}, Records.{Fits, Held, IsLowestId, Record, held_at, is_shrink}, Runs.{Did}}
+use Rattle.ulfm_model.specs.{Answers.{closed, polled_by}, History.{History, IsLegal, entries_by, failures, has, spawns, without}, Records.{Fits, Held, IsLowestId, Record, held_at, is_shrink}, Runs.{Did}}
 use Rattle.ulfm_model.proofs.Terms.{comm_of, contexts_of, new_held}
 use Rattle.ulfm_model.proofs.{Histories.{failures_begin}, LeftFits.{fits_seen}, Lists.{length-filter-le, prefix_trans}, Stable.{fits_stays}}
 use Rattle.ulfm_words.specs.Steps.{IsOf, Name, Sight}

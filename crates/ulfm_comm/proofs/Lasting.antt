@@ -1,5 +1,5 @@
 -- A call under way stands as it stood, after others' events.
-use Rattle.std.proofs.Common.{◌≡◌, ℕ, ◌<◌, ◌≤◌, Bool, false, List, [], refl, ap, sym, ◌∙◌, subst, arith, IsTrue, take, Some}
+use Rattle.std.proofs.Common.{ℕ, Bool, List, [], arith, take}
 use mathlib.Core.List.{IsPrefix}
 use Rattle.ulfm_laws.specs.declared.ctx_mask.CtxMask.{CtxMask}
 use Rattle.ulfm_model.specs.declared.{call.Call.{Call}, limits.Limits.{Limits}}

@@ -1,9 +1,8 @@
 -- What holds where the words are alone holds among the steps of others.
-use Rattle.std.proofs.Common.{◌≡◌, ℕ, Bool, true, false, List, [], refl, ap, sym, ◌∙◌, IsTrue, MatchBool}
-use Rattle.ulfm_model.specs.declared.{event.Entry.{Entry}, event.Event.{Event}}
+use Rattle.std.proofs.Common.{ℕ, Bool, true, false, List, [], IsTrue, MatchBool}
+use Rattle.ulfm_model.specs.declared.{event.Entry.{Entry}}
 use Rattle.ulfm_model.specs.{History.{History}, Runs.{Did}}
-use Rattle.ulfm_words.specs.Steps.{IsAdded, Sight}
-use Rattle.ulfm_words.proofs.Trails.{did_prefix, did_wait}
+use Rattle.ulfm_words.specs.Steps.{IsAdded}
 use Rattle.ulfm_steps.specs.Marks.{Marks}
 use mathlib.Core.List.{IsPrefix}
 

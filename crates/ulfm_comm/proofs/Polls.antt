@@ -1,6 +1,5 @@
 -- The poll of an agreement, and of an agree.
-use Rattle.std.proofs.Common.{◌≡◌, ℕ, ◌<◌, ◌≤◌, Bool, true, false, not, List, [], ◌∷◌, length, filter, min, take, Some, None, is_some, nat_eq, nat_lt, refl, ap, ap₂, sym, ◌∙◌, subst, append-nil, arith, inl, inr, IsTrue, IsFalse, Result, Ok, Err}
-use Rattle.std.specs.Prelude.{IfOk}
+use Rattle.std.proofs.Common.{◌≡◌, ℕ, ◌<◌, ◌≤◌, Bool, true, false, not, List, [], ◌∷◌, length, filter, min, take, Some, None, is_some, nat_eq, nat_lt, refl, ap, ap₂, sym, ◌∙◌, subst, append-nil, arith, inl, inr, IsTrue, IsFalse}
 use Rattle.std.specs.Int.{bit_at}
 use mathlib.Core.List.{IsPrefix}
 use Rattle.std.specs.List.{AllByRecursion, list_all}
@@ -8,16 +7,14 @@ use Rattle.std.proofs.lemmas.List.{length-take}
 use Rattle.std.proofs.lemmas.Bool.{ne_eqb}
 use Rattle.ulfm_laws.specs.{Bodies.{body_meld}, declared.{body.Body.{Body}, body.Body.TheVariants.{Unit as NoBody, Flag as OfFlags, Ctx as OfIds, Clash}, ctx_mask.CtxMask.{CtxMask}, summary.Summary.{Summary}}}
 use Rattle.ulfm_model.specs.declared.call.Call.TheVariants as call
-use Rattle.ulfm_model.specs.declared.{call.Call.{Call}, call.Request.{Request}, call.Request.TheVariants.{Agree, Shrink}, contribution.Contribution.{Contribution}, contribution.Slot.TheVariants.{Given}, event.Caller.TheVariants.{Rank}, event.Event.{Event}, event.Event.TheVariants.{Fail, Settle, Mark, Arrive, Revoke, Spawn}, limits.Limits.{Limits}, refusal.Refusal.{Refusal}, refusal.Refusal.TheVariants.{Idle, Mismatch}, reply.Reply.{Reply}, reply.Reply.TheVariants.{Agreed, Pending, Refused}}
+use Rattle.ulfm_model.specs.declared.{call.Call.{Call}, call.Request.{Request}, call.Request.TheVariants.{Agree, Shrink}, contribution.Contribution.{Contribution}, contribution.Slot.TheVariants.{Given}, event.Caller.TheVariants.{Rank}, event.Event.{Event}, event.Event.TheVariants.{Fail, Settle, Mark, Arrive, Revoke, Spawn}, limits.Limits.{Limits}, refusal.Refusal.TheVariants.{Idle, Mismatch}, reply.Reply.{Reply}, reply.Reply.TheVariants.{Agreed, Pending, Refused}}
 use Rattle.ulfm_model.specs.{Answers.{AgreeReplies, IsPending, MarksDeclared, PollAdds, PollReplies, Sees, View, closed, first_refusal, left_by, polled_by, refusal_of, refusal_on}, History.{Decision, History, IsLegal, body_of, decision, entries_by, failed, failures, has, is_decided, known_of, members, round, round_among, slot}, Laws.{all_of}, Records.{Fits, FitsRequest, Held, Record, held_at, is_shrink}, Runs.{Did, IsRun, unsettled_of}}
 use Rattle.ulfm_model.proofs.Terms.{IsOwn, contexts_of, request_of, settled_by, view_of}
 use Rattle.ulfm_model.proofs.{Decisions.{slot_stands}, Histories.{slot_stays}, LeftIds.{free_at_each}, Lists.{at_member, each_filter_map, each_from, has_filter, has_kept, has_passes, has_prefix, is_some_of}, Melds.{known_fits}, Stable.{decision_is, fits_stays}, StepsRounds.{IsFlagged, IsMasked, flagged_left, flagged_right, given_stands, masked_left, masked_right, offered}}
 use Rattle.ulfm_words.proofs.Trails.{did_prefix, did_quiet, did_wait}
 use Rattle.ulfm_steps.specs.{Marks.{IsMarkOf}, Rounds.{IsSummed}}
-use Rattle.ulfm_words.specs.Steps.{IsOf, Name, Sight}
-use Rattle.ulfm_comm.specs.{Calls.{EndsBy, is_out_of_memory}, Ends.{IsEndRun}, Looked.{Looked}, Polls.{EndsIn, HasMarked, IsAnswer, PollIs, Polls, agreement}}
-use Rattle.ulfm_comm.specs.declared.polled.{Polled.{Polled}, Polled.TheVariants.{Pending as Undecided, Agreed as WasAgreed, Shrunk as WasShrunk, Done as AllCame}}
-use Rattle.ulfm_comm.proofs.{Holding.{comm_is, failed_is, group_is, holds}, Replying.{held_before, refused, replied}}
+use Rattle.ulfm_comm.specs.{Ends.{IsEndRun}, Polls.{HasMarked, agreement}}
+use Rattle.ulfm_comm.proofs.{Holding.{comm_is, failed_is, group_is, holds}, Replying.{held_before, replied}}
 
 -- a body that is a flag or a clash, and no flag
 pub clash_is : {P : Type 0} (body : Body P) → IsFlagged body → ((flag : P) → body ≡ OfFlags flag → ⊥) → body ≡ Clash

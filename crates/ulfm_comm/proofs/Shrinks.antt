@@ -7,13 +7,13 @@ use mathlib.Core.List.{IsPrefix}
 use Rattle.ulfm_laws.specs.declared.{body.Body.{Body}, body.Body.TheVariants.{Unit as NoBody, Flag as OfFlags, Ctx as OfIds, Clash}, ctx_mask.CtxMask.{CtxMask}, summary.Summary.{Summary}}
 use Rattle.ulfm_model.specs.declared.call.Call.TheVariants as call
 use Rattle.ulfm_model.specs.declared.{call.Call.{Call}, call.Request.TheVariants.{Shrink}, contribution.Slot.{Slot}, event.Caller.{Caller}, event.Caller.TheVariants.{Rank}, event.Event.{Event}, event.Event.TheVariants.{Fail, Settle, Mark, Arrive, Revoke, Spawn}, limits.Limits.{Limits}, refusal.Refusal.TheVariants.{Mismatch, NoContext, NoRoom, SelfFailed}, reply.Reply.{Reply}, reply.Reply.TheVariants.{Refused, Shrunk}}
-use Rattle.ulfm_model.specs.{Answers.{IsReply, IsSelfFailed, MayOwn, PollAdds, PollReplies, RepliesBy, Sees, ShrinkReplies, View, closed, left_by, polled_by, refusal_of}, History.{Decision, Exists, History, IsLegal, decision, entries_by, failed, failures, has, is_decided, is_made, members, says, spawns, without}, Records.{Fits, Held, IsLowestId, Record, held_at, is_shrink}, Runs.{Did}}
+use Rattle.ulfm_model.specs.{Answers.{IsReply, IsSelfFailed, MayOwn, PollAdds, PollReplies, RepliesBy, Sees, ShrinkReplies, View, closed, left_by, polled_by, refusal_of}, History.{Decision, Exists, History, IsLegal, decision, entries_by, failed, failures, has, is_decided, is_made, members, says, spawns, without}, Records.{Fits, Held, IsLowestId, Record, is_shrink}, Runs.{Did}}
 use Rattle.ulfm_model.proofs.Terms.{new_held, settled_by}
 use Rattle.ulfm_model.proofs.{Decisions.{decision_stays}, Histories.{failures_begin}, Lists.{each_from, has_prefix, not_in_filter, prefix_trans}, Spawned.{members_of_spawned}, Stable.{failed_begins, fits_stays}, StepsRounds.{IsMasked}}
 use Rattle.ulfm_words.proofs.Trails.{did_after, did_more, did_prefix}
 use Rattle.ulfm_steps.specs.{Marks.{IsMarkOf}, Rounds.{IsSummed}}
 use Rattle.ulfm_steps.specs.ReadsOn.{ReadsOn}
-use Rattle.ulfm_comm.specs.{Ends.{IsEndRun}, Polls.{HasMarked, HasRead}}
+use Rattle.ulfm_comm.specs.{Ends.{IsEndRun}, Polls.{HasMarked}}
 use Rattle.ulfm_steps.proofs.ReadingOn.{take_begins}
 use Rattle.ulfm_comm.proofs.{LeftOut.{has_first, reached_first, without_among}, Holding.{comm_is, exists_is, failed_is, group_is}, Polls.{answered, body_read, declared, due, enough_read, group_read, held_first, later, not_refused, polls_it, read_decided, read_masked, whole}, Replying.{run_ends}}
 

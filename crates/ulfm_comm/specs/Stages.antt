@@ -1,5 +1,5 @@
 -- Where a call of a rank stands between two steps.
-use Rattle.std.specs.Prelude.{◌≡◌, ◌⊎◌, ℕ, ◌<◌, ◌≤◌, ◌-◌, Bool, true, false, List, [], Some, None, Option, filter, length, nat_lt, take, IsTrue, IsFalse, if◌then◌else◌, ⊤}
+use Rattle.std.specs.Prelude.{◌≡◌, ◌⊎◌, ℕ, ◌<◌, ◌≤◌, Bool, true, false, List, [], Some, None, Option, length, nat_lt, take, IsTrue, IsFalse, if◌then◌else◌, ⊤}
 use mathlib.Core.List.{IsPrefix}
 use Rattle.ulfm_laws.specs.declared.{body.Body.{Body}, body.Body.TheVariants.{Unit as Nothing, Flag as OfFlag, Ctx as OfIds, Clash}, ctx_mask.CtxMask.{CtxMask}, summary.Summary.{Summary}}
 use Rattle.ulfm_model.specs.declared.call.Call.TheVariants as call
@@ -7,8 +7,7 @@ use Rattle.ulfm_model.specs.declared.{call.Call.{Call}, call.Request.{Request}, 
 use Rattle.ulfm_model.specs.{Answers.{first_refusal, polled_by, refusal_of, traits_of}, History.{History, IsLegal, entries_by, failures, has, without}, Records.{Fits, Held, IsLowestId, Record, free_ids, held_at}, Runs.{Did}}
 use Rattle.ulfm_model.proofs.Terms.{comm_of, tests_of}
 use Rattle.ulfm_words.specs.Steps.{IsOf, Name, Sight}
-use Rattle.ulfm_steps.specs.declared.{append.Append.{Append}, arrivals.Arrivals.{Arrivals}, arrivals.Missing.{Missing}, item.Item.TheVariants.{Comm as OfComm}, mark_all.MarkAll.{MarkAll}, read_round.ReadRound.{ReadRound}}
-use Rattle.ulfm_steps.specs.declared.read_on.ReadOn.{ReadOn}
+use Rattle.ulfm_steps.specs.declared.{append.Append.{Append}, item.Item.TheVariants.{Comm as OfComm}, mark_all.MarkAll.{MarkAll}, read_round.ReadRound.{ReadRound}}
 use Rattle.ulfm_steps.specs.{Appends.{Passed, room}, Arriving.{AtArrival, MissingAre}, Looks.{LookIs}, Marks.{IsAt, Marks, members_in}, Rounds.{IsSummed}}
 use Rattle.ulfm_steps.specs.ReadsOn.{AtFailure, ReadsOn}
 use Rattle.ulfm_comm.specs.{Calls.{EndsReply}, Looked.{Looked}, Polls.{EndsInMissing, HasMarked, IsAgreement, agreement}}

@@ -1,4 +1,4 @@
-use Rattle.std.proofs.Common.{sym, subst}
+use Rattle.std.proofs.Common.{subst}
 use Rattle.ulfm_comm.specs.Stages.{Answered, NextIs}
 use Rattle.ulfm_comm.proofs.rank.Rank.call.Goals as goal
 use Rattle.ulfm_comm.proofs.rank.Rank.call.Goals.{In-Ends}

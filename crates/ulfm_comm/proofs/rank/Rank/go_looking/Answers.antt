@@ -1,4 +1,4 @@
-use Rattle.std.proofs.Common.{◌≡◌, [], true, refl, ap, ap₂, sym, ◌∙◌}
+use Rattle.std.proofs.Common.{◌≡◌, [], true, ap, ap₂, sym, ◌∙◌}
 use Rattle.ulfm_model.specs.{History.{failures, has}, Records.{Record}}
 use Rattle.ulfm_words.proofs.Trails.{did_wait}
 use Rattle.ulfm_comm.proofs.{AfterLook.{just_declared}, Loosely.{did_loosely}}

@@ -1,7 +1,5 @@
-use Rattle.std.proofs.Common.{None, Some, ap, sym, ◌∙◌, subst}
-use Rattle.ulfm_model.specs.Answers.{first_refusal}
+use Rattle.std.proofs.Common.{ap, sym, ◌∙◌}
 use Rattle.ulfm_model.specs.Records.{held_at}
-use Rattle.ulfm_model.proofs.Terms.{tests_of}
 use Rattle.ulfm_comm.proofs.AfterLook.{just_missing, just_refused}
 use Rattle.ulfm_comm.proofs.rank.Rank.looked.Goals as goal
 

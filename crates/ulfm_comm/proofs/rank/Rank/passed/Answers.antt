@@ -1,4 +1,4 @@
-use Rattle.std.proofs.Common.{rules, ◌≡◌, ◌≤◌, ◌<◌, None, Some, length, filter, max, min, refl, ap, ap₂, sym, ◌∙◌, subst, arith}
+use Rattle.std.proofs.Common.{rules, ◌≡◌, ◌≤◌, None, Some, length, filter, max, min, ap, ap₂, sym, ◌∙◌, subst, arith}
 use Rattle.std.specs.List.Sorted.{IsStrictlyIncreasing}
 use Rattle.ulfm_model.specs.declared.{call.Call.{Call}, reply.Reply.TheVariants.{Acked, FailedGroup, Freed}}
 use Rattle.ulfm_model.specs.{Answers.{first_refusal}, History.{has}, Records.{Held, Record, held_at}}

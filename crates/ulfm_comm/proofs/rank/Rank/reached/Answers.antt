@@ -1,4 +1,4 @@
-use Rattle.std.proofs.Common.{◌≡◌, ◌<◌, ◌-◌, Bool, false, Some, take, refl, sym, ap, ap₂, ◌∙◌, subst, arith}
+use Rattle.std.proofs.Common.{◌≡◌, ◌<◌, false, Some, take, sym, ap, ap₂, ◌∙◌, subst, arith}
 use Rattle.std.specs.Prelude.{IfOk, Result, Ok, Err}
 use Rattle.std.specs.Result.{is_err}
 use Rattle.ulfm_model.specs.Answers.{closed, traits_of}
@@ -10,7 +10,7 @@ use Rattle.ulfm_steps.specs.Appends.{room}
 use Rattle.ulfm_steps.specs.declared.append.Append.{Append}
 use Rattle.ulfm_steps.specs.declared.item.Item.{Item}
 use Rattle.ulfm_steps.specs.declared.item.Item.TheVariants.{Comm as OfComm}
-use Rattle.ulfm_comm.specs.Stages.{Answered, IsDecided, Stands}
+use Rattle.ulfm_comm.specs.Stages.{Answered, Stands}
 use Rattle.ulfm_comm.specs.declared.doing.Phase.TheVariants.{Spawning as AtSpawning}
 use Rattle.ulfm_model.specs.declared.limits.Limits.{Limits}
 use Rattle.ulfm_model.specs.declared.{refusal.Refusal.TheVariants.{OutOfMemory}, reply.Reply.TheVariants.{Refused}}

@@ -1,4 +1,4 @@
-use Rattle.std.proofs.Common.{List, ◌<◌, ℕ, ◌≡◌, None, Some, ap, sym, ◌∙◌, subst, arith}
+use Rattle.std.proofs.Common.{◌<◌, ◌≡◌, None, Some, ap, sym, ◌∙◌, subst, arith}
 use Rattle.std.specs.List.{position}
 use mathlib.Core.List.{IsPrefix}
 use Rattle.ulfm_model.specs.History.{failures}

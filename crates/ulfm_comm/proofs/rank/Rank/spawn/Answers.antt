@@ -1,4 +1,4 @@
-use Rattle.std.proofs.Common.{List, false, ◌≡◌, ◌+◌, ◌-◌, ◌<◌, ◌++◌, ◌∷◌, [], nat_eq, None, length, refl, ap, sym, ◌∙◌, subst, arith, rules, ℕ}
+use Rattle.std.proofs.Common.{List, false, ◌≡◌, ◌+◌, ◌<◌, ◌++◌, ◌∷◌, [], nat_eq, None, refl, ap, sym, ◌∙◌, subst, arith, ℕ}
 use Rattle.std.specs.List.{AllByRecursion}
 use Rattle.std.proofs.lemmas.Grind.{common_steps}
 use Rattle.ulfm_model.specs.{Answers.{closed}, Records.{Held, Record, change_at}}
