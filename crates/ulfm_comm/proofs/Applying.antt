@@ -1,6 +1,6 @@
 -- A call on the elements of a job's vector of ranks, as a call on the job.
 use Rattle.std.proofs.Common.{◌≡◌, Bool, List, length, sym, subst, IsTrue}
-use Rattle.std.specs.{Prelude.{Result, Ok, Err, IfOk, Vec}, Vec.{with_items}}
+use Rattle.std.specs.{Prelude.{Result, Ok, Err, IfOk, OnErr, Vec}, Vec.{with_items}}
 use Rattle.std.proofs.lemmas.List.{with_items_is}
 use mathlib.Core.List.{IsPrefix}
 use Rattle.ulfm_model.specs.declared.{call.Call.{Call}, reply.Reply.{Reply}}
@@ -12,6 +12,11 @@ use Rattle.ulfm_comm.specs.Jobs.{IsJob, StepsBy, state_of}
 pub at_value : {X E : Type 0} {Q R : X → Type 0} (result : Result X E) → ((x : X) → Q x → R x) → IfOk result Q → IfOk result R
 at_value (Ok x) follows is = follows x is
 at_value (Err fault) follows is = tt
+
+-- what follows from a fact about an error follows where there is one
+pub on_error : {X E : Type 0} {Q R : Type 0} (result : Result X E) → (Q → R) → OnErr result Q → OnErr result R
+on_error (Ok x) follows is = tt
+on_error (Err fault) follows is = follows is
 
 -- The elements that the call was given are the vector's, those that it left fill the vector, and the state before it is known.
 module _ {P Z : Type 0} (meld : P → P → P) (alone : Bool) (name : Name) (before : Sight P) (old : State P) (after : Sight P) (v : Vec Record Z) (given new : List Record) (same : given ≡ v.items) (fills : length new ≡ v.len) (was : state_of name before v.items ≡ old) where

@@ -20,6 +20,7 @@ pub mod LeftOut
 pub mod Loosely
 pub mod Members
 pub mod Opening
+pub mod Others
 pub mod Passing
 pub mod Polling
 pub mod Polls

@@ -63,7 +63,7 @@ module _ {P : Type 0} (meld : P → P → P) (limits : Limits) (view : View P) (
       (barrier_kind P (is_revoked view.history x.comm) (list_all (has_arrived view.history x.comm k) x.group) (list_all (has_arrived view.history x.comm k) (filter (has x.group) view.look)))
 
   -- that of a call that the record doesn't refuse
-  replies_kind : (asked : Call P) → Replies meld limits view old x asked reply → IsKind asked reply
+  pub replies_kind : (asked : Call P) → Replies meld limits view old x asked reply → IsKind asked reply
   replies_kind (call.Fail rank) replies = tt
   replies_kind (call.GetFailed rank c) replies = subst IsCounted (sym replies.1) tt
   replies_kind (call.Ack rank c count) replies = subst IsAcked (sym replies.1) tt

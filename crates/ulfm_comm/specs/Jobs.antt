@@ -2,6 +2,7 @@
 use Rattle.std.specs.Prelude.{◌≡◌, ℕ, ⊤, Bool, List, IsTrue}
 use mathlib.Core.List.{IsPrefix}
 use Rattle.ulfm_model.specs.declared.{call.Call.{Call}, reply.Reply.{Reply}}
+use Rattle.ulfm_model.specs.declared.call.Call.TheVariants.{Fail, GetFailed, Ack, Agree, Shrink, Barrier, Poll, Revoke, IsRevoked, Free}
 use Rattle.ulfm_model.specs.declared.reply.Reply.TheVariants.{Started, Pending, Agreed, Shrunk, Done, FailedGroup, Acked, Declared, AlreadyFailed, Revoked, AlreadyRevoked, Standing, Freed, Refused}
 use Rattle.ulfm_model.specs.{Answers.{traits_of}, History.{failed, members}, Records.{Record}, Runs.{IsSound, IsStep, State}}
 use Rattle.ulfm_words.specs.Steps.{IsOf, Name, Sight}
@@ -39,3 +40,16 @@ IsAbout state c group AlreadyRevoked = ⊤
 IsAbout state c group (Standing revoked) = ⊤
 IsAbout state c group Freed = ⊤
 IsAbout state c group (Refused refusal) = ⊤
+
+-- a call of a rank, any but a query of the failed group
+abbrev pub IsOther : {P : Type 0} → Call P → Type 0
+IsOther (Fail rank) = ⊥
+IsOther (GetFailed rank c) = ⊥
+IsOther (Ack rank c count) = ⊤
+IsOther (Agree rank c value) = ⊤
+IsOther (Shrink rank c) = ⊤
+IsOther (Barrier rank c) = ⊤
+IsOther (Poll rank c) = ⊤
+IsOther (Revoke rank c) = ⊤
+IsOther (IsRevoked rank c) = ⊤
+IsOther (Free rank c) = ⊤

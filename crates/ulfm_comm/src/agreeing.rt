@@ -7,13 +7,12 @@ ghost use Rattle.ulfm_words.specs.Steps.{IsOf};
 
 use crate::doing::{Next, Phase};
 use crate::rank::Rank;
-use crate::refusal::comm_of;
 use crate::world::World;
 use std::alloc::Allocator;
 use ulfm_laws::body::Body;
 use ulfm_laws::meld::Packed;
 use ulfm_laws::summary::Summary;
-use ulfm_model::call::Call;
+use ulfm_model::call::{Call, comm_of};
 use ulfm_model::refusal::Refusal;
 use ulfm_model::reply::Reply;
 use ulfm_steps::{MarkAll, ReadRound};

@@ -7,10 +7,7 @@ ghost use Rattle.ulfm_model.specs.declared.limits.OpenFault.TheVariants.{OutOfMe
 ghost use Rattle.ulfm_model.proofs.Terms.{comm_of};
 ghost use Rattle.ulfm_comm.specs.Jobs.{IsAbout};
 
-use crate::answers::{
-    ack_by, agree_by, barrier_by, fail_by, free_by, get_by, poll_by, revoke_by, shrink_by,
-    standing_by,
-};
+use crate::answers::{call_by, fail_by, get_by};
 use crate::rank::Rank;
 use crate::world::World;
 use std::alloc::{AllocError, Allocator};
@@ -102,22 +99,7 @@ where
                 comm,
                 group,
             ),
-            Call::Ack { rank, comm, count } => {
-                Ok(ack_by(world, pass, &mut self.ranks, rank, comm, count))
-            }
-            Call::Agree { rank, comm, value } => {
-                Ok(agree_by(world, pass, &mut self.ranks, rank, comm, value))
-            }
-            Call::Shrink { rank, comm } => Ok(shrink_by(world, pass, &mut self.ranks, rank, comm)),
-            Call::Barrier { rank, comm } => {
-                Ok(barrier_by(world, pass, &mut self.ranks, rank, comm))
-            }
-            Call::Poll { rank, comm } => poll_by(world, pass, &mut self.ranks, rank, comm, group),
-            Call::Revoke { rank, comm } => Ok(revoke_by(world, pass, &mut self.ranks, rank, comm)),
-            Call::IsRevoked { rank, comm } => {
-                Ok(standing_by(world, pass, &mut self.ranks, rank, comm))
-            }
-            Call::Free { rank, comm } => Ok(free_by(world, pass, &mut self.ranks, rank, comm)),
+            _ => call_by(world, pass, &mut self.ranks, *asked, group),
         }
     }
 }

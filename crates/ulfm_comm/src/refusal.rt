@@ -1,6 +1,6 @@
 // What a rank's record refuses.
 ghost use Rattle.std.specs.Prelude.{◌≡◌};
-ghost use Rattle.ulfm_model.proofs.Terms.{comm_of, tests_of};
+ghost use Rattle.ulfm_model.proofs.Terms.{tests_of};
 ghost use Rattle.ulfm_model.specs.Answers.{first_refusal};
 
 use crate::held::HeldComm;
@@ -9,24 +9,6 @@ use std::alloc::Allocator;
 use ulfm_laws::meld::Packed;
 use ulfm_model::call::Call;
 use ulfm_model::refusal::Refusal;
-
-// The communicator of a call, 0 for a declaration.
-pub(crate) fn comm_of<P: Packed>(asked: &Call<P>) -> u16
-    ensures { result ≡ comm_of asked.now }
-{
-    match *asked {
-        Call::Fail { .. } => 0,
-        Call::GetFailed { comm, .. }
-        | Call::Ack { comm, .. }
-        | Call::Agree { comm, .. }
-        | Call::Shrink { comm, .. }
-        | Call::Barrier { comm, .. }
-        | Call::Poll { comm, .. }
-        | Call::Revoke { comm, .. }
-        | Call::IsRevoked { comm, .. }
-        | Call::Free { comm, .. } => comm,
-    }
-}
 
 impl<P: Packed, A: Allocator> Rank<P, A> {
     // The first refusal of a call on a communicator that the rank holds, if its record has one.

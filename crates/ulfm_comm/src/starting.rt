@@ -6,11 +6,10 @@ ghost use Rattle.ulfm_comm.specs.declared.doing.Phase.TheVariants.{Settling as A
 ghost use Rattle.ulfm_words.specs.Steps.{IsOf};
 
 use crate::rank::Rank;
-use crate::refusal::comm_of;
 use crate::world::World;
 use std::alloc::Allocator;
 use ulfm_laws::meld::Packed;
-use ulfm_model::call::{Call, Request};
+use ulfm_model::call::{Call, Request, comm_of};
 use ulfm_model::contribution::Offer;
 use ulfm_model::event::Caller;
 use ulfm_model::refusal::Refusal;

@@ -7,11 +7,10 @@ ghost use Rattle.ulfm_words.specs.Steps.{IsOf};
 
 use crate::doing::{Next, Phase};
 use crate::rank::Rank;
-use crate::refusal::comm_of;
 use crate::world::World;
 use std::alloc::Allocator;
 use ulfm_laws::meld::Packed;
-use ulfm_model::call::Call;
+use ulfm_model::call::{Call, comm_of};
 use ulfm_model::refusal::Refusal;
 use ulfm_model::reply::Reply;
 use ulfm_steps::{Arrivals, Missing};

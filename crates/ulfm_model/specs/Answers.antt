@@ -60,6 +60,19 @@ traits_of (call.Revoke rank c) = plain rank c
 traits_of (call.IsRevoked rank c) = plain rank c
 traits_of (call.Free rank c) = record (plain rank c) { tests = λ old x. (c == 0, WorldKept) ∷ (is_some x.request, Busy) ∷ [] }
 
+-- the rank that a call names
+abbrev pub rank_of : {P : Type 0} → Call P → ℕ
+rank_of (call.Fail rank) = rank
+rank_of (call.GetFailed rank c) = rank
+rank_of (call.Ack rank c count) = rank
+rank_of (call.Agree rank c value) = rank
+rank_of (call.Shrink rank c) = rank
+rank_of (call.Barrier rank c) = rank
+rank_of (call.Poll rank c) = rank
+rank_of (call.Revoke rank c) = rank
+rank_of (call.IsRevoked rank c) = rank
+rank_of (call.Free rank c) = rank
+
 -- the request that a call polls
 abbrev pub polled_by : {P : Type 0} → Record → Call P → Option Request
 polled_by old asked = if (traits_of asked).polls then option_and_then (λ x. x.request) (held_at old (traits_of asked).comm) else None

@@ -1,3 +1,6 @@
+ghost use Rattle.std.specs.Prelude.{◌≡◌};
+ghost use Rattle.ulfm_model.specs.Answers.{rank_of, traits_of};
+
 /// What is asked of the object. Each call but `Fail` is that of a rank, on a communicator that it holds.
 #[derive(Clone, Copy, Debug, PartialEq, Eq)]
 pub enum Call<P> {
@@ -29,4 +32,40 @@ pub enum Request {
     Agree { round: u16 },
     Shrink { round: u16 },
     Barrier { round: u16 },
+}
+
+/// The rank that a call names: its caller, or whom the outside declares failed.
+pub fn rank_of<P: Copy>(asked: &Call<P>) -> u16
+    ensures { result ≡ rank_of asked.now }
+{
+    match *asked {
+        Call::Fail { rank }
+        | Call::GetFailed { rank, .. }
+        | Call::Ack { rank, .. }
+        | Call::Agree { rank, .. }
+        | Call::Shrink { rank, .. }
+        | Call::Barrier { rank, .. }
+        | Call::Poll { rank, .. }
+        | Call::Revoke { rank, .. }
+        | Call::IsRevoked { rank, .. }
+        | Call::Free { rank, .. } => rank,
+    }
+}
+
+/// The communicator of a call of a rank. A declaration has none, and 0 here.
+pub fn comm_of<P: Copy>(asked: &Call<P>) -> u16
+    ensures { result ≡ (traits_of asked.now).comm }
+{
+    match *asked {
+        Call::Fail { .. } => 0,
+        Call::GetFailed { comm, .. }
+        | Call::Ack { comm, .. }
+        | Call::Agree { comm, .. }
+        | Call::Shrink { comm, .. }
+        | Call::Barrier { comm, .. }
+        | Call::Poll { comm, .. }
+        | Call::Revoke { comm, .. }
+        | Call::IsRevoked { comm, .. }
+        | Call::Free { comm, .. } => comm,
+    }
 }

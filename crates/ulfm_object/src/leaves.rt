@@ -8,11 +8,10 @@ ghost use Rattle.ulfm_record.specs.Kept.{FitsNext, record_of};
 
 use std::alloc::{AllocError, Allocator};
 use ulfm_history::groups::members;
-use ulfm_model::call::Call;
+use ulfm_model::call::{Call, comm_of};
 use ulfm_model::event::Entry;
 use ulfm_model::limits::Limits;
 use ulfm_model::reply::Reply;
-use ulfm_record::calls::comm_of;
 use ulfm_record::leaves::{settle, take_in};
 use ulfm_record::record::{HeldComm, RankRecord};
 

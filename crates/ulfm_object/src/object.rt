@@ -4,13 +4,13 @@
 ghost use Rattle.std.specs.Prelude.{◌≡◌, ◌⊎◌, [], ◌==◌, ◌++◌, IfErr, IfOk, List, OnErr, OnOk, map, position};
 ghost use Rattle.ulfm_model.proofs.Computed.{next_of_fail, next_of_rank, outcome_of};
 ghost use Rattle.ulfm_model.proofs.Terms.{record_at};
-ghost use Rattle.ulfm_model.specs.Answers.{left_by};
+ghost use Rattle.ulfm_model.specs.Answers.{left_by, rank_of};
 ghost use Rattle.ulfm_model.specs.History.{Exists, entries_by, failed, failures, first_ranks, members};
 ghost use Rattle.ulfm_model.specs.Records.{Record, new_record};
 ghost use Rattle.ulfm_model.specs.Runs.{IsSound, State, new_state};
 ghost use Rattle.ulfm_model.specs.Words.{IsUnfit, MayOpen};
 ghost use Rattle.ulfm_object.specs.Objects.{IsFew, TakesStep, state_of};
-ghost use Rattle.ulfm_record.specs.Kept.{rank_of, record_of};
+ghost use Rattle.ulfm_record.specs.Kept.{record_of};
 ghost use Rattle.ulfm_model.specs.declared.event.Caller.TheVariants.{Rank};
 ghost use Rattle.ulfm_model.specs.declared.limits.OpenFault.TheVariants.{OutOfMemory};
 
@@ -21,12 +21,11 @@ use std::marker::Model;
 use ulfm_history::groups::{failed, first_ranks, members};
 use ulfm_history::reads::{failures, is_declared};
 use ulfm_laws::meld::Meld;
-use ulfm_model::call::Call;
+use ulfm_model::call::{Call, rank_of};
 use ulfm_model::event::{Caller, Entry, Event};
 use ulfm_model::limits::{Limits, OpenFault};
 use ulfm_model::refusal::Refusal;
 use ulfm_model::reply::Reply;
-use ulfm_record::calls::rank_of;
 use ulfm_record::record::{HeldComm, RankRecord};
 
 /// The sequential object.

@@ -16,12 +16,11 @@ use crate::replies::replied;
 use std::alloc::{AllocError, Allocator};
 use ulfm_history::reads::is_declared;
 use ulfm_laws::meld::Meld;
-use ulfm_model::call::Call;
+use ulfm_model::call::{Call, comm_of};
 use ulfm_model::event::{Caller, Entry};
 use ulfm_model::limits::Limits;
 use ulfm_model::refusal::Refusal;
 use ulfm_model::reply::Reply;
-use ulfm_record::calls::comm_of;
 use ulfm_record::record::{HeldComm, RankRecord, place_of};
 use ulfm_record::refuse::refusal_of;
 

@@ -1,8 +1,7 @@
 -- What the program keeps of a rank, as the definitions see it.
-use Rattle.std.specs.{Prelude.{ℕ, ⊤, ◌<◌, map, Option, Some, None}}
-use Rattle.ulfm_model.specs.declared.{call.Call.{Call}, call.Request.{Request}, call.Request.TheVariants.{Agree, Shrink, Barrier}, limits.Limits.{Limits}}
+use Rattle.std.specs.{Prelude.{⊤, ◌<◌, map, Option, Some, None}}
+use Rattle.ulfm_model.specs.declared.{call.Request.{Request}, call.Request.TheVariants.{Agree, Shrink, Barrier}, limits.Limits.{Limits}}
 use Rattle.ulfm_record.specs.declared.{record.HeldComm.{HeldComm}, record.RankRecord.{RankRecord}}
-use Rattle.ulfm_model.specs.declared.call.Call.TheVariants as call
 use Rattle.ulfm_model.specs.Records.{Held, Record}
 
 -- a communicator that a rank holds
@@ -19,16 +18,3 @@ FitsNext None = ⊤
 FitsNext (Some (Agree k)) = k < 65535
 FitsNext (Some (Shrink k)) = k < 65535
 FitsNext (Some (Barrier k)) = k < 65535
-
--- the rank that a call names
-abbrev pub rank_of : {P : Type 0} → Call P → ℕ
-rank_of (call.Fail rank) = rank
-rank_of (call.GetFailed rank c) = rank
-rank_of (call.Ack rank c count) = rank
-rank_of (call.Agree rank c value) = rank
-rank_of (call.Shrink rank c) = rank
-rank_of (call.Barrier rank c) = rank
-rank_of (call.Poll rank c) = rank
-rank_of (call.Revoke rank c) = rank
-rank_of (call.IsRevoked rank c) = rank
-rank_of (call.Free rank c) = rank

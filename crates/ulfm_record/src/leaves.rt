@@ -7,10 +7,10 @@ ghost use Rattle.ulfm_record.specs.Kept.{FitsNext, held_of, record_of};
 ghost use Rattle.ulfm_model.specs.declared.limits.Limits.{Limits};
 ghost use Rattle.ulfm_model.specs.declared.reply.Reply.TheVariants.{Shrunk, Started};
 
-use crate::calls::{comm_of, started};
+use crate::calls::started;
 use crate::record::{HeldComm, RankRecord, place_of};
 use std::alloc::{AllocError, Allocator};
-use ulfm_model::call::{Call, Request};
+use ulfm_model::call::{Call, Request, comm_of};
 use ulfm_model::refusal::Refusal;
 use ulfm_model::reply::Reply;
 

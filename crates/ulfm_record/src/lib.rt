@@ -1,7 +1,7 @@
 //! What one rank of the sequential agreement object holds, when that refuses a call, and what a reply leaves of it.
 #![tactic(auto)]
 
-pub mod calls;
+mod calls;
 pub mod leaves;
 pub mod record;
 pub mod refuse;

@@ -4,10 +4,9 @@ ghost use Rattle.ulfm_model.proofs.Terms.{tests_of};
 ghost use Rattle.ulfm_model.specs.Answers.{first_refusal, refusal_of};
 ghost use Rattle.ulfm_record.specs.Kept.{held_of, record_of};
 
-use crate::calls::comm_of;
 use crate::record::{HeldComm, RankRecord, is_shrinking, place_of};
 use std::alloc::Allocator;
-use ulfm_model::call::Call;
+use ulfm_model::call::{Call, comm_of};
 use ulfm_model::limits::Limits;
 use ulfm_model::refusal::Refusal;
 

@@ -159,9 +159,9 @@ impl Arrivals {
         self.next < group.len()
     }
 
-    /// One load, of the next member's place: who is missing, in the step after which nothing is left.
+    // One load, of the next member's place: who is missing, in the step after which nothing is left.
     #[inline(always)]
-    pub fn step<P: Packed, A: Allocator, W: Words<P, A>>(
+    fn step<P: Packed, A: Allocator, W: Words<P, A>>(
         &mut self,
         words: &W,
         pass: &mut W::Pass,
@@ -227,9 +227,9 @@ impl Arrivals {
         self.step(words, pass, group, declared)
     }
 
-    /// All steps that are left: who is missing. Each member is loaded at most once.
+    // All steps that are left: who is missing. Each member is loaded at most once.
     #[inline(never)]
-    pub fn finish<P: Packed, A: Allocator, W: Words<P, A>>(
+    fn finish<P: Packed, A: Allocator, W: Words<P, A>>(
         self,
         words: &W,
         pass: &mut W::Pass,

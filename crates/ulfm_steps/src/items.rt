@@ -10,9 +10,9 @@ use ulfm_model::event::Caller;
 use ulfm_model::limits::Limits;
 use ulfm_words::{Words, load_comm, load_failure, set_comm, set_failure};
 
-/// How many places the item's list has.
+// How many places the item's list has.
 #[inline(always)]
-pub fn room_for(item: Item, limits: Limits) -> u16
+pub(crate) fn room_for(item: Item, limits: Limits) -> u16
     ensures { result ≡ room item limits }
 {
     match item {
@@ -21,9 +21,9 @@ pub fn room_for(item: Item, limits: Limits) -> u16
     }
 }
 
-/// One load of a place of the item's list: what stands there, if anything does.
+// One load of a place of the item's list: what stands there, if anything does.
 #[inline(always)]
-pub fn load_item<P: Packed, A: Allocator, W: Words<P, A>>(
+pub(crate) fn load_item<P: Packed, A: Allocator, W: Words<P, A>>(
     words: &W,
     pass: &mut W::Pass,
     item: Item,
@@ -46,8 +46,8 @@ pub fn load_item<P: Packed, A: Allocator, W: Words<P, A>>(
     }
 }
 
-/// One exchange of a place of the item's list: the item is put there, or what stands is given.
-pub fn set_item<P: Packed, A: Allocator, W: Words<P, A>>(
+// One exchange of a place of the item's list: the item is put there, or what stands is given.
+pub(crate) fn set_item<P: Packed, A: Allocator, W: Words<P, A>>(
     words: &W,
     pass: &mut W::Pass,
     by: Caller,

@@ -6,7 +6,7 @@ pub mod arrivals;
 pub mod group;
 pub mod intruder;
 pub mod item;
-pub mod items;
+mod items;
 pub mod look;
 pub mod mark_all;
 pub mod read_on;

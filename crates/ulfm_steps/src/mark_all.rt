@@ -1,8 +1,7 @@
 // Marking a round's declared members, in the order of their failures: one exchange for each. Whoever is settled, by the mark
 // or before it, stays as it is.
-ghost use Rattle.std.specs.Prelude.{◌≡◌, ◌<◌, ◌≤◌, ◌+◌, ◌++◌, ◌∷◌, [], false, true, length, filter, slice_index};
+ghost use Rattle.std.specs.Prelude.{◌≡◌, ◌<◌, ◌≤◌, ◌+◌, ◌++◌, ◌∷◌, [], false, true, length, slice_index};
 ghost use Rattle.std.specs.List.Sorted.{IsStrictlyIncreasing};
-ghost use Rattle.ulfm_model.specs.History.{has};
 ghost use Rattle.ulfm_words.specs.Steps.{IsOf};
 ghost use Rattle.ulfm_steps.specs.Marks.{HasMarked, MarkSteps, MayMarkAll, members_in, IsNext, IsAt};
 
@@ -26,9 +25,9 @@ pub struct MarkAll {
     pub known: u16,
 }
 
-/// Where the next member stands among the declared ranks, from a place on.
+// Where the next member stands among the declared ranks, from a place on.
 #[inline(always)]
-pub fn next_member(group: &[u16], declared: &[u16], start: usize) -> usize
+pub(crate) fn next_member(group: &[u16], declared: &[u16], start: usize) -> usize
     requires within { start ≤ length declared.now }
     requires rises { IsStrictlyIncreasing group.now }
     ensures { IsNext group.now declared.now start result }
@@ -142,22 +141,4 @@ impl MarkAll {
             self.advance(words, pass, group, declared, true);
         }
     }
-}
-
-/// Marks each declared member of a round that isn't settled, in a rank's name.
-#[inline(never)]
-pub fn mark_all<P: Packed, A: Allocator, W: Words<P, A>>(
-    words: &W,
-    pass: &mut W::Pass,
-    rank: u16,
-    comm: u16,
-    round: u16,
-    group: &[u16],
-    declared: &[u16],
-)
-    requires of { IsOf P.meld (W.name words.now) (W.sight pass.old) }
-    requires may { MayMarkAll (W.name words.now).limits (W.sight pass.old).seen comm round group.now declared.now }
-    ensures marks { MarkSteps P.meld W.alone (W.name words.now) rank comm round (filter (has group.now) declared.now) (W.sight pass.old) (W.sight pass.new) }
-{
-    MarkAll::new(rank, comm, round, group, declared).finish(words, pass, group, declared);
 }

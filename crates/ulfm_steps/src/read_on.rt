@@ -47,9 +47,9 @@ impl ReadOn {
         self.found == count
     }
 
-    /// One load, of the list's next place, which has a rank.
+    // One load, of the list's next place, which has a rank.
     #[inline(always)]
-    pub fn step<P: Packed, A: Allocator, W: Words<P, A>, B: Allocator>(
+    fn step<P: Packed, A: Allocator, W: Words<P, A>, B: Allocator>(
         &mut self,
         words: &W,
         pass: &mut W::Pass,

@@ -15,8 +15,7 @@ use ulfm_laws::summary::Summary;
 use ulfm_model::contribution::{Contribution, Offer};
 use ulfm_model::event::{Caller, Entry, Event};
 use ulfm_model::limits::Limits;
-use ulfm_steps::mark_all::mark_all;
-use ulfm_steps::{Append, Appended, Intruder, Item, Look, ReadRound, Settle};
+use ulfm_steps::{Append, Appended, Intruder, Item, Look, MarkAll, ReadRound, Settle};
 use ulfm_words::{PlainWords, Words};
 
 const LIMITS: Limits = Limits {
@@ -80,7 +79,7 @@ fn poll<P: Packed, A: Allocator, W: Words<P, A>, B: Allocator>(
     ensures room { vec_capacity found.old ≤ vec_capacity found.new }
 {
     Look::new(found).finish(words, pass, found);
-    mark_all(words, pass, 0, 0, 0, group, found);
+    MarkAll::new(0, 0, 0, group, found).finish(words, pass, group, found);
     ReadRound::new(0, 0).finish(words, pass, group)
 }
 

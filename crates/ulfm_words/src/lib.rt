@@ -12,9 +12,9 @@ pub mod slots;
 pub mod step;
 pub mod words;
 
-pub use loads::{load_arrival, load_comm, load_failure, load_revocation, load_slot, load_summary};
+pub use loads::{load_arrival, load_comm, load_failure, load_revocation, load_summary};
 pub use pass::PlainPass;
-pub use places::{is_within, key_of};
+pub use places::key_of;
 pub use plain::{PlainTold, PlainWords};
 pub use sets::{put_slot, set_arrival, set_comm, set_failure, set_revocation, set_slot};
 pub use slots::{read_slot, read_written, slot_word};

@@ -8,12 +8,11 @@ ghost use Rattle.ulfm_model.specs.declared.place.Place.TheVariants.{List as List
 ghost use Rattle.ulfm_words.specs.Places.{IsCell, IsWithin};
 ghost use Rattle.ulfm_words.specs.Steps.{IsOf, Loads};
 
-use crate::slots::{read_slot, summary_in};
+use crate::slots::summary_in;
 use crate::words::Words;
 use std::alloc::Allocator;
 use ulfm_laws::meld::Packed;
 use ulfm_laws::summary::Summary;
-use ulfm_model::contribution::Slot;
 use ulfm_model::place::Place;
 
 /// One load of an entry of the list of failures: the rank that is declared there, if one is.
@@ -34,23 +33,6 @@ pub fn load_failure<P: Packed, A: Allocator, W: Words<P, A>>(
         return None;
     }
     Some((word - 1) as u16)
-}
-
-/// One load of a member's place in an agreement round: what settles it, if something does.
-#[inline(always)]
-pub fn load_slot<P: Packed, A: Allocator, W: Words<P, A>>(
-    words: &W,
-    pass: &mut W::Pass,
-    comm: u16,
-    round: u16,
-    rank: u16,
-) -> Option<Slot<P>>
-    requires of { IsOf P.meld (W.name words.now) (W.sight pass.old) }
-    requires within { IsCell (W.name words.now).limits comm round rank }
-    ensures loads { Loads P.meld P.pack W.alone (W.name words.now) (SlotAt comm round rank) (W.sight pass.old) (W.sight pass.new) }
-    ensures slot { result ≡ slot (W.sight pass.new).seen comm round rank }
-{
-    read_slot(words.load(pass, Place::Slot { comm, round, rank }))
 }
 
 /// One load of a member's place in an agreement round: what its slot says of the round, if the member is settled.

@@ -1,25 +1,10 @@
-ghost use Rattle.std.specs.Prelude.{◌≡◌, ◌↔◌, IsTrue};
+ghost use Rattle.std.specs.Prelude.{◌≡◌};
 ghost use Rattle.ulfm_model.specs.Words.{MayOpen};
 ghost use Rattle.ulfm_words.specs.Places.{IsWithin, key_in};
 
 use crate::row::{Seat, seat_of};
 use ulfm_model::limits::Limits;
 use ulfm_model::place::Place;
-
-/// Whether a world of these limits has this place: list entries are numbered from 0 and spawned communicators from 1;
-/// communicators, rounds and ranks are below their limits.
-pub fn is_within(place: Place, limits: Limits) -> bool
-    ensures { IsTrue result ↔ IsWithin limits place }
-{
-    match place {
-        Place::List { index } => index < limits.ranks,
-        Place::Comm { comm } => 0 < comm && comm < limits.comms,
-        Place::Revoked { comm } => comm < limits.comms,
-        Place::Slot { comm, round, rank } | Place::Arrival { comm, round, rank } => {
-            comm < limits.comms && round < limits.rounds && rank < limits.ranks
-        }
-    }
-}
 
 /// Where the word of this place stands in the row of all words: the lists, the revocations, and then round after round the
 /// slots and the arrivals of all communicators. Two places have two keys, all below the world's size.

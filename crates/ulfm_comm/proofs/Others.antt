@@ -1,0 +1,193 @@
+-- A call of a rank among all ranks, any but a query of the failed group.
+use Rattle.std.proofs.Common.{◌≡◌, ℕ, ◌<◌, Bool, true, false, List, get_or, set, length, refl, ap, sym, ◌∙◌, subst, inl, inr, IsTrue, if◌then◌else◌, Option, Some, None}
+use mathlib.Core.List.{IsPrefix}
+use Rattle.ulfm_model.specs.declared.call.Call.TheVariants as call
+use Rattle.ulfm_model.specs.declared.{call.Call.{Call}, call.Request.{Request}, event.Caller.TheVariants.{Rank}, refusal.Refusal.{Refusal}, reply.Reply.{Reply}}
+use Rattle.ulfm_model.specs.declared.reply.Reply.TheVariants.{Started, Pending, Agreed, Shrunk, Done, FailedGroup, Acked, Declared, AlreadyFailed, Revoked, AlreadyRevoked, Standing, Freed, Refused}
+use Rattle.ulfm_model.specs.declared.refusal.Refusal.TheVariants.{SelfFailed, NoSuchComm, Busy, ShrinkOpen, RoundsUsedUp, Idle, Mismatch, NoContext, NoRoom, IsRevoked, ProcFailed, WorldKept, NoSuchRank, OutOfMemory, Twice}
+use Rattle.ulfm_model.specs.{Answers.{rank_of, traits_of}, Records.{Held, Record, held_at, is_shrink}, Runs.{IsCall, State}}
+use Rattle.ulfm_model.proofs.Terms.{view_of}
+use Rattle.ulfm_words.specs.Steps.{Name, Sight}
+use Rattle.ulfm_comm.specs.{Calls.{Calls, EndsAs, EndsReply, wants_memory}, Jobs.{IsAbout, IsJob, IsOther, StepsBy, state_of}}
+use Rattle.ulfm_comm.proofs.{Handing.{has_members}, InOrder.{number_at}, Jobs.{calls_step, out_begins, out_job}, ReplyKinds.{IsKind, answered_on, replies_kind}}
+
+-- a reply that doesn't say that memory ran out
+kept_memory : {P : Type 0} (reply : Reply P) → (reply ≡ Refused OutOfMemory → ⊥) → wants_memory reply ≡ false
+kept_memory Started other = refl
+kept_memory Pending other = refl
+kept_memory (Agreed value count raised) other = refl
+kept_memory (Shrunk j context size) other = refl
+kept_memory Done other = refl
+kept_memory (FailedGroup count) other = refl
+kept_memory (Acked count) other = refl
+kept_memory Declared other = refl
+kept_memory AlreadyFailed other = refl
+kept_memory Revoked other = refl
+kept_memory AlreadyRevoked other = refl
+kept_memory (Standing revoked) other = refl
+kept_memory Freed other = refl
+kept_memory (Refused SelfFailed) other = refl
+kept_memory (Refused NoSuchComm) other = refl
+kept_memory (Refused Busy) other = refl
+kept_memory (Refused ShrinkOpen) other = refl
+kept_memory (Refused RoundsUsedUp) other = refl
+kept_memory (Refused Idle) other = refl
+kept_memory (Refused Mismatch) other = refl
+kept_memory (Refused NoContext) other = refl
+kept_memory (Refused NoRoom) other = refl
+kept_memory (Refused IsRevoked) other = refl
+kept_memory (Refused ProcFailed) other = refl
+kept_memory (Refused WorldKept) other = refl
+kept_memory (Refused NoSuchRank) other = refl
+kept_memory (Refused OutOfMemory) other = absurd (other refl)
+kept_memory (Refused Twice) other = refl
+
+module _ {P : Type 0} where
+  -- it is a rank's
+  pub by_rank : (asked : Call P) → IsOther asked → (traits_of asked).by ≡ Rank (rank_of asked)
+  by_rank (call.Fail rank) other = absurd other
+  by_rank (call.GetFailed rank c) other = absurd other
+  by_rank (call.Ack rank c count) other = refl
+  by_rank (call.Agree rank c value) other = refl
+  by_rank (call.Shrink rank c) other = refl
+  by_rank (call.Barrier rank c) other = refl
+  by_rank (call.Poll rank c) other = refl
+  by_rank (call.Revoke rank c) other = refl
+  by_rank (call.IsRevoked rank c) other = refl
+  by_rank (call.Free rank c) other = refl
+
+  -- neither a declaration nor a query of the failed group
+  pub is_other : (asked : Call P) → ((rank : ℕ) → asked ≡ call.Fail rank → ⊥) → ((rank c : ℕ) → asked ≡ call.GetFailed rank c → ⊥) → IsOther asked
+  is_other (call.Fail rank) declares queries = absurd (declares rank refl)
+  is_other (call.GetFailed rank c) declares queries = absurd (queries rank c refl)
+  is_other (call.Ack rank c count) declares queries = tt
+  is_other (call.Agree rank c value) declares queries = tt
+  is_other (call.Shrink rank c) declares queries = tt
+  is_other (call.Barrier rank c) declares queries = tt
+  is_other (call.Poll rank c) declares queries = tt
+  is_other (call.Revoke rank c) declares queries = tt
+  is_other (call.IsRevoked rank c) declares queries = tt
+  is_other (call.Free rank c) declares queries = tt
+
+  -- what polls is a poll
+  pub asks_poll : (asked : Call P) → IsTrue (traits_of asked).polls → (rank : ℕ) × (c : ℕ) × (asked ≡ call.Poll rank c)
+  asks_poll (call.Fail rank) polls = absurd (cc polls)
+  asks_poll (call.GetFailed rank c) polls = absurd (cc polls)
+  asks_poll (call.Ack rank c count) polls = absurd (cc polls)
+  asks_poll (call.Agree rank c value) polls = absurd (cc polls)
+  asks_poll (call.Shrink rank c) polls = absurd (cc polls)
+  asks_poll (call.Barrier rank c) polls = absurd (cc polls)
+  asks_poll (call.Poll rank c) polls = (rank, c, refl)
+  asks_poll (call.Revoke rank c) polls = absurd (cc polls)
+  asks_poll (call.IsRevoked rank c) polls = absurd (cc polls)
+  asks_poll (call.Free rank c) polls = absurd (cc polls)
+
+  -- only a poll makes a communicator
+  shrunk_polls : (asked : Call P) (j context size : ℕ) → IsOther asked → IsKind asked (Shrunk j context size) → (rank : ℕ) × (c : ℕ) × (asked ≡ call.Poll rank c)
+  shrunk_polls (call.Fail rank) j context size other kind = absurd other
+  shrunk_polls (call.GetFailed rank c) j context size other kind = absurd other
+  shrunk_polls (call.Ack rank c count) j context size other kind = absurd kind
+  shrunk_polls (call.Agree rank c value) j context size other kind = absurd kind
+  shrunk_polls (call.Shrink rank c) j context size other kind = absurd kind
+  shrunk_polls (call.Barrier rank c) j context size other kind = absurd kind
+  shrunk_polls (call.Poll rank c) j context size other kind = (rank, c, refl)
+  shrunk_polls (call.Revoke rank c) j context size other kind = absurd kind
+  shrunk_polls (call.IsRevoked rank c) j context size other kind = absurd kind
+  shrunk_polls (call.Free rank c) j context size other kind = absurd kind
+
+  -- and none of them counts failures
+  counts_none : (asked : Call P) (count : ℕ) → IsOther asked → IsKind asked (FailedGroup count) → ⊥
+  counts_none (call.Fail rank) count other kind = other
+  counts_none (call.GetFailed rank c) count other kind = other
+  counts_none (call.Ack rank c limit) count other kind = kind
+  counts_none (call.Agree rank c value) count other kind = kind
+  counts_none (call.Shrink rank c) count other kind = kind
+  counts_none (call.Barrier rank c) count other kind = kind
+  counts_none (call.Poll rank c) count other kind = kind
+  counts_none (call.Revoke rank c) count other kind = kind
+  counts_none (call.IsRevoked rank c) count other kind = kind
+  counts_none (call.Free rank c) count other kind = kind
+
+  -- a reply about no group
+  about_none : (state : State P) (c : ℕ) (group : List ℕ) (reply : Reply P) → ((j context size : ℕ) → reply ≡ Shrunk j context size → ⊥) → ((count : ℕ) → reply ≡ FailedGroup count → ⊥) → IsAbout state c group reply
+  about_none state c group Started made counted = tt
+  about_none state c group Pending made counted = tt
+  about_none state c group (Agreed value count raised) made counted = tt
+  about_none state c group (Shrunk j context size) made counted = absurd (made j context size refl)
+  about_none state c group Done made counted = tt
+  about_none state c group (FailedGroup count) made counted = absurd (counted count refl)
+  about_none state c group (Acked count) made counted = tt
+  about_none state c group Declared made counted = tt
+  about_none state c group AlreadyFailed made counted = tt
+  about_none state c group Revoked made counted = tt
+  about_none state c group AlreadyRevoked made counted = tt
+  about_none state c group (Standing revoked) made counted = tt
+  about_none state c group Freed made counted = tt
+  about_none state c group (Refused refusal) made counted = tt
+
+-- only what polls has a shrink's request
+polls_of : (polls : Bool) (request : Option Request) → IsTrue (is_shrink (if polls then request else None)) → IsTrue polls
+polls_of true request is = refl
+polls_of false request is = absurd (cc is)
+
+module _ {P : Type 0} (meld : P → P → P) (alone : Bool) (name : Name) (before : Sight P) (ranks : List Record) (job : IsJob meld name before ranks) (asked : Call P) (other : IsOther asked) (i : ℕ) (d : Record) (is_rank : i ≡ rank_of asked) (below : i < length ranks) where
+  abbrev own : Record
+  own = get_or ranks i d
+
+  by_it : (traits_of asked).by ≡ Rank i
+  by_it = by_rank asked other ∙ ap Rank (sym is_rank)
+
+  -- the rank that stands at its number makes it
+  pub mine : (traits_of asked).by ≡ Rank own.number
+  mine = by_it ∙ ap Rank (sym (number_at name.limits.ranks ranks job.sound.numbers i d below))
+
+  module _ (new : Record) (after : Sight P) (reply : Reply P) (ends : EndsReply meld alone name asked own before reply new after) where
+    -- it ran out of memory
+    module _ (out : reply ≡ Refused OutOfMemory) where
+      ended : EndsReply meld alone name asked own before (Refused OutOfMemory) new after
+      ended = subst (λ r. EndsReply meld alone name asked own before r new after) out ends
+
+      pub other_begins : IsPrefix before.seen after.seen
+      other_begins = out_begins meld alone name before ranks job i d below new after asked ended.0
+
+      pub other_job : IsJob meld name after (set ranks i new)
+      other_job = out_job meld alone name before ranks job i d below new after asked ended.0
+
+      pub out_polls : IsTrue (traits_of asked).polls
+      out_polls = polls_of (traits_of asked).polls _ ended.1
+
+    module _ (kept : reply ≡ Refused OutOfMemory → ⊥) where
+      -- it is a call of the sequential object
+      pub other_calls : Calls meld alone name asked own before reply new after
+      other_calls = subst (λ b. EndsAs meld alone name asked own before reply b new after) (kept_memory reply kept) ends
+
+      pub other_step : StepsBy meld alone name asked before ranks reply after (set ranks i new)
+      other_step = calls_step meld alone name before ranks job i d below new after (λ _. asked) reply by_it other_calls
+
+      -- and its reply is of its kind
+      other_kind : ((refusal : Refusal) → reply ≡ Refused refusal → ⊥) → IsKind asked reply
+      other_kind answers = by_run other_calls.run
+        where
+          by_run : IsCall meld name.limits alone before.seen after.seen own asked reply new → IsKind asked reply
+          by_run (inl refused) = absurd (answers SelfFailed refused.2)
+          by_run (inr run) =
+              let on = answered_on meld name.limits alone before.seen after.seen own asked reply new run answers in
+              replies_kind meld name.limits (view_of run.span) own on.x reply asked on.replies
+
+      module _ (j context size : ℕ) (is : reply ≡ Shrunk j context size) where
+        polled : (rank : ℕ) × (c : ℕ) × (asked ≡ call.Poll rank c)
+        polled = shrunk_polls asked j context size other (subst (IsKind asked) is (other_kind (λ refusal refused. cc (is, refused))))
+
+        pub other_polls : IsTrue (traits_of asked).polls
+        other_polls = subst (λ a. IsTrue (traits_of a).polls) (sym polled.2) refl
+
+        -- what the rank holds of the new communicator are its members
+        pub other_made : (c : ℕ) (group : List ℕ) → ((x : Held) → held_at new j ≡ Some x → group ≡ x.group) → IsAbout (state_of name after (set ranks i new)) c group reply
+        other_made c group has =
+            let number : polled.0 ≡ own.number = cc (subst (λ a. (traits_of a).by ≡ Rank own.number) polled.2 mine) in
+            let poll : asked ≡ call.Poll own.number polled.1 = polled.2 ∙ ap (λ r. call.Poll r polled.1) number in
+            let calls = subst (λ r. Calls meld alone name (call.Poll own.number polled.1) own before r new after) is (subst (λ a. Calls meld alone name a own before reply new after) poll other_calls) in
+            subst (IsAbout (state_of name after (set ranks i new)) c group) (sym is) (has_members meld alone name polled.1 own before j context size new after calls group has)
+
+      pub other_about : (c : ℕ) (group : List ℕ) → ((j context size : ℕ) → reply ≡ Shrunk j context size → ⊥) → ((refusal : Refusal) → reply ≡ Refused refusal → ⊥) → IsAbout (state_of name after (set ranks i new)) c group reply
+      other_about c group made answers = about_none (state_of name after (set ranks i new)) c group reply made (λ count is. counts_none asked count other (subst (IsKind asked) is (other_kind answers)))
