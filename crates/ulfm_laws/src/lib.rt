@@ -18,8 +18,6 @@ pub mod meanings;
 pub mod meld;
 pub mod meld_all;
 pub mod summary;
-#[cfg(test)]
-mod tests;
 
 pub use acked::Acked;
 pub use body::Body;

@@ -28,20 +28,8 @@ pub(crate) fn shrink(rank: u16, comm: u16) -> Call<FlagAnd> {
     Call::Shrink { rank, comm }
 }
 
-pub(crate) fn barrier(rank: u16, comm: u16) -> Call<FlagAnd> {
-    Call::Barrier { rank, comm }
-}
-
 pub(crate) fn poll(rank: u16, comm: u16) -> Call<FlagAnd> {
     Call::Poll { rank, comm }
-}
-
-pub(crate) fn revoke(rank: u16, comm: u16) -> Call<FlagAnd> {
-    Call::Revoke { rank, comm }
-}
-
-pub(crate) fn is_revoked(rank: u16, comm: u16) -> Call<FlagAnd> {
-    Call::IsRevoked { rank, comm }
 }
 
 pub(crate) fn free(rank: u16, comm: u16) -> Call<FlagAnd> {
@@ -71,10 +59,6 @@ pub(crate) fn failed_group(count: u16) -> Reply<FlagAnd> {
 
 pub(crate) fn acked(count: u16) -> Reply<FlagAnd> {
     Reply::Acked { count }
-}
-
-pub(crate) fn standing(revoked: bool) -> Reply<FlagAnd> {
-    Reply::Standing { revoked }
 }
 
 pub(crate) fn limits(ranks: u16, comms: u16, rounds: u16) -> Limits {

@@ -1,4 +1,5 @@
-//! The tests of the sequential object: worked scripts, and memory that is refused.
+//! The tests of the sequential object: which worlds open, and memory that is refused. Worked scripts are run over it beside ranks
+//! over words, in the tests of `ulfm_run`.
 #![tactic(auto)]
 
 #[cfg(test)]
@@ -6,4 +7,4 @@ mod calls;
 #[cfg(test)]
 mod memory;
 #[cfg(test)]
-mod scripts;
+mod opening;

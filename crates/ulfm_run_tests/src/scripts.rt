@@ -141,6 +141,39 @@ fn both_engines_give_the_same(rt: HostRuntime) -> Result<(), Fail> {
     Ok(())
 }
 
+/// Refusals, each in the states that it comes in.
+#[test]
+fn refusals_come_in_their_states(rt: HostRuntime) -> Result<(), Fail> {
+    let scripts: [(&str, &[u8], &[u8]); 4] = [
+        (
+            "first_refusal",
+            b"ulfm 1 1 1 2\nget 0 1\npoll 0 0\nagree 0 0 00000001\nagree 0 0 00000001\npoll 0 0\nagree 0 0 00000001\npoll 1 0\nfail 0\nget 0 1\n",
+            b"refused 2 no-such-comm\nrefused 6 idle\nstarted\nrefused 3 busy\nagreed 00000001 failed 0 clean\nrefused 5 rounds-used-up\nrefused 13 no-such-rank\ndeclared\nrefused 1 self-failed\n",
+        ),
+        (
+            "failed_after_arriving",
+            b"ulfm 1 2 1 1\nbarrier 0 0\nbarrier 1 0\nfail 1\npoll 0 0\nbarrier 0 0\n",
+            b"started\nstarted\ndeclared\ndone\nrefused 5 rounds-used-up\n",
+        ),
+        (
+            "one_rank_of_three_rounds",
+            b"ulfm 1 1 1 3\npoll 0 0\nagree 0 0 00000001\nagree 0 0 00000001\nbarrier 0 0\npoll 0 0\npoll 0 0\nagree 0 0 00000003\nagree 0 0 00000003\npoll 0 0\nagree 0 0 00000003\nshrink 0 0\nshrink 0 0\npoll 0 0\nshrink 0 0\nbarrier 0 0\npoll 0 0\nget 0 1\nack 0 1 1\nagree 0 1 00000001\npoll 0 1\nget 1 0\nagree 1 1 00000001\nfail 0\nagree 0 0 00000001\npoll 0 1\nget 1 1\n",
+            b"refused 6 idle\nstarted\nrefused 3 busy\nrefused 3 busy\nagreed 00000001 failed 0 clean\nrefused 6 idle\nstarted\nrefused 3 busy\nagreed 00000003 failed 0 clean\nrefused 5 rounds-used-up\nstarted\nrefused 3 busy\nrefused 9 no-room\nrefused 5 rounds-used-up\nstarted\ndone\nrefused 2 no-such-comm\nrefused 2 no-such-comm\nrefused 2 no-such-comm\nrefused 2 no-such-comm\nrefused 13 no-such-rank\nrefused 13 no-such-rank\ndeclared\nrefused 1 self-failed\nrefused 1 self-failed\nrefused 13 no-such-rank\n",
+        ),
+        (
+            "refused_for_good",
+            b"ulfm 1 2 2 4\nagree 1 0 00000001\nfail 1\npoll 1 0\nget 1 0\nack 1 0 1\nagree 1 0 00000001\nshrink 1 0\nbarrier 1 0\npoll 1 0\nrevoke 1 0\nisrevoked 1 0\nfree 1 0\npoll 1 3\nisrevoked 0 0\nfail 1\n",
+            b"started\ndeclared\nrefused 1 self-failed\nrefused 1 self-failed\nrefused 1 self-failed\nrefused 1 self-failed\nrefused 1 self-failed\nrefused 1 self-failed\nrefused 1 self-failed\nrefused 1 self-failed\nrefused 1 self-failed\nrefused 1 self-failed\nrefused 1 self-failed\nno\nalready-failed\n",
+        ),
+    ];
+    for (name, script, wanted) in scripts {
+        let (out, end) = run(&rt, script)?;
+        assert_eq!(rt; out.as_slice(), wanted, "{name}");
+        assert_eq!(rt; end, Ok(()), "{name}");
+    }
+    Ok(())
+}
+
 /// The worked rows.
 #[test]
 fn worked_rows(rt: HostRuntime) -> Result<(), Fail> {

@@ -1,4 +1,6 @@
-//! Tests of the machines that take one atomic step at a time: over words that count the steps, and beside an intruder's.
+//! Tests of what ranks stand on: combining at concrete values, which worlds open, how refusals print, that entries are cloned, that the
+//! laws hold for flags, the words of slots, plain words that were just opened, and the machines that take one atomic step at a
+//! time, over words that count the steps, and beside an intruder's.
 #![tactic(auto)]
 
 #[cfg(test)]
@@ -8,6 +10,12 @@ mod counted;
 #[cfg(test)]
 mod finished;
 #[cfg(test)]
+mod laws;
+#[cfg(test)]
+mod model;
+#[cfg(test)]
 mod read_on;
 #[cfg(test)]
 mod stepped;
+#[cfg(test)]
+mod words;

@@ -1,5 +1,5 @@
-use crate::meld_all::meld_all;
-use crate::{Acked, Body, CtxMask, FlagAnd, Known, Meld, Packed, Summary, meanings};
+use ulfm_laws::meld_all::meld_all;
+use ulfm_laws::{Acked, Body, CtxMask, FlagAnd, Known, Meld, Packed, Summary, meanings};
 
 /// A value, from its word.
 fn read_back<P: Packed>(value: &P) -> Option<P> {
