@@ -2,12 +2,12 @@
 #![tactic(auto)]
 
 #[cfg(test)]
+mod calls;
+#[cfg(test)]
 mod jobs;
 #[cfg(test)]
 mod lone;
 #[cfg(test)]
 mod play;
-#[cfg(test)]
-mod scripts;
 #[cfg(test)]
 mod step_by_step;

@@ -1,7 +1,7 @@
 // Calls that are taken step by step, in turns.
 
+use crate::calls::{agreed, apply};
 use crate::play::{Play, Verb, call_of};
-use crate::scripts::{agreed, apply};
 use std::alloc::{AllocError, Global};
 use std::process::Abort;
 use std::test::Fail;

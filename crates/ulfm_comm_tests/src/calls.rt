@@ -1,0 +1,253 @@
+// Calls of single ranks: memory that is refused, and others' events that come in between.
+
+use crate::lone::Lone;
+use linked_list_allocator::LocalHeap;
+use std::alloc::{AllocError, Allocator, Global};
+use std::process::Abort;
+use std::test::Fail;
+use ulfm_comm::{Job, Polled, World};
+use ulfm_laws::acked::Acked;
+use ulfm_laws::flag_and::FlagAnd;
+use ulfm_laws::known::Known;
+use ulfm_model::call::Call;
+use ulfm_model::contribution::{Contribution, Offer};
+use ulfm_model::event::{Caller, Entry, Event};
+use ulfm_model::limits::Limits;
+use ulfm_model::refusal::Refusal;
+use ulfm_model::reply::Reply;
+use ulfm_steps::Intruder;
+use ulfm_words::PlainWords;
+
+pub(crate) fn agreed(bits: u32, failed: u16, raised: bool) -> Reply<FlagAnd> {
+    let value = FlagAnd { bits };
+    Reply::Agreed {
+        value,
+        failed,
+        raised,
+    }
+}
+
+/// A call's reply. It promises nothing, so that the proof of a test has nothing to carry along.
+pub(crate) fn apply(
+    job: &mut Job<PlainWords<FlagAnd>, FlagAnd, Global>,
+    asked: &Call<FlagAnd>,
+    group: &mut Vec<u16>,
+) -> Result<Reply<FlagAnd>, AllocError> {
+    job.apply(asked, group)
+}
+
+const THREE: Limits = Limits {
+    ranks: 3,
+    comms: 1,
+    rounds: 4,
+};
+
+// Rank 0 asks for the failed group, into a vector that gets no memory: its record has the failure, and is else as it was.
+fn get_refused(rt: &impl Abort, alloc: Global, full: &LocalHeap) -> Result<(), Fail> {
+    let words = PlainWords::<FlagAnd>::open(THREE)?;
+    let mut lone = Lone::open(rt, alloc, words, 3)?;
+    let mut found = Vec::new(full);
+    assert!(rt; lone.declare(1) == Ok(true));
+    let refused = lone.get_failed(0, &mut found);
+    assert!(rt; refused == Err(Refusal::OutOfMemory));
+    assert!(rt; found.is_empty());
+    let own = lone.own();
+    assert_eq!(rt; own.failures(), [1].as_slice());
+    assert!(rt; own.members(0) == Some([0, 1, 2].as_slice()));
+    assert!(rt; own.context(0) == Some(0));
+    Ok(())
+}
+
+#[test]
+fn refused_memory_leaves_the_record(rt: HostRuntime) -> Result<(), Fail> {
+    let heap = LocalHeap::new(rt.alloc(), 16)?;
+    let all_of_it = Vec::<u8, &LocalHeap>::with_capacity(&heap, 16)?;
+    get_refused(&rt, rt.alloc(), &heap)?;
+    drop(all_of_it);
+    Ok(())
+}
+
+#[test]
+fn lost_fail_is_not_claimed(rt: HostRuntime) -> Result<(), Fail> {
+    let plain = PlainWords::<FlagAnd>::open(THREE)?;
+    let guest = Entry {
+        by: Caller::Outside,
+        event: Event::Fail { rank: 1 },
+    };
+    let (world, _) = World::open(rt.alloc(), Intruder { plain, guest })?;
+    let mut pass = world.pass(rt.alloc())?;
+    // Just before the exchange, which is the second step.
+    pass.wait(1);
+    assert!(rt; world.fail(&mut pass, 1) == Ok(false));
+    Ok(())
+}
+
+#[test]
+fn own_place_is_taken(rt: HostRuntime) -> Result<(), Fail> {
+    let plain = PlainWords::<FlagAnd>::open(THREE)?;
+    let given = Contribution {
+        offer: Offer::Flag(FlagAnd { bits: 0x1 }),
+        known: Known { count: 0 },
+        acked: Acked { count: 0 },
+    };
+    let guest = Entry {
+        by: Caller::Rank(0),
+        event: Event::Settle {
+            comm: 0,
+            round: 0,
+            rank: 0,
+            given,
+        },
+    };
+    let mut lone = Lone::open(&rt, rt.alloc(), Intruder { plain, guest }, 3)?;
+    // Just before the exchange: the look makes one load.
+    lone.wait(1);
+    let refused = lone.iagree(0, FlagAnd { bits: 0x3 });
+    assert!(rt; refused == Err(Refusal::Twice));
+    Ok(())
+}
+
+#[test]
+fn shrink_offers_free_ids(rt: HostRuntime) -> Result<(), Fail> {
+    let words = PlainWords::<FlagAnd>::open(THREE)?;
+    let mut lone = Lone::open(&rt, rt.alloc(), words, 3)?;
+    assert!(rt; lone.declare(1) == Ok(true));
+    assert!(rt; lone.ishrink(1) == Err(Refusal::NoSuchComm));
+    assert!(rt; lone.ishrink(0) == Ok(()));
+    // All ids but 0, one failure that is known, and none that is acknowledged.
+    assert!(rt; lone.slot(0, 0, 0) == Some(0x01ff_ffff_fc00_000d));
+    assert!(rt; lone.ishrink(0) == Err(Refusal::Busy));
+    assert!(rt; lone.free(1) == Err(Refusal::NoSuchComm));
+    assert!(rt; lone.free(0) == Err(Refusal::WorldKept));
+    Ok(())
+}
+
+#[test]
+fn last_round_is_kept_for_a_shrink(rt: HostRuntime) -> Result<(), Fail> {
+    let limits = Limits {
+        ranks: 2,
+        comms: 1,
+        rounds: 1,
+    };
+    let words = PlainWords::<FlagAnd>::open(limits)?;
+    let mut lone = Lone::open(&rt, rt.alloc(), words, 2)?;
+    let refused = lone.iagree(0, FlagAnd { bits: 0x3 });
+    assert!(rt; refused == Err(Refusal::RoundsUsedUp));
+    assert!(rt; lone.ishrink(0) == Ok(()));
+    assert!(rt; lone.declare(0) == Ok(true));
+    assert!(rt; lone.ishrink(0) == Err(Refusal::SelfFailed));
+    assert!(rt; lone.free(1) == Err(Refusal::SelfFailed));
+    Ok(())
+}
+
+const THREE_COMMS: Limits = Limits {
+    ranks: 3,
+    comms: 3,
+    rounds: 2,
+};
+
+#[test]
+fn survivor_shrinks(rt: HostRuntime) -> Result<(), Fail> {
+    let words = PlainWords::<FlagAnd>::open(THREE_COMMS)?;
+    let mut lone = Lone::open(&rt, rt.alloc(), words, 3)?;
+    assert!(rt; lone.declare(2) == Ok(true));
+    assert!(rt; lone.ishrink(0) == Ok(()));
+    assert!(rt; lone.poll(0) == Ok(Polled::Pending));
+    assert!(rt; lone.declare(1) == Ok(true));
+    let alone = Polled::Shrunk {
+        comm: 1,
+        context: 1,
+        size: 1,
+    };
+    assert!(rt; lone.poll(0) == Ok(alone));
+    assert!(rt; lone.poll(0) == Err(Refusal::Idle));
+    assert!(rt; lone.own().members(1) == Some([0].as_slice()));
+    assert!(rt; lone.own().context(1) == Some(1));
+    assert!(rt; lone.ishrink(1) == Ok(()));
+    let again = Polled::Shrunk {
+        comm: 2,
+        context: 2,
+        size: 1,
+    };
+    assert!(rt; lone.poll(1) == Ok(again));
+    assert!(rt; lone.ishrink(2) == Ok(()));
+    assert!(rt; lone.poll(2) == Err(Refusal::NoRoom));
+    assert!(rt; lone.poll(2) == Err(Refusal::Idle));
+    Ok(())
+}
+
+// All memory that is left, in blocks.
+fn rest_of<A: Allocator + Copy, B: Allocator + Copy>(left: B, alloc: A) -> Vec<Vec<u8, B>, A> {
+    let mut blocks = Vec::new(alloc);
+    for size in [
+        8192, 4096, 2048, 1024, 512, 256, 128, 64, 32, 16, 8, 4, 2, 1,
+    ] {
+        for _ in 0..4 {
+            if let Ok(block) = Vec::<u8, B>::with_capacity(left, size) {
+                let _ = blocks.push(block);
+            }
+        }
+    }
+    blocks
+}
+
+// A rank that is alone polls its shrink without memory, and then with it.
+fn shrink_with<R: Abort, A: Allocator + Copy, B: Allocator + Copy>(
+    rt: &R,
+    alloc: A,
+    outside: B,
+) -> Result<(), Fail> {
+    let limits = Limits {
+        ranks: 1,
+        comms: 2,
+        rounds: 2,
+    };
+    let words = PlainWords::<FlagAnd>::open(limits)?;
+    let mut lone = Lone::open(rt, alloc, words, 1)?;
+    assert!(rt; lone.ishrink(0) == Ok(()));
+    let taken = rest_of(alloc, outside);
+    assert!(rt; lone.poll(0) == Err(Refusal::OutOfMemory));
+    assert!(rt; lone.poll(0) == Err(Refusal::OutOfMemory));
+    assert!(rt; lone.own().members(1).is_none());
+    drop(taken);
+    let made = Polled::Shrunk {
+        comm: 1,
+        context: 1,
+        size: 1,
+    };
+    assert!(rt; lone.poll(0) == Ok(made));
+    Ok(())
+}
+
+#[test]
+fn shrinks_once_memory_is_there(rt: HostRuntime) -> Result<(), Fail> {
+    let heap = LocalHeap::new(rt.alloc(), 16384)?;
+    shrink_with(&rt, &heap, rt.alloc())
+}
+
+#[test]
+fn agree_meets_a_shrink(rt: HostRuntime) -> Result<(), Fail> {
+    let plain = PlainWords::<FlagAnd>::open(THREE_COMMS)?;
+    let given = Contribution {
+        offer: Offer::Flag(FlagAnd { bits: 0x1 }),
+        known: Known { count: 0 },
+        acked: Acked { count: 0 },
+    };
+    let guest = Entry {
+        by: Caller::Rank(1),
+        event: Event::Settle {
+            comm: 0,
+            round: 0,
+            rank: 1,
+            given,
+        },
+    };
+    let mut lone = Lone::open(&rt, rt.alloc(), Intruder { plain, guest }, 3)?;
+    assert!(rt; lone.declare(2) == Ok(true));
+    assert!(rt; lone.ishrink(0) == Ok(()));
+    // Just before the place of rank 1 is read: the look makes two loads, one mark is made, and the first place is read.
+    lone.wait(4);
+    assert!(rt; lone.poll(0) == Err(Refusal::Mismatch));
+    assert!(rt; lone.poll(0) == Err(Refusal::Idle));
+    Ok(())
+}
