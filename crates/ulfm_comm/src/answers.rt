@@ -6,6 +6,7 @@ ghost use Rattle.ulfm_model.specs.Answers.{traits_of};
 ghost use Rattle.ulfm_model.specs.Records.{Held, held_at};
 ghost use Rattle.ulfm_comm.specs.Jobs.{IsAbout, IsJob, IsOther, StepsBy, state_of};
 
+use crate::held::is_shrink;
 use crate::rank::Rank;
 use crate::world::World;
 use std::alloc::{AllocError, Allocator};
@@ -79,7 +80,28 @@ fn put_members<P: Packed, A: Allocator>(
     }
 }
 
-// A rank makes any other call. The members of a communicator that a shrink made are put into the vector.
+// Makes room in a vector for the members of the communicator that this call may make: no more than those that its rank shrinks.
+fn make_room_for<P: Packed, A: Allocator>(
+    own: &Rank<P, A>,
+    asked: &Call<P>,
+    found: &mut Vec<u16, A>,
+) -> Result<(), AllocError>
+    ensures kept { found.new.items ≡ found.old.items }
+    ensures memory { OnErr result (IsTrue (traits_of asked.now).polls) }
+{
+    let Call::Poll { comm, .. } = *asked else {
+        return Ok(());
+    };
+    match own.held(comm) {
+        Some(x) if is_shrink(x.request) => {
+            found.reserve(x.group.len().saturating_sub(found.len()))
+        }
+        _ => Ok(()),
+    }
+}
+
+// A rank makes any other call. The members of a communicator that a shrink made are put into the vector, whose memory is taken
+// before the call.
 pub(crate) fn call_by<P: Packed, A: Allocator + Copy, W: Words<P, A>>(
     world: &World<W, P, A>,
     pass: &mut W::Pass,
@@ -100,6 +122,7 @@ pub(crate) fn call_by<P: Packed, A: Allocator + Copy, W: Words<P, A>>(
         return Ok(Reply::Refused(Refusal::NoSuchRank));
     }
     let own = &mut ranks[rank];
+    make_room_for(own, &asked, found)?;
     let reply = own.call(world, pass, asked);
     match reply {
         Reply::Refused(refusal) => match refusal {

@@ -101,7 +101,7 @@ pub(crate) fn close<A: Allocator>(held: &mut Vec<HeldComm<A>, A>, comm: u16)
 }
 
 // Whether a request is a shrink.
-fn is_shrink(request: Option<Request>) -> bool
+pub(crate) fn is_shrink(request: Option<Request>) -> bool
     ensures { result ≡ is_shrink request }
 {
     match request {

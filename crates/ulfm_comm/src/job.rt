@@ -76,7 +76,8 @@ where
 
     /// Answers a call. Where nobody else steps, it is one step of the sequential object. A failed group that was asked for is
     /// put into the vector, in the order of the failures, and so are the members of a communicator that a shrink made, in their
-    /// order. Memory alone can be refused, to a query of the failed group and to the poll of a shrink.
+    /// order. Memory alone can be refused, to a query of the failed group and to the poll of a shrink. The group's memory for that
+    /// poll is taken before it, so that its reply isn't lost: after a refusal the call can be made again.
     pub fn apply(
         &mut self,
         asked: &Call<P>,

@@ -213,8 +213,8 @@ fn apply_refused<'a>(
 fn shrinks_are_refused_memory(rt: HostRuntime) -> Result<(), Fail> {
     let heap = LocalHeap::new(rt.alloc(), 1 << 14)?;
     let mut job = Job::open(&heap, PlainWords::open(FOUR)?)?;
-    // It has room for all ranks, so that nothing but the call itself lacks memory.
-    let mut group = Vec::with_capacity(&heap, 4)?;
+    // It has no room yet, so that the call's memory and the group's are refused.
+    let mut group = Vec::new(&heap);
     let script = [
         (Asked::Fail(1), Reply::Declared),
         (Asked::Shrink(3, 0), Reply::Started),

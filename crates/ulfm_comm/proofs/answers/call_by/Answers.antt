@@ -72,6 +72,6 @@ returns-in_default g c =
       step = step;
       job = step.job;
       begins = step.begins;
-      about = other_about g.P.Meld.meld g.W.Words.alone (g.W.Words.name c.args.world.now.words) (g.W.Words.sight c.args.pass.now) c.args.ranks.now c.requires.job c.args.asked c.requires.other c.rank_of-rank.result c.index-ranks-rank.result c.rank_of-rank.ensures (omega (arith, c.if-rank-ranks.false)) c.call-reply.new.self (g.W.Words.sight c.call-reply.new.pass) c.call-reply.result c.call-reply.ensures.ends kept (traits_of c.args.asked).comm c.args.found.now.items c.in_default.not-Shrunk c.in_default.not-Refused;
+      about = other_about g.P.Meld.meld g.W.Words.alone (g.W.Words.name c.args.world.now.words) (g.W.Words.sight c.args.pass.now) c.args.ranks.now c.requires.job c.args.asked c.requires.other c.rank_of-rank.result c.index-ranks-rank.result c.rank_of-rank.ensures (omega (arith, c.if-rank-ranks.false)) c.call-reply.new.self (g.W.Words.sight c.call-reply.new.pass) c.call-reply.result c.call-reply.ensures.ends kept (traits_of c.args.asked).comm c.make_room_for.new.found.items c.in_default.not-Shrunk c.in_default.not-Refused;
       memory = tt;
     }
