@@ -1,9 +1,9 @@
 // Calls of ranks that stand in one hand, each answered as the object replies.
-ghost use Rattle.std.specs.Prelude.{◌≡◌, IfOk, IsTrue, List, OnErr, OnOk, Some, ℕ};
+ghost use Rattle.std.specs.Prelude.{◌≡◌, ◌≤◌, IfOk, IsTrue, List, OnErr, OnOk, Some, length, vec_capacity, ℕ};
 ghost use mathlib.Core.List.{IsPrefix};
 ghost use Rattle.ulfm_model.specs.declared.call.Call.TheVariants.{Fail as FailAsked, GetFailed as GetAsked};
 ghost use Rattle.ulfm_model.specs.Answers.{traits_of};
-ghost use Rattle.ulfm_model.specs.Records.{Held, held_at};
+ghost use Rattle.ulfm_model.specs.Records.{Held, held_at, is_shrink};
 ghost use Rattle.ulfm_comm.specs.Jobs.{IsAbout, IsJob, IsOther, StepsBy, state_of};
 
 use crate::held::is_shrink;
@@ -88,6 +88,7 @@ fn make_room_for<P: Packed, A: Allocator>(
 ) -> Result<(), AllocError>
     ensures kept { found.new.items ≡ found.old.items }
     ensures memory { OnErr result (IsTrue (traits_of asked.now).polls) }
+    ensures room { OnOk result (IsTrue (traits_of asked.now).polls → (x : Held) → held_at own.now (traits_of asked.now).comm ≡ Some x → IsTrue (is_shrink x.request) → length x.group ≤ vec_capacity found.new) }
 {
     let Call::Poll { comm, .. } = *asked else {
         return Ok(());
