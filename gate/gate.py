@@ -1,0 +1,218 @@
+#!/usr/bin/env python3
+"""The merge gate, with must-fail edits tried many at a time.
+
+It is the toolchain's `rt ci` with two things changed. Each library is proved into a folder of this run, which is empty at
+first, so that its edits are tried over that proof and not over a second one. And the edits of a crate are tried in groups:
+edits of different functions are applied together, the crate is checked once, and each edit is judged by what the prover says
+of the function that it turns. An edit counts as refused in a group only where that function is itself not proved. One whose
+function is proved, is blamed on a callee, or isn't told of, is tried again, at last alone, by the toolchain itself.
+
+    gate/gate.py            the gate; the last line is 'N passed, M failed'
+    gate/gate.py NAME..     the edits of these crates alone, over what `rt check` keeps of the libraries below
+"""
+import importlib.machinery
+import importlib.util
+import os
+import re
+import shutil
+import sys
+import tempfile
+
+sys.dont_write_bytecode = True
+
+
+def toolchain():
+    """The toolchain's command `rt` as a module."""
+    found = shutil.which("rt")
+    if not found:
+        sys.exit("gate: the toolchain's command rt isn't on the PATH")
+    loader = importlib.machinery.SourceFileLoader("rt", os.path.realpath(found))
+    module = importlib.util.module_from_spec(importlib.util.spec_from_loader("rt", loader))
+    loader.exec_module(module)
+    return module
+
+
+rt = toolchain()
+FUNCTION = re.compile(r"^[ \t]*(?:pub(?:\([^)]*\))?[ \t]+)?(?:const[ \t]+|unsafe[ \t]+)*fn[ \t]+(\w+)", re.M)
+IMPL = re.compile(r"^impl\b(.*)$", re.M)
+TOLD = re.compile(r"^fn (\S+): (.*)$", re.M)
+BLAMED = re.compile(r"^not proved; it (?:calls|waits for)\b")
+
+
+class Edit:
+    """A must-fail edit that can be applied: its text, and the function that it turns, or None where that can't be told."""
+
+    def __init__(self, crate, file):
+        self.file, self.name = file, os.path.basename(file)
+        with open(file, encoding="utf-8") as it:
+            self.text = it.read()
+        turned = functions_of(self.text, crate)
+        self.function = turned.pop() if len(turned) == 1 else None
+
+
+def functions_of(text, crate):
+    """The functions that the edit turns, each by the name that the prover gives it. A pair that only sets spaces or brackets turns nothing:
+    it is there so that another pair's text stands once."""
+    found, path, old, texts = set(), "", "", {}
+    for line in text.split("\n"):
+        word, _, rest = line.partition(": ")
+        if word == "file":
+            path = rest.strip()
+            with open(f"{crate.folder}/{path}", encoding="utf-8") as it:
+                texts.setdefault(path, it.read())
+        elif word == "old":
+            old = rest
+        elif line.startswith("new:"):
+            new = line[len("new:"):].removeprefix(" ")
+            if bare(old) != bare(new):
+                found.add(function_at(texts[path], texts[path].find(old) + len(old), path, crate.name))
+            texts[path] = texts[path].replace(old, new)
+    return found - {None}
+
+
+def bare(text):
+    """The text without spaces and round brackets."""
+    return re.sub(r"[\s()]", "", text)
+
+
+def function_at(text, at, path, crate):
+    """The function whose text holds the place, by module, type and name, as `laws::body::BodyMeld::meld`; None outside one."""
+    heads = [it for it in FUNCTION.finditer(text) if it.start() < at]
+    if not heads or not path.startswith("src/"):
+        return None
+    head = heads[-1]
+    indent = re.match(r"[ \t]*", head[0])[0]
+    if re.search(rf"^{indent}\}}", text[head.end() : at], re.M):
+        return None
+    owner = [it for it in IMPL.finditer(text) if it.start() <= head.start()] if indent else []
+    module = path.removeprefix("src/").removesuffix(".rt").split("/")
+    module = [] if module in (["lib"], ["main"]) else [it for it in module if it != "mod"]
+    return "::".join([crate, *module, *([type_of(owner[-1][1])] if owner else []), head[1]])
+
+
+def type_of(head):
+    """The name that the prover gives an impl: its type, and behind it its trait where it has one."""
+    head = re.sub(r"\bwhere\b.*", "", head)
+    while re.search(r"<[^<>]*>", head):
+        head = re.sub(r"<[^<>]*>", "", head)
+    names = [it.strip(" {&").split("::")[-1].split()[-1] for it in head.split(" for ")]
+    return "".join(reversed(names))
+
+
+def said_of(function, told):
+    """What the prover says of a function and of the closures in it, or nothing where it tells of none or of two such functions."""
+    if [it for it, _ in told].count(function) != 1:
+        return []
+    return [said for name, said in told if name == function or name.startswith(f"{function}::")]
+
+
+def judged(group, output):
+    """The edits of a group that are refused, each with what the prover says of the function that it turns."""
+    told, refused = TOLD.findall(output), {}
+    for edit in group:
+        lost = [it for it in said_of(edit.function, told) if re.match(r"no(t proved|\s+proof)\b", it) and not BLAMED.match(it)]
+        if lost:
+            refused[edit] = f"fn {edit.function}: {lost[0]}"
+    return refused
+
+
+def chosen(edits, crate):
+    """Edits of different functions that can be applied together, as many as there are, and the texts that they make."""
+    group, functions, made = [], set(), {}
+    for edit in edits:
+        texts, why = rt.edited("\n".join(it.text for it in [*group, edit]), crate.folder)
+        if edit.function not in functions and not why:
+            group.append(edit)
+            functions.add(edit.function)
+            made = texts
+    return group, made
+
+
+def checked(crate, texts, flags, kept):
+    """What the prover says of the crate with these texts, or nothing where it could not read them or did not come to an end."""
+    ran = rt.checked(crate, texts, flags, kept)
+    lines = ran.stdout.rstrip("\n").split("\n")
+    is_read = not any(rt.unread(it, texts) for it in lines) and not rt.rtlib.STALE.search(ran.stdout)
+    return ran.stdout if is_read and ran.returncode == 1 and lines[-1].startswith("logic=not-proved") else ""
+
+
+def in_groups(crate, edits, flags, kept):
+    """The edits that are refused in some group, each with what was said, and how many runs of the prover that took."""
+    left, refused, runs = [it for it in edits if it.function], {}, 0
+    while len(left) > 1:
+        group, texts = chosen(left, crate)
+        now = judged(group, checked(crate, texts, flags, kept))
+        runs += 1
+        refused.update(now)
+        if not now:
+            break
+        left = [it for it in left if it not in now]
+    return refused, runs
+
+
+tried = {"edits": 0, "runs": 0, "alone": 0}
+
+
+def must_fail_all(crate, files, flags):
+    """Tries a crate's edits, as the toolchain's function of this name does: for each whether it is refused, and what to say."""
+    bad = {it: why for it in files for _, why in [rt.read_edit(it, crate.folder)] if why}
+    edits = [Edit(crate, it) for it in files if it not in bad]
+    kept = folder_of(crate)
+    is_sound = not rt.checked(crate, {}, flags, kept).returncode
+    refused, runs = in_groups(crate, edits, flags, kept) if is_sound else ({}, 0)
+    by_file = {edit.file: said for edit, said in refused.items()}
+    given = []
+    for file in files:
+        label = f"must-fail {crate.name}/{os.path.basename(file)}"
+        if file in by_file:
+            given.append((True, f"{label}: refused, as it must be: {by_file[file][:200]}"))
+        else:
+            tried["alone"] += 1
+            over = rt.must_fail(crate, file, flags, kept) if is_sound else (False, "")
+            given.append(over if over[0] else rt.must_fail(crate, file, flags))
+    tried["edits"] += len(files)
+    tried["runs"] += runs
+    return given
+
+
+kept_in = tempfile.mkdtemp(prefix="gate-kept-")
+
+
+def folder_of(crate):
+    """The folder of this run that keeps the crate's proof: empty before the crate is proved."""
+    folder = f"{kept_in}/{crate.name}"
+    os.makedirs(folder, exist_ok=True)
+    return folder
+
+
+class Crate(rt.Crate):
+    """A crate that is proved into a folder of this run."""
+
+    def prove(self, *commands):
+        return super().prove(*[self.keeping(it) for it in commands])
+
+    def keeping(self, words):
+        if "--statements" not in words:
+            return words
+        return [*[it for it in words if it != "--statements"], "--incremental", folder_of(self)]
+
+
+def main(names):
+    rt.must_fail_all = must_fail_all
+    try:
+        if names:
+            status = rt.edits_alone(names)
+        else:
+            rt.Crate = Crate
+            # (the folder was empty when the proof began, so nothing older than this run is trusted)
+            pattern = rt.rtlib.VERDICT.pattern.replace(r"statements=trusted\n", r"statements=trusted( incremental=trusted)?\n")
+            rt.rtlib.VERDICT = re.compile(pattern, re.M)
+            status = rt.ci()
+    finally:
+        shutil.rmtree(kept_in, ignore_errors=True)
+    print("gate: {edits} edits tried, {runs} groups, {alone} edits alone".format(**tried), file=sys.stderr)
+    return status
+
+
+if __name__ == "__main__":
+    sys.exit(main(sys.argv[1:]))
