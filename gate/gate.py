@@ -36,6 +36,7 @@ rt = toolchain()
 FUNCTION = re.compile(r"^[ \t]*(?:pub(?:\([^)]*\))?[ \t]+)?(?:const[ \t]+|unsafe[ \t]+)*fn[ \t]+(\w+)", re.M)
 IMPL = re.compile(r"^impl\b(.*)$", re.M)
 TOLD = re.compile(r"^fn (\S+): (.*)$", re.M)
+LOST = re.compile(r"no proof\b|not proved\b")
 BLAMED = re.compile(r"^not proved; it (?:calls|waits for)\b")
 
 
@@ -67,7 +68,7 @@ def functions_of(text, crate):
             if bare(old) != bare(new):
                 found.add(function_at(texts[path], texts[path].find(old) + len(old), path, crate.name))
             texts[path] = texts[path].replace(old, new)
-    return found - {None}
+    return found
 
 
 def bare(text):
@@ -107,13 +108,15 @@ def said_of(function, told):
 
 
 def judged(group, output):
-    """The edits of a group that are refused, each with what the prover says of the function that it turns."""
+    """The edits of a group that are refused, each with what the prover says of the function that it turns, and those whose function is
+    proved with them. Where there are such, nothing is said of the others: a body that is read without a contract could be what broke them."""
     told, refused = TOLD.findall(output), {}
-    for edit in group:
-        lost = [it for it in said_of(edit.function, told) if re.match(r"no(t proved|\s+proof)\b", it) and not BLAMED.match(it)]
+    passed = [it for it in group if said_of(it.function, told) and all(said == "proved" for said in said_of(it.function, told))]
+    for edit in [] if passed else group:
+        lost = [it for it in said_of(edit.function, told) if LOST.match(it) and not BLAMED.match(it)]
         if lost:
             refused[edit] = f"fn {edit.function}: {lost[0]}"
-    return refused
+    return refused, passed
 
 
 def chosen(edits, crate):
@@ -141,12 +144,14 @@ def in_groups(crate, edits, flags, kept):
     left, refused, runs = [it for it in edits if it.function], {}, 0
     while len(left) > 1:
         group, texts = chosen(left, crate)
-        now = judged(group, checked(crate, texts, flags, kept))
+        if len(group) < 2:
+            break
+        now, passed = judged(group, checked(crate, texts, flags, kept))
         runs += 1
         refused.update(now)
-        if not now:
+        if not now and not passed:
             break
-        left = [it for it in left if it not in now]
+        left = [it for it in left if it not in now and it not in passed]
     return refused, runs
 
 
