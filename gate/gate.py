@@ -34,6 +34,8 @@ def toolchain():
 
 rt = toolchain()
 FUNCTION = re.compile(r"^[ \t]*(?:pub(?:\([^)]*\))?[ \t]+)?(?:const[ \t]+|unsafe[ \t]+)*fn[ \t]+(\w+)", re.M)
+BODY = re.compile(r"^[ \t]*(?:\{|(?:pub|fn|const|unsafe|\)).*\{)$", re.M)
+USES = re.compile(r"(?:use [^;]*;\s*)+")
 IMPL = re.compile(r"^impl\b(.*)$", re.M)
 TOLD = re.compile(r"^fn (\S+): (.*)$", re.M)
 LOST = re.compile(r"no proof\b|not proved\b")
@@ -41,19 +43,20 @@ BLAMED = re.compile(r"^not proved; it (?:calls|waits for)\b")
 
 
 class Edit:
-    """A must-fail edit that can be applied: its text, and the function that it turns, or None where that can't be told."""
+    """A must-fail edit that can be applied: its text, whether it changes code, and the function that it turns, or None where that can't be told."""
 
     def __init__(self, crate, file):
         self.file, self.name = file, os.path.basename(file)
         with open(file, encoding="utf-8") as it:
             self.text = it.read()
         turned = functions_of(self.text, crate)
+        self.changes_code = bool(turned)
         self.function = turned.pop() if len(turned) == 1 else None
 
 
 def functions_of(text, crate):
-    """The functions that the edit turns, each by the name that the prover gives it. A pair that only sets spaces or brackets turns nothing:
-    it is there so that another pair's text stands once."""
+    """The functions whose code the edit turns, each by the name that the prover gives it, with None for code outside one. A pair that only sets spaces
+    or brackets turns nothing: it is there so that another pair's text stands once. Nor does one that only names what is used, or that changes a contract."""
     found, path, old, texts = set(), "", "", {}
     for line in text.split("\n"):
         word, _, rest = line.partition(": ")
@@ -65,8 +68,9 @@ def functions_of(text, crate):
             old = rest
         elif line.startswith("new:"):
             new = line[len("new:"):].removeprefix(" ")
-            if bare(old) != bare(new):
-                found.add(function_at(texts[path], texts[path].find(old) + len(old), path, crate.name))
+            is_used = all(USES.fullmatch(it) for it in (old, new))
+            if path.startswith("src/") and bare(old) != bare(new) and not is_used:
+                found |= code_at(texts[path], texts[path].find(old) + len(old), path, crate.name)
             texts[path] = texts[path].replace(old, new)
     return found
 
@@ -76,19 +80,23 @@ def bare(text):
     return re.sub(r"[\s()]", "", text)
 
 
-def function_at(text, at, path, crate):
-    """The function whose text holds the place, by module, type and name, as `laws::body::BodyMeld::meld`; None outside one."""
+def code_at(text, at, path, crate):
+    """The function whose body holds the place, by module, type and name, as `laws::body::BodyMeld::meld`; None outside a function, and
+    nothing in a contract."""
     heads = [it for it in FUNCTION.finditer(text) if it.start() < at]
-    if not heads or not path.startswith("src/"):
-        return None
+    if not heads:
+        return {None}
     head = heads[-1]
     indent = re.match(r"[ \t]*", head[0])[0]
     if re.search(rf"^{indent}\}}", text[head.end() : at], re.M):
-        return None
+        return {None}
+    body = BODY.search(text, head.start())
+    if body and at < body.end():
+        return set()
     owner = [it for it in IMPL.finditer(text) if it.start() <= head.start()] if indent else []
     module = path.removeprefix("src/").removesuffix(".rt").split("/")
     module = [] if module in (["lib"], ["main"]) else [it for it in module if it != "mod"]
-    return "::".join([crate, *module, *([type_of(owner[-1][1])] if owner else []), head[1]])
+    return {"::".join([crate, *module, *([type_of(owner[-1][1])] if owner else []), head[1]])}
 
 
 def type_of(head):
@@ -155,28 +163,29 @@ def in_groups(crate, edits, flags, kept):
     return refused, runs
 
 
-tried = {"edits": 0, "runs": 0, "alone": 0}
+tried = {}
 
 
 def must_fail_all(crate, files, flags):
     """Tries a crate's edits, as the toolchain's function of this name does: for each whether it is refused, and what to say."""
-    bad = {it: why for it in files for _, why in [rt.read_edit(it, crate.folder)] if why}
-    edits = [Edit(crate, it) for it in files if it not in bad]
+    edits = [Edit(crate, it) for it in files if not rt.read_edit(it, crate.folder)[1]]
+    idle = {it.file for it in edits if not it.changes_code}
     kept = folder_of(crate)
     is_sound = not rt.checked(crate, {}, flags, kept).returncode
     refused, runs = in_groups(crate, edits, flags, kept) if is_sound else ({}, 0)
     by_file = {edit.file: said for edit, said in refused.items()}
-    given = []
+    given, alone = [], 0
     for file in files:
         label = f"must-fail {crate.name}/{os.path.basename(file)}"
         if file in by_file:
             given.append((True, f"{label}: refused, as it must be: {by_file[file][:200]}"))
+        elif file in idle:
+            given.append((False, f"{label}: BAD EDIT: it changes no code, so it tries no contract"))
         else:
-            tried["alone"] += 1
+            alone += 1
             over = rt.must_fail(crate, file, flags, kept) if is_sound else (False, "")
             given.append(over if over[0] else rt.must_fail(crate, file, flags))
-    tried["edits"] += len(files)
-    tried["runs"] += runs
+    tried[crate.name] = len(files), runs, alone
     return given
 
 
@@ -215,7 +224,8 @@ def main(names):
             status = rt.ci()
     finally:
         shutil.rmtree(kept_in, ignore_errors=True)
-    print("gate: {edits} edits tried, {runs} groups, {alone} edits alone".format(**tried), file=sys.stderr)
+    for name, counts in [*sorted(tried.items()), ("all", [sum(it) for it in zip((0, 0, 0), *tried.values())])]:
+        print("gate: {}: {} edits, {} groups, {} edits alone".format(name, *counts), file=sys.stderr)
     return status
 
 

@@ -47,7 +47,8 @@ EDITS = {
     "seven.is_eight": ("    7", "    8", "refused"),
     "seven.is_still_seven": ("    7", "    6 + 1", "NOT REFUSED"),
     "is_small.is_never_small": ("x < 10", "x < 0", "NOT REFUSED"),
-    "is_small.changes_nothing": ("x < 10", "x  <  10", "NOT REFUSED"),
+    "is_small.changes_nothing": ("x < 10", "x  <  10", "BAD EDIT"),
+    "next.changes_a_contract": ("result ≡ x + 1", "result ≡ x + 2", "BAD EDIT"),
     "next.stands_twice": ("pub fn", "fn", "BAD EDIT"),
     "next.is_no_code": ("x as u16 + 1", "x as u16 + ", "BAD EDIT"),
 }
@@ -59,22 +60,14 @@ def write(path, text):
         it.write(text)
 
 
-def lay(root, edits, lib=LIB):
-    """A repository of one crate with these edits."""
-    crate = f"{root}/crates/gate_sample"
-    write(f"{root}/crates.txt", "gate_sample:\n")
-    write(f"{root}/HANDLES", "Handles allowed: none.\n")
+def lay(root, name, edits, lib=LIB):
+    """A crate with these edits."""
+    crate = f"{root}/crates/{name}"
     write(f"{crate}/src/lib.rt", lib)
     write(f"{crate}/specs/Lib.antt", "")
     write(f"{crate}/proofs/Lib.antt", "")
-    for name, (old, new, _) in edits.items():
-        write(f"{crate}/must-fail/{name}.edit", f"file: src/lib.rt\nold: {old}\nnew: {new}\n")
-
-
-def gate(root):
-    """What the gate says of the repository, and its status."""
-    ran = subprocess.run([sys.executable, f"{HERE}/gate.py"], cwd=root, stdout=subprocess.PIPE, stderr=subprocess.STDOUT, text=True)
-    return ran.stdout, ran.returncode
+    for edit, (old, new, _) in edits.items():
+        write(f"{crate}/must-fail/{edit}.edit", f"file: src/lib.rt\nold: {old}\nnew: {new}\n")
 
 
 def expect(holds, why, said):
@@ -83,24 +76,25 @@ def expect(holds, why, said):
 
 
 def main():
-    with tempfile.TemporaryDirectory(prefix="gate-test-") as room:
-        lay(f"{room}/all", EDITS)
-        said, status = gate(f"{room}/all")
-        for name, (_, _, wanted) in EDITS.items():
-            line = next((it for it in said.splitlines() if f"/{name}.edit: " in it), "")
-            expect(f": {wanted}" in line, f"{name} is not {wanted}", said)
-        refused = sum(wanted == "refused" for _, _, wanted in EDITS.values())
-        expect(status == 1 and f"{refused + 1} passed, {len(EDITS) - refused} failed" in said, "the counts are wrong", said)
-        lay(f"{room}/good", {name: it for name, it in EDITS.items() if it[2] == "refused"})
-        said, status = gate(f"{room}/good")
-        expect(status == 0 and f"{refused + 1} passed, 0 failed" in said, "a good repository fails", said)
-        lay(f"{room}/unproved", {}, LIB.replace("    7", "    8"))
-        said, status = gate(f"{room}/unproved")
-        expect(status == 1 and "0 passed, 1 failed" in said, "an unproved function passes", said)
-        failing = LIB + "\n#[test]\nfn it_fails(rt: HostRuntime) {\n    assert_eq!(rt; seven(), 8);\n}\n"
-        lay(f"{room}/failing", {}, failing)
-        said, status = gate(f"{room}/failing")
-        expect(status == 1, "a failing test passes", said)
+    failing = LIB + "\n#[test]\nfn it_fails(rt: HostRuntime) {\n    assert_eq!(rt; seven(), 8);\n}\n"
+    with tempfile.TemporaryDirectory(prefix="gate-test-") as root:
+        write(f"{root}/crates.txt", "sample:\nunproved:\nfailing:\n")
+        write(f"{root}/HANDLES", "Handles allowed: none.\n")
+        lay(root, "sample", EDITS)
+        lay(root, "unproved", {}, LIB.replace("    7", "    8"))
+        lay(root, "failing", {}, failing)
+        ran = subprocess.run([sys.executable, f"{HERE}/gate.py"], cwd=root, stdout=subprocess.PIPE, stderr=subprocess.STDOUT, text=True)
+    said = ran.stdout.splitlines()
+    for name, (_, _, wanted) in EDITS.items():
+        line = next((it for it in said if f"must-fail sample/{name}.edit: " in it), "")
+        expect(f": {wanted}" in line, f"{name} is not {wanted}", ran.stdout)
+    failed = [name for name, (_, _, wanted) in EDITS.items() if wanted != "refused"]
+    named = next((it.split()[2:] for it in said if it.startswith("rt: FAILED: ")), [])
+    expect("unproved" in named, "an unproved function passes", ran.stdout)
+    expect("failing" in named, "a failing test passes", ran.stdout)
+    expect(sorted(it for it in named if "/" in it) == sorted(f"sample/{it}.edit" for it in failed), "other edits fail", ran.stdout)
+    counts = f"{len(EDITS) - len(failed) + 2} passed, {len(failed) + 2} failed"
+    expect(ran.returncode == 1 and counts in said, f"the counts are not {counts}", ran.stdout)
     print("gate_test: ok")
 
 
