@@ -7,7 +7,7 @@ edits of different functions are applied together, the crate is checked once, an
 of the function that it turns. An edit counts as refused in a group only where that function is itself not proved. One whose
 function is proved, is blamed on a callee, or isn't told of, is tried again, at last alone, by the toolchain itself.
 
-    gate/gate.py            the gate; the last line is 'N passed, M failed'
+    gate/gate.py            the gate: 'N passed, M failed', and then how many edits were tried in groups and how many alone
     gate/gate.py NAME..     the edits of these crates alone, over what `rt check` keeps of the libraries below
 """
 import importlib.machinery
@@ -224,6 +224,7 @@ def main(names):
             status = rt.ci()
     finally:
         shutil.rmtree(kept_in, ignore_errors=True)
+    sys.stdout.flush()
     for name, counts in [*sorted(tried.items()), ("all", [sum(it) for it in zip((0, 0, 0), *tried.values())])]:
         print("gate: {}: {} edits, {} groups, {} edits alone".format(name, *counts), file=sys.stderr)
     return status
