@@ -157,13 +157,14 @@ def in_groups(crate, edits, flags, kept):
         now, passed = judged(group, checked(crate, texts, flags, kept))
         runs += 1
         refused.update(now)
-        if not now and not passed:
-            break
-        left = [it for it in left if it not in now and it not in passed]
+        # (where nothing was learned, each of the group is tried alone)
+        done = [*now, *passed] or group
+        left = [it for it in left if it not in done]
     return refused, runs
 
 
-tried = {}
+# (how many edits of each crate were tried, in how many groups, and how many alone; and the folder of this run)
+tried, room = {}, None
 
 
 def must_fail_all(crate, files, flags):
@@ -189,12 +190,9 @@ def must_fail_all(crate, files, flags):
     return given
 
 
-kept_in = tempfile.mkdtemp(prefix="gate-kept-")
-
-
 def folder_of(crate):
     """The folder of this run that keeps the crate's proof: empty before the crate is proved."""
-    folder = f"{kept_in}/{crate.name}"
+    folder = f"{room}/{crate.name}"
     os.makedirs(folder, exist_ok=True)
     return folder
 
@@ -213,17 +211,14 @@ class Crate(rt.Crate):
 
 def main(names):
     rt.must_fail_all = must_fail_all
-    try:
-        if names:
-            status = rt.edits_alone(names)
-        else:
-            rt.Crate = Crate
-            # (the folder was empty when the proof began, so nothing older than this run is trusted)
-            pattern = rt.rtlib.VERDICT.pattern.replace(r"statements=trusted\n", r"statements=trusted( incremental=trusted)?\n")
-            rt.rtlib.VERDICT = re.compile(pattern, re.M)
-            status = rt.ci()
-    finally:
-        shutil.rmtree(kept_in, ignore_errors=True)
+    if names:
+        status = rt.edits_alone(names)
+    else:
+        rt.Crate = Crate
+        # (the folder was empty when the proof began, so nothing older than this run is trusted)
+        pattern = rt.rtlib.VERDICT.pattern.replace(r"statements=trusted\n", r"statements=trusted( incremental=trusted)?\n")
+        rt.rtlib.VERDICT = re.compile(pattern, re.M)
+        status = rt.ci()
     sys.stdout.flush()
     for name, counts in [*sorted(tried.items()), ("all", [sum(it) for it in zip((0, 0, 0), *tried.values())])]:
         print("gate: {}: {} edits, {} groups, {} edits alone".format(name, *counts), file=sys.stderr)
@@ -231,4 +226,6 @@ def main(names):
 
 
 if __name__ == "__main__":
-    sys.exit(main(sys.argv[1:]))
+    with tempfile.TemporaryDirectory(prefix="gate-kept-") as name:
+        room = name
+        sys.exit(main(sys.argv[1:]))
