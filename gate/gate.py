@@ -39,7 +39,7 @@ USES = re.compile(r"(?:use [^;]*;\s*)+")
 IMPL = re.compile(r"^impl\b(.*)$", re.M)
 TOLD = re.compile(r"^fn (\S+): (.*)$", re.M)
 LOST = re.compile(r"no proof\b|not proved\b")
-BLAMED = re.compile(r"^not proved; it (?:calls|waits for)\b")
+BLAMED = re.compile(r"\bit (?:calls|waits for)\b|\bwhich (?:is|are) not proved\b")
 
 
 class Edit:
@@ -121,7 +121,7 @@ def judged(group, output):
     told, refused = TOLD.findall(output), {}
     passed = [it for it in group if said_of(it.function, told) and all(said == "proved" for said in said_of(it.function, told))]
     for edit in [] if passed else group:
-        lost = [it for it in said_of(edit.function, told) if LOST.match(it) and not BLAMED.match(it)]
+        lost = [it for it in said_of(edit.function, told) if LOST.match(it) and not BLAMED.search(it)]
         if lost:
             refused[edit] = f"fn {edit.function}: {lost[0]}"
     return refused, passed
