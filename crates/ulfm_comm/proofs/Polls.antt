@@ -139,9 +139,9 @@ unsettled_is ranks h c k false = refl
 unsettled_is ranks h c k true = refl
 
 -- what was seen begins with what the look found
-sees_begin : {P : Type 0} (view : View P) (seen : List ℕ) (shrinks : Bool) (k : ℕ) → Sees (is_shrink (Some (agreement shrinks k))) view seen → IsPrefix view.look seen
-sees_begin view seen false k is = ([], append-nil view.look ∙ sym is)
-sees_begin view seen true k is = is.0
+sees_begin : {P : Type 0} (look : List ℕ) (after : History P) (seen : List ℕ) (shrinks : Bool) (k : ℕ) → Sees (is_shrink (Some (agreement shrinks k))) look after seen → IsPrefix look seen
+sees_begin look after seen false k is = ([], append-nil look ∙ sym is)
+sees_begin look after seen true k is = is.0
 
 module _ {P : Type 0} (meld : P → P → P) (limits : Limits) (alone : Bool) (before : History P) (old mid : Record) (c : ℕ) (shrinks : Bool) (k : ℕ) (x : Held) (after : History P) (p : HasMarked meld limits alone c shrinks k x old before mid after) where
   abbrev pub asked : Call P
@@ -203,7 +203,7 @@ module _ {P : Type 0} (meld : P → P → P) (limits : Limits) (alone : Bool) (b
       by_look : (b : Bool) → has (failures run.span.look) member ≡ b → has (failures run.span.look) member ≡ false
       by_look false none = none
       by_look true found =
-          let begins = sees_begin (view_of run.span) new.seen shrinks k (subst (λ request. Sees (is_shrink request) (view_of run.span) new.seen) polls_it run.answer.leaves.seen) in
+          let begins = sees_begin (failures run.span.look) after new.seen shrinks k (subst (λ request. Sees (is_shrink request) (failures run.span.look) after new.seen) polls_it run.answer.leaves.seen) in
           let seen : new.seen ≡ failures p.look = ap (λ (w : Record). w.seen) is ∙ ap (λ (w : Record). w.seen) p.looked.record_is in
           let there = has_prefix (failures run.span.look) new.seen member begins found in
           let clash : has (failures p.look) member ≡ true = ap (λ fs. has fs member) (sym seen) ∙ there in absurd (cc (clash, alive))

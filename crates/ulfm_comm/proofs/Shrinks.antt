@@ -128,10 +128,10 @@ module _ {P : Type 0} (meld : P → P → P) (limits : Limits) (alone : Bool) (b
             adds = (x, held_first meld limits alone before old mid c true k x h p, subst (λ request. PollAdds (failures p.look) x request event) (sym p.open_is) added);
           }) events mine
 
-      pub sees_on : Sees (is_shrink (polled_by old poll)) view seen
+      pub sees_on : Sees (is_shrink (polled_by old poll)) (failures p.look) ending seen
       sees_on =
           let to_end = failures_begin after ending (did_prefix alone (entries_by (Rank old.number) own) after ending did) in
-          subst (λ request. Sees (is_shrink request) view seen) (sym (polls_it meld limits alone before old mid c true k x h p))
+          subst (λ request. Sees (is_shrink request) (failures p.look) ending seen) (sym (polls_it meld limits alone before old mid c true k x h p))
           (subst (λ s. IsPrefix s seen) (ap (λ (w : Record). w.seen) p.looked.record_is) reads.goes_on, prefix_trans seen (failures after) (failures ending) reads.begins to_end)
 
       ends_so : (reply : Reply P) (new : Record) → IsSelfFailed view old poll reply ⊎ IsReply meld limits view old poll reply → new ≡ left_by limits.ranks ending (record mid { seen = seen }) poll reply → IsEndRun meld limits alone before ending old poll reply new

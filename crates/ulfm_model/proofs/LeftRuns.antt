@@ -62,9 +62,9 @@ module _ {P : Type 0} (meld : P → P → P) (limits : Limits) (alone : Bool) (b
       subst (λ w. IsOwn w r event) span.did.goes_on (Contains-append_right span.look span.did.since _ there)
 
   -- what a rank has seen by a call is a beginning of the failures at its end
-  sees_begins : (r : ℕ) (span : IsSpan meld limits alone before after (Rank r)) (shrinks : Bool) (seen : List ℕ) → Sees shrinks (view_of span) seen → IsPrefix seen (failures after)
+  sees_begins : (r : ℕ) (span : IsSpan meld limits alone before after (Rank r)) (shrinks : Bool) (seen : List ℕ) → Sees shrinks (failures span.look) after seen → IsPrefix seen (failures after)
   sees_begins r span false seen is = subst (λ w. IsPrefix w (failures after)) (sym is) (failures_begin span.look after (look_ends (Rank r) span))
-  sees_begins r span true seen parts = prefix_trans seen (failures span.point) (failures after) parts.1 (failures_begin span.point after span.point_ends)
+  sees_begins r span true seen parts = parts.1
 
   -- the record that a call leaves fits, if it fitted before
   pub run_fits : (own : Record) (asked : Call P) (reply : Reply P) (new : Record) → Fits meld limits before own → IsRun meld limits alone before after own asked reply new → Fits meld limits after new
