@@ -9,7 +9,7 @@ use Rattle.ulfm_laws.specs.{Bodies.{body_meld}, declared.{body.Body.{Body}, body
 use Rattle.ulfm_model.specs.declared.call.Call.TheVariants as call
 use Rattle.ulfm_model.specs.declared.{call.Call.{Call}, call.Request.{Request}, call.Request.TheVariants.{Agree, Shrink}, contribution.Contribution.{Contribution}, contribution.Slot.TheVariants.{Given}, event.Caller.TheVariants.{Rank}, event.Event.{Event}, event.Event.TheVariants.{Fail, Settle, Mark, Arrive, Revoke, Spawn}, limits.Limits.{Limits}, refusal.Refusal.TheVariants.{Idle, Mismatch}, reply.Reply.{Reply}, reply.Reply.TheVariants.{Agreed, Pending, Refused}}
 use Rattle.ulfm_model.specs.{Answers.{AgreeReplies, IsPending, MarksDeclared, PollAdds, PollReplies, Sees, View, closed, first_refusal, left_by, polled_by, refusal_of, refusal_on}, History.{Decision, History, IsLegal, body_of, decision, entries_by, failed, failures, has, is_decided, known_of, members, round, round_among, slot}, Laws.{all_of}, Records.{Fits, FitsRequest, Held, Record, held_at, is_shrink}, Runs.{Did, IsRun, unsettled_of}}
-use Rattle.ulfm_model.proofs.Terms.{IsOwn, contexts_of, request_of, settled_by, view_of}
+use Rattle.ulfm_model.specs.Terms.{IsOwn, contexts_of, request_of, settled_by, view_of}
 use Rattle.ulfm_model.proofs.{Decisions.{slot_stands}, Histories.{slot_stays}, LeftIds.{free_at_each}, Lists.{at_member, each_filter_map, each_from, has_filter, has_kept, has_passes, has_prefix, is_some_of}, Melds.{known_fits}, Stable.{decision_is, fits_stays}, StepsRounds.{IsFlagged, IsMasked, flagged_left, flagged_right, given_stands, masked_left, masked_right, offered}}
 use Rattle.ulfm_words.proofs.Trails.{did_prefix, did_quiet, did_wait}
 use Rattle.ulfm_steps.specs.{Marks.{IsMarkOf}, Rounds.{IsSummed}}

@@ -6,7 +6,7 @@ use Rattle.ulfm_model.specs.declared.call.Call.TheVariants as call
 use Rattle.ulfm_laws.specs.declared.ctx_mask.CtxMask.{CtxMask}
 use Rattle.ulfm_model.specs.declared.{call.Call.{Call}, call.Request.{Request}, call.Request.TheVariants.{Agree, Shrink, Barrier}, contribution.Offer.{Offer}, contribution.Offer.TheVariants.{Ctx, Flag}, limits.Limits.{Limits}, refusal.Refusal.{Refusal}, refusal.Refusal.TheVariants.{IsRevoked, NoContext, ProcFailed, SelfFailed, Twice}, reply.Reply.{Reply}, reply.Reply.TheVariants.{AlreadyRevoked, Done, FailedGroup, Pending, Refused, Revoked, Started}}
 use Rattle.ulfm_model.specs.{Answers.{AgreeReplies, IsReply, IsSelfFailed, PollReplies, Replies, RepliesBy, Sees, ShrinkReplies, SpawnReplies, StartReplies, View, polled_by, refusal_of}, History.{Decision, History, decision, failures, has, has_arrived, is_revoked}, Records.{Held, free_ids, Record, held_at, is_shrink}, Runs.{IsRun}}
-use Rattle.ulfm_model.proofs.Terms.{comm_of, view_of}
+use Rattle.ulfm_model.specs.Terms.{comm_of, view_of}
 use Rattle.ulfm_comm.specs.Replies.{IsAcked, IsCounted, IsFreed, IsPolled, IsRevokedBy, IsStanding, IsStart}
 
 -- a reply of the call's kind

@@ -8,7 +8,7 @@ use Rattle.ulfm_laws.specs.declared.{body.Body.{Body}, body.Body.TheVariants.{Un
 use Rattle.ulfm_model.specs.declared.call.Call.TheVariants as call
 use Rattle.ulfm_model.specs.declared.{call.Call.{Call}, call.Request.TheVariants.{Shrink}, contribution.Slot.{Slot}, event.Caller.{Caller}, event.Caller.TheVariants.{Rank}, event.Event.{Event}, event.Event.TheVariants.{Fail, Settle, Mark, Arrive, Revoke, Spawn}, limits.Limits.{Limits}, refusal.Refusal.TheVariants.{Mismatch, NoContext, NoRoom, SelfFailed}, reply.Reply.{Reply}, reply.Reply.TheVariants.{Refused, Shrunk}}
 use Rattle.ulfm_model.specs.{Answers.{IsReply, IsSelfFailed, MayOwn, PollAdds, PollReplies, RepliesBy, Sees, ShrinkReplies, View, closed, left_by, polled_by, refusal_of}, History.{Decision, Exists, History, IsLegal, decision, entries_by, failed, failures, has, is_decided, is_made, members, says, spawns, without}, Records.{Fits, Held, IsLowestId, Record, is_shrink}, Runs.{Did}}
-use Rattle.ulfm_model.proofs.Terms.{new_held, settled_by}
+use Rattle.ulfm_model.specs.Terms.{new_held, settled_by}
 use Rattle.ulfm_model.proofs.{Decisions.{decision_stays}, Histories.{failures_begin}, Lists.{each_from, has_prefix, not_in_filter, prefix_trans}, Spawned.{members_of_spawned}, Stable.{failed_begins, fits_stays}, StepsRounds.{IsMasked}}
 use Rattle.ulfm_words.proofs.Trails.{did_after, did_more, did_prefix}
 use Rattle.ulfm_steps.specs.{Marks.{IsMarkOf}, Rounds.{IsSummed}}

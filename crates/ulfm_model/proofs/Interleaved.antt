@@ -15,7 +15,8 @@ use Rattle.ulfm_model.specs.declared.event.Event.TheVariants.{Fail, Settle, Mark
 use Rattle.ulfm_model.specs.declared.limits.Limits.{Limits}
 use Rattle.ulfm_model.specs.Answers.{closed}
 use Rattle.ulfm_model.specs.History.{IsLegal, MayFollow, decision, is_decided}
-use Rattle.ulfm_model.proofs.{Computed.{given_at, mark_at}, Terms.{new_held}}
+use Rattle.ulfm_model.specs.Computed.{given_at, mark_at}
+use Rattle.ulfm_model.specs.Terms.{new_held}
 use Rattle.ulfm_model.specs.History.{History}
 use Rattle.ulfm_model.specs.Records.{Record, all_but, new_record, with_held}
 use Rattle.ulfm_model.specs.Runs.{IsRun}

@@ -5,7 +5,7 @@ use Rattle.std.proofs.lemmas.List.Elements.{Contains-append_right}
 use mathlib.Core.List.{IsPrefix}
 use Rattle.ulfm_model.specs.declared.{call.Call.{Call}, event.Caller.{Caller}, event.Caller.TheVariants.{Outside, Rank}, event.Event.{Event}, limits.Limits.{Limits}, reply.Reply.{Reply}, reply.Reply.TheVariants.{Started, Pending, Agreed, Shrunk, Done, FailedGroup, Acked, Declared, AlreadyFailed, Revoked, AlreadyRevoked, Standing, Freed, Refused}}
 use Rattle.ulfm_model.specs.{Answers.{Effect, Sees, left_by, polled_by, printed, refused_with}, Answers.Effect.{Ends, ForGood, Keeps}, History.{Exists, History, IsLegal, entries_by, failures}, Records.{Fits, Held, Record, held_at, is_shrink}, Runs.{IsCall, IsFailRun, IsRun, IsSpan, StandsIn}}
-use Rattle.ulfm_model.proofs.Terms.{IsOwn, comm_of, view_of}
+use Rattle.ulfm_model.specs.Terms.{IsOwn, comm_of, view_of}
 use Rattle.ulfm_model.proofs.Lists.{prefix_trans}
 use Rattle.ulfm_model.proofs.Histories.{failures_begin, members_stay}
 use Rattle.ulfm_model.proofs.Stable.{fits_stays}

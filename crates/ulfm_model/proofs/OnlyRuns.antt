@@ -12,7 +12,8 @@ use Rattle.ulfm_model.specs.declared.refusal.Refusal.{Refusal}
 use Rattle.ulfm_model.specs.declared.reply.Reply.{Reply}
 use Rattle.ulfm_model.specs.History.{History, entries_by, failures, has}
 use Rattle.ulfm_model.specs.{Answers.{Answers, CallAdds, IsReply, IsSelfFailed, MayOwn, RepliesBy, Sees, View, left_by, polled_by, refusal_of, traits_of}, History.{IsLegal}, Records.{Fits, FitsHeld, Held, Record, held_at, is_shrink}, Runs.{IsAloneRun, IsSpan, unsettled_of}}
-use Rattle.ulfm_model.proofs.{Computed.{Outcome, outcome_of, rank_outcome, replied, used_outcome}, Terms.{comm_of, contexts_of, request_of, settled_by, view_of}}
+use Rattle.ulfm_model.specs.Computed.{Outcome, outcome_of, rank_outcome, replied, used_outcome}
+use Rattle.ulfm_model.specs.Terms.{comm_of, contexts_of, request_of, settled_by, view_of}
 use Rattle.ulfm_model.proofs.Says.{declared_by}
 use Rattle.ulfm_model.proofs.Lists.{each_from, find_holds}
 use Rattle.ulfm_model.proofs.OnlyCalls.{adds_nothing, call_is, declares_none, same_failures}

@@ -12,7 +12,8 @@ use Rattle.ulfm_model.specs.declared.event.Caller.TheVariants.{Rank}
 use Rattle.ulfm_model.specs.declared.event.Event.{Event}
 use Rattle.ulfm_model.specs.History.{History, entries_by, failures, has}
 use Rattle.ulfm_model.specs.{Answers.{CallAdds, Effect, IsReply, IsSelfFailed, MayOwn, Replies, RepliesBy, Sees, View, left_by, polled_by, printed, refusal_of, refused_with, traits_of}, Answers.Effect.{Ends, ForGood, Keeps}, History.{IsLegal, IsLegalAfter}, Runs.{IsAloneRun, unsettled_of}}
-use Rattle.ulfm_model.proofs.{Computed.{Outcome}, Terms.{comm_of, settled_by}}
+use Rattle.ulfm_model.specs.Computed.{Outcome}
+use Rattle.ulfm_model.specs.Terms.{comm_of, settled_by}
 use Rattle.ulfm_model.specs.Records.{Held, Record, held_at, is_shrink}
 use Rattle.ulfm_model.specs.Runs.{IsSpan, StandsIn}
 use Rattle.ulfm_model.proofs.Lists.{each_from}
