@@ -5,7 +5,7 @@ use Rattle.ulfm_laws.specs.declared.ctx_mask.CtxMask.{CtxMask}
 use Rattle.ulfm_model.specs.declared.call.Call.TheVariants as call
 use Rattle.ulfm_model.specs.declared.{call.Call.{Call}, call.Request.{Request}, call.Request.TheVariants.{Agree, Shrink}, contribution.Offer.{Offer}, contribution.Offer.TheVariants.{Flag, Ctx}, event.Caller.TheVariants.{Rank}, refusal.Refusal.{Refusal}, refusal.Refusal.TheVariants.{Idle, NoSuchComm, SelfFailed}, reply.Reply.{Reply}, reply.Reply.TheVariants.{Acked, FailedGroup, Freed, Pending, Refused}}
 use Rattle.ulfm_model.specs.{Answers.{Effect, first_refusal, printed, refused_with, traits_of}, Answers.Effect.{Keeps}, History.{failures, has}, Records.{Fits, Held, Record, free_ids, held_at, with_held}, Runs.{Did}}
-use Rattle.ulfm_model.proofs.Terms.{comm_of, request_of, tests_of}
+use Rattle.ulfm_model.specs.Terms.{comm_of, request_of, tests_of}
 use Rattle.ulfm_words.specs.Steps.{IsOf, Name, Sight}
 use Rattle.ulfm_words.proofs.Trails.{did_none}
 use Rattle.ulfm_steps.specs.Looks.{LookIs}

@@ -6,7 +6,7 @@ use Rattle.std.proofs.lemmas.List.Elements.{Contains-push_cases}
 use Rattle.ulfm_model.specs.declared.call.Call.TheVariants as call
 use Rattle.ulfm_model.specs.declared.{call.Call.{Call}, call.Request.TheVariants.{Barrier}, event.Caller.TheVariants.{Rank}, event.Entry.{Entry}, event.Event.TheVariants.{Arrive}, limits.Limits.{Limits}, refusal.Refusal.TheVariants.{Idle, IsRevoked, ProcFailed}, reply.Reply.{Reply}, reply.Reply.TheVariants.{Done, FailedGroup, Pending, Refused}}
 use Rattle.ulfm_model.specs.{Answers.{PollReplies, View, barrier_reply, closed, first_refusal, left_by, polled_by, refusal_on}, History.{History, IsLegal, MayFollow, failures, has, has_arrived, is_revoked}, Records.{Fits, FitsRequest, Record, held_at}, Runs.{Did, unsettled_of}}
-use Rattle.ulfm_model.proofs.Terms.{IsOwn, contexts_of, request_of}
+use Rattle.ulfm_model.specs.Terms.{IsOwn, contexts_of, request_of}
 use Rattle.ulfm_model.proofs.{Histories.{by_events}}
 use Rattle.ulfm_words.specs.Steps.{IsOf, Name, Sight}
 use Rattle.ulfm_words.proofs.Trails.{did_prefix}

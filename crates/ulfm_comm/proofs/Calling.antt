@@ -4,13 +4,13 @@ use Rattle.std.specs.List.{AllByRecursion}
 use mathlib.Core.List.{IsPrefix}
 use Rattle.ulfm_model.specs.declared.{call.Call.{Call}, event.Caller.TheVariants.{Rank}, event.Event.{Event}, refusal.Refusal.TheVariants.{NoSuchComm, SelfFailed}, reply.Reply.{Reply}, reply.Reply.TheVariants.{FailedGroup, Refused}}
 use Rattle.ulfm_model.specs.{Answers.{MayOwn, Sees, polled_by, refusal_of}, History.{History, entries_by, failures, has, spawns}, Records.{Fits, Record, held_at, is_shrink}, Runs.{Did, IsRun}}
-use Rattle.ulfm_model.proofs.Terms.{comm_of}
+use Rattle.ulfm_model.specs.Terms.{comm_of}
 use Rattle.ulfm_model.proofs.{LeftFits.{fits_seen}, LeftRuns.{call_fits}, Lists.{prefix_trans}, Stable.{fits_stays}}
 use Rattle.ulfm_words.specs.Steps.{IsOf, Name, Sight}
 use Rattle.ulfm_words.proofs.Trails.{did_none, did_prefix, did_quiet, did_wait}
 use Rattle.ulfm_comm.specs.{Calls.{Calls, RunsOut}, Ends.{IsAloneCall, IsEndRun}, Looked.{Looked}}
 use Rattle.ulfm_comm.proofs.ReplyKinds.{counted_seen}
-use Rattle.ulfm_comm.proofs.Replying.{alone_of, call_of, refused_missing, self_failed, view_at}
+use Rattle.ulfm_comm.proofs.Replying.{alone_of, call_of, refused_missing, sees_later, self_failed}
 
 module _ {P : Type 0} (meld : P → P → P) (alone : Bool) (name : Name) (before after : Sight P) where
   -- a call with its point at its end
@@ -44,7 +44,14 @@ module _ {P : Type 0} (meld : P → P → P) (alone : Bool) (name : Name) (befor
           point_ends = prefix_trans span.point point after.seen span.point_ends (did_prefix alone [] point after.seen wait);
           legal = of.legal;
         };
-        answer = ended.run.answer;
+        answer = record {
+          own = ended.run.answer.own;
+          replies = ended.run.answer.replies;
+          leaves = record {
+            seen = sees_later (is_shrink (polled_by old asked)) (failures span.look) point after.seen new.seen (did_prefix alone [] point after.seen wait) ended.run.answer.leaves.seen;
+            record_is = ended.run.answer.leaves.record_is;
+          };
+        };
       } in
       record {
         of = of;
@@ -76,7 +83,7 @@ module _ {P : Type 0} (meld : P → P → P) (alone : Bool) (name : Name) (befor
   -- a call that ran out of memory, of a rank that has then seen so much
   pub runs_out_after : (asked : Call P) (old new : Record) (look : History P) (own : List (Event P)) → IsOf meld name after → Fits meld name.limits before.seen old → Looked alone before.seen look old (record old { seen = failures look })
       → Did alone (entries_by (Rank old.number) own) look after.seen → refusal_of old asked ≡ None → AllByRecursion (MayOwn (failures look) old asked) own → spawns (entries_by (Rank old.number) own) ≡ []
-      → Sees (is_shrink (polled_by old asked)) (view_at meld name.limits alone before.seen look old after.seen own) new.seen → IsPrefix new.seen (failures after.seen) → new ≡ record old { seen = new.seen } → RunsOut meld alone name asked old before new after
+      → Sees (is_shrink (polled_by old asked)) (failures look) after.seen new.seen → IsPrefix new.seen (failures after.seen) → new ≡ record old { seen = new.seen } → RunsOut meld alone name asked old before new after
   runs_out_after asked old new look own of fits looked did passed may none sees begins is =
       let to_look = did_prefix alone [] before.seen look looked.did in
       let to_end = did_prefix alone (entries_by (Rank old.number) own) look after.seen did in

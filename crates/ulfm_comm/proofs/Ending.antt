@@ -7,7 +7,7 @@ use Rattle.ulfm_laws.specs.declared.{body.Body.TheVariants.{Ctx as OfIds}, ctx_m
 use Rattle.ulfm_model.specs.declared.call.Call.TheVariants as call
 use Rattle.ulfm_model.specs.declared.{call.Call.{Call}, event.Caller.TheVariants.{Rank}, event.Event.{Event}, limits.Limits.{Limits}, refusal.Refusal.TheVariants.{Mismatch, NoContext, NoRoom, OutOfMemory, SelfFailed}, reply.Reply.{Reply}, reply.Reply.TheVariants.{Pending, Refused, Shrunk}}
 use Rattle.ulfm_model.specs.{Answers.{closed, polled_by}, History.{History, IsLegal, entries_by, failures, has, spawns, without}, Records.{Fits, Held, IsLowestId, Record, held_at, is_shrink}, Runs.{Did}}
-use Rattle.ulfm_model.proofs.Terms.{comm_of, contexts_of, new_held}
+use Rattle.ulfm_model.specs.Terms.{comm_of, contexts_of, new_held}
 use Rattle.ulfm_model.proofs.{Histories.{failures_begin}, LeftFits.{fits_seen}, Lists.{length-filter-le, prefix_trans}, Stable.{fits_stays}}
 use Rattle.ulfm_words.specs.Steps.{IsOf, Name, Sight}
 use Rattle.ulfm_words.proofs.{Ranks.{spawns_below}, Trails.{did_none, did_prefix, did_wait}}

@@ -4,7 +4,8 @@ use mathlib.Core.List.{IsPrefix}
 use Rattle.ulfm_model.specs.declared.call.Call.TheVariants as call
 use Rattle.ulfm_model.specs.declared.{call.Request.TheVariants.{Barrier}, event.Caller.TheVariants.{Rank}, event.Event.TheVariants.{Arrive}, limits.Limits.{Limits}, refusal.Refusal.TheVariants.{Twice}, reply.Reply.TheVariants.{Refused, Started}}
 use Rattle.ulfm_model.specs.{Answers.{first_refusal, opened}, History.{History, IsLegal, IsPlace, has, has_arrived}, Records.{Fits, Held, Record, held_at, with_held}, Runs.{Did}, Words.{MayOpen}}
-use Rattle.ulfm_model.proofs.{Stable.{arrive_stays}, Terms.{tests_of}}
+use Rattle.ulfm_model.proofs.{Stable.{arrive_stays}}
+use Rattle.ulfm_model.specs.Terms.{tests_of}
 use Rattle.ulfm_words.specs.{Places.{IsCell}, Steps.{IsAdded, IsOf, Name, Sight}, Tries.{MayCome}}
 use Rattle.ulfm_words.proofs.{Growing.{arrival_stays}, Ranks.{place_within}, Trails.{did_added}}
 use Rattle.ulfm_comm.specs.{Calls.{Calls}, Looked.{Looked}}

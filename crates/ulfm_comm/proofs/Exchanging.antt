@@ -5,7 +5,7 @@ use Rattle.std.specs.List.{list_any}
 use Rattle.ulfm_model.specs.declared.call.Call.TheVariants as call
 use Rattle.ulfm_model.specs.declared.{call.Call.{Call}, call.Request.{Request}, call.Request.TheVariants.{Barrier}, contribution.Contribution.{Contribution}, contribution.Offer.{Offer}, contribution.Slot.{Slot}, contribution.Slot.TheVariants.{Given, Mark as Marked}, event.Caller.TheVariants.{Rank}, event.Entry.{Entry}, event.Event.{Event}, event.Event.TheVariants.{Arrive, Revoke, Settle}, limits.Limits.{Limits}, refusal.Refusal.{Refusal}, refusal.Refusal.TheVariants.{Busy, RoundsUsedUp, ShrinkOpen, Twice}, reply.Reply.TheVariants.{Refused, Standing, Started}}
 use Rattle.ulfm_model.specs.{Answers.{CallAdds, Replies, StartReplies, View, first_refusal, opened, refusal_on, traits_of}, History.{History, IsLegal, failures, has_arrived, is_revoked}, Records.{Fits, Held, Record, held_at, is_shrink, with_held}, Runs.{Did}, Words.{MayOpen}}
-use Rattle.ulfm_model.proofs.Terms.{comm_of, tests_of}
+use Rattle.ulfm_model.specs.Terms.{comm_of, tests_of}
 use Rattle.ulfm_model.proofs.Stable.{fits_stays}
 use Rattle.ulfm_words.specs.{Places.{IsCell}, Steps.{IsAdded, IsOf, Name, Sight}, Tries.{MayCome}}
 use Rattle.ulfm_words.proofs.Trails.{added_after, did_added, did_after, did_prefix}

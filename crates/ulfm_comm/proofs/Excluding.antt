@@ -7,7 +7,7 @@ use mathlib.Core.List.{IsPrefix}
 use Rattle.ulfm_model.specs.declared.{contribution.Contribution.{Contribution}, contribution.Offer.TheVariants.{Ctx}, contribution.Slot.TheVariants.{Given}, event.Caller.TheVariants.{Rank}, limits.Limits.{Limits}, refusal.Refusal.{Refusal}, reply.Reply.TheVariants.{Started}}
 use Rattle.ulfm_model.specs.declared.call.Call.TheVariants as call
 use Rattle.ulfm_model.specs.{Answers.{Contributes, StartReplies}, History.{History, IsLegal, decision, failed, failures, has, known_of, members, round, slot}, Records.{Fits, Held, Record, free_ids, held_at}, Runs.{IsCall, IsSpan}}
-use Rattle.ulfm_model.proofs.Terms.{view_of}
+use Rattle.ulfm_model.specs.Terms.{view_of}
 use Rattle.ulfm_model.proofs.{Decisions.{slot_stands}, Histories.{failures_begin, slot_stays}, Lists.{all_has, each_from, has_kept, has_prefix, length_prefix, not_in_take, prefix_trans}, Stable.{failed_begins}}
 use Rattle.ulfm_words.proofs.Trails.{did_prefix}
 use Rattle.ulfm_comm.specs.{Calls.{reply_of}, Excludes.{Excludes}}

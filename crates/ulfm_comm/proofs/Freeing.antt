@@ -3,7 +3,7 @@ use Rattle.std.proofs.Common.{◌≡◌, ℕ, ◌==◌, Bool, not, [], filter, S
 use Rattle.ulfm_model.specs.declared.call.Call.TheVariants as call
 use Rattle.ulfm_model.specs.declared.reply.Reply.TheVariants.{Freed}
 use Rattle.ulfm_model.specs.{Answers.{first_refusal}, Records.{Fits, Held, Record, held_at}}
-use Rattle.ulfm_model.proofs.Terms.{tests_of}
+use Rattle.ulfm_model.specs.Terms.{tests_of}
 use Rattle.ulfm_words.specs.Steps.{IsOf, Name, Sight}
 use Rattle.ulfm_words.proofs.Trails.{did_none}
 use Rattle.ulfm_comm.specs.{Calls.{Calls}, Looked.{Looked}}

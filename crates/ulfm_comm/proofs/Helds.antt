@@ -8,7 +8,7 @@ use Rattle.std.proofs.lemmas.Grind.{common_steps}
 use Rattle.std.proofs.lemmas.Map.Keys.{IsDistinct-cons}
 use Rattle.ulfm_model.specs.declared.{call.Request.{Request}, call.Request.TheVariants.{Agree, Shrink, Barrier}, limits.Limits.{Limits}}
 use Rattle.ulfm_model.specs.{Answers.{opened}, Records.{Held, change_at}, Words.{MayOpen}}
-use Rattle.ulfm_model.proofs.Terms.{contexts_of}
+use Rattle.ulfm_model.specs.Terms.{contexts_of}
 use Rattle.ulfm_model.proofs.{LeftHeld.{contexts_push, distinct_kept}, Lists.{any_none, distinct_push}}
 use Rattle.ulfm_comm.specs.Ranks.{HasRoom}
 use Rattle.ulfm_comm.proofs.InOrder.{found_at}

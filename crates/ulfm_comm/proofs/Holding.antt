@@ -3,7 +3,7 @@ use Rattle.std.proofs.Common.{◌≡◌, ℕ, filter, Some, ap, sym, ◌∙◌, 
 use Rattle.std.specs.List.Sorted.{IsStrictlyIncreasing}
 use Rattle.ulfm_model.specs.declared.limits.Limits.{Limits}
 use Rattle.ulfm_model.specs.{History.{Exists, History, failed, failures, has, members}, Records.{Fits, FitsHeld, Held, Record, held_at}}
-use Rattle.ulfm_model.proofs.Terms.{contexts_of}
+use Rattle.ulfm_model.specs.Terms.{contexts_of}
 use Rattle.ulfm_model.proofs.LeftFits.{held_fits}
 use Rattle.ulfm_steps.proofs.Groups.{members_rise}
 

@@ -5,7 +5,7 @@ use Rattle.ulfm_laws.specs.declared.ctx_mask.CtxMask.{CtxMask}
 use Rattle.ulfm_model.specs.declared.{call.Call.{Call}, limits.Limits.{Limits}}
 use Rattle.ulfm_model.specs.{History.{History, IsLegal, failures}, Records.{Held, Record}, Runs.{Did}}
 use Rattle.ulfm_model.proofs.{Histories.{failures_begin}, Lists.{prefix_trans}}
-use Rattle.ulfm_model.proofs.Terms.{comm_of}
+use Rattle.ulfm_model.specs.Terms.{comm_of}
 use Rattle.ulfm_words.specs.Steps.{IsOf, Name, Sight}
 use Rattle.ulfm_words.proofs.Trails.{did_prefix, did_wait}
 use Rattle.ulfm_steps.specs.declared.{append.Append.{Append}, mark_all.MarkAll.{MarkAll}, read_round.ReadRound.{ReadRound}}

@@ -3,7 +3,8 @@ use Rattle.std.proofs.Common.{ℕ, zero, suc, ◌+◌, ◌≤◌, ◌==◌, Bool
 use Rattle.std.specs.Prelude.{reverse}
 use Rattle.ulfm_model.specs.declared.event.Entry.{Entry}
 use Rattle.ulfm_model.specs.History.{History, first_ranks, has, members, members_after, members_by, spawns, without}
-use Rattle.ulfm_model.proofs.{Lists.{length-filter-le}, Says.{made_by}, Terms.{group_among}}
+use Rattle.ulfm_model.proofs.{Lists.{length-filter-le}, Says.{made_by}}
+use Rattle.ulfm_model.specs.Terms.{group_among}
 
 first_length : (n : ℕ) → length (first_ranks n) ≡ n
 first_length zero = refl

@@ -6,7 +6,7 @@ use Rattle.ulfm_model.specs.declared.{call.Call.{Call}, call.Request.{Request}, 
 use Rattle.ulfm_model.specs.declared.reply.Reply.TheVariants.{Started, Pending, Agreed, Shrunk, Done, FailedGroup, Acked, Declared, AlreadyFailed, Revoked, AlreadyRevoked, Standing, Freed, Refused}
 use Rattle.ulfm_model.specs.declared.refusal.Refusal.TheVariants.{SelfFailed, NoSuchComm, Busy, ShrinkOpen, RoundsUsedUp, Idle, Mismatch, NoContext, NoRoom, IsRevoked, ProcFailed, WorldKept, NoSuchRank, OutOfMemory, Twice}
 use Rattle.ulfm_model.specs.{Answers.{rank_of, traits_of}, Records.{Held, Record, held_at, is_shrink}, Runs.{IsCall, State}}
-use Rattle.ulfm_model.proofs.Terms.{view_of}
+use Rattle.ulfm_model.specs.Terms.{view_of}
 use Rattle.ulfm_words.specs.Steps.{Name, Sight}
 use Rattle.ulfm_comm.specs.{Calls.{Calls, EndsAs, EndsReply, wants_memory}, Jobs.{IsAbout, IsJob, IsOther, StepsBy, state_of}}
 use Rattle.ulfm_comm.proofs.{Handing.{has_members}, InOrder.{number_at}, Jobs.{calls_step, out_begins, out_job}, ReplyKinds.{IsKind, answered_on, replies_kind}}

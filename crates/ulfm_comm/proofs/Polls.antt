@@ -9,7 +9,7 @@ use Rattle.ulfm_laws.specs.{Bodies.{body_meld}, declared.{body.Body.{Body}, body
 use Rattle.ulfm_model.specs.declared.call.Call.TheVariants as call
 use Rattle.ulfm_model.specs.declared.{call.Call.{Call}, call.Request.{Request}, call.Request.TheVariants.{Agree, Shrink}, contribution.Contribution.{Contribution}, contribution.Slot.TheVariants.{Given}, event.Caller.TheVariants.{Rank}, event.Event.{Event}, event.Event.TheVariants.{Fail, Settle, Mark, Arrive, Revoke, Spawn}, limits.Limits.{Limits}, refusal.Refusal.TheVariants.{Idle, Mismatch}, reply.Reply.{Reply}, reply.Reply.TheVariants.{Agreed, Pending, Refused}}
 use Rattle.ulfm_model.specs.{Answers.{AgreeReplies, IsPending, MarksDeclared, PollAdds, PollReplies, Sees, View, closed, first_refusal, left_by, polled_by, refusal_of, refusal_on}, History.{Decision, History, IsLegal, body_of, decision, entries_by, failed, failures, has, is_decided, known_of, members, round, round_among, slot}, Laws.{all_of}, Records.{Fits, FitsRequest, Held, Record, held_at, is_shrink}, Runs.{Did, IsRun, unsettled_of}}
-use Rattle.ulfm_model.proofs.Terms.{IsOwn, contexts_of, request_of, settled_by, view_of}
+use Rattle.ulfm_model.specs.Terms.{IsOwn, contexts_of, request_of, settled_by, view_of}
 use Rattle.ulfm_model.proofs.{Decisions.{slot_stands}, Histories.{slot_stays}, LeftIds.{free_at_each}, Lists.{at_member, each_filter_map, each_from, has_filter, has_kept, has_passes, has_prefix, is_some_of}, Melds.{known_fits}, Stable.{decision_is, fits_stays}, StepsRounds.{IsFlagged, IsMasked, flagged_left, flagged_right, given_stands, masked_left, masked_right, offered}}
 use Rattle.ulfm_words.proofs.Trails.{did_prefix, did_quiet, did_wait}
 use Rattle.ulfm_steps.specs.{Marks.{IsMarkOf}, Rounds.{IsSummed}}
@@ -139,9 +139,9 @@ unsettled_is ranks h c k false = refl
 unsettled_is ranks h c k true = refl
 
 -- what was seen begins with what the look found
-sees_begin : {P : Type 0} (view : View P) (seen : List ℕ) (shrinks : Bool) (k : ℕ) → Sees (is_shrink (Some (agreement shrinks k))) view seen → IsPrefix view.look seen
-sees_begin view seen false k is = ([], append-nil view.look ∙ sym is)
-sees_begin view seen true k is = is.0
+sees_begin : {P : Type 0} (look : List ℕ) (after : History P) (seen : List ℕ) (shrinks : Bool) (k : ℕ) → Sees (is_shrink (Some (agreement shrinks k))) look after seen → IsPrefix look seen
+sees_begin look after seen false k is = ([], append-nil look ∙ sym is)
+sees_begin look after seen true k is = is.0
 
 module _ {P : Type 0} (meld : P → P → P) (limits : Limits) (alone : Bool) (before : History P) (old mid : Record) (c : ℕ) (shrinks : Bool) (k : ℕ) (x : Held) (after : History P) (p : HasMarked meld limits alone c shrinks k x old before mid after) where
   abbrev pub asked : Call P
@@ -203,7 +203,7 @@ module _ {P : Type 0} (meld : P → P → P) (limits : Limits) (alone : Bool) (b
       by_look : (b : Bool) → has (failures run.span.look) member ≡ b → has (failures run.span.look) member ≡ false
       by_look false none = none
       by_look true found =
-          let begins = sees_begin (view_of run.span) new.seen shrinks k (subst (λ request. Sees (is_shrink request) (view_of run.span) new.seen) polls_it run.answer.leaves.seen) in
+          let begins = sees_begin (failures run.span.look) after new.seen shrinks k (subst (λ request. Sees (is_shrink request) (failures run.span.look) after new.seen) polls_it run.answer.leaves.seen) in
           let seen : new.seen ≡ failures p.look = ap (λ (w : Record). w.seen) is ∙ ap (λ (w : Record). w.seen) p.looked.record_is in
           let there = has_prefix (failures run.span.look) new.seen member begins found in
           let clash : has (failures p.look) member ≡ true = ap (λ fs. has fs member) (sym seen) ∙ there in absurd (cc (clash, alive))

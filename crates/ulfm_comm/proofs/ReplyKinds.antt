@@ -6,7 +6,7 @@ use Rattle.ulfm_model.specs.declared.call.Call.TheVariants as call
 use Rattle.ulfm_laws.specs.declared.ctx_mask.CtxMask.{CtxMask}
 use Rattle.ulfm_model.specs.declared.{call.Call.{Call}, call.Request.{Request}, call.Request.TheVariants.{Agree, Shrink, Barrier}, contribution.Offer.{Offer}, contribution.Offer.TheVariants.{Ctx, Flag}, limits.Limits.{Limits}, refusal.Refusal.{Refusal}, refusal.Refusal.TheVariants.{IsRevoked, NoContext, ProcFailed, SelfFailed, Twice}, reply.Reply.{Reply}, reply.Reply.TheVariants.{AlreadyRevoked, Done, FailedGroup, Pending, Refused, Revoked, Started}}
 use Rattle.ulfm_model.specs.{Answers.{AgreeReplies, IsReply, IsSelfFailed, PollReplies, Replies, RepliesBy, Sees, ShrinkReplies, SpawnReplies, StartReplies, View, polled_by, refusal_of}, History.{Decision, History, decision, failures, has, has_arrived, is_revoked}, Records.{Held, free_ids, Record, held_at, is_shrink}, Runs.{IsRun}}
-use Rattle.ulfm_model.proofs.Terms.{comm_of, view_of}
+use Rattle.ulfm_model.specs.Terms.{comm_of, view_of}
 use Rattle.ulfm_comm.specs.Replies.{IsAcked, IsCounted, IsFreed, IsPolled, IsRevokedBy, IsStanding, IsStart}
 
 -- a reply of the call's kind
@@ -76,8 +76,8 @@ module _ {P : Type 0} (meld : P → P → P) (limits : Limits) (view : View P) (
   replies_kind (call.Free rank c) replies = subst IsFreed (sym replies) tt
 
 -- a call that counted failures has seen all that were declared at its point
-module _ {P : Type 0} (meld : P → P → P) (limits : Limits) (view : View P) (old : Record) (count : ℕ) (seen : List ℕ) where
-  by_asked : (asked : Call P) (x : Held) → Replies meld limits view old x asked (FailedGroup count) → Sees (is_shrink (polled_by old asked)) view seen → seen ≡ failures view.history
+module _ {P : Type 0} (meld : P → P → P) (limits : Limits) (view : View P) (after : History P) (old : Record) (count : ℕ) (seen : List ℕ) where
+  by_asked : (asked : Call P) (x : Held) → Replies meld limits view old x asked (FailedGroup count) → Sees (is_shrink (polled_by old asked)) view.look after seen → seen ≡ failures view.history
   by_asked (call.Fail rank) x replies sees = absurd replies
   by_asked (call.GetFailed rank c) x replies sees = sees ∙ sym replies.0
   by_asked (call.Ack rank c count) x replies sees = absurd (cc (replies.1))
@@ -89,19 +89,19 @@ module _ {P : Type 0} (meld : P → P → P) (limits : Limits) (view : View P) (
   by_asked (call.IsRevoked rank c) x replies sees = absurd (cc replies)
   by_asked (call.Free rank c) x replies sees = absurd (cc replies)
 
-  by_held : (asked : Call P) (held : Option Held) (refusal : Option Refusal) → RepliesBy meld limits view old held asked (FailedGroup count) refusal → Sees (is_shrink (polled_by old asked)) view seen → seen ≡ failures view.history
+  by_held : (asked : Call P) (held : Option Held) (refusal : Option Refusal) → RepliesBy meld limits view old held asked (FailedGroup count) refusal → Sees (is_shrink (polled_by old asked)) view.look after seen → seen ≡ failures view.history
   by_held asked held (Some refusal) is sees = absurd (cc is)
   by_held asked (Some x) None replies sees = by_asked asked x replies sees
   by_held asked None None replies sees = absurd replies
 
-  by_either : (asked : Call P) → IsSelfFailed view old asked (FailedGroup count) ⊎ IsReply meld limits view old asked (FailedGroup count) → Sees (is_shrink (polled_by old asked)) view seen → seen ≡ failures view.history
+  by_either : (asked : Call P) → IsSelfFailed view old asked (FailedGroup count) ⊎ IsReply meld limits view old asked (FailedGroup count) → Sees (is_shrink (polled_by old asked)) view.look after seen → seen ≡ failures view.history
   by_either asked (inl failed) sees = absurd (cc (failed.reply_is))
   by_either asked (inr replied) sees = by_held asked (held_at old (comm_of asked)) (refusal_of old asked) replied.replies sees
 
 pub counted_seen : {P : Type 0} (meld : P → P → P) (limits : Limits) (alone : Bool) (before after : History P) (old : Record) (asked : Call P) (reply : Reply P) (new : Record) (run : IsRun meld limits alone before after old asked reply new) (count : ℕ)
     → reply ≡ FailedGroup count → new.seen ≡ failures run.span.point
 counted_seen meld limits alone before after old asked reply new run count is =
-    by_either meld limits (view_of run.span) old count new.seen asked (subst (λ r. IsSelfFailed (view_of run.span) old asked r ⊎ IsReply meld limits (view_of run.span) old asked r) is run.answer.replies) run.answer.leaves.seen
+    by_either meld limits (view_of run.span) after old count new.seen asked (subst (λ r. IsSelfFailed (view_of run.span) old asked r ⊎ IsReply meld limits (view_of run.span) old asked r) is run.answer.replies) run.answer.leaves.seen
 
 -- a reply that isn't a refusal is one on a communicator that the rank holds, and that its look didn't refuse
 pub record AnsweredOn {P : Type 0} (meld : P → P → P) (limits : Limits) (view : View P) (old : Record) (asked : Call P) (reply : Reply P) : Type 0 where

@@ -4,7 +4,7 @@ use Rattle.std.specs.List.{AllByRecursion}
 use mathlib.Core.List.{IsPrefix}
 use Rattle.ulfm_model.specs.declared.{call.Call.{Call}, event.Caller.TheVariants.{Rank}, event.Event.{Event}, limits.Limits.{Limits}, refusal.Refusal.{Refusal}, refusal.Refusal.TheVariants.{NoSuchComm, SelfFailed}, reply.Reply.{Reply}, reply.Reply.TheVariants.{Started, Pending, Agreed, Shrunk, Done, FailedGroup, Acked, Declared, AlreadyFailed, Revoked, AlreadyRevoked, Standing, Freed, Refused}}
 use Rattle.ulfm_model.specs.{Answers.{CallAdds, Effect, IsReply, IsSelfFailed, MayOwn, Replies, RepliesBy, Sees, View, left_by, polled_by, printed, refusal_of, refusal_on, refused_with, traits_of}, Answers.Effect.{Ends, ForGood, Keeps}, History.{History, IsLegal, entries_by, failures, has}, Records.{Held, Record, held_at, is_shrink}, Runs.{Did, IsAloneRun, IsCall, unsettled_of}}
-use Rattle.ulfm_model.proofs.Terms.{comm_of, request_of, settled_by}
+use Rattle.ulfm_model.specs.Terms.{comm_of, request_of, settled_by}
 use Rattle.ulfm_model.proofs.{Histories.{failures_begin}, Lists.{each_from, prefix_trans}}
 use Rattle.ulfm_words.proofs.Trails.{did_none, did_prefix, did_quiet}
 use Rattle.ulfm_comm.specs.{Ends.{IsAloneCall, IsEndRun}, Looked.{Looked}}
@@ -32,9 +32,14 @@ left_seen ranks h now asked (Refused refusal) = by_effect (printed refusal).2
     by_effect ForGood = refl
 
 -- a rank that has seen what its look found has seen what it may
-pub sees_look : {P : Type 0} (shrinks : Bool) (view : View P) → IsPrefix view.look (failures view.history) → Sees shrinks view view.look
-sees_look false view begins = refl
-sees_look true view begins = (([], append-nil view.look), begins)
+pub sees_look : {P : Type 0} (shrinks : Bool) (look : List ℕ) (after : History P) → IsPrefix look (failures after) → Sees shrinks look after look
+sees_look false look after begins = refl
+sees_look true look after begins = (([], append-nil look), begins)
+
+-- what a rank may have seen at the end of a call it may have seen at a later one
+pub sees_later : {P : Type 0} (shrinks : Bool) (look : List ℕ) (after longer : History P) (seen : List ℕ) → IsPrefix after longer → Sees shrinks look after seen → Sees shrinks look longer seen
+sees_later false look after longer seen more is = is
+sees_later true look after longer seen more sees = (sees.0, prefix_trans seen (failures after) (failures longer) sees.1 (failures_begin after longer more))
 
 module _ {P : Type 0} (meld : P → P → P) (limits : Limits) (alone : Bool) (before look : History P) (old : Record) where
   -- what a reply at the end of a call rests on
@@ -48,7 +53,7 @@ module _ {P : Type 0} (meld : P → P → P) (limits : Limits) (alone : Bool) (b
   -- a call with its point at its end, of a rank that has then seen so much
   pub run_ends : (after : History P) (own : List (Event P)) (asked : Call P) (reply : Reply P) (new : Record) (seen : List ℕ) → IsFalse old.refused → Did alone [] before look
       → Did alone (entries_by (Rank old.number) own) look after → IsLegal meld limits after → AllByRecursion (MayOwn (failures look) old asked) own
-      → IsSelfFailed (view_at after own) old asked reply ⊎ IsReply meld limits (view_at after own) old asked reply → Sees (is_shrink (polled_by old asked)) (view_at after own) seen
+      → IsSelfFailed (view_at after own) old asked reply ⊎ IsReply meld limits (view_at after own) old asked reply → Sees (is_shrink (polled_by old asked)) (failures look) after seen
       → new ≡ left_by limits.ranks after (record old { seen = seen }) asked reply → Marks asked own → IsEndRun meld limits alone before after old asked reply new
   run_ends after own asked reply new seen in_use looked did legal may replies sees is marks =
       let begins = did_prefix alone (entries_by (Rank old.number) own) look after did in
@@ -70,7 +75,7 @@ module _ {P : Type 0} (meld : P → P → P) (limits : Limits) (alone : Bool) (b
             own = may;
             replies = replies;
             leaves = record {
-              seen = subst (Sees (is_shrink (polled_by old asked)) (view_at after own)) (sym same) sees;
+              seen = subst (Sees (is_shrink (polled_by old asked)) (failures look) after) (sym same) sees;
               record_is = is ∙ ap (λ s. left_by limits.ranks after (record old { seen = s }) asked reply) (sym same);
             };
           };
@@ -86,7 +91,7 @@ module _ {P : Type 0} (meld : P → P → P) (limits : Limits) (alone : Bool) (b
       → new ≡ left_by limits.ranks after (record old { seen = failures look }) asked reply → Marks asked own → IsEndRun meld limits alone before after old asked reply new
   run_at_end after own asked reply new in_use looked did legal may replies is marks =
       run_ends after own asked reply new (failures look) in_use looked did legal may replies
-      (sees_look (is_shrink (polled_by old asked)) (view_at after own) (failures_begin look after (did_prefix alone (entries_by (Rank old.number) own) look after did))) is marks
+      (sees_look (is_shrink (polled_by old asked)) (failures look) after (failures_begin look after (did_prefix alone (entries_by (Rank old.number) own) look after did))) is marks
 
   -- a rank that is declared at the end, in a call that has added nothing; where nobody else steps, and the call is a poll, it was so at the look
   pub self_failed : (after : History P) (asked : Call P) (new : Record) → IsFalse old.refused → Did alone [] before look → Did alone [] look after → IsLegal meld limits after

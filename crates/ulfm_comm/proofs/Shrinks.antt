@@ -8,7 +8,7 @@ use Rattle.ulfm_laws.specs.declared.{body.Body.{Body}, body.Body.TheVariants.{Un
 use Rattle.ulfm_model.specs.declared.call.Call.TheVariants as call
 use Rattle.ulfm_model.specs.declared.{call.Call.{Call}, call.Request.TheVariants.{Shrink}, contribution.Slot.{Slot}, event.Caller.{Caller}, event.Caller.TheVariants.{Rank}, event.Event.{Event}, event.Event.TheVariants.{Fail, Settle, Mark, Arrive, Revoke, Spawn}, limits.Limits.{Limits}, refusal.Refusal.TheVariants.{Mismatch, NoContext, NoRoom, SelfFailed}, reply.Reply.{Reply}, reply.Reply.TheVariants.{Refused, Shrunk}}
 use Rattle.ulfm_model.specs.{Answers.{IsReply, IsSelfFailed, MayOwn, PollAdds, PollReplies, RepliesBy, Sees, ShrinkReplies, View, closed, left_by, polled_by, refusal_of}, History.{Decision, Exists, History, IsLegal, decision, entries_by, failed, failures, has, is_decided, is_made, members, says, spawns, without}, Records.{Fits, Held, IsLowestId, Record, is_shrink}, Runs.{Did}}
-use Rattle.ulfm_model.proofs.Terms.{new_held, settled_by}
+use Rattle.ulfm_model.specs.Terms.{new_held, settled_by}
 use Rattle.ulfm_model.proofs.{Decisions.{decision_stays}, Histories.{failures_begin}, Lists.{each_from, has_prefix, not_in_filter, prefix_trans}, Spawned.{members_of_spawned}, Stable.{failed_begins, fits_stays}, StepsRounds.{IsMasked}}
 use Rattle.ulfm_words.proofs.Trails.{did_after, did_more, did_prefix}
 use Rattle.ulfm_steps.specs.{Marks.{IsMarkOf}, Rounds.{IsSummed}}
@@ -128,10 +128,10 @@ module _ {P : Type 0} (meld : P → P → P) (limits : Limits) (alone : Bool) (b
             adds = (x, held_first meld limits alone before old mid c true k x h p, subst (λ request. PollAdds (failures p.look) x request event) (sym p.open_is) added);
           }) events mine
 
-      pub sees_on : Sees (is_shrink (polled_by old poll)) view seen
+      pub sees_on : Sees (is_shrink (polled_by old poll)) (failures p.look) ending seen
       sees_on =
           let to_end = failures_begin after ending (did_prefix alone (entries_by (Rank old.number) own) after ending did) in
-          subst (λ request. Sees (is_shrink request) view seen) (sym (polls_it meld limits alone before old mid c true k x h p))
+          subst (λ request. Sees (is_shrink request) (failures p.look) ending seen) (sym (polls_it meld limits alone before old mid c true k x h p))
           (subst (λ s. IsPrefix s seen) (ap (λ (w : Record). w.seen) p.looked.record_is) reads.goes_on, prefix_trans seen (failures after) (failures ending) reads.begins to_end)
 
       ends_so : (reply : Reply P) (new : Record) → IsSelfFailed view old poll reply ⊎ IsReply meld limits view old poll reply → new ≡ left_by limits.ranks ending (record mid { seen = seen }) poll reply → IsEndRun meld limits alone before ending old poll reply new

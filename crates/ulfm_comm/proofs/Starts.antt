@@ -2,7 +2,7 @@
 use Rattle.std.proofs.Common.{◌≡◌, ℕ, ◌<◌, ◌≤◌, ◌-◌, Bool, true, false, [], ◌∷◌, length, filter, Some, None, Result, Ok, Err, is_ok, refl, ap, sym, ◌∙◌, subst, arith, inl, inr, IsTrue, MatchBool, MatchResult}
 use Rattle.ulfm_model.specs.declared.{call.Call.{Call}, call.Request.{Request}, contribution.Contribution.{Contribution}, contribution.MarkCount.{MarkCount}, contribution.Offer.{Offer}, contribution.Slot.{Slot}, contribution.Slot.TheVariants.{Given, Mark as Marked}, event.Caller.TheVariants.{Rank}, event.Event.TheVariants.{Settle}, limits.Limits.{Limits}, refusal.Refusal.{Refusal}, refusal.Refusal.TheVariants.{Twice}, reply.Reply.{Reply}, reply.Reply.TheVariants.{Refused, Started}}
 use Rattle.ulfm_model.specs.{Answers.{CallAdds, Replies, StartReplies, View, opened, refusal_of, traits_of}, History.{History, IsLegal, IsPlace, failed, failures, has, members, slot}, Records.{Fits, Held, Record, held_at}, Runs.{Did}}
-use Rattle.ulfm_model.proofs.Terms.{comm_of}
+use Rattle.ulfm_model.specs.Terms.{comm_of}
 use Rattle.ulfm_model.proofs.{Decisions.{slot_stands}, Marking.{failed_few}, Lists.{has_at, has_filter, length_prefix}}
 use Rattle.ulfm_words.specs.Steps.{IsAdded, IsOf, Name, Sight}
 use Rattle.ulfm_words.proofs.Trails.{did_added, did_after}

@@ -2,7 +2,7 @@
 use Rattle.std.proofs.Common.{◌≡◌, Bool, Option, Some, ap, ◌∙◌}
 use Rattle.ulfm_model.specs.declared.{call.Call.{Call}, refusal.Refusal.{Refusal}}
 use Rattle.ulfm_model.specs.{Answers.{first_refusal, refusal_of, refusal_on}, Records.{Fits, Held, Record, held_at}}
-use Rattle.ulfm_model.proofs.Terms.{comm_of, tests_of}
+use Rattle.ulfm_model.specs.Terms.{comm_of, tests_of}
 use Rattle.ulfm_words.specs.Steps.{Name, Sight}
 use Rattle.ulfm_comm.specs.Looked.{Looked}
 use Rattle.ulfm_comm.proofs.Replying.{held_before}

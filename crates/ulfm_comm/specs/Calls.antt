@@ -3,7 +3,6 @@ use Rattle.std.specs.Prelude.{◌≡◌, ℕ, Bool, ◌==◌, true, false, [], N
 use Rattle.std.specs.List.{AllByRecursion}
 use Rattle.ulfm_model.specs.declared.{call.Call.{Call}, event.Caller.TheVariants.{Rank}, limits.Limits.{Limits}, refusal.Refusal.{Refusal}, reply.Reply.{Reply}, reply.Reply.TheVariants.{Started, Pending, Agreed, Shrunk, Done, FailedGroup, Acked, Declared, AlreadyFailed, Revoked, AlreadyRevoked, Standing, Freed, Refused}}
 use Rattle.ulfm_model.specs.{Answers.{MayOwn, Sees, polled_by, printed, refusal_of}, History.{History, entries_by, failures, has, spawns}, Records.{Fits, Record, is_shrink}, Runs.{IsCall, IsSpan}}
-use Rattle.ulfm_model.proofs.Terms.{view_of}
 use Rattle.ulfm_words.specs.Steps.{IsOf, Name, Sight}
 use Rattle.ulfm_comm.specs.Ends.{IsAloneCall}
 
@@ -32,7 +31,7 @@ pub record IsRunOut {P : Type 0} (meld : P → P → P) (limits : Limits) (alone
   pub not_refused : refusal_of old asked ≡ None
   pub own : AllByRecursion (MayOwn (failures span.look) old asked) span.own
   pub makes_none : spawns (entries_by (Rank old.number) span.own) ≡ []
-  pub sees : Sees (is_shrink (polled_by old asked)) (view_of span) new.seen
+  pub sees : Sees (is_shrink (polled_by old asked)) (failures span.look) after new.seen
   pub record_is : new ≡ record old { seen = new.seen }
 
 -- the same of a call that ran out of memory

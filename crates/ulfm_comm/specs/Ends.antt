@@ -2,7 +2,7 @@
 use Rattle.std.specs.Prelude.{◌≡◌, ◌⊎◌, Bool, IsTrue, IsFalse}
 use Rattle.ulfm_model.specs.declared.{call.Call.{Call}, limits.Limits.{Limits}, refusal.Refusal.TheVariants.{SelfFailed}, reply.Reply.{Reply}, reply.Reply.TheVariants.{Refused}}
 use Rattle.ulfm_model.specs.{Answers.{polled_by, traits_of}, History.{History, failures, has}, Records.{Record}, Runs.{IsAloneRun, IsRun, unsettled_of}}
-use Rattle.ulfm_model.proofs.Terms.{comm_of, settled_by}
+use Rattle.ulfm_model.specs.Terms.{comm_of, settled_by}
 
 -- a run with its point at its end; where nobody else steps, the poll of a rank that isn't declared has marked each declared
 -- member that was unsettled

@@ -3,7 +3,7 @@ use Rattle.std.specs.Prelude.{◌≡◌, ℕ, ◌+◌, ◌-◌, ◌<◌, ◌≤�
 use Rattle.std.specs.List.{AllByRecursion}
 use Rattle.ulfm_model.specs.declared.{event.Caller.{Caller}, event.Event.{Event}, event.Event.TheVariants.{Spawn}, limits.Limits.{Limits}}
 use Rattle.ulfm_model.specs.{Answers.{closed}, History.{History, entries_by, is_made, spawns}, Records.{Held, Record, held_at}, Runs.{Did}}
-use Rattle.ulfm_model.proofs.Terms.{contexts_of, new_held, settled_by}
+use Rattle.ulfm_model.specs.Terms.{contexts_of, new_held, settled_by}
 use Rattle.ulfm_words.specs.Steps.{IsOf, Name, Sight}
 use Rattle.ulfm_steps.specs.Appends.{MayAppend, Passed}
 use Rattle.ulfm_steps.specs.declared.{append.Append.{Append}, item.Item.TheVariants.{Comm as OfComm}}

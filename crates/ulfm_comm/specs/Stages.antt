@@ -5,7 +5,7 @@ use Rattle.ulfm_laws.specs.declared.{body.Body.{Body}, body.Body.TheVariants.{Un
 use Rattle.ulfm_model.specs.declared.call.Call.TheVariants as call
 use Rattle.ulfm_model.specs.declared.{call.Call.{Call}, call.Request.{Request}, call.Request.TheVariants.{Agree, Shrink, Barrier}, contribution.Offer.{Offer}, contribution.Offer.TheVariants.{Flag, Ctx}, event.Caller.TheVariants.{Rank}, event.Event.{Event}, limits.Limits.{Limits}, refusal.Refusal.TheVariants.{Mismatch, SelfFailed}, reply.Reply.{Reply}, reply.Reply.TheVariants.{Agreed, Pending, Refused}}
 use Rattle.ulfm_model.specs.{Answers.{first_refusal, polled_by, refusal_of, traits_of}, History.{History, IsLegal, entries_by, failures, has, without}, Records.{Fits, Held, IsLowestId, Record, free_ids, held_at}, Runs.{Did}}
-use Rattle.ulfm_model.proofs.Terms.{comm_of, tests_of}
+use Rattle.ulfm_model.specs.Terms.{comm_of, tests_of}
 use Rattle.ulfm_words.specs.Steps.{IsOf, Name, Sight}
 use Rattle.ulfm_steps.specs.declared.{append.Append.{Append}, item.Item.TheVariants.{Comm as OfComm}, mark_all.MarkAll.{MarkAll}, read_round.ReadRound.{ReadRound}}
 use Rattle.ulfm_steps.specs.{Appends.{Passed, room}, Arriving.{AtArrival, MissingAre}, Looks.{LookIs}, Marks.{IsAt, Marks, members_in}, Rounds.{IsSummed}}

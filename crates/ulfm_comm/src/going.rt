@@ -6,7 +6,7 @@ ghost use Rattle.ulfm_model.specs.Records.{Fits, Record};
 ghost use Rattle.ulfm_words.specs.Steps.{IsOf, Name, Sight};
 ghost use Rattle.ulfm_model.specs.Answers.{polled_by};
 ghost use Rattle.ulfm_model.specs.declared.{refusal.Refusal.TheVariants.{OutOfMemory}, reply.Reply.TheVariants.{Pending as StillPending, Refused}};
-ghost use Rattle.ulfm_model.proofs.Terms.{comm_of};
+ghost use Rattle.ulfm_model.specs.Terms.{comm_of};
 ghost use Rattle.ulfm_comm.specs.Calls.{EndsReply};
 ghost use Rattle.ulfm_comm.specs.Polls.{EndsInMissing, IsAgreement};
 ghost use Rattle.ulfm_comm.specs.Stages.{Answered, IsFurther, Stands, StillStands, Turns, Waits, Walks};

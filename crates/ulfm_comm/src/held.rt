@@ -2,7 +2,7 @@ ghost use Rattle.std.specs.Prelude.{◌≡◌, ◌==◌, ◌<◌, ◌++◌, ◌�
 ghost use Rattle.std.specs.List.{list_any};
 ghost use Rattle.ulfm_model.specs.Records.{change_at, is_shrink};
 ghost use Rattle.ulfm_model.specs.Answers.{opened};
-ghost use Rattle.ulfm_model.proofs.Terms.{new_held};
+ghost use Rattle.ulfm_model.specs.Terms.{new_held};
 ghost use Rattle.ulfm_comm.specs.Starts.{HasNext};
 
 use std::alloc::Allocator;

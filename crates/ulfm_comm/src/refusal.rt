@@ -1,6 +1,6 @@
 // What a rank's record refuses.
 ghost use Rattle.std.specs.Prelude.{◌≡◌};
-ghost use Rattle.ulfm_model.proofs.Terms.{tests_of};
+ghost use Rattle.ulfm_model.specs.Terms.{tests_of};
 ghost use Rattle.ulfm_model.specs.Answers.{first_refusal};
 
 use crate::held::HeldComm;

@@ -6,7 +6,7 @@ use Rattle.std.proofs.lemmas.List.{reverse-append, reverse-reverse, take-append-
 use mathlib.Core.List.{IsPrefix}
 use Rattle.ulfm_model.specs.declared.event.Entry.{Entry}
 use Rattle.ulfm_model.specs.History.{Exists, History, first_ranks, members, members_after, members_by, spawns, without}
-use Rattle.ulfm_model.proofs.Terms.{group_among}
+use Rattle.ulfm_model.specs.Terms.{group_among}
 use Rattle.ulfm_history.specs.Walked.{IsMissing, IsOrigin}
 use Rattle.ulfm_model.proofs.Says.{made_by}
 use Rattle.ulfm_model.proofs.Histories.{members_made, members_stay, spawns_push}

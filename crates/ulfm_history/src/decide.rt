@@ -1,7 +1,7 @@
 //! What an agreement round decides.
 ghost use Rattle.std.specs.Prelude.{◌≡◌, IfOk, filter_map, is_some, map};
 ghost use Rattle.std.specs.List.{list_all, list_any};
-ghost use Rattle.ulfm_model.proofs.Terms.{lacks_one};
+ghost use Rattle.ulfm_model.specs.Terms.{lacks_one};
 ghost use Rattle.ulfm_model.specs.History.{body_of, contribution_of, decided_by, decision, is_decided, slot};
 ghost use Rattle.ulfm_history.specs.Walked.{decision_of};
 

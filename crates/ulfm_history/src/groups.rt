@@ -1,7 +1,7 @@
 //! Who the members of a communicator are, and which of them an agreement round leaves out.
 ghost use Rattle.std.specs.Prelude.{◌≡◌, ◌==◌, IfOk, MatchOption, if◌then◌else◌, length, take};
 ghost use Rattle.std.specs.List.{list_any};
-ghost use Rattle.ulfm_model.proofs.Terms.{group_among};
+ghost use Rattle.ulfm_model.specs.Terms.{group_among};
 ghost use Rattle.ulfm_model.specs.History.{failed, failed_among, first_ranks, has, known_of, members, round_among, union_of, without};
 ghost use Rattle.ulfm_history.specs.Walked.{IsMissing, IsOrigin};
 

@@ -1,6 +1,6 @@
 // What one entry of a history says, question by question.
 ghost use Rattle.std.specs.Prelude.{◌≡◌};
-ghost use Rattle.ulfm_model.proofs.Terms.{put_at};
+ghost use Rattle.ulfm_model.specs.Terms.{put_at};
 ghost use Rattle.ulfm_model.specs.History.{says};
 
 use ulfm_model::contribution::Slot;

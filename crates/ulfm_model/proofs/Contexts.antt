@@ -12,7 +12,7 @@ use Rattle.ulfm_model.specs.declared.event.Event.TheVariants.{Spawn}
 use Rattle.ulfm_model.specs.declared.limits.Limits.{Limits}
 use Rattle.ulfm_model.specs.History.{History, has, spawns}
 use Rattle.ulfm_model.specs.{History.{Decision, Exists, IsLegal, MayFollow, decision, is_decided}, Records.{Fits, FitsHeld, Held, IsContext, IsLowestId, Record, free_ids}}
-use Rattle.ulfm_model.proofs.Terms.{contexts_of}
+use Rattle.ulfm_model.specs.Terms.{contexts_of}
 use Rattle.ulfm_model.specs.Laws.{HasOneContext}
 use Rattle.ulfm_model.proofs.Decisions.{decision_push}
 use Rattle.ulfm_model.proofs.FreeIds.{free_where}

@@ -7,7 +7,8 @@ use Rattle.std.proofs.lemmas.List.{take-append-drop}
 use mathlib.Core.List.{IsPrefix}
 use Rattle.ulfm_model.specs.declared.{call.Call.TheVariants.{Shrink}, contribution.Offer.{Offer}, contribution.Offer.TheVariants.{Ctx}, contribution.Slot.{Slot}, contribution.Slot.TheVariants.{Given}, event.Caller.TheVariants.{Rank}, limits.Limits.{Limits}, refusal.Refusal.{Refusal}, reply.Reply.TheVariants.{Started}}
 use Rattle.ulfm_model.specs.{Answers.{Contributes, IsReply, IsSelfFailed, RepliesBy, StartReplies, refusal_of}, History.{History, IsLegal, decision, failed, failures, has, known_of, members, round, slot}, Laws.{IsLeftOut, ShrinksExcludeFailures}, Records.{Fits, Held, Record, free_ids, held_at}, Runs.{IsSpan}}
-use Rattle.ulfm_model.proofs.{Histories.{legal_parts, members_stay, slot_stays}, LeftFits.{held_fits}, LeftRuns.{look_begins, look_ends}, Lists.{has_kept, has_passes, has_prefix, prefix_trans}, Spawned.{members_of_spawned}, Stable.{failed_begins}, Terms.{view_of}}
+use Rattle.ulfm_model.proofs.{Histories.{legal_parts, members_stay, slot_stays}, LeftFits.{held_fits}, LeftRuns.{look_begins, look_ends}, Lists.{has_kept, has_passes, has_prefix, prefix_trans}, Spawned.{members_of_spawned}, Stable.{failed_begins}}
+use Rattle.ulfm_model.specs.Terms.{view_of}
 
 -- a test that holds of what g gives for a rank of a list holds of some that g gives
 any_given : {Y : Type 0} (p : Y → Bool) (g : ℕ → Option Y) (xs : List ℕ) (x : ℕ) (y : Y) → has xs x ≡ true → g x ≡ Some y → p y ≡ true → list_any p (filter_map g xs) ≡ true

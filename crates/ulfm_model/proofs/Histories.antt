@@ -12,7 +12,7 @@ use Rattle.ulfm_model.specs.History.{without}
 use Rattle.ulfm_model.specs.History.{History, failures, slot, spawns}
 use Rattle.ulfm_model.proofs.Says.{put_by, declared_by, made_by}
 use Rattle.ulfm_model.specs.History.{Exists, IsLegal, IsLegalAfter, MayFollow, members, members_after, members_by}
-use Rattle.ulfm_model.proofs.Terms.{group_among}
+use Rattle.ulfm_model.specs.Terms.{group_among}
 use Rattle.ulfm_model.proofs.Lists.{first_stays, reverse_push}
 
 module _ {P : Type 0} (meld : P → P → P) (limits : Limits) where

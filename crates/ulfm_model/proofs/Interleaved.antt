@@ -3,21 +3,22 @@ use Rattle.std.proofs.Common.{◌≡◌, IsTrue, ℕ, [], ◌∷◌, ◌++◌, S
 use Rattle.std.specs.Prelude.{bit_and}
 use Rattle.ulfm_laws.specs.declared.body.Body.TheVariants.{Unit as NoBody}
 use Rattle.ulfm_model.specs.declared.call.Call.TheVariants.{Agree as Ask, Poll}
-use Rattle.ulfm_model.specs.declared.reply.Reply.TheVariants.{Started, Refused}
+use Rattle.ulfm_model.specs.declared.reply.Reply.TheVariants.{Started, Shrunk, Refused}
 use Rattle.ulfm_model.specs.declared.refusal.Refusal.TheVariants.{SelfFailed, IsRevoked, ProcFailed}
-use Rattle.ulfm_model.specs.declared.call.Request.TheVariants.{Agree, Barrier}
-use Rattle.ulfm_model.specs.declared.contribution.Offer.TheVariants.{Flag}
+use Rattle.ulfm_model.specs.declared.call.Request.TheVariants.{Agree, Shrink, Barrier}
+use Rattle.ulfm_model.specs.declared.contribution.Offer.TheVariants.{Flag, Ctx}
 use Rattle.ulfm_model.specs.declared.event.Caller.{Caller}
 use Rattle.ulfm_model.specs.declared.event.Caller.TheVariants.{Outside, Rank}
 use Rattle.ulfm_model.specs.declared.event.Entry.{Entry}
 use Rattle.ulfm_model.specs.declared.event.Event.{Event}
-use Rattle.ulfm_model.specs.declared.event.Event.TheVariants.{Fail, Settle, Mark, Arrive, Revoke}
+use Rattle.ulfm_model.specs.declared.event.Event.TheVariants.{Fail, Settle, Mark, Arrive, Revoke, Spawn}
 use Rattle.ulfm_model.specs.declared.limits.Limits.{Limits}
 use Rattle.ulfm_model.specs.Answers.{closed}
 use Rattle.ulfm_model.specs.History.{IsLegal, MayFollow, decision, is_decided}
-use Rattle.ulfm_model.proofs.Computed.{given_at, mark_at}
+use Rattle.ulfm_model.specs.Computed.{given_at, mark_at}
+use Rattle.ulfm_model.specs.Terms.{new_held}
 use Rattle.ulfm_model.specs.History.{History}
-use Rattle.ulfm_model.specs.Records.{Record, new_record, with_held}
+use Rattle.ulfm_model.specs.Records.{Record, all_but, new_record, with_held}
 use Rattle.ulfm_model.specs.Runs.{IsRun}
 
 -- an event in the name of its caller
@@ -136,6 +137,41 @@ late_arrival = record {
     own = tt;
     replies = inr (record { not_declared = refl; replies = refl });
     leaves = record { seen = refl; record_is = refl };
+  };
+}
+
+-- all three have given a shrink the ids that they don't hold, and communicator 1 is made of its round
+abbrev spawned : History ℕ
+spawned =
+    by (Rank 0) (Settle 0 0 0 (given_at (Ctx (all_but 0)) 0 0)) ∷ by (Rank 1) (Settle 0 0 1 (given_at (Ctx (all_but 0)) 0 0))
+    ∷ by (Rank 2) (Settle 0 0 2 (given_at (Ctx (all_but 0)) 0 0)) ∷ by (Rank 1) (Spawn 1 0 0) ∷ []
+
+-- rank 0 waits in this shrink
+abbrev shrinking : Record
+shrinking = with_held (new_record three 0) 0 (λ x. record x { next_agreement = 1; request = Some (Shrink 0) })
+
+-- rank 2 is declared before the look of a poll, and the poll may have its point before that
+shrunk_before_the_look : IsRun bit_and three false spawned (spawned ++ by Outside (Fail 2) ∷ []) shrinking (Poll 0 0) (Shrunk 1 1 3)
+    (let left = closed (record shrinking { seen = 2 ∷ [] }) 0 in record left { held = left.held ++ new_held 1 1 (0 ∷ 1 ∷ 2 ∷ []) ∷ [] })
+shrunk_before_the_look = record {
+  in_use = refl;
+  span = record {
+    look = spawned ++ by Outside (Fail 2) ∷ [];
+    point = spawned;
+    own = [];
+    looked = record { since = by Outside (Fail 2) ∷ []; goes_on = refl; stands = tt; quiet = λ alone. absurd (cc alone) };
+    did = record { since = []; goes_on = refl; stands = tt; quiet = λ alone. refl };
+    point_begins = ([], refl);
+    point_ends = (by Outside (Fail 2) ∷ [], refl);
+    legal = (search arith, (search arith, (search arith, (record { next = refl; room = search arith; exists = search arith; in_rounds = search arith; decided = refl; ids = (_, refl, search arith); first = refl }, search arith))));
+  };
+  answer = record {
+    own = tt;
+    replies = inr (record {
+      not_declared = refl;
+      replies = inr (refl, inl (_, refl, inr (search arith, refl, inl (1, 1, search arith, refl, record { in_it = refl; least = search arith }, refl))));
+    });
+    leaves = record { seen = (([], refl), ([], refl)); record_is = refl };
   };
 }
 

@@ -9,7 +9,7 @@ use Rattle.ulfm_model.specs.declared.call.Request.TheVariants.{Agree, Shrink, Ba
 use Rattle.ulfm_model.specs.declared.limits.Limits.{Limits}
 use Rattle.ulfm_model.specs.History.{History, failures, has}
 use Rattle.ulfm_model.specs.{History.{failed}, Records.{Fits, FitsHeld, FitsRequest, Held, Record, change_at, held_at, is_shrink, with_held}}
-use Rattle.ulfm_model.proofs.Terms.{contexts_of}
+use Rattle.ulfm_model.specs.Terms.{contexts_of}
 use Rattle.ulfm_model.specs.Answers.{closed, opened}
 use Rattle.ulfm_model.proofs.Lists.{any_none, distinct_push, each_filter, each_from, each_push, find_holds}
 use Rattle.ulfm_model.proofs.LeftHeld.{shrinks, each_change, contexts_change, shrinks_change, shrinks_none, contexts_push, contexts_kept, distinct_kept, shrinks_kept}

@@ -5,7 +5,7 @@ use Rattle.std.specs.List.{list_any, AllByRecursion, IsDistinct}
 use Rattle.std.proofs.lemmas.Map.Keys.{IsDistinct-head, IsDistinct-tail, IsDistinct-cons}
 use Rattle.std.proofs.lemmas.Bool.{or_parts}
 use Rattle.ulfm_model.specs.Records.{Held, change_at, is_shrink}
-use Rattle.ulfm_model.proofs.Terms.{contexts_of}
+use Rattle.ulfm_model.specs.Terms.{contexts_of}
 use Rattle.ulfm_model.proofs.Lists.{find_holds}
 
 -- the communicators on which a shrink is open, counted

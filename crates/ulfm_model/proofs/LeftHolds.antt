@@ -6,7 +6,7 @@ use Rattle.std.proofs.lemmas.Map.Keys.{IsDistinct-head, IsDistinct-tail, IsDisti
 use Rattle.std.proofs.lemmas.Bool.{eq-eqb, ne_eqb}
 use Rattle.ulfm_model.specs.declared.limits.Limits.{Limits}
 use Rattle.ulfm_model.specs.{History.{Exists, History, has, members}, Records.{Fits, FitsHeld, Held, IsContext, Record, held_at}}
-use Rattle.ulfm_model.proofs.Terms.{contexts_of}
+use Rattle.ulfm_model.specs.Terms.{contexts_of}
 use Rattle.ulfm_model.proofs.Contexts.{context_one}
 use Rattle.ulfm_model.proofs.Lists.{find_holds}
 use Rattle.ulfm_model.proofs.LeftFits.{each_by_two, held_fits}

@@ -5,7 +5,7 @@ use mathlib.Core.List.{IsPrefix}
 use Rattle.ulfm_model.specs.declared.{call.Call.{Call}, call.Request.{Request}, call.Request.TheVariants.{Agree, Shrink, Barrier}, contribution.Offer.TheVariants.{Flag, Ctx}, event.Event.{Event}, event.Event.TheVariants.{Arrive, Settle}, limits.Limits.{Limits}, refusal.Refusal.{Refusal}, refusal.Refusal.TheVariants.{Busy, IsRevoked, Mismatch, NoContext, NoRoom, NoSuchComm, ProcFailed, RoundsUsedUp, SelfFailed, ShrinkOpen, Twice}, reply.Reply.{Reply}, reply.Reply.TheVariants.{Started, Pending, Agreed, Shrunk, Done, FailedGroup, Acked, Revoked, AlreadyRevoked, Standing, Freed, Refused}}
 use Rattle.ulfm_model.specs.declared.call.Call.TheVariants as call
 use Rattle.ulfm_model.specs.{Answers.{BarrierStartReplies, IsReply, IsSelfFailed, PollReplies, Replies, RepliesBy, StartReplies, View, barrier_reply, closed, first_refusal, left_by, opened, printed, refusal_of, refusal_on, refused_with}, Answers.Effect.{Keeps}, History.{Exists, History, IsLegal, decision, failed, failures, has, has_arrived, is_revoked, members}, Records.{Fits, FitsHeld, Held, Record, free_ids, held_at, is_shrink}}
-use Rattle.ulfm_model.proofs.Terms.{IsOwn, comm_of, contexts_of, new_held, tests_of}
+use Rattle.ulfm_model.specs.Terms.{IsOwn, comm_of, contexts_of, new_held, tests_of}
 use Rattle.ulfm_model.proofs.Lists.{each_from, has_prefix, length_prefix}
 use Rattle.ulfm_model.proofs.Histories.{failures_begin}
 use Rattle.ulfm_model.proofs.Stable.{failed_begins}

@@ -5,7 +5,7 @@ use Rattle.std.proofs.lemmas.List.Elements.{Contains-append_right}
 use mathlib.Core.List.{IsPrefix}
 use Rattle.ulfm_model.specs.declared.{call.Call.{Call}, event.Caller.{Caller}, event.Caller.TheVariants.{Outside, Rank}, event.Event.{Event}, limits.Limits.{Limits}, reply.Reply.{Reply}, reply.Reply.TheVariants.{Started, Pending, Agreed, Shrunk, Done, FailedGroup, Acked, Declared, AlreadyFailed, Revoked, AlreadyRevoked, Standing, Freed, Refused}}
 use Rattle.ulfm_model.specs.{Answers.{Effect, Sees, left_by, polled_by, printed, refused_with}, Answers.Effect.{Ends, ForGood, Keeps}, History.{Exists, History, IsLegal, entries_by, failures}, Records.{Fits, Held, Record, held_at, is_shrink}, Runs.{IsCall, IsFailRun, IsRun, IsSpan, StandsIn}}
-use Rattle.ulfm_model.proofs.Terms.{IsOwn, comm_of, view_of}
+use Rattle.ulfm_model.specs.Terms.{IsOwn, comm_of, view_of}
 use Rattle.ulfm_model.proofs.Lists.{prefix_trans}
 use Rattle.ulfm_model.proofs.Histories.{failures_begin, members_stay}
 use Rattle.ulfm_model.proofs.Stable.{fits_stays}
@@ -62,9 +62,9 @@ module _ {P : Type 0} (meld : P → P → P) (limits : Limits) (alone : Bool) (b
       subst (λ w. IsOwn w r event) span.did.goes_on (Contains-append_right span.look span.did.since _ there)
 
   -- what a rank has seen by a call is a beginning of the failures at its end
-  sees_begins : (r : ℕ) (span : IsSpan meld limits alone before after (Rank r)) (shrinks : Bool) (seen : List ℕ) → Sees shrinks (view_of span) seen → IsPrefix seen (failures after)
+  sees_begins : (r : ℕ) (span : IsSpan meld limits alone before after (Rank r)) (shrinks : Bool) (seen : List ℕ) → Sees shrinks (failures span.look) after seen → IsPrefix seen (failures after)
   sees_begins r span false seen is = subst (λ w. IsPrefix w (failures after)) (sym is) (failures_begin span.look after (look_ends (Rank r) span))
-  sees_begins r span true seen parts = prefix_trans seen (failures span.point) (failures after) parts.1 (failures_begin span.point after span.point_ends)
+  sees_begins r span true seen parts = parts.1
 
   -- the record that a call leaves fits, if it fitted before
   pub run_fits : (own : Record) (asked : Call P) (reply : Reply P) (new : Record) → Fits meld limits before own → IsRun meld limits alone before after own asked reply new → Fits meld limits after new

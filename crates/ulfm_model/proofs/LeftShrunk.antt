@@ -10,7 +10,7 @@ use Rattle.ulfm_model.specs.declared.call.Request.TheVariants.{Shrink}
 use Rattle.ulfm_model.specs.declared.limits.Limits.{Limits}
 use Rattle.ulfm_model.specs.History.{History, has, spawns, without}
 use Rattle.ulfm_model.specs.{History.{Decision, Exists, IsLegal, decision, is_decided, members}, Records.{Fits, FitsHeld, FitsRequest, Held, IsLowestId, Record, held_at, is_shrink}}
-use Rattle.ulfm_model.proofs.Terms.{contexts_of, new_held}
+use Rattle.ulfm_model.specs.Terms.{contexts_of, new_held}
 use Rattle.ulfm_model.specs.Answers.{closed}
 use Rattle.ulfm_model.proofs.Lists.{each_from, get_prefix, has_kept, in_list}
 use Rattle.ulfm_model.proofs.Histories.{members_stay}

@@ -3,9 +3,9 @@ use Rattle.std.proofs.Common.{◌≡◌, ℕ, ◌==◌, Bool, true, false, cond,
 use Rattle.std.specs.List.{AllByRecursion, IsDistinct}
 use Rattle.std.proofs.lemmas.Bool.{eqb-true}
 use Rattle.ulfm_model.specs.declared.{call.Call.{Call}, event.Caller.{Caller}, event.Caller.TheVariants.{Outside, Rank}, limits.Limits.{Limits}, reply.Reply.{Reply}}
-use Rattle.ulfm_model.proofs.Terms.{after_call}
+use Rattle.ulfm_model.specs.Terms.{after_call}
 use Rattle.ulfm_model.specs.{History.{History, first_ranks, has}, Records.{Fits, Record, new_record}, Runs.{IsRankStep, IsRun, IsSound, IsStep, State, new_state}}
-use Rattle.ulfm_model.proofs.Terms.{record_at}
+use Rattle.ulfm_model.specs.Terms.{record_at}
 use Rattle.ulfm_model.proofs.Lists.{all_has, each_from, find_holds}
 use Rattle.ulfm_model.proofs.Stable.{fits_stays}
 use Rattle.ulfm_model.proofs.LeftRuns.{fail_fits, fail_legal, run_fits, run_number, span_begins}

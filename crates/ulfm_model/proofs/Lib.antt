@@ -1,4 +1,3 @@
-pub mod Computed
 pub mod Contexts
 pub mod Decisions
 pub mod Excluded
@@ -29,7 +28,6 @@ pub mod Rows
 pub mod Says
 pub mod Spawned
 pub mod Stable
-pub mod Terms
 pub mod StepsAlone
 pub mod StepsNext
 pub mod StepsOutcome

@@ -9,7 +9,7 @@ use Rattle.std.proofs.lemmas.Nat.Bits.{bit_at-trailing_zeros}
 use Rattle.ulfm_laws.specs.declared.ctx_mask.CtxMask.{CtxMask}
 use Rattle.ulfm_model.specs.History.{first_ranks}
 use Rattle.ulfm_model.specs.Records.{IsLowestId}
-use Rattle.ulfm_model.proofs.Computed.{lowest_id}
+use Rattle.ulfm_model.specs.Computed.{lowest_id}
 
 module _ (p : ℕ → Bool) where
   last_of : (n : ℕ) → find p (first_ranks (suc n)) ≡ option_or (find p (first_ranks n)) (cond (p n) (Some n) None)

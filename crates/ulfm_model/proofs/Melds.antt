@@ -12,7 +12,7 @@ use Rattle.ulfm_model.specs.declared.contribution.Slot.{Slot}
 use Rattle.ulfm_model.specs.declared.contribution.Slot.TheVariants.{Given, Mark as Marked}
 use Rattle.ulfm_model.specs.History.{has}
 use Rattle.ulfm_model.specs.{History.{Decision, body_of, contribution_of, decided_by, known_of, union_of}, Laws.{all_of}}
-use Rattle.ulfm_model.proofs.Terms.{lacks_one}
+use Rattle.ulfm_model.specs.Terms.{lacks_one}
 use Rattle.ulfm_model.proofs.Lists.{each_from, any_same, filter_none, each_always, each_take, filter_same}
 use Rattle.std.proofs.lemmas.List.Elements.{filter_agree}
 

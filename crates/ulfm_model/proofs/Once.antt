@@ -7,7 +7,7 @@ use Rattle.ulfm_model.specs.declared.event.Event.{Event}
 use Rattle.ulfm_model.specs.declared.event.Event.TheVariants.{Fail, Settle, Mark, Arrive, Revoke, Spawn}
 use Rattle.ulfm_model.specs.declared.limits.Limits.{Limits}
 use Rattle.ulfm_model.specs.History.{History, IsLegal, MayFollow, failures, has, is_revoked, same_place, says, slot, spawns}
-use Rattle.ulfm_model.proofs.Terms.{put_at}
+use Rattle.ulfm_model.specs.Terms.{put_at}
 use Rattle.ulfm_model.specs.Laws.{HappensOnce}
 use Rattle.ulfm_model.proofs.Histories.{by_events}
 use Rattle.ulfm_model.proofs.Lists.{distinct_push, none_distinct, none_first}

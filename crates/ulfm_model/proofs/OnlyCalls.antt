@@ -24,7 +24,8 @@ use Rattle.ulfm_model.specs.declared.reply.Reply.TheVariants.{Started, AlreadyRe
 use Rattle.ulfm_model.specs.declared.refusal.Refusal.TheVariants.{Twice}
 use Rattle.ulfm_model.specs.History.{History, entries_by, failures, has, has_arrived, is_revoked, slot}
 use Rattle.ulfm_model.specs.{History.{IsLegal, MayFollow, members}, Runs.{unsettled_of}}
-use Rattle.ulfm_model.proofs.{Computed.{added, added_by_poll, given_at, marks_of, replied, settle_of, start_reply}, Terms.{settled_by}}
+use Rattle.ulfm_model.specs.Computed.{added, added_by_poll, given_at, marks_of, replied, settle_of, start_reply}
+use Rattle.ulfm_model.specs.Terms.{settled_by}
 use Rattle.ulfm_model.specs.Records.{FitsHeld, Held, Record, free_ids}
 use Rattle.ulfm_model.specs.Answers.{BarrierStartReplies, CallAdds, PollAdds, PollReplies, Replies, StartReplies, View, traits_of}
 use Rattle.ulfm_model.proofs.Says.{declared_by}

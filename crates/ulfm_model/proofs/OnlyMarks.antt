@@ -11,7 +11,7 @@ use Rattle.ulfm_model.specs.declared.contribution.MarkCount.{MarkCount}
 use Rattle.ulfm_model.specs.declared.event.Event.{Event}
 use Rattle.ulfm_model.specs.declared.event.Event.TheVariants.{Mark}
 use Rattle.ulfm_model.specs.History.{History, slot}
-use Rattle.ulfm_model.proofs.Computed.{mark_at, mark_of}
+use Rattle.ulfm_model.specs.Computed.{mark_at, mark_of}
 use Rattle.ulfm_model.proofs.Lists.{at_member, has_at}
 
 -- marks with one count are one

@@ -18,7 +18,8 @@ use Rattle.ulfm_model.specs.declared.limits.Limits.{Limits}
 use Rattle.ulfm_model.specs.declared.reply.Reply.{Reply}
 use Rattle.ulfm_model.specs.History.{History, entries_by, failures, has, slot, spawns}
 use Rattle.ulfm_model.specs.History.{Decision, Exists, IsLegal, IsLegalAfter, MayFollow, MaySpawn, decision, failed, is_decided, is_made, known_of, members, round}
-use Rattle.ulfm_model.proofs.{Computed.{is_free_mask, marks_of, spawn_of}, Terms.{settled_by}}
+use Rattle.ulfm_model.specs.Computed.{is_free_mask, marks_of, spawn_of}
+use Rattle.ulfm_model.specs.Terms.{settled_by}
 use Rattle.ulfm_model.specs.Records.{Held}
 use Rattle.ulfm_model.specs.Answers.{PollReplies}
 use Rattle.ulfm_model.proofs.Lists.{distinct_filter, not_in_filter}

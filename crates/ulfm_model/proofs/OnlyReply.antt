@@ -12,7 +12,7 @@ use Rattle.ulfm_model.specs.declared.reply.Reply.TheVariants.{Pending, Shrunk, R
 use Rattle.ulfm_model.specs.declared.refusal.Refusal.TheVariants.{NoContext, SelfFailed}
 use Rattle.ulfm_model.specs.History.{History, has, slot, spawns}
 use Rattle.ulfm_model.specs.History.{Decision, IsLegal, decision, is_decided, is_made, members}
-use Rattle.ulfm_model.proofs.Computed.{agree_reply, poll_reply, shrink_reply, shrunk_reply}
+use Rattle.ulfm_model.specs.Computed.{agree_reply, poll_reply, shrink_reply, shrunk_reply}
 use Rattle.ulfm_model.specs.Records.{Held}
 use Rattle.ulfm_model.specs.Answers.{AgreeReplies, IsPending, PollReplies, ShrinkReplies, SpawnReplies, View}
 use Rattle.ulfm_model.proofs.OnlySpawned.{is_of, lowest_is, position_none, position_of, spawns_once}

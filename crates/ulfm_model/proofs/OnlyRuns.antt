@@ -12,7 +12,8 @@ use Rattle.ulfm_model.specs.declared.refusal.Refusal.{Refusal}
 use Rattle.ulfm_model.specs.declared.reply.Reply.{Reply}
 use Rattle.ulfm_model.specs.History.{History, entries_by, failures, has}
 use Rattle.ulfm_model.specs.{Answers.{Answers, CallAdds, IsReply, IsSelfFailed, MayOwn, RepliesBy, Sees, View, left_by, polled_by, refusal_of, traits_of}, History.{IsLegal}, Records.{Fits, FitsHeld, Held, Record, held_at, is_shrink}, Runs.{IsAloneRun, IsSpan, unsettled_of}}
-use Rattle.ulfm_model.proofs.{Computed.{Outcome, outcome_of, rank_outcome, replied, used_outcome}, Terms.{comm_of, contexts_of, request_of, settled_by, view_of}}
+use Rattle.ulfm_model.specs.Computed.{Outcome, outcome_of, rank_outcome, replied, used_outcome}
+use Rattle.ulfm_model.specs.Terms.{comm_of, contexts_of, request_of, settled_by, view_of}
 use Rattle.ulfm_model.proofs.Says.{declared_by}
 use Rattle.ulfm_model.proofs.Lists.{each_from, find_holds}
 use Rattle.ulfm_model.proofs.OnlyCalls.{adds_nothing, call_is, declares_none, same_failures}
@@ -35,9 +36,9 @@ same_between xs ys zs same more rest =
     is_nil (x ∷ w) e = absurd (omega (arith, e))
 
 -- what a rank has seen, where no failure is new
-seen_is : {P : Type 0} (b : Bool) (view : View P) (seen : List ℕ) → failures view.history ≡ view.look → Sees b view seen → seen ≡ view.look
-seen_is false view seen same sees = sees
-seen_is true view seen same sees = same_between view.look seen (failures view.history) same sees.0 sees.1
+seen_is : {P : Type 0} (b : Bool) (look : List ℕ) (after : History P) (seen : List ℕ) → failures after ≡ look → Sees b look after seen → seen ≡ look
+seen_is false look after seen same sees = sees
+seen_is true look after seen same sees = same_between look seen (failures after) same sees.0 sees.1
 
 -- the call has the outcome that is computed
 abbrev pub HasOutcome : {P : Type 0} → List (Event P) → Reply P → Outcome P → Type 0
@@ -109,11 +110,11 @@ run_is {P = P} meld limits h after own asked reply left fits alone =
     let parts = span_is h after span in
     let view : View P = record { look = failures h; history = h ++ entries_by (Rank own.number) events; own = events } in
     let views : view_of span ≡ view = ap₂ (λ l w. record { look = failures l; history = w; own = events }) parts.0 (alone.at_end ∙ parts.1) in
-    let answer : Answers meld limits view own asked reply left = subst (λ v. Answers meld limits v own asked reply left) views alone.run.answer in
+    let answer : Answers meld limits view after own asked reply left = subst (λ v. Answers meld limits v after own asked reply left) views alone.run.answer in
     let legal = subst (IsLegal meld limits) parts.1 span.legal in
     let out = answer_is meld limits h own events legal asked reply answer.own fits alone.marks answer.replies in
     let same = failures_same meld limits h own events legal asked reply answer.own in
-    let seen : left.seen ≡ failures h = seen_is (is_shrink (polled_by own asked)) view left.seen same answer.leaves.seen in
+    let seen : left.seen ≡ failures h = seen_is (is_shrink (polled_by own asked)) (failures h) after left.seen (ap failures parts.1 ∙ same) answer.leaves.seen in
     record {
       adds = out.0;
       history = parts.1 ∙ ap (λ es. h ++ entries_by (Rank own.number) es) out.0;

@@ -13,7 +13,7 @@ use Rattle.ulfm_model.specs.declared.event.Event.{Event}
 use Rattle.ulfm_model.specs.declared.event.Event.TheVariants.{Fail, Settle, Mark, Arrive, Revoke, Spawn}
 use Rattle.ulfm_model.specs.History.{History, first_ranks, spawns}
 use Rattle.ulfm_model.specs.History.{IsLegal, MayFollow, is_made}
-use Rattle.ulfm_model.proofs.Computed.{lowest_id}
+use Rattle.ulfm_model.specs.Computed.{lowest_id}
 use Rattle.ulfm_model.specs.Records.{IsLowestId}
 use Rattle.ulfm_model.proofs.Says.{made_by}
 use Rattle.ulfm_model.proofs.Histories.{by_events, spawns_push}

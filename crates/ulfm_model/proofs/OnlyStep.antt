@@ -11,9 +11,10 @@ use Rattle.ulfm_model.specs.declared.refusal.Refusal.TheVariants.{NoSuchRank}
 use Rattle.ulfm_model.specs.declared.reply.Reply.{Reply}
 use Rattle.ulfm_model.specs.declared.reply.Reply.TheVariants.{AlreadyFailed, Declared, Refused}
 use Rattle.ulfm_model.specs.History.{History, entries_by, failures, has}
-use Rattle.ulfm_model.proofs.Terms.{after_call}
+use Rattle.ulfm_model.specs.Terms.{after_call}
 use Rattle.ulfm_model.specs.{History.{IsLegal, MayFollow}, Runs.{IsRankStep, IsSound, IsStep, State}}
-use Rattle.ulfm_model.proofs.{Computed.{Next, Outcome, fail_outcome, next, next_by, next_of_rank}, Terms.{record_at}}
+use Rattle.ulfm_model.specs.Computed.{Next, Outcome, fail_outcome, next, next_by, next_of_rank}
+use Rattle.ulfm_model.specs.Terms.{record_at}
 use Rattle.ulfm_model.specs.Records.{Fits, Record}
 use Rattle.ulfm_model.specs.Answers.{AnswersFail, View, left_by, traits_of}
 use Rattle.ulfm_model.specs.Runs.{IsFailRun}

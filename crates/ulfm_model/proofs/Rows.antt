@@ -7,7 +7,7 @@ use Rattle.ulfm_model.specs.declared.reply.Reply.{Reply}
 use Rattle.ulfm_model.specs.declared.reply.Reply.TheVariants.{Started, Pending, Agreed, Shrunk, Done, FailedGroup, Acked, Declared, AlreadyFailed, Revoked, AlreadyRevoked, Standing, Freed, Refused}
 use Rattle.ulfm_model.specs.declared.refusal.Refusal.TheVariants.{NoContext, SelfFailed, NoSuchComm, Busy, ShrinkOpen, RoundsUsedUp, Idle, Mismatch, NoRoom, IsRevoked, ProcFailed, WorldKept, NoSuchRank}
 use Rattle.ulfm_model.specs.Runs.{new_state}
-use Rattle.ulfm_model.proofs.Computed.{replies}
+use Rattle.ulfm_model.specs.Computed.{replies}
 
 -- the replies of a new world of this size; flags are numbers here, combined bit by bit
 abbrev run : ℕ → ℕ → ℕ → List (Call ℕ) → List (Reply ℕ)

@@ -5,7 +5,7 @@ use Rattle.std.proofs.Common.{[]}
 use Rattle.ulfm_model.specs.declared.contribution.Slot.{Slot}
 use Rattle.ulfm_model.specs.declared.event.Event.{Event}
 use Rattle.ulfm_model.specs.History.{has, same_place, says}
-use Rattle.ulfm_model.proofs.Terms.{put_at}
+use Rattle.ulfm_model.specs.Terms.{put_at}
 
 -- whom it declares failed
 abbrev pub declared_by : {P : Type 0} → Event P → Option ℕ

@@ -12,7 +12,8 @@ use Rattle.ulfm_model.specs.declared.event.Caller.TheVariants.{Rank}
 use Rattle.ulfm_model.specs.declared.event.Event.{Event}
 use Rattle.ulfm_model.specs.History.{History, entries_by, failures, has}
 use Rattle.ulfm_model.specs.{Answers.{CallAdds, Effect, IsReply, IsSelfFailed, MayOwn, Replies, RepliesBy, Sees, View, left_by, polled_by, printed, refusal_of, refused_with, traits_of}, Answers.Effect.{Ends, ForGood, Keeps}, History.{IsLegal, IsLegalAfter}, Runs.{IsAloneRun, unsettled_of}}
-use Rattle.ulfm_model.proofs.{Computed.{Outcome}, Terms.{comm_of, settled_by}}
+use Rattle.ulfm_model.specs.Computed.{Outcome}
+use Rattle.ulfm_model.specs.Terms.{comm_of, settled_by}
 use Rattle.ulfm_model.specs.Records.{Held, Record, held_at, is_shrink}
 use Rattle.ulfm_model.specs.Runs.{IsSpan, StandsIn}
 use Rattle.ulfm_model.proofs.Lists.{each_from}
@@ -49,9 +50,9 @@ left_sees ranks h now asked (Refused refusal) = refused_sees now (comm_of asked)
 left_sees ranks h now asked _ = refl
 
 -- all that may be said of what was seen is said of what the look found
-sees_look : {P : Type 0} (b : Bool) (view : View P) → IsPrefix view.look (failures view.history) → Sees b view view.look
-sees_look false view begins = refl
-sees_look true view begins = (([], append-nil view.look), begins)
+sees_look : {P : Type 0} (b : Bool) (look : List ℕ) (after : History P) → IsPrefix look (failures after) → Sees b look after look
+sees_look false look after begins = refl
+sees_look true look after begins = (([], append-nil look), begins)
 
 module _ {P : Type 0} (meld : P → P → P) (limits : Limits) (h : History P) (own : Record) where
   -- the view of a call that adds these events
@@ -86,7 +87,7 @@ module _ {P : Type 0} (meld : P → P → P) (limits : Limits) (h : History P) (
             own = good.owns;
             replies = good.replies;
             leaves = record {
-              seen = subst (Sees (is_shrink (polled_by own asked)) (view_with out.own)) (sym seen) (sees_look (is_shrink (polled_by own asked)) (view_with out.own) (failures_begin h after begins));
+              seen = subst (Sees (is_shrink (polled_by own asked)) (failures h) after) (sym seen) (sees_look (is_shrink (polled_by own asked)) (failures h) after (failures_begin h after begins));
               record_is = ap (λ w. left_by limits.ranks after (record own { seen = w }) asked out.reply) (sym seen);
             };
           };

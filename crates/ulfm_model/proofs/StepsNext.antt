@@ -11,7 +11,8 @@ use Rattle.ulfm_model.specs.declared.event.Caller.TheVariants.{Outside, Rank}
 use Rattle.ulfm_model.specs.declared.event.Event.TheVariants.{Fail}
 use Rattle.ulfm_model.specs.History.{History, entries_by, failures, has}
 use Rattle.ulfm_model.specs.{History.{IsLegal, IsLegalAfter}, Runs.{IsAloneRun, IsFailRun, IsRankStep, IsSound, IsStep, State}}
-use Rattle.ulfm_model.proofs.{Computed.{Outcome, fail_outcome, next, next_by, next_of_rank, outcome_of}, Terms.{record_at, view_of}}
+use Rattle.ulfm_model.specs.Computed.{Outcome, fail_outcome, next, next_by, next_of_rank, outcome_of}
+use Rattle.ulfm_model.specs.Terms.{record_at, view_of}
 use Rattle.ulfm_model.specs.Records.{Fits, Record}
 use Rattle.ulfm_model.specs.Answers.{AnswersFail, left_by, traits_of}
 use Rattle.ulfm_model.proofs.Lists.{find_holds}

@@ -13,7 +13,8 @@ use Rattle.ulfm_model.specs.declared.limits.Limits.{Limits}
 use Rattle.ulfm_model.specs.declared.event.Caller.TheVariants.{Rank}
 use Rattle.ulfm_model.specs.History.{History, failures, has}
 use Rattle.ulfm_model.specs.{Answers.{RepliesBy, first_refusal, polled_by, refusal_of, refusal_on, traits_of}, History.{IsLegal}, Records.{Fits, Held, Record, held_at, is_shrink}, Runs.{unsettled_of}}
-use Rattle.ulfm_model.proofs.{Computed.{held_outcome, outcome_of, rank_outcome, used_outcome}, Terms.{comm_of, contexts_of, request_of, tests_of}}
+use Rattle.ulfm_model.specs.Computed.{held_outcome, outcome_of, rank_outcome, used_outcome}
+use Rattle.ulfm_model.specs.Terms.{comm_of, contexts_of, request_of, tests_of}
 use Rattle.ulfm_model.proofs.StepsAlone.{IsGood, view_with}
 use Rattle.ulfm_model.proofs.StepsPlain.{ack_good, free_good, get_good, holds, revoke_good, standing_good}
 use Rattle.ulfm_model.proofs.StepsPolls.{poll_good}

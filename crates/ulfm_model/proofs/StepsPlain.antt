@@ -11,7 +11,8 @@ use Rattle.ulfm_model.specs.declared.event.Entry.{Entry}
 use Rattle.ulfm_model.specs.declared.event.Event.TheVariants.{Revoke}
 use Rattle.ulfm_model.specs.History.{History, failures, has, is_revoked, says}
 use Rattle.ulfm_model.specs.{History.{Exists}, Records.{Fits, FitsHeld, Held, Record, held_at}}
-use Rattle.ulfm_model.proofs.{Computed.{held_outcome}, Terms.{contexts_of}}
+use Rattle.ulfm_model.specs.Computed.{held_outcome}
+use Rattle.ulfm_model.specs.Terms.{contexts_of}
 use Rattle.ulfm_model.specs.Answers.{refusal_of}
 use Rattle.ulfm_model.proofs.Lists.{find_holds}
 use Rattle.ulfm_model.proofs.StepsAlone.{IsGood, call_good}

@@ -21,7 +21,8 @@ use Rattle.ulfm_model.specs.declared.event.Event.{Event}
 use Rattle.ulfm_model.specs.declared.event.Event.TheVariants.{Settle, Spawn}
 use Rattle.ulfm_model.specs.History.{History, entries_by, failures, has, says, slot}
 use Rattle.ulfm_model.specs.{Answers.{AgreeReplies, MarksDeclared, PollAdds, PollReplies, first_refusal, refusal_of, refusal_on}, History.{Decision, Exists, IsLegal, IsLegalAfter, body_of, decision, is_decided, members}, Records.{FitsHeld, FitsRequest, Held, Record, held_at}, Runs.{unsettled_of}}
-use Rattle.ulfm_model.proofs.{Computed.{added_by_poll, agree_reply, held_outcome, marks_of, poll_reply, shrink_reply, spawn_of}, Terms.{IsOwn, request_of, settled_by}}
+use Rattle.ulfm_model.specs.Computed.{added_by_poll, agree_reply, held_outcome, marks_of, poll_reply, shrink_reply, spawn_of}
+use Rattle.ulfm_model.specs.Terms.{IsOwn, request_of, settled_by}
 use Rattle.ulfm_model.proofs.Lists.{each_from, has_filter, has_passes}
 use Rattle.ulfm_model.proofs.Says.{declared_by}
 use Rattle.ulfm_model.proofs.Histories.{legal_append, legal_parts, members_stay, slot_stays}

@@ -18,7 +18,7 @@ use Rattle.ulfm_model.specs.declared.event.Event.{Event}
 use Rattle.ulfm_model.specs.declared.event.Event.TheVariants.{Settle}
 use Rattle.ulfm_model.specs.History.{History, failures, has, slot}
 use Rattle.ulfm_model.specs.{History.{IsLegal, MayFollow, body_of, contribution_of, is_decided, members}, Records.{Held}}
-use Rattle.ulfm_model.proofs.Terms.{IsOwn}
+use Rattle.ulfm_model.specs.Terms.{IsOwn}
 use Rattle.ulfm_model.specs.Answers.{IsPending}
 use Rattle.ulfm_model.proofs.Lists.{at_member, first_push, first_stays, has_kept, none_of, some_fails}
 use Rattle.ulfm_model.proofs.Says.{put_by}

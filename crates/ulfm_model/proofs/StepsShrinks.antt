@@ -16,7 +16,8 @@ use Rattle.ulfm_model.specs.declared.event.Event.{Event}
 use Rattle.ulfm_model.specs.declared.event.Event.TheVariants.{Fail, Settle, Mark, Arrive, Revoke, Spawn}
 use Rattle.ulfm_model.specs.History.{History, entries_by, failures, has, spawns}
 use Rattle.ulfm_model.specs.History.{Decision, Exists, IsLegal, IsLegalAfter, MayFollow, MaySpawn, decision, failed, is_decided, is_made, members}
-use Rattle.ulfm_model.proofs.{Computed.{is_free_mask, shrink_reply, shrunk_reply, spawn_of}, Terms.{settled_by}}
+use Rattle.ulfm_model.specs.Computed.{is_free_mask, shrink_reply, shrunk_reply, spawn_of}
+use Rattle.ulfm_model.specs.Terms.{settled_by}
 use Rattle.ulfm_model.specs.Answers.{ShrinkReplies, SpawnReplies}
 use Rattle.ulfm_model.proofs.Lists.{not_in_filter}
 use Rattle.ulfm_model.proofs.Says.{made_by}

@@ -20,7 +20,7 @@ use Rattle.ulfm_model.specs.declared.event.Event.{Event}
 use Rattle.ulfm_model.specs.declared.event.Event.TheVariants.{Settle, Arrive}
 use Rattle.ulfm_model.specs.History.{History, entries_by, failures, has, has_arrived, same_place, says, slot}
 use Rattle.ulfm_model.specs.History.{IsLegal, IsLegalAfter, failed, members}
-use Rattle.ulfm_model.proofs.Computed.{given_at, held_outcome, start_reply}
+use Rattle.ulfm_model.specs.Computed.{given_at, held_outcome, start_reply}
 use Rattle.ulfm_model.specs.Records.{FitsHeld, Held, Record, free_ids, held_at}
 use Rattle.ulfm_model.specs.Answers.{StartReplies, refusal_of}
 use Rattle.ulfm_model.proofs.Lists.{first_push, has_at, has_filter}

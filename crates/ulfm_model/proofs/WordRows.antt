@@ -3,7 +3,7 @@ use Rattle.std.proofs.Common.{◌≡◌, ℕ, refl, lit<}
 use Rattle.ulfm_model.specs.declared.contribution.Slot.{Slot}
 use Rattle.ulfm_model.specs.declared.contribution.Slot.TheVariants.{Given, Mark as Marked}
 use Rattle.ulfm_model.specs.declared.contribution.Offer.TheVariants.{Flag, Ctx}
-use Rattle.ulfm_model.proofs.Computed.{given_at, mark_at}
+use Rattle.ulfm_model.specs.Computed.{given_at, mark_at}
 use Rattle.ulfm_model.specs.Words.{slot_word}
 
 -- flags are numbers here

@@ -17,7 +17,7 @@ use Rattle.ulfm_model.specs.declared.place.Place.TheVariants.{List as ListAt, Co
 use Rattle.ulfm_model.specs.History.{History, failures, has, has_arrived, is_revoked, same_place, says, spawns}
 use Rattle.ulfm_model.specs.Laws.{Sets, SetsOneWord, HasWords}
 use Rattle.ulfm_model.specs.{History.{IsLegal, IsLegalAfter, MayFollow}, Words.{offer_word, place_of, slot_word, word_at, word_of}}
-use Rattle.ulfm_model.proofs.Terms.{word_or_zero}
+use Rattle.ulfm_model.specs.Terms.{word_or_zero}
 use Rattle.ulfm_model.proofs.Histories.{along, by_events, legal_parts, legal_push}
 use Rattle.ulfm_model.proofs.Lists.{first_push}
 use Rattle.ulfm_model.proofs.Says.{arrives_at, declared_by, made_by, put_by, revokes}

@@ -240,14 +240,14 @@ left_by ranks h now asked (Standing revoked) = now
 left_by ranks h now asked Freed = record now { held = filter (λ y. not (y.comm == (traits_of asked).comm)) now.held }
 left_by ranks h now asked (Refused refusal) = refused_with now (traits_of asked).comm (printed refusal).2
 
--- the failures that the rank has seen then: those of the look; a shrink's poll may have read on, up to the point
-abbrev pub Sees : {P : Type 0} → Bool → View P → List ℕ → Type 0
-Sees false view seen = seen ≡ view.look
-Sees true view seen = IsPrefix view.look seen × IsPrefix seen (failures view.history)
+-- the failures that the rank has seen then: those of the look; a shrink's poll may have read on, up to those at the call's end
+abbrev pub Sees : {P : Type 0} → Bool → List ℕ → History P → List ℕ → Type 0
+Sees false look after seen = seen ≡ look
+Sees true look after seen = IsPrefix look seen × IsPrefix seen (failures after)
 
--- the new record is what the reply leaves of the old one
-pub record Leaves {P : Type 0} (ranks : ℕ) (view : View P) (old : Record) (asked : Call P) (reply : Reply P) (new : Record) : Type 0 where
-  pub seen : Sees (is_shrink (polled_by old asked)) view new.seen
+-- the new record is what the reply leaves of the old one at the call's end
+pub record Leaves {P : Type 0} (ranks : ℕ) (view : View P) (after : History P) (old : Record) (asked : Call P) (reply : Reply P) (new : Record) : Type 0 where
+  pub seen : Sees (is_shrink (polled_by old asked)) view.look after new.seen
   pub record_is : new ≡ left_by ranks view.history (record old { seen = new.seen }) asked reply
 
 -- the rank is declared at the point, and refused for good from now on; a start that is refused so has added nothing
@@ -261,11 +261,11 @@ pub record IsReply {P : Type 0} (meld : P → P → P) (limits : Limits) (view :
   pub not_declared : IsFalse (has view.look old.number)
   pub replies : RepliesBy meld limits view old (held_at old (traits_of asked).comm) asked reply (refusal_of old asked)
 
--- the reply is an answer to a rank's call, and leaves this record
-pub record Answers {P : Type 0} (meld : P → P → P) (limits : Limits) (view : View P) (old : Record) (asked : Call P) (reply : Reply P) (new : Record) : Type 0 where
+-- the reply is an answer to a rank's call, and leaves this record at the call's end
+pub record Answers {P : Type 0} (meld : P → P → P) (limits : Limits) (view : View P) (after : History P) (old : Record) (asked : Call P) (reply : Reply P) (new : Record) : Type 0 where
   pub own : AllByRecursion (MayOwn view.look old asked) view.own
   pub replies : IsSelfFailed view old asked reply ⊎ IsReply meld limits view old asked reply
-  pub leaves : Leaves limits.ranks view old asked reply new
+  pub leaves : Leaves limits.ranks view after old asked reply new
 
 -- the outside's declaration of rank r: by this call, or before, or the world doesn't have the rank
 abbrev pub AnswersFail : {P : Type 0} → Limits → View P → ℕ → Reply P → Type 0

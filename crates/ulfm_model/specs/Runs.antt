@@ -32,7 +32,7 @@ pub record IsSpan {P : Type 0} (meld : P → P → P) (limits : Limits) (alone :
 pub record IsRun {P : Type 0} (meld : P → P → P) (limits : Limits) (alone : Bool) (before after : History P) (old : Record) (asked : Call P) (reply : Reply P) (new : Record) : Type 0 where
   pub in_use : IsFalse old.refused
   pub span : IsSpan meld limits alone before after (Rank old.number)
-  pub answer : Answers meld limits (record { look = failures span.look; history = span.point; own = span.own }) old asked reply new
+  pub answer : Answers meld limits (record { look = failures span.look; history = span.point; own = span.own }) after old asked reply new
 
 -- a call of a rank: one that was refused for good before is refused again, without a step
 abbrev pub IsCall : {P : Type 0} → (P → P → P) → Limits → Bool → History P → History P → Record → Call P → Reply P → Record → Type 0

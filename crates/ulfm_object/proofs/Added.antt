@@ -8,7 +8,7 @@ use Rattle.std.proofs.lemmas.Bool.Decides.{nat_tests}
 use Rattle.ulfm_model.specs.declared.{call.Call.{Call}, call.Request.{Request}, call.Request.TheVariants.{Agree, Shrink, Barrier}, contribution.Offer.TheVariants.{Flag, Ctx}, event.Caller.{Caller}, event.Caller.TheVariants.{Rank}, event.Entry.{Entry}, event.Event.{Event}, event.Event.TheVariants.{Mark, Spawn}, limits.Limits.{Limits}}
 use Rattle.ulfm_model.specs.declared.call.Call.TheVariants as call
 use Rattle.ulfm_model.specs.{History.{History, decision, entries_by, failed, failures, has, has_arrived, is_decided, is_made, is_revoked, slot, spawns}, Records.{Held, Record, free_ids}}
-use Rattle.ulfm_model.proofs.Computed.{added, added_by_poll, is_free_mask, mark_at, mark_of, marks_of, settle_of, spawn_of}
+use Rattle.ulfm_model.specs.Computed.{added, added_by_poll, is_free_mask, mark_at, mark_of, marks_of, settle_of, spawn_of}
 use Rattle.ulfm_object.specs.Objects.{IsFew}
 use Rattle.ulfm_model.proofs.Lists.{each_filter_map}
 use Rattle.ulfm_model.proofs.Says.{declared_by, made_by}

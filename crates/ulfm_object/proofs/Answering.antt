@@ -9,7 +9,8 @@ use Rattle.ulfm_model.specs.declared.{call.Call.{Call}, limits.Limits.{Limits}, 
 use Rattle.ulfm_record.specs.declared.record.RankRecord.{RankRecord}
 use Rattle.ulfm_model.specs.declared.call.Call.TheVariants as call
 use Rattle.ulfm_model.specs.{Answers.{left_by, rank_of, traits_of}, History.{History, entries_by, failures, first_ranks}, Records.{Record}, Runs.{IsSound, IsStep, State}, Words.{MayOpen}}
-use Rattle.ulfm_model.proofs.{Computed.{Next, next, next_by, next_of_rank, outcome_of}, Terms.{record_at}}
+use Rattle.ulfm_model.specs.Computed.{Next, next, next_by, next_of_rank, outcome_of}
+use Rattle.ulfm_model.specs.Terms.{record_at}
 use Rattle.ulfm_object.specs.Objects.{IsFew, TakesStep, state_of}
 use Rattle.ulfm_record.specs.Kept.{record_of}
 use Rattle.ulfm_model.proofs.LeftSound.{step_sound}

@@ -6,7 +6,7 @@ use Rattle.std.proofs.lemmas.List.Elements.{filter_map-append}
 use Rattle.std.proofs.lemmas.List.FromFn.{get_or-enumerate_from, length-enumerate_from}
 use Rattle.ulfm_model.specs.declared.event.Entry.{Entry}
 use Rattle.ulfm_model.specs.History.{History, decision, failed, failures, first_ranks, has, known_of, members, members_after, members_by, round, spawns, without}
-use Rattle.ulfm_model.proofs.Terms.{group_among}
+use Rattle.ulfm_model.specs.Terms.{group_among}
 use Rattle.ulfm_model.proofs.Lists.{length-filter-le}
 use Rattle.ulfm_model.proofs.Says.{made_by}
 use Rattle.std.specs.Prelude.{reverse}

@@ -2,7 +2,7 @@
 use Rattle.std.proofs.Common.{◌≡◌, ℕ, List, ◌++◌, ap, sym, ◌∙◌, subst}
 use Rattle.ulfm_model.specs.declared.{call.Call.{Call}, event.Caller.TheVariants.{Rank}, event.Event.{Event}, limits.Limits.{Limits}, reply.Reply.{Reply}}
 use Rattle.ulfm_model.specs.{History.{History, entries_by, failures}, Records.{Held, Record}}
-use Rattle.ulfm_model.proofs.Computed.{replied}
+use Rattle.ulfm_model.specs.Computed.{replied}
 use Rattle.ulfm_object.specs.Objects.{IsFew}
 
 module _ {P : Type 0} (h : History P) (rank : ℕ) (events given taken : List (Event P)) where

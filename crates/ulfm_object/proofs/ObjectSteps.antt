@@ -8,7 +8,8 @@ use Rattle.std.proofs.lemmas.Map.Keys.{IsDistinct-head, IsDistinct-tail}
 use Rattle.ulfm_model.specs.declared.{call.Call.{Call}, limits.Limits.{Limits}, refusal.Refusal.{Refusal}, refusal.Refusal.TheVariants.{Busy, RoundsUsedUp, ShrinkOpen}, reply.Reply.TheVariants.{Started}}
 use Rattle.ulfm_model.specs.declared.call.Call.TheVariants as call
 use Rattle.ulfm_model.specs.{Answers.{first_refusal, rank_of, refusal_of, refusal_on, traits_of}, History.{History, IsLegal, failures, first_ranks, has}, Records.{Held, Record, held_at, is_shrink}, Runs.{State}, Words.{MayOpen}}
-use Rattle.ulfm_model.proofs.{Computed.{next, next_of_rank, outcome_of, rank_outcome, used_outcome}, Terms.{comm_of, record_at, tests_of}}
+use Rattle.ulfm_model.specs.Computed.{next, next_of_rank, outcome_of, rank_outcome, used_outcome}
+use Rattle.ulfm_model.specs.Terms.{comm_of, record_at, tests_of}
 use Rattle.ulfm_object.specs.Objects.{IsFew}
 use Rattle.ulfm_record.specs.Kept.{FitsNext}
 use Rattle.ulfm_model.proofs.Lists.{any_none, distinct_push, each_from, each_push, none_distinct}

@@ -1,7 +1,7 @@
 // What a call adds to the history.
 ghost use Rattle.std.specs.Prelude.{◌≡◌, ◌++◌, ◌∷◌, [], IfOk, Some, if◌then◌else◌};
 ghost use Rattle.std.specs.List.{cons_option};
-ghost use Rattle.ulfm_model.proofs.Computed.{added, added_by_poll, given_at, is_free_mask, known_at, mark_at, mark_of, marks_of, settle_of, spawn_of};
+ghost use Rattle.ulfm_model.specs.Computed.{added, added_by_poll, given_at, is_free_mask, known_at, mark_at, mark_of, marks_of, settle_of, spawn_of};
 ghost use Rattle.ulfm_model.specs.History.{entries_by};
 ghost use Rattle.ulfm_record.specs.Kept.{held_of, record_of};
 ghost use Rattle.ulfm_model.specs.declared.call.Request.TheVariants.{Shrink};

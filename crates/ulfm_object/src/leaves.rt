@@ -1,6 +1,6 @@
 // What a reply leaves of a rank's record, a communicator that it makes included.
 ghost use Rattle.std.specs.Prelude.{◌≡◌, OnErr, OnOk, Some};
-ghost use Rattle.ulfm_model.proofs.Terms.{comm_of};
+ghost use Rattle.ulfm_model.specs.Terms.{comm_of};
 ghost use Rattle.ulfm_model.specs.Answers.{left_by, traits_of};
 ghost use Rattle.ulfm_model.specs.Records.{Held, held_at};
 ghost use Rattle.ulfm_model.specs.declared.reply.Reply.TheVariants.{Started};

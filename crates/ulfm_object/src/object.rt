@@ -2,8 +2,8 @@
 //! another. It is slow and plain: each answer walks the history as the definitions do.
 
 ghost use Rattle.std.specs.Prelude.{◌≡◌, ◌⊎◌, [], ◌==◌, ◌++◌, IfErr, IfOk, List, OnErr, OnOk, map, position};
-ghost use Rattle.ulfm_model.proofs.Computed.{next_of_fail, next_of_rank, outcome_of};
-ghost use Rattle.ulfm_model.proofs.Terms.{record_at};
+ghost use Rattle.ulfm_model.specs.Computed.{next_of_fail, next_of_rank, outcome_of};
+ghost use Rattle.ulfm_model.specs.Terms.{record_at};
 ghost use Rattle.ulfm_model.specs.Answers.{left_by, rank_of};
 ghost use Rattle.ulfm_model.specs.History.{Exists, entries_by, failed, failures, first_ranks, members};
 ghost use Rattle.ulfm_model.specs.Records.{Record, new_record};

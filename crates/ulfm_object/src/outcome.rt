@@ -1,7 +1,7 @@
 // What a call of a rank comes to.
 ghost use Rattle.std.specs.Prelude.{◌≡◌, ◌++◌, IfOk};
-ghost use Rattle.ulfm_model.proofs.Computed.{held_outcome, outcome_of, used_outcome};
-ghost use Rattle.ulfm_model.proofs.Terms.{comm_of};
+ghost use Rattle.ulfm_model.specs.Computed.{held_outcome, outcome_of, used_outcome};
+ghost use Rattle.ulfm_model.specs.Terms.{comm_of};
 ghost use Rattle.ulfm_model.specs.Answers.{refusal_of};
 ghost use Rattle.ulfm_model.specs.History.{entries_by};
 ghost use Rattle.ulfm_model.specs.Records.{held_at};

@@ -1,7 +1,7 @@
 // What a call is replied.
 ghost use Rattle.std.specs.Prelude.{◌≡◌, ◌<◌, ◌≤◌, ◌==◌, ◌&&◌, IfOk, List, Some, if◌then◌else◌, length};
 ghost use Rattle.std.specs.List.{list_all, position_from};
-ghost use Rattle.ulfm_model.proofs.Computed.{agree_reply, poll_reply, replied, shrink_reply, shrunk_reply, start_reply};
+ghost use Rattle.ulfm_model.specs.Computed.{agree_reply, poll_reply, replied, shrink_reply, shrunk_reply, start_reply};
 ghost use Rattle.ulfm_model.specs.Answers.{barrier_reply};
 ghost use Rattle.ulfm_model.specs.History.{decision, failed, failures, has_arrived, is_decided, spawns};
 ghost use Rattle.ulfm_history.specs.Walked.{decision_of};

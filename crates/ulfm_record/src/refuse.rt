@@ -1,6 +1,6 @@
 //! When a rank's record refuses a call.
 ghost use Rattle.std.specs.Prelude.{◌≡◌};
-ghost use Rattle.ulfm_model.proofs.Terms.{tests_of};
+ghost use Rattle.ulfm_model.specs.Terms.{tests_of};
 ghost use Rattle.ulfm_model.specs.Answers.{first_refusal, refusal_of};
 ghost use Rattle.ulfm_record.specs.Kept.{held_of, record_of};
 

@@ -1,5 +1,5 @@
 ghost use Rattle.std.specs.Prelude.{◌≡◌};
-ghost use Rattle.ulfm_model.proofs.Terms.{comm_of};
+ghost use Rattle.ulfm_model.specs.Terms.{comm_of};
 
 use std::alloc::{AllocError, Allocator};
 use ulfm_laws::FlagAnd;

@@ -4,7 +4,7 @@ use Rattle.std.specs.{Prelude.{IsErrAnd}, Io.KnownBytes.{Appends, Consumes, IsAt
 use Rattle.std.proofs.lemmas.List.{append-nil}
 use Rattle.ulfm_model.specs.declared.limits.Limits.{Limits}
 use Rattle.ulfm_model.specs.Runs.{new_state}
-use Rattle.ulfm_model.proofs.Terms.{comm_of}
+use Rattle.ulfm_model.specs.Terms.{comm_of}
 use Rattle.ulfm_script.specs.declared.line_kind.LineKind.{LineKind}
 use Rattle.ulfm_script.specs.declared.line_kind.LineKind.TheVariants.{Cut, Long}
 use Rattle.ulfm_script.specs.declared.fault.RunFault.{RunFault}

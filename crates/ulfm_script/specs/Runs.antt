@@ -8,7 +8,7 @@ use Rattle.ulfm_model.specs.declared.limits.Limits.{Limits}
 use Rattle.ulfm_model.specs.declared.reply.Reply.{Reply}
 use Rattle.ulfm_model.specs.declared.reply.Reply.TheVariants.{Started, Pending, Agreed, Shrunk, Done, FailedGroup, Acked, Declared, AlreadyFailed, Revoked, AlreadyRevoked, Standing, Freed, Refused}
 use Rattle.ulfm_model.specs.{Answers.{traits_of}, History.{failed, members}, Runs.{IsStep, State, new_state}}
-use Rattle.ulfm_model.proofs.Terms.{comm_of}
+use Rattle.ulfm_model.specs.Terms.{comm_of}
 use Rattle.ulfm_script.specs.declared.line_kind.LineKind.{LineKind}
 use Rattle.ulfm_script.specs.declared.fault.RunFault.{RunFault}
 use Rattle.ulfm_script.specs.declared.fault.RunFault.TheVariants.{Line, Memory, Read, Write}

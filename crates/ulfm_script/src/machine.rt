@@ -1,6 +1,6 @@
 ghost use Rattle.std.specs.Prelude.{◌≡◌, IfOk};
 ghost use Rattle.ulfm_laws.specs.declared.flag_and.FlagAnd.{FlagAnd};
-ghost use Rattle.ulfm_model.proofs.Terms.{comm_of};
+ghost use Rattle.ulfm_model.specs.Terms.{comm_of};
 ghost use Rattle.ulfm_model.specs.{Runs.{State, new_state}, Words.{MayOpen}};
 ghost use Rattle.ulfm_script.specs.{Runs.{Steps, group_of}, Spelling.{IsSpelled}};
 

@@ -5,7 +5,7 @@ use Rattle.std.proofs.lemmas.List.{map-append}
 use mathlib.Core.List.{IsPrefix}
 use Rattle.ulfm_model.specs.declared.{event.Caller.{Caller}, limits.Limits.{Limits}}
 use Rattle.ulfm_model.specs.{History.{History, MayFollow, failures, spawns}, Runs.{Did}}
-use Rattle.ulfm_model.proofs.Terms.{made_at}
+use Rattle.ulfm_model.specs.Terms.{made_at}
 use Rattle.ulfm_model.proofs.{Histories.{failures_begin}, Lists.{get_prefix, in_list, prefix_trans}, Stable.{spawns_begin}}
 use Rattle.ulfm_words.specs.{Steps.{Goes, Name, Sight}, Tries.{MayMake, entry}}
 use Rattle.ulfm_words.proofs.Trails.{added_after, did_wait}

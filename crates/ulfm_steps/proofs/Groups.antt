@@ -10,7 +10,7 @@ use Rattle.std.proofs.lemmas.List.Sorted.{searched}
 use Rattle.std.proofs.lemmas.Map.Keys.{below_from_sorted, sorted_from_strictly_increasing}
 use Rattle.ulfm_model.specs.declared.limits.Limits.{Limits}
 use Rattle.ulfm_model.specs.History.{History, first_ranks, has, members, members_after, members_by, says, spawns, without}
-use Rattle.ulfm_model.proofs.Terms.{group_among}
+use Rattle.ulfm_model.specs.Terms.{group_among}
 use Rattle.ulfm_steps.specs.Rounds.{IsRoundOf}
 use Rattle.ulfm_steps.proofs.Reading.{has_at}
 

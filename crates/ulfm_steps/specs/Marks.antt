@@ -4,7 +4,7 @@ use Rattle.std.specs.List.{AllByRecursion}
 use mathlib.Core.List.{IsPrefix}
 use Rattle.ulfm_model.specs.declared.{event.Caller.TheVariants.{Rank as ByRank}, event.Event.{Event}, event.Event.TheVariants.{Mark}, limits.Limits.{Limits}}
 use Rattle.ulfm_model.specs.{History.{History, entries_by, failures, has, slot}, Runs.{Did}}
-use Rattle.ulfm_model.proofs.Terms.{settled_by}
+use Rattle.ulfm_model.specs.Terms.{settled_by}
 use Rattle.ulfm_words.specs.Steps.{IsOf, Name, Sight}
 use Rattle.ulfm_steps.specs.Rounds.{IsRoundOf}
 use Rattle.ulfm_steps.specs.declared.mark_all.MarkAll.{MarkAll}

@@ -7,7 +7,7 @@ use Rattle.std.proofs.lemmas.List.Elements.{filter_map-append}
 use mathlib.Core.List.{IsPrefix}
 use Rattle.ulfm_model.specs.declared.{place.Place.{Place}, place.Place.TheVariants.{List as ListAt, Comm as CommAt, Revoked as RevokedAt, Slot as SlotAt, Arrival as ArrivalAt}}
 use Rattle.ulfm_model.specs.{History.{History, failures, has_arrived, is_revoked, same_place, says, slot, spawns}, Words.{slot_word, word_at}}
-use Rattle.ulfm_model.proofs.Terms.{word_or_zero}
+use Rattle.ulfm_model.specs.Terms.{word_or_zero}
 use Rattle.ulfm_model.proofs.{Histories.{failures_begin, slot_stays}, Lists.{get_prefix}, Stable.{spawns_begin}}
 
 pub prefix_self : {X : Type 0} (xs : List X) → IsPrefix xs xs

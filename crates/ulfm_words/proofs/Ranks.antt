@@ -11,7 +11,7 @@ use Rattle.std.proofs.lemmas.Map.Keys.{IsDistinct-push}
 use Rattle.std.proofs.lemmas.Map.Steps.{length-le_from_distinct_below}
 use Rattle.ulfm_model.specs.declared.{limits.Limits.{Limits}, event.Event.{Event}, event.Event.TheVariants.{Fail, Settle, Mark, Arrive, Revoke, Spawn}}
 use Rattle.ulfm_model.specs.{History.{History, IsLegal, IsPlace, MayFollow, failures, first_ranks, has, members, members_after, members_by, says, spawns, without}, Words.{MayOpen}}
-use Rattle.ulfm_model.proofs.Terms.{group_among}
+use Rattle.ulfm_model.specs.Terms.{group_among}
 use Rattle.ulfm_words.specs.Places.{IsCell}
 use Rattle.ulfm_model.proofs.{Histories.{by_events, spawns_push}, Lists.{has_filter}, Says.{declared_by, made_by}, Spawned.{failures_distinct}}
 

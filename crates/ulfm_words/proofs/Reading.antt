@@ -2,7 +2,7 @@
 use Rattle.std.proofs.Common.{◌≡◌, ◌≢◌, ℕ, zero, suc, ◌+◌, ◌-◌, ◌*◌, ◌/◌, ◌%◌, ◌^◌, ◌<◌, Option, Some, None, IsSome, is_some, slice_get, refl, ap, sym, ◌∙◌, arith}
 use Rattle.ulfm_model.specs.declared.{contribution.Slot.{Slot}, limits.Limits.{Limits}, place.Place.TheVariants.{List as ListAt, Comm as CommAt, Slot as SlotAt}}
 use Rattle.ulfm_model.specs.{History.{History, IsLegal, failures, slot, spawns}, Words.{MayOpen, slot_word, word_at}}
-use Rattle.ulfm_model.proofs.Terms.{made_at, word_or_zero}
+use Rattle.ulfm_model.specs.Terms.{made_at, word_or_zero}
 use Rattle.ulfm_words.specs.Slots.{slot_in}
 use Rattle.ulfm_words.proofs.{Ranks.{failure_below, made_below}, SlotWords.{slot_back}}
 

@@ -3,7 +3,7 @@ use Rattle.std.specs.Prelude.{◌≡◌, ℕ, ◌+◌, Bool, false, [], length, 
 use mathlib.Core.List.{IsPrefix}
 use Rattle.ulfm_model.specs.declared.{contribution.Slot.{Slot}, event.Caller.{Caller}, event.Entry.{Entry}, event.Event.{Event}, event.Event.TheVariants.{Fail, Arrive, Revoke}, limits.Limits.{Limits}, place.Place.{Place}}
 use Rattle.ulfm_model.specs.{History.{History, IsLegal, MayFollow, MaySpawn, failures, has_arrived, is_revoked, slot}, Runs.{Did}, Words.{word_at}}
-use Rattle.ulfm_model.proofs.Terms.{made_at}
+use Rattle.ulfm_model.specs.Terms.{made_at}
 use Rattle.ulfm_words.specs.{Entries.{put_of}, Steps.{IsAdded, IsOf, Name, Sight}}
 
 -- one exchange: the event came, or others' events alone

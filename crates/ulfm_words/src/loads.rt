@@ -3,7 +3,7 @@ ghost use Rattle.std.specs.Prelude.{◌≡◌, ◌<◌, None, Some, slice_get, I
 ghost use Rattle.ulfm_model.specs.History.{failures, has_arrived, is_revoked, slot};
 ghost use Rattle.ulfm_model.specs.Laws.{summary_of};
 ghost use Rattle.ulfm_model.specs.declared.contribution.Slot.{Slot};
-ghost use Rattle.ulfm_model.proofs.Terms.{made_at};
+ghost use Rattle.ulfm_model.specs.Terms.{made_at};
 ghost use Rattle.ulfm_model.specs.declared.place.Place.TheVariants.{List as ListAt, Comm as CommAt, Revoked as RevokedAt, Slot as SlotAt, Arrival as ArrivalAt};
 ghost use Rattle.ulfm_words.specs.Places.{IsCell, IsWithin};
 ghost use Rattle.ulfm_words.specs.Steps.{IsOf, Loads};

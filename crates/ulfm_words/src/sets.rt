@@ -1,7 +1,7 @@
 // Exchanges, each for one event, and what stands where they are lost.
 ghost use Rattle.std.specs.Prelude.{◌≡◌, ◌<◌, Some, IsTrue, is_ok, slice_get, MatchBool, MatchResult};
 ghost use Rattle.ulfm_model.specs.History.{failures, has_arrived, is_revoked, slot};
-ghost use Rattle.ulfm_model.proofs.Terms.{made_at};
+ghost use Rattle.ulfm_model.specs.Terms.{made_at};
 ghost use Rattle.ulfm_model.specs.declared.event.Event.TheVariants.{Fail, Spawn, Arrive, Revoke};
 ghost use Rattle.ulfm_model.specs.declared.place.Place.TheVariants.{List as ListAt, Comm as CommAt, Revoked as RevokedAt, Slot as SlotAt, Arrival as ArrivalAt};
 ghost use Rattle.ulfm_model.specs.declared.contribution.Slot.{Slot};

@@ -1,7 +1,7 @@
 use Rattle.std.proofs.Common.{◌≡◌, ℕ, ◌+◌, ◌-◌, List, [], ◌∷◌, Some, length, slice_get, refl, ap, arith}
 use Rattle.ulfm_model.specs.declared.{event.Caller.TheVariants.{Outside}, event.Event.TheVariants.{Fail}, place.Place.TheVariants.{List as ListAt}}
 use Rattle.ulfm_model.specs.History.{failures, has}
-use Rattle.ulfm_model.proofs.Terms.{word_or_zero}
+use Rattle.ulfm_model.specs.Terms.{word_or_zero}
 use Rattle.ulfm_book_tests.proofs.words.declare.Goals as goal
 
 -- where the first entry isn't set nobody is declared

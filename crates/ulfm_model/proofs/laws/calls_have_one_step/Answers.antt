@@ -1,4 +1,4 @@
-use Rattle.ulfm_model.proofs.Computed.{next}
+use Rattle.ulfm_model.specs.Computed.{next}
 use Rattle.ulfm_model.proofs.OnlyStep.{step_is_next}
 use Rattle.ulfm_model.proofs.StepsNext.{next_is_step}
 use Rattle.ulfm_model.proofs.laws.calls_have_one_step.Goals as goal

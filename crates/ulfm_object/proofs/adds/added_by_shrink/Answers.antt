@@ -1,7 +1,7 @@
 use Rattle.std.proofs.Common.{◌≡◌, ◌++◌, [], sym, ap, ap₂, ◌∙◌, append-nil}
 use Rattle.std.specs.List.{cons_option}
 use Rattle.ulfm_model.specs.History.{entries_by}
-use Rattle.ulfm_model.proofs.Computed.{marks_of, spawn_of}
+use Rattle.ulfm_model.specs.Computed.{marks_of, spawn_of}
 use Rattle.ulfm_model.specs.declared.event.Caller.TheVariants.{Rank}
 use Rattle.ulfm_object.proofs.adds.added_by_shrink.Goals as goal
 use Rattle.ulfm_object.proofs.adds.added_by_shrink.Goals.{in-Some+in_ok-push, in_default}

@@ -2,7 +2,7 @@ use Rattle.std.proofs.Common.{◌≡◌, ◌+◌, ◌++◌, ◌∷◌, [], take,
 use Rattle.std.specs.List.{cons_option, enumerate_from}
 use Rattle.std.proofs.lemmas.List.{take_all}
 use Rattle.std.proofs.lemmas.List.FromFn.{length-enumerate_from}
-use Rattle.ulfm_model.proofs.Computed.{mark_of}
+use Rattle.ulfm_model.specs.Computed.{mark_of}
 use Rattle.ulfm_object.proofs.Bounds.{numbered_more}
 use Rattle.ulfm_object.proofs.adds.marks_of.Goals as goal
 use Rattle.ulfm_object.proofs.adds.marks_of.Goals.{in-Some+in_ok-push, in_default}

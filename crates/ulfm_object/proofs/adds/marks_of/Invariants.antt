@@ -1,6 +1,6 @@
 use Rattle.std.proofs.Common.{◌≡◌, take, filter_map}
 use Rattle.std.specs.List.{enumerate_from}
-use Rattle.ulfm_model.proofs.Computed.{mark_of}
+use Rattle.ulfm_model.specs.Computed.{mark_of}
 use Rattle.ulfm_object.proofs.adds.marks_of.Given as goal
 
 abbrev pub invariant-loop-i : goal.invariant-loop-i

@@ -1,5 +1,5 @@
 use Rattle.std.proofs.Common.{arith, ◌∙◌}
-use Rattle.ulfm_model.proofs.Computed.{added}
+use Rattle.ulfm_model.specs.Computed.{added}
 use Rattle.ulfm_record.specs.Kept.{held_of, record_of}
 use Rattle.ulfm_object.proofs.Added.{few_added}
 use Rattle.ulfm_object.proofs.Holding.{few_of_all, same_after, same_reply}

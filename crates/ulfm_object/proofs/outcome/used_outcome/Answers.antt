@@ -1,6 +1,6 @@
 use Rattle.std.proofs.Common.{◌==◌, Some, sym, ap, append-nil, ◌∙◌, arith}
 use Rattle.ulfm_model.specs.{Records.{Held}}
-use Rattle.ulfm_model.proofs.Terms.{comm_of}
+use Rattle.ulfm_model.specs.Terms.{comm_of}
 use Rattle.ulfm_record.specs.Kept.{held_of}
 use Rattle.ulfm_record.specs.declared.record.HeldComm.{HeldComm}
 use Rattle.ulfm_record.proofs.Places.{find_no_place, find_place, place_below}

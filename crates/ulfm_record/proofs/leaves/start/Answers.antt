@@ -1,6 +1,6 @@
 use Rattle.std.proofs.Common.{◌==◌, sym, subst, ◌∙◌}
 use Rattle.ulfm_model.specs.{Answers.{opened, traits_of}, Records.{Held}}
-use Rattle.ulfm_model.proofs.Terms.{comm_of}
+use Rattle.ulfm_model.specs.Terms.{comm_of}
 use Rattle.ulfm_record.specs.Kept.{FitsNext, held_of}
 use Rattle.ulfm_record.proofs.Places.{change_no_place, change_place, find_place}
 use Rattle.ulfm_record.proofs.leaves.start.Goals as goal

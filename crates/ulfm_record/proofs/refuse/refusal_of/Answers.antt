@@ -1,6 +1,6 @@
 use Rattle.std.proofs.Common.{◌==◌, Some, sym, ap, ◌∙◌}
 use Rattle.ulfm_model.specs.{Answers.{refusal_on}, Records.{Held}}
-use Rattle.ulfm_model.proofs.Terms.{comm_of}
+use Rattle.ulfm_model.specs.Terms.{comm_of}
 use Rattle.ulfm_record.specs.Kept.{held_of, record_of}
 use Rattle.ulfm_record.specs.declared.record.HeldComm.{HeldComm}
 use Rattle.ulfm_record.proofs.Places.{find_no_place, find_place}

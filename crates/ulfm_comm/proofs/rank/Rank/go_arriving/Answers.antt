@@ -1,7 +1,7 @@
 use Rattle.std.proofs.Common.{◌≡◌, [], Some, IsTrue, MatchBool, ap, ◌∙◌, subst, sym}
 use Rattle.ulfm_model.specs.declared.{call.Request.TheVariants.{Barrier}, event.Caller.TheVariants.{Rank}, event.Event.TheVariants.{Arrive}, refusal.Refusal.TheVariants.{Twice}, reply.Reply.TheVariants.{Refused, Started}}
 use Rattle.ulfm_model.specs.{Answers.{opened}, History.{has_arrived}, Records.{with_held}, Runs.{Did}}
-use Rattle.ulfm_model.proofs.Terms.{comm_of}
+use Rattle.ulfm_model.specs.Terms.{comm_of}
 use Rattle.ulfm_words.specs.Steps.{IsAdded}
 use Rattle.ulfm_comm.specs.Stages.{Answered, HasLooked, Walks}
 use Rattle.ulfm_comm.proofs.{Entering.{when_lost, when_won}, Exchanging.{arrived_before, arrived_now, arriving_may, arriving_within, walks_tried}}

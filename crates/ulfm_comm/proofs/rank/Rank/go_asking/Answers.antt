@@ -1,7 +1,7 @@
 use Rattle.std.proofs.Common.{◌∙◌, ap, subst, sym}
 use Rattle.ulfm_model.specs.History.{is_revoked}
 use Rattle.ulfm_model.specs.declared.reply.Reply.TheVariants.{Standing}
-use Rattle.ulfm_model.proofs.Terms.{comm_of}
+use Rattle.ulfm_model.specs.Terms.{comm_of}
 use Rattle.ulfm_comm.specs.Stages.{Answered, HasLooked}
 use Rattle.ulfm_comm.proofs.{Exchanging.{asked_answered, fits_now, walks_none}, Revoking.{held_below}}
 use Rattle.ulfm_comm.proofs.rank.Rank.go_asking.Goals as goal

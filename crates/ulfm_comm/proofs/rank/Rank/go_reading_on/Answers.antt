@@ -1,6 +1,6 @@
 use Rattle.std.proofs.Common.{◌≤◌, [], ap, ◌∙◌, IsTrue, Bool, false}
 use Rattle.ulfm_model.specs.Records.{held_at, Record}
-use Rattle.ulfm_model.proofs.Terms.{comm_of}
+use Rattle.ulfm_model.specs.Terms.{comm_of}
 use Rattle.ulfm_words.specs.Steps.{Sight}
 use Rattle.ulfm_steps.specs.ReadsOn.{AtFailure}
 use Rattle.ulfm_comm.specs.Stages.{HasReached, Stands}

@@ -1,7 +1,7 @@
 use Rattle.std.proofs.Common.{List, ℕ, [], IsTrue, MatchBool, subst, sym}
 use Rattle.ulfm_model.specs.declared.{event.Caller.TheVariants.{Rank}, event.Event.TheVariants.{Revoke}}
 use Rattle.ulfm_model.specs.{History.{is_revoked}, Runs.{Did}}
-use Rattle.ulfm_model.proofs.Terms.{comm_of}
+use Rattle.ulfm_model.specs.Terms.{comm_of}
 use Rattle.ulfm_words.specs.Steps.{IsAdded}
 use Rattle.ulfm_comm.specs.{Revokes.{revoked}, Stages.{Answered, HasLooked, Turns, Walks}}
 use Rattle.ulfm_comm.specs.declared.doing.{Next.TheVariants.{Ends}, Phase.TheVariants.{Revoking}}

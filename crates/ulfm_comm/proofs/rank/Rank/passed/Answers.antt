@@ -2,7 +2,7 @@ use Rattle.std.proofs.Common.{rules, ◌≡◌, ◌≤◌, None, Some, length, f
 use Rattle.std.specs.List.Sorted.{IsStrictlyIncreasing}
 use Rattle.ulfm_model.specs.declared.{call.Call.{Call}, reply.Reply.TheVariants.{Acked, FailedGroup, Freed}}
 use Rattle.ulfm_model.specs.{Answers.{first_refusal}, History.{has}, Records.{Held, Record, held_at}}
-use Rattle.ulfm_model.proofs.Terms.{comm_of, tests_of}
+use Rattle.ulfm_model.specs.Terms.{comm_of, tests_of}
 use Rattle.ulfm_model.proofs.Marking.{failed_few}
 use Rattle.ulfm_comm.specs.Stages.{Answered, JustLooked}
 use Rattle.ulfm_comm.proofs.{AfterLook.{just_acked, just_counted, just_fits, just_freed, just_passed, own_barrier, own_question, own_revoke, starts_agree, starts_shrink}, Holding.{group_rises}}

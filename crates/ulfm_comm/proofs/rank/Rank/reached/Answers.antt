@@ -14,7 +14,7 @@ use Rattle.ulfm_comm.specs.Stages.{Answered, Stands}
 use Rattle.ulfm_comm.specs.declared.doing.Phase.TheVariants.{Spawning as AtSpawning}
 use Rattle.ulfm_model.specs.declared.limits.Limits.{Limits}
 use Rattle.ulfm_model.specs.declared.{refusal.Refusal.TheVariants.{OutOfMemory}, reply.Reply.TheVariants.{Refused}}
-use Rattle.ulfm_model.proofs.Terms.{comm_of}
+use Rattle.ulfm_model.specs.Terms.{comm_of}
 use Rattle.ulfm_comm.proofs.Ending.{ends_full, ends_out, ends_self_failed, full_alone, held_is, number_is}
 use Rattle.ulfm_comm.proofs.rank.Rank.reached.Goals as goal
 use Rattle.ulfm_comm.proofs.rank.Rank.reached.Goals.{After-has_rank}

@@ -3,7 +3,7 @@ use Rattle.std.specs.List.Sorted.{IsStrictlyIncreasing}
 use Rattle.ulfm_model.specs.Answers.{closed, traits_of}
 use Rattle.ulfm_model.specs.Records.{Held, held_at}
 use Rattle.ulfm_model.specs.declared.call.Call.{Call}
-use Rattle.ulfm_model.proofs.Terms.{comm_of}
+use Rattle.ulfm_model.specs.Terms.{comm_of}
 use Rattle.ulfm_steps.specs.ReadsOn.{AtFailure}
 use Rattle.ulfm_comm.proofs.Ending.{decided_first, ends_mismatch, ends_no_context, group_goes_up, reached_first}
 use Rattle.ulfm_comm.proofs.rank.Rank.shrunk.Goals as goal

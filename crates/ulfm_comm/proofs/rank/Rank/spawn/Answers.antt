@@ -2,7 +2,7 @@ use Rattle.std.proofs.Common.{List, false, ◌≡◌, ◌+◌, ◌<◌, ◌++◌
 use Rattle.std.specs.List.{AllByRecursion}
 use Rattle.std.proofs.lemmas.Grind.{common_steps}
 use Rattle.ulfm_model.specs.{Answers.{closed}, Records.{Held, Record, change_at}}
-use Rattle.ulfm_model.proofs.Terms.{contexts_of, new_held}
+use Rattle.ulfm_model.specs.Terms.{contexts_of, new_held}
 use Rattle.ulfm_steps.specs.Appends.{Passed, room}
 use Rattle.ulfm_steps.specs.declared.item.Item.{Item}
 use Rattle.ulfm_steps.specs.declared.item.Item.TheVariants.{Comm as OfComm}
