@@ -78,11 +78,12 @@ def expect(holds, why, said):
 def main():
     failing = LIB + "\n#[test]\nfn it_fails(rt: HostRuntime) {\n    assert_eq!(rt; seven(), 8);\n}\n"
     with tempfile.TemporaryDirectory(prefix="gate-test-") as root:
-        write(f"{root}/crates.txt", "sample:\nunproved:\nfailing:\n")
+        write(f"{root}/crates.txt", "sample:\nunproved:\nfailing:\nulfm_run_tests:\n")
         write(f"{root}/HANDLES", "Handles allowed: none.\n")
         lay(root, "sample", EDITS)
         lay(root, "unproved", {}, LIB.replace("    7", "    8"))
         lay(root, "failing", {}, failing)
+        lay(root, "ulfm_run_tests", {}, failing)
         ran = subprocess.run([sys.executable, f"{HERE}/gate.py"], cwd=root, stdout=subprocess.PIPE, stderr=subprocess.STDOUT, text=True)
     said = ran.stdout.splitlines()
     for name, (_, _, wanted) in EDITS.items():
@@ -92,8 +93,9 @@ def main():
     named = next((it.split()[2:] for it in said if it.startswith("rt: FAILED: ")), [])
     expect("unproved" in named, "an unproved function passes", ran.stdout)
     expect("failing" in named, "a failing test passes", ran.stdout)
+    expect("ulfm_run_tests" in named, "a failing test that is only run passes", ran.stdout)
     expect(sorted(it for it in named if "/" in it) == sorted(f"sample/{it}.edit" for it in failed), "other edits fail", ran.stdout)
-    counts = f"{len(EDITS) - len(failed) + 2} passed, {len(failed) + 2} failed"
+    counts = f"{len(EDITS) - len(failed) + 2} passed, {len(failed) + 3} failed"
     expect(ran.returncode == 1 and counts in said, f"the counts are not {counts}", ran.stdout)
     print("gate_test: ok")
 
