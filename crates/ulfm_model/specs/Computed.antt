@@ -1,46 +1,19 @@
 -- The sequential object as a function: what each call adds and replies where nobody else steps, and the next state. Nothing here
 -- has to be believed: that it computes the steps of the object, and the only ones, is a law.
-use Rattle.std.specs.Prelude.{ℕ, ◌+◌, ◌<◌, ◌≤◌, ◌==◌, Bool, true, false, not, ◌&&◌, ◌||◌, min, max, if◌then◌else◌, List, [], ◌∷◌, ◌++◌, length, filter, filter_map, find, unwrap_or, Option, Some, None, is_some, nat_lt, IsTrue}
+use Rattle.std.specs.Prelude.{ℕ, ◌+◌, ◌==◌, Bool, true, false, not, ◌&&◌, min, max, if◌then◌else◌, List, [], ◌∷◌, ◌++◌, length, filter, filter_map, find, unwrap_or, Option, Some, None, is_some, nat_lt}
 use Rattle.std.specs.Int.{bit_at}
 use Rattle.std.specs.List.{enumerate_from, position_from}
-use Rattle.std.proofs.Common.{ap, le_trans, lit≤}
-use Rattle.std.proofs.Math.Nat.{le-max_left, max-le, min-le_right}
-use Rattle.std.proofs.lemmas.Bool.{le-leb}
-use Rattle.ulfm_laws.specs.{Ranges.{is_acked_count}, declared.acked.Acked.{Acked}, declared.known.Known.{Known}, declared.body.Body.{Body}, declared.body.Body.TheVariants.{Unit as NoBody, Flag as OfFlags, Ctx as OfIds, Clash}}
+pub use Rattle.ulfm_laws.specs.Within.{acked_at, known_at}
+use Rattle.ulfm_laws.specs.{Within.{acked_known, known_from_one, some_known}, declared.body.Body.{Body}, declared.body.Body.TheVariants.{Unit as NoBody, Flag as OfFlags, Ctx as OfIds, Clash}}
 use Rattle.ulfm_model.specs.declared.{call.Call.{Call}, reply.Reply.{Reply}, reply.Reply.TheVariants.{Started, Pending, Agreed, Shrunk, FailedGroup, Acked as AckedCount, Declared, AlreadyFailed, Revoked, AlreadyRevoked, Standing, Freed, Refused}, refusal.Refusal.{Refusal}, refusal.Refusal.TheVariants.{SelfFailed, Mismatch, NoContext, NoRoom, NoSuchRank, Twice}, call.Request.{Request}, call.Request.TheVariants.{Agree, Shrink, Barrier}, contribution.Contribution.{Contribution}, contribution.MarkCount.{MarkCount}, contribution.Offer.{Offer}, contribution.Offer.TheVariants.{Flag, Ctx}, contribution.Slot.{Slot}, contribution.Slot.TheVariants.{Given, Mark as Marked}, limits.Limits.{Limits}, event.Caller.TheVariants.{Outside, Rank}, event.Event.{Event}, event.Event.TheVariants.{Fail, Settle, Mark, Arrive, Revoke, Spawn}}
 use Rattle.ulfm_model.specs.declared.call.Call.TheVariants as call
 use Rattle.ulfm_model.specs.Terms.{after_call}
 use Rattle.ulfm_model.specs.{Answers.{View, barrier_reply, left_by, refusal_of}, History.{Decision, History, decision, entries_by, failed, failures, first_ranks, has, has_arrived, is_decided, is_made, is_revoked, members, slot, spawns}, Records.{Held, Record, free_ids, held_at}, Runs.{State}}
 use Rattle.ulfm_model.specs.Terms.{comm_of, record_at}
 
-pub within_all : (n : ℕ) → min n 1024 ≤ 1024
-within_all n = min-le_right n 1024
-
--- a count of failures as a contribution holds it; there are at most 1024 ranks, so the least is the count itself
-abbrev pub known_at : ℕ → Known
-known_at n = record { count = min n 1024; in_range = within_all n }
-
-pub counted_within : (n : ℕ) → max 1 (min n 1024) ≤ 1024
-counted_within n = max-le (lit≤ tt) (min-le_right n 1024)
-
-pub counted_some : (n : ℕ) → 0 < max 1 (min n 1024)
-counted_some n = le-max_left 1 (min n 1024)
-
--- the same of a mark, which counts from 1
+-- a mark of the n-th failure, counted from 1
 abbrev pub mark_at : ℕ → MarkCount
-mark_at n = record { known = record { count = max 1 (min n 1024); in_range = counted_within n }; counted = counted_some n }
-
-pub acked_within : (m n : ℕ) → IsTrue (is_acked_count (min m (min n 1024)))
-acked_within m n =
-    let few : min m (min n 1024) ≤ 1024 = le_trans (min-le_right m (min n 1024)) (min-le_right n 1024) in
-    ap (λ b. b || (min m (min n 1024) == 2047)) (le-leb (min m (min n 1024)) 1024 few)
-
-pub acked_known : (m n : ℕ) → min m (min n 1024) ≤ min n 1024
-acked_known m n = min-le_right m (min n 1024)
-
--- m acknowledged ones of n failures; a record never has more of them than there are
-abbrev pub acked_at : ℕ → ℕ → Acked
-acked_at m n = record { count = min m (min n 1024); in_range = acked_within m n }
+mark_at n = record { known = known_from_one n; counted = some_known n }
 
 -- a contribution with these counts
 abbrev pub given_at : {P : Type 0} → Offer P → ℕ → ℕ → Contribution P

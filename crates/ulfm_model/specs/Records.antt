@@ -1,7 +1,7 @@
 -- What one rank holds, and when that fits a history.
-use Rattle.std.specs.{Prelude.{◌≡◌, ◌⊎◌, ℕ, ◌<◌, ◌≤◌, ◌-◌, ◌^◌, ◌==◌, Bool, true, false, ⊤, if◌then◌else◌, List, [], ◌∷◌, length, filter, map, find, slice_get, Option, Some, None, IsTrue, Contains, nat_eq}, Int.{bit_at}, List.{AllByRecursion, IsDistinct}}
-use Rattle.std.proofs.{Common.{lit<, lt_of_le_of_lt}, Math.Nat.{sub-le}}
+use Rattle.std.specs.{Prelude.{◌≡◌, ◌⊎◌, ℕ, ◌<◌, ◌≤◌, ◌-◌, ◌==◌, Bool, true, false, ⊤, if◌then◌else◌, List, [], ◌∷◌, length, filter, map, find, slice_get, Option, Some, None, IsTrue, Contains, nat_eq}, Int.{bit_at}, List.{AllByRecursion, IsDistinct}}
 use mathlib.Core.List.{IsPrefix}
+pub use Rattle.ulfm_laws.specs.Within.{all_but}
 use Rattle.ulfm_laws.specs.{declared.body.Body.TheVariants.{Ctx as Ids}, declared.ctx_mask.CtxMask.{CtxMask}, Combined.{combined}, Masks.{mask_unit, mask_meld}}
 use Rattle.ulfm_model.specs.declared.{call.Request.{Request}, call.Request.TheVariants.{Agree, Shrink, Barrier}, limits.Limits.{Limits}, contribution.Contribution.{Contribution}, contribution.Offer.TheVariants.{Flag, Ctx}, event.Caller.TheVariants.{Rank}, event.Event.TheVariants.{Settle, Arrive}}
 use Rattle.ulfm_model.specs.History.{Exists, History, decision, failed, failures, first_ranks, has, members, spawns}
@@ -43,10 +43,6 @@ is_shrink None = false
 is_shrink (Some (Agree k)) = false
 is_shrink (Some (Shrink k)) = true
 is_shrink (Some (Barrier k)) = false
-
--- all context ids but i, which is below 32: all bits but bit i
-abbrev pub all_but : ℕ → CtxMask
-all_but i = record { bits = 0xffff_ffff - 2 ^ i; fits = lt_of_le_of_lt (sub-le 0xffff_ffff (2 ^ i)) (lit< tt) }
 
 -- the context ids that none of these communicators has
 abbrev pub free_ids : List Held → CtxMask
