@@ -4,7 +4,7 @@ use Rattle.std.specs.List.{AllByRecursion}
 use Rattle.ulfm_laws.specs.declared.ctx_mask.CtxMask.{CtxMask}
 use Rattle.ulfm_model.specs.declared.call.Call.TheVariants as call
 use Rattle.ulfm_model.specs.declared.{call.Call.{Call}, call.Request.{Request}, call.Request.TheVariants.{Agree, Shrink}, contribution.Offer.{Offer}, contribution.Offer.TheVariants.{Flag, Ctx}, event.Caller.TheVariants.{Rank}, refusal.Refusal.{Refusal}, refusal.Refusal.TheVariants.{Idle, NoSuchComm, SelfFailed}, reply.Reply.{Reply}, reply.Reply.TheVariants.{Acked, FailedGroup, Freed, Pending, Refused}}
-use Rattle.ulfm_model.specs.{Answers.{Effect, first_refusal, printed, refused_with, traits_of}, Answers.Effect.{Keeps}, History.{failures, has}, Records.{Fits, Held, Record, free_ids, held_at, with_held}, Runs.{Did}}
+use Rattle.ulfm_model.specs.{Answers.{Effect, first_refusal, printed, left_with, traits_of}, Answers.Effect.{Keeps}, History.{failures, has}, Records.{Fits, Held, Record, free_ids, held_at, with_held}, Runs.{Did}}
 use Rattle.ulfm_model.specs.Terms.{comm_of, request_of, tests_of}
 use Rattle.ulfm_words.specs.Steps.{IsOf, Name, Sight}
 use Rattle.ulfm_words.proofs.Trails.{did_none}
@@ -91,7 +91,7 @@ module _ {P : Type 0} (meld : P → P → P) (alone : Bool) (name : Name) (asked
         (calls_is meld alone name before now asked old (Refused refusal) mid of j.fits
         (refused meld name.limits alone before.seen now.seen old mid j.looked asked refusal mid of.legal
         (by_tests meld alone name before now asked old mid j.fits j.looked x held (Some refusal) first)
-        (sym (ap (λ (e : Effect). refused_with mid (comm_of asked) e) mild.0))
+        (sym (ap (λ (e : Effect). left_with mid (comm_of asked) e) mild.0))
         (λ polls. ap₂ (λ (b : Bool) h. if b then request_of h else None) polls at ∙ idle_poll mid x asked refusal polls is)))
 
     -- it doesn't

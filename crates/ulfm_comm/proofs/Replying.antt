@@ -3,7 +3,7 @@ use Rattle.std.proofs.Common.{◌≡◌, ◌⊎◌, Bool, true, false, List, [],
 use Rattle.std.specs.List.{AllByRecursion}
 use mathlib.Core.List.{IsPrefix}
 use Rattle.ulfm_model.specs.declared.{call.Call.{Call}, event.Caller.TheVariants.{Rank}, event.Event.{Event}, limits.Limits.{Limits}, refusal.Refusal.{Refusal}, refusal.Refusal.TheVariants.{NoSuchComm, SelfFailed}, reply.Reply.{Reply}, reply.Reply.TheVariants.{Started, Pending, Agreed, Shrunk, Done, FailedGroup, Acked, Declared, AlreadyFailed, Revoked, AlreadyRevoked, Standing, Freed, Refused}}
-use Rattle.ulfm_model.specs.{Answers.{CallAdds, Effect, IsReply, IsSelfFailed, MayOwn, Replies, RepliesBy, Sees, View, left_by, polled_by, printed, refusal_of, refusal_on, refused_with, traits_of}, Answers.Effect.{Ends, ForGood, Keeps}, History.{History, IsLegal, entries_by, failures, has}, Records.{Held, Record, held_at, is_shrink}, Runs.{Did, IsAloneRun, IsCall, unsettled_of}}
+use Rattle.ulfm_model.specs.{Answers.{CallAdds, Effect, IsReply, IsSelfFailed, MayOwn, Replies, RepliesBy, Sees, View, left_by, polled_by, printed, refusal_of, refusal_on, left_with, traits_of}, Answers.Effect.{Ends, ForGood, Keeps}, History.{History, IsLegal, entries_by, failures, has}, Records.{Held, Record, held_at, is_shrink}, Runs.{Did, IsAloneRun, IsCall, unsettled_of}}
 use Rattle.ulfm_model.specs.Terms.{comm_of, request_of, settled_by}
 use Rattle.ulfm_model.proofs.{Histories.{failures_begin}, Lists.{each_from, prefix_trans}}
 use Rattle.ulfm_words.proofs.Trails.{did_none, did_prefix, did_quiet}
@@ -26,7 +26,7 @@ left_seen ranks h now asked (Standing revoked) = refl
 left_seen ranks h now asked Freed = refl
 left_seen ranks h now asked (Refused refusal) = by_effect (printed refusal).2
   where
-    by_effect : (effect : Effect) → (refused_with now (comm_of asked) effect).seen ≡ now.seen
+    by_effect : (effect : Effect) → (left_with now (comm_of asked) effect).seen ≡ now.seen
     by_effect Keeps = refl
     by_effect Ends = refl
     by_effect ForGood = refl

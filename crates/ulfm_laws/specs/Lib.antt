@@ -7,3 +7,4 @@ pub mod Masks
 pub mod Ranges
 pub mod StandsFor
 pub mod Summaries
+pub mod Within

@@ -4,7 +4,7 @@ use Rattle.std.specs.Prelude.{Contains}
 use Rattle.std.proofs.lemmas.List.Elements.{Contains-append_right}
 use mathlib.Core.List.{IsPrefix}
 use Rattle.ulfm_model.specs.declared.{call.Call.{Call}, event.Caller.{Caller}, event.Caller.TheVariants.{Outside, Rank}, event.Event.{Event}, limits.Limits.{Limits}, reply.Reply.{Reply}, reply.Reply.TheVariants.{Started, Pending, Agreed, Shrunk, Done, FailedGroup, Acked, Declared, AlreadyFailed, Revoked, AlreadyRevoked, Standing, Freed, Refused}}
-use Rattle.ulfm_model.specs.{Answers.{Effect, Sees, left_by, polled_by, printed, refused_with}, Answers.Effect.{Ends, ForGood, Keeps}, History.{Exists, History, IsLegal, entries_by, failures}, Records.{Fits, Held, Record, held_at, is_shrink}, Runs.{IsCall, IsFailRun, IsRun, IsSpan, StandsIn}}
+use Rattle.ulfm_model.specs.{Answers.{Effect, Sees, left_by, polled_by, printed, left_with}, Answers.Effect.{Ends, ForGood, Keeps}, History.{Exists, History, IsLegal, entries_by, failures}, Records.{Fits, Held, Record, held_at, is_shrink}, Runs.{IsCall, IsFailRun, IsRun, IsSpan, StandsIn}}
 use Rattle.ulfm_model.specs.Terms.{IsOwn, comm_of, view_of}
 use Rattle.ulfm_model.proofs.Lists.{prefix_trans}
 use Rattle.ulfm_model.proofs.Histories.{failures_begin, members_stay}
@@ -35,7 +35,7 @@ left_number ranks h now asked (Standing revoked) = refl
 left_number ranks h now asked Freed = refl
 left_number ranks h now asked (Refused refusal) = by_effect (printed refusal).2
   where
-    by_effect : (effect : Effect) → (refused_with now (comm_of asked) effect).number ≡ now.number
+    by_effect : (effect : Effect) → (left_with now (comm_of asked) effect).number ≡ now.number
     by_effect Keeps = refl
     by_effect Ends = refl
     by_effect ForGood = refl

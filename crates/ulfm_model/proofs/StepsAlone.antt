@@ -11,7 +11,7 @@ use Rattle.ulfm_model.specs.declared.event.Caller.{Caller}
 use Rattle.ulfm_model.specs.declared.event.Caller.TheVariants.{Rank}
 use Rattle.ulfm_model.specs.declared.event.Event.{Event}
 use Rattle.ulfm_model.specs.History.{History, entries_by, failures, has}
-use Rattle.ulfm_model.specs.{Answers.{CallAdds, Effect, IsReply, IsSelfFailed, MayOwn, Replies, RepliesBy, Sees, View, left_by, polled_by, printed, refusal_of, refused_with, traits_of}, Answers.Effect.{Ends, ForGood, Keeps}, History.{IsLegal, IsLegalAfter}, Runs.{IsAloneRun, unsettled_of}}
+use Rattle.ulfm_model.specs.{Answers.{CallAdds, Effect, IsReply, IsSelfFailed, MayOwn, Replies, RepliesBy, Sees, View, left_by, polled_by, printed, refusal_of, left_with, traits_of}, Answers.Effect.{Ends, ForGood, Keeps}, History.{IsLegal, IsLegalAfter}, Runs.{IsAloneRun, unsettled_of}}
 use Rattle.ulfm_model.specs.Computed.{Outcome}
 use Rattle.ulfm_model.specs.Terms.{comm_of, settled_by}
 use Rattle.ulfm_model.specs.Records.{Held, Record, held_at, is_shrink}
@@ -39,7 +39,7 @@ span_alone meld limits h caller events legal after = record {
 }
 
 -- what a refusal leaves has seen what the rank has
-refused_sees : (now : Record) (c : ℕ) (effect : Effect) → (refused_with now c effect).seen ≡ now.seen
+refused_sees : (now : Record) (c : ℕ) (effect : Effect) → (left_with now c effect).seen ≡ now.seen
 refused_sees now c Keeps = refl
 refused_sees now c Ends = refl
 refused_sees now c ForGood = refl

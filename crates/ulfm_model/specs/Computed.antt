@@ -1,46 +1,20 @@
 -- The sequential object as a function: what each call adds and replies where nobody else steps, and the next state. Nothing here
 -- has to be believed: that it computes the steps of the object, and the only ones, is a law.
-use Rattle.std.specs.Prelude.{ℕ, ◌+◌, ◌<◌, ◌≤◌, ◌==◌, Bool, true, false, not, ◌&&◌, ◌||◌, min, max, if◌then◌else◌, List, [], ◌∷◌, ◌++◌, length, filter, filter_map, find, unwrap_or, Option, Some, None, is_some, nat_lt, IsTrue}
-use Rattle.std.specs.Int.{bit_at}
-use Rattle.std.specs.List.{enumerate_from, position_from}
-use Rattle.std.proofs.Common.{ap, le_trans, lit≤}
-use Rattle.std.proofs.Math.Nat.{le-max_left, max-le, min-le_right}
-use Rattle.std.proofs.lemmas.Bool.{le-leb}
-use Rattle.ulfm_laws.specs.{Ranges.{is_acked_count}, declared.acked.Acked.{Acked}, declared.known.Known.{Known}, declared.body.Body.{Body}, declared.body.Body.TheVariants.{Unit as NoBody, Flag as OfFlags, Ctx as OfIds, Clash}}
-use Rattle.ulfm_model.specs.declared.{call.Call.{Call}, reply.Reply.{Reply}, reply.Reply.TheVariants.{Started, Pending, Agreed, Shrunk, FailedGroup, Acked as AckedCount, Declared, AlreadyFailed, Revoked, AlreadyRevoked, Standing, Freed, Refused}, refusal.Refusal.{Refusal}, refusal.Refusal.TheVariants.{SelfFailed, Mismatch, NoContext, NoRoom, NoSuchRank, Twice}, call.Request.{Request}, call.Request.TheVariants.{Agree, Shrink, Barrier}, contribution.Contribution.{Contribution}, contribution.MarkCount.{MarkCount}, contribution.Offer.{Offer}, contribution.Offer.TheVariants.{Flag, Ctx}, contribution.Slot.{Slot}, contribution.Slot.TheVariants.{Given, Mark as Marked}, limits.Limits.{Limits}, event.Caller.TheVariants.{Outside, Rank}, event.Event.{Event}, event.Event.TheVariants.{Fail, Settle, Mark, Arrive, Revoke, Spawn}}
-use Rattle.ulfm_model.specs.declared.call.Call.TheVariants as call
-use Rattle.ulfm_model.specs.Terms.{after_call}
-use Rattle.ulfm_model.specs.{Answers.{View, barrier_reply, left_by, refusal_of}, History.{Decision, History, decision, entries_by, failed, failures, first_ranks, has, has_arrived, is_decided, is_made, is_revoked, members, slot, spawns}, Records.{Held, Record, free_ids, held_at}, Runs.{State}}
-use Rattle.ulfm_model.specs.Terms.{comm_of, record_at}
+use Rattle.std.specs.Prelude.{ℕ, ◌+◌, ◌==◌, nat_lt, min, max, Bool, true, false, not, ◌&&◌, if◌then◌else◌}
+use Rattle.std.specs.Prelude.{List, [], ◌∷◌, ◌++◌, length, filter, filter_map, find, unwrap_or, Option, Some, None, is_some}
+use Rattle.std.specs.{Int.{bit_at}, List.{enumerate_from, position_from}}
+pub use Rattle.ulfm_laws.specs.Within.{acked_at, known_at}
+use Rattle.ulfm_laws.specs.{Within.{acked_known, known_from_one, some_known}, declared.body.Body.{Body}}
+use Rattle.ulfm_model.specs.declared.{call.Call.{Call}, call.Request.{Request}, event.Caller.{Caller}, event.Event.{Event}, limits.Limits.{Limits}}
+use Rattle.ulfm_model.specs.declared.{contribution.Contribution.{Contribution}, contribution.MarkCount.{MarkCount}, contribution.Offer.{Offer}}
+use Rattle.ulfm_model.specs.declared.{contribution.Slot.{Slot}, refusal.Refusal.{Refusal}, reply.Reply.{Reply}}
+use Rattle.ulfm_model.specs.{Answers.{View, barrier_reply, left_by, rank_of, refusal_of}, Records.{Held, Record, free_ids, held_at}, Runs.{State}}
+use Rattle.ulfm_model.specs.History.{Decision, History, decision, entries_by, failed, failures, first_ranks, has, has_arrived, is_decided}
+use Rattle.ulfm_model.specs.{History.{is_made, is_revoked, members, slot, spawns}, Terms.{after_call, comm_of, record_at}}
 
-pub within_all : (n : ℕ) → min n 1024 ≤ 1024
-within_all n = min-le_right n 1024
-
--- a count of failures as a contribution holds it; there are at most 1024 ranks, so the least is the count itself
-abbrev pub known_at : ℕ → Known
-known_at n = record { count = min n 1024; in_range = within_all n }
-
-pub counted_within : (n : ℕ) → max 1 (min n 1024) ≤ 1024
-counted_within n = max-le (lit≤ tt) (min-le_right n 1024)
-
-pub counted_some : (n : ℕ) → 0 < max 1 (min n 1024)
-counted_some n = le-max_left 1 (min n 1024)
-
--- the same of a mark, which counts from 1
+-- a mark of the n-th failure, counted from 1
 abbrev pub mark_at : ℕ → MarkCount
-mark_at n = record { known = record { count = max 1 (min n 1024); in_range = counted_within n }; counted = counted_some n }
-
-pub acked_within : (m n : ℕ) → IsTrue (is_acked_count (min m (min n 1024)))
-acked_within m n =
-    let few : min m (min n 1024) ≤ 1024 = le_trans (min-le_right m (min n 1024)) (min-le_right n 1024) in
-    ap (λ b. b || (min m (min n 1024) == 2047)) (le-leb (min m (min n 1024)) 1024 few)
-
-pub acked_known : (m n : ℕ) → min m (min n 1024) ≤ min n 1024
-acked_known m n = min-le_right m (min n 1024)
-
--- m acknowledged ones of n failures; a record never has more of them than there are
-abbrev pub acked_at : ℕ → ℕ → Acked
-acked_at m n = record { count = min m (min n 1024); in_range = acked_within m n }
+mark_at n = record { known = known_from_one n; counted = some_known n }
 
 -- a contribution with these counts
 abbrev pub given_at : {P : Type 0} → Offer P → ℕ → ℕ → Contribution P
@@ -49,11 +23,12 @@ given_at offer known acked = record { offer = offer; known = known_at known; ack
 -- what a start contributes, where the rank's place is empty
 abbrev pub settle_of : {P : Type 0} → History P → ℕ → Held → Offer P → List (Event P)
 settle_of h r x offer =
-    if is_some (slot h x.comm x.next_agreement r) then [] else Settle x.comm x.next_agreement r (given_at offer (length (filter (has x.group) (failures h))) x.acked) ∷ []
+    let known = length (filter (has x.group) (failures h)) in
+    if is_some (slot h x.comm x.next_agreement r) then [] else Event.Settle x.comm x.next_agreement r (given_at offer known x.acked) ∷ []
 
 -- the mark of a member that is declared as the n-th, where its place is empty
 abbrev pub mark_of : {P : Type 0} → History P → ℕ → ℕ → ℕ × ℕ → Option (Event P)
-mark_of h c k place = if is_some (slot h c k place.1) then None else Some (Mark c k place.1 (mark_at place.0))
+mark_of h c k place = if is_some (slot h c k place.1) then None else Some (Event.Mark c k place.1 (mark_at place.0))
 
 -- the marks of all unsettled declared members of a round, in the order of their failures
 abbrev pub marks_of : {P : Type 0} → ℕ → History P → ℕ → ℕ → List (Event P)
@@ -61,51 +36,53 @@ marks_of ranks h c k = filter_map (mark_of h c k) (enumerate_from 1 (failed rank
 
 -- whether a body is a set of ids that isn't empty
 abbrev pub is_free_mask : {P : Type 0} → Body P → Bool
-is_free_mask NoBody = false
-is_free_mask (OfFlags flag) = false
-is_free_mask (OfIds mask) = nat_lt 0 mask.bits
-is_free_mask Clash = false
+is_free_mask Body.Unit = false
+is_free_mask (Body.Flag flag) = false
+is_free_mask (Body.Ctx mask) = nat_lt 0 mask.bits
+is_free_mask Body.Clash = false
 
 -- the communicator that rank r makes of a round: decided on free ids, which don't leave r out, not made before, and with room
 abbrev pub spawn_of : {P : Type 0} → (P → P → P) → Limits → History P → ℕ → ℕ → ℕ → List (Event P)
 spawn_of meld limits h r c k =
     let made = decision meld limits.ranks h c k in
-    if is_decided limits.ranks h c k && (is_free_mask made.body && (not (has made.failed r) && (not (is_made h c k) && nat_lt (length (spawns h) + 1) limits.comms)))
-    then Spawn (length (spawns h) + 1) c k ∷ [] else []
+    if is_decided limits.ranks h c k
+    && (is_free_mask made.body && (not (has made.failed r) && (not (is_made h c k) && nat_lt (length (spawns h) + 1) limits.comms)))
+    then Event.Spawn (length (spawns h) + 1) c k ∷ [] else []
 
 -- what the poll of a request adds
 abbrev pub added_by_poll : {P : Type 0} → (P → P → P) → Limits → History P → ℕ → ℕ → Option Request → List (Event P)
 added_by_poll meld limits h r c None = []
-added_by_poll meld limits h r c (Some (Agree k)) = marks_of limits.ranks h c k
-added_by_poll meld limits h r c (Some (Shrink k)) =
-    let marks = marks_of limits.ranks h c k in marks ++ spawn_of meld limits (h ++ entries_by (Rank r) marks) r c k
-added_by_poll meld limits h r c (Some (Barrier k)) = []
+added_by_poll meld limits h r c (Some (Request.Agree k)) = marks_of limits.ranks h c k
+added_by_poll meld limits h r c (Some (Request.Shrink k)) =
+    let marks = marks_of limits.ranks h c k in marks ++ spawn_of meld limits (h ++ entries_by (Caller.Rank r) marks) r c k
+added_by_poll meld limits h r c (Some (Request.Barrier k)) = []
 
 -- what a call adds that the record doesn't refuse
 abbrev pub added : {P : Type 0} → (P → P → P) → Limits → History P → Record → Held → Call P → List (Event P)
-added meld limits h own x (call.Fail rank) = []
-added meld limits h own x (call.GetFailed rank c) = []
-added meld limits h own x (call.Ack rank c count) = []
-added meld limits h own x (call.Agree rank c value) = settle_of h own.number x (Flag value)
-added meld limits h own x (call.Shrink rank c) = settle_of h own.number x (Ctx (free_ids own.held))
-added meld limits h own x (call.Barrier rank c) = if has_arrived h x.comm x.next_barrier own.number then [] else Arrive x.comm x.next_barrier own.number ∷ []
-added meld limits h own x (call.Poll rank c) = added_by_poll meld limits h own.number x.comm x.request
-added meld limits h own x (call.Revoke rank c) = if is_revoked h c then [] else Revoke c ∷ []
-added meld limits h own x (call.IsRevoked rank c) = []
-added meld limits h own x (call.Free rank c) = []
+added meld limits h own x (Call.Fail rank) = []
+added meld limits h own x (Call.GetFailed rank c) = []
+added meld limits h own x (Call.Ack rank c count) = []
+added meld limits h own x (Call.Agree rank c value) = settle_of h own.number x (Offer.Flag value)
+added meld limits h own x (Call.Shrink rank c) = settle_of h own.number x (Offer.Ctx (free_ids own.held))
+added meld limits h own x (Call.Barrier rank c) =
+    if has_arrived h x.comm x.next_barrier own.number then [] else Event.Arrive x.comm x.next_barrier own.number ∷ []
+added meld limits h own x (Call.Poll rank c) = added_by_poll meld limits h own.number x.comm x.request
+added meld limits h own x (Call.Revoke rank c) = if is_revoked h c then [] else Event.Revoke c ∷ []
+added meld limits h own x (Call.IsRevoked rank c) = []
+added meld limits h own x (Call.Free rank c) = []
 
 -- the reply to a start, by what stood at the rank's place before
 abbrev pub start_reply : {P : Type 0} → Option (Slot P) → Reply P
-start_reply None = Started
-start_reply (Some (Marked mark)) = Refused SelfFailed
-start_reply (Some (Given given)) = Refused Twice
+start_reply None = Reply.Started
+start_reply (Some (Slot.Mark mark)) = Reply.Refused Refusal.SelfFailed
+start_reply (Some (Slot.Given given)) = Reply.Refused Refusal.Twice
 
 -- the reply of a decided agree; its caller gave a flag, so the round decides on a flag or clashes
 abbrev pub agree_reply : {P : Type 0} → Decision P → Body P → Reply P
-agree_reply made NoBody = Refused Mismatch
-agree_reply made (OfFlags value) = Agreed value (length made.failed) made.raised
-agree_reply made (OfIds mask) = Refused Mismatch
-agree_reply made Clash = Refused Mismatch
+agree_reply made Body.Unit = Reply.Refused Refusal.Mismatch
+agree_reply made (Body.Flag value) = Reply.Agreed value (length made.failed) made.raised
+agree_reply made (Body.Ctx mask) = Reply.Refused Refusal.Mismatch
+agree_reply made Body.Clash = Reply.Refused Refusal.Mismatch
 
 -- the least id of a mask
 abbrev pub lowest_id : ℕ → ℕ
@@ -113,39 +90,42 @@ lowest_id mask = unwrap_or (find (λ i. bit_at mask i == 1) (first_ranks 32)) 0
 
 -- the reply of a shrink's poll that found this mask, by where its round stands among those that were made
 abbrev pub shrunk_reply : {P : Type 0} → ℕ → History P → ℕ → Option ℕ → Reply P
-shrunk_reply ranks h mask None = Refused NoRoom
-shrunk_reply ranks h mask (Some i) = Shrunk (i + 1) (lowest_id mask) (length (members ranks h (i + 1)))
+shrunk_reply ranks h mask None = Reply.Refused Refusal.NoRoom
+shrunk_reply ranks h mask (Some i) = Reply.Shrunk (i + 1) (lowest_id mask) (length (members ranks h (i + 1)))
 
 -- the reply of a decided shrink; its caller gave a mask, so the round decides on a mask or clashes
 abbrev pub shrink_reply : {P : Type 0} → ℕ → History P → ℕ → ℕ → ℕ → Decision P → Body P → Reply P
-shrink_reply ranks h r c k made NoBody = Refused Mismatch
-shrink_reply ranks h r c k made (OfFlags value) = Refused Mismatch
-shrink_reply ranks h r c k made (OfIds mask) =
-    if mask.bits == 0 then Refused NoContext
-    else (if has made.failed r then Refused SelfFailed else shrunk_reply ranks h mask.bits (position_from (λ made. (made.0 == c) && (made.1 == k)) 0 (spawns h)))
-shrink_reply ranks h r c k made Clash = Refused Mismatch
+shrink_reply ranks h r c k made Body.Unit = Reply.Refused Refusal.Mismatch
+shrink_reply ranks h r c k made (Body.Flag value) = Reply.Refused Refusal.Mismatch
+shrink_reply ranks h r c k made (Body.Ctx mask) =
+    if mask.bits == 0 then Reply.Refused Refusal.NoContext
+    else (if has made.failed r then Reply.Refused Refusal.SelfFailed
+    else shrunk_reply ranks h mask.bits (position_from (λ made. (made.0 == c) && (made.1 == k)) 0 (spawns h)))
+shrink_reply ranks h r c k made Body.Clash = Reply.Refused Refusal.Mismatch
 
 -- the reply of a poll
 abbrev pub poll_reply : {P : Type 0} → (P → P → P) → Limits → View P → ℕ → Held → Option Request → Reply P
-poll_reply meld limits view r x None = Pending
-poll_reply meld limits view r x (Some (Agree k)) =
-    if is_decided limits.ranks view.history x.comm k then (let made = decision meld limits.ranks view.history x.comm k in agree_reply made made.body) else Pending
-poll_reply meld limits view r x (Some (Shrink k)) =
-    if is_decided limits.ranks view.history x.comm k then (let made = decision meld limits.ranks view.history x.comm k in shrink_reply limits.ranks view.history r x.comm k made made.body) else Pending
-poll_reply meld limits view r x (Some (Barrier k)) = barrier_reply view x k
+poll_reply meld limits view r x None = Reply.Pending
+poll_reply meld limits view r x (Some (Request.Agree k)) =
+    let made = decision meld limits.ranks view.history x.comm k in
+    if is_decided limits.ranks view.history x.comm k then agree_reply made made.body else Reply.Pending
+poll_reply meld limits view r x (Some (Request.Shrink k)) =
+    let made = decision meld limits.ranks view.history x.comm k in
+    if is_decided limits.ranks view.history x.comm k then shrink_reply limits.ranks view.history r x.comm k made made.body else Reply.Pending
+poll_reply meld limits view r x (Some (Request.Barrier k)) = barrier_reply view x k
 
 -- the reply of a call that the record doesn't refuse, by the history before it and by its view at the end
 abbrev pub replied : {P : Type 0} → (P → P → P) → Limits → History P → View P → Record → Held → Call P → Reply P
-replied meld limits h view own x (call.Fail rank) = Refused NoSuchRank
-replied meld limits h view own x (call.GetFailed rank c) = FailedGroup (length (failed limits.ranks view.history c))
-replied meld limits h view own x (call.Ack rank c count) = AckedCount (max x.acked (min count (length (failed limits.ranks view.history c))))
-replied meld limits h view own x (call.Agree rank c value) = start_reply (slot h x.comm x.next_agreement own.number)
-replied meld limits h view own x (call.Shrink rank c) = start_reply (slot h x.comm x.next_agreement own.number)
-replied meld limits h view own x (call.Barrier rank c) = if has_arrived h x.comm x.next_barrier own.number then Refused Twice else Started
-replied meld limits h view own x (call.Poll rank c) = poll_reply meld limits view own.number x x.request
-replied meld limits h view own x (call.Revoke rank c) = if is_revoked h c then AlreadyRevoked else Revoked
-replied meld limits h view own x (call.IsRevoked rank c) = Standing (is_revoked view.history c)
-replied meld limits h view own x (call.Free rank c) = Freed
+replied meld limits h view own x (Call.Fail rank) = Reply.Refused Refusal.NoSuchRank
+replied meld limits h view own x (Call.GetFailed rank c) = Reply.FailedGroup (length (failed limits.ranks view.history c))
+replied meld limits h view own x (Call.Ack rank c count) = Reply.Acked (max x.acked (min count (length (failed limits.ranks view.history c))))
+replied meld limits h view own x (Call.Agree rank c value) = start_reply (slot h x.comm x.next_agreement own.number)
+replied meld limits h view own x (Call.Shrink rank c) = start_reply (slot h x.comm x.next_agreement own.number)
+replied meld limits h view own x (Call.Barrier rank c) = if has_arrived h x.comm x.next_barrier own.number then Reply.Refused Refusal.Twice else Reply.Started
+replied meld limits h view own x (Call.Poll rank c) = poll_reply meld limits view own.number x x.request
+replied meld limits h view own x (Call.Revoke rank c) = if is_revoked h c then Reply.AlreadyRevoked else Reply.Revoked
+replied meld limits h view own x (Call.IsRevoked rank c) = Reply.Standing (is_revoked view.history c)
+replied meld limits h view own x (Call.Free rank c) = Reply.Freed
 
 -- what a call adds and what it replies
 pub record Outcome (P : Type 0) : Type 0 where
@@ -154,19 +134,20 @@ pub record Outcome (P : Type 0) : Type 0 where
 
 -- a call that its record doesn't refuse, of a rank that isn't declared
 abbrev pub held_outcome : {P : Type 0} → (P → P → P) → Limits → History P → Record → Held → Call P → Outcome P
-held_outcome meld limits h own x asked =
+held_outcome {P} meld limits h own x asked =
     let events = added meld limits h own x asked in
-    record { own = events; reply = replied meld limits h (record { look = failures h; history = h ++ entries_by (Rank own.number) events; own = events }) own x asked }
+    let view : View P = record { look = failures h; history = h ++ entries_by (Caller.Rank own.number) events; own = events } in
+    record { own = events; reply = replied meld limits h view own x asked }
 
 -- the same by what the record says first
 abbrev pub used_outcome : {P : Type 0} → (P → P → P) → Limits → History P → Record → Option Held → Option Refusal → Call P → Outcome P
-used_outcome meld limits h own held (Some refusal) asked = record { own = []; reply = Refused refusal }
+used_outcome meld limits h own held (Some refusal) asked = record { own = []; reply = Reply.Refused refusal }
 used_outcome meld limits h own (Some x) None asked = held_outcome meld limits h own x asked
-used_outcome meld limits h own None None asked = record { own = []; reply = Refused SelfFailed }
+used_outcome meld limits h own None None asked = record { own = []; reply = Reply.Refused Refusal.SelfFailed }
 
 -- a call of a rank that wasn't refused for good before, by whether it is declared
 abbrev pub rank_outcome : {P : Type 0} → (P → P → P) → Limits → History P → Record → Call P → Bool → Outcome P
-rank_outcome meld limits h own asked true = record { own = []; reply = Refused SelfFailed }
+rank_outcome meld limits h own asked true = record { own = []; reply = Reply.Refused Refusal.SelfFailed }
 rank_outcome meld limits h own asked false = used_outcome meld limits h own (held_at own (comm_of asked)) (refusal_of own asked) asked
 
 -- a call of a rank that wasn't refused for good before
@@ -176,8 +157,9 @@ outcome_of meld limits h own asked = rank_outcome meld limits h own asked (has (
 -- the outside's declaration of a rank
 abbrev pub fail_outcome : {P : Type 0} → Limits → History P → ℕ → Outcome P
 fail_outcome limits h r =
-    if nat_lt r limits.ranks then (if has (failures h) r then (record { own = []; reply = AlreadyFailed }) else (record { own = Fail r ∷ []; reply = Declared }))
-    else (record { own = []; reply = Refused NoSuchRank })
+    if nat_lt r limits.ranks then (if has (failures h) r then (record { own = []; reply = Reply.AlreadyFailed })
+    else (record { own = Event.Fail r ∷ []; reply = Reply.Declared }))
+    else (record { own = []; reply = Reply.Refused Refusal.NoSuchRank })
 
 -- the reply and the next state
 pub record Next (P : Type 0) : Type 0 where
@@ -188,34 +170,26 @@ pub record Next (P : Type 0) : Type 0 where
 abbrev pub next_of_fail : {P : Type 0} → State P → ℕ → Next P
 next_of_fail state r =
     let out = fail_outcome state.limits state.history r in
-    record { reply = out.reply; state = record state { history = state.history ++ entries_by Outside out.own } }
+    record { reply = out.reply; state = record state { history = state.history ++ entries_by Caller.Outside out.own } }
 
 -- of a call of rank r, by its record
 abbrev pub next_by : {P : Type 0} → (P → P → P) → State P → ℕ → Record → Call P → Bool → Next P
-next_by meld state r own asked true = record { reply = Refused SelfFailed; state = state }
+next_by meld state r own asked true = record { reply = Reply.Refused Refusal.SelfFailed; state = state }
 next_by meld state r own asked false =
     let out = outcome_of meld state.limits state.history own asked in
-    let after = state.history ++ entries_by (Rank own.number) out.own in
+    let after = state.history ++ entries_by (Caller.Rank own.number) out.own in
     let left = left_by state.limits.ranks after (record own { seen = failures state.history }) asked out.reply in
     record { reply = out.reply; state = after_call state r after left }
 
 -- of a call of rank r
 abbrev pub next_of_rank : {P : Type 0} → (P → P → P) → State P → ℕ → Option Record → Call P → Next P
-next_of_rank meld state r None asked = record { reply = Refused NoSuchRank; state = state }
+next_of_rank meld state r None asked = record { reply = Reply.Refused Refusal.NoSuchRank; state = state }
 next_of_rank meld state r (Some own) asked = next_by meld state r own asked own.refused
 
 -- of any call
 abbrev pub next : {P : Type 0} → (P → P → P) → State P → Call P → Next P
-next meld state (call.Fail rank) = next_of_fail state rank
-next meld state (call.GetFailed rank c) = next_of_rank meld state rank (record_at state rank) (call.GetFailed rank c)
-next meld state (call.Ack rank c count) = next_of_rank meld state rank (record_at state rank) (call.Ack rank c count)
-next meld state (call.Agree rank c value) = next_of_rank meld state rank (record_at state rank) (call.Agree rank c value)
-next meld state (call.Shrink rank c) = next_of_rank meld state rank (record_at state rank) (call.Shrink rank c)
-next meld state (call.Barrier rank c) = next_of_rank meld state rank (record_at state rank) (call.Barrier rank c)
-next meld state (call.Poll rank c) = next_of_rank meld state rank (record_at state rank) (call.Poll rank c)
-next meld state (call.Revoke rank c) = next_of_rank meld state rank (record_at state rank) (call.Revoke rank c)
-next meld state (call.IsRevoked rank c) = next_of_rank meld state rank (record_at state rank) (call.IsRevoked rank c)
-next meld state (call.Free rank c) = next_of_rank meld state rank (record_at state rank) (call.Free rank c)
+next meld state (Call.Fail rank) = next_of_fail state rank
+next meld state asked = next_of_rank meld state (rank_of asked) (record_at state (rank_of asked)) asked
 
 -- the replies of calls one after another
 abbrev pub replies : {P : Type 0} → (P → P → P) → State P → List (Call P) → List (Reply P)

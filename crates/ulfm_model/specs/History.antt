@@ -1,7 +1,10 @@
 -- Histories, the oldest event first: what they say, what a round decides, and which event may come next.
-use Rattle.std.specs.{Prelude.{◌≡◌, ℕ, zero, suc, ◌+◌, ◌-◌, ◌<◌, ◌≤◌, ◌==◌, Bool, not, ◌&&◌, if◌then◌else◌, List, [], ◌∷◌, ◌++◌, length, reverse, map, take, Option, Some, None, is_some, IsTrue, IsFalse, filter, filter_map, slice_get, ⊤}, List.{list_any, list_all}, Option.{option_and_then}}
-use Rattle.ulfm_laws.specs.{declared.body.Body.{Body}, declared.body.Body.TheVariants.{Flag, Ctx}, declared.ctx_mask.CtxMask.{CtxMask}, Bodies.{body_unit, body_meld}, Combined.{combined}}
-use Rattle.ulfm_model.specs.declared.{contribution.Contribution.{Contribution}, contribution.Offer.{Offer}, contribution.Offer.TheVariants.{Flag as OfFlag, Ctx as OfIds}, contribution.Slot.{Slot}, contribution.Slot.TheVariants.{Given, Mark as Marked}, limits.Limits.{Limits}, event.Caller.{Caller}, event.Entry.{Entry}, event.Event.{Event}, event.Event.TheVariants.{Fail, Settle, Mark, Arrive, Revoke, Spawn}}
+use Rattle.std.specs.Prelude.{◌≡◌, ℕ, zero, suc, ◌+◌, ◌-◌, ◌<◌, ◌≤◌, ◌==◌, Bool, not, ◌&&◌, if◌then◌else◌, IsTrue, IsFalse, ⊤}
+use Rattle.std.specs.Prelude.{List, [], ◌∷◌, ◌++◌, length, reverse, map, take, filter, filter_map, slice_get, Option, Some, None, is_some}
+use Rattle.std.specs.{List.{list_any, list_all}, Option.{option_and_then}}
+use Rattle.ulfm_laws.specs.{declared.body.Body.{Body}, declared.ctx_mask.CtxMask.{CtxMask}, Bodies.{body_unit, body_meld}, Combined.{combined}}
+use Rattle.ulfm_model.specs.declared.{contribution.Contribution.{Contribution}, contribution.Offer.{Offer}, contribution.Slot.{Slot}}
+use Rattle.ulfm_model.specs.declared.{event.Caller.{Caller}, event.Entry.{Entry}, event.Event.{Event}, limits.Limits.{Limits}}
 
 -- whether a rank is in a group; groups are lists of ranks
 abbrev pub has : List ℕ → ℕ → Bool
@@ -34,12 +37,12 @@ pub record Says (P : Type 0) : Type 0 where
 
 -- each kind of event says one thing
 abbrev pub says : {P : Type 0} → Event P → Says P
-says (Fail r) = record { declares = Some r; settles = None; arrives = None; revokes = None; makes = None }
-says (Settle c k r given) = record { declares = None; settles = Some ((c, k, r), Given given); arrives = None; revokes = None; makes = None }
-says (Mark c k r mark) = record { declares = None; settles = Some ((c, k, r), Marked mark); arrives = None; revokes = None; makes = None }
-says (Arrive c k r) = record { declares = None; settles = None; arrives = Some (c, k, r); revokes = None; makes = None }
-says (Revoke c) = record { declares = None; settles = None; arrives = None; revokes = Some c; makes = None }
-says (Spawn j c k) = record { declares = None; settles = None; arrives = None; revokes = None; makes = Some (c, k) }
+says (Event.Fail r) = record { declares = Some r; settles = None; arrives = None; revokes = None; makes = None }
+says (Event.Settle c k r given) = record { declares = None; settles = Some ((c, k, r), Slot.Given given); arrives = None; revokes = None; makes = None }
+says (Event.Mark c k r mark) = record { declares = None; settles = Some ((c, k, r), Slot.Mark mark); arrives = None; revokes = None; makes = None }
+says (Event.Arrive c k r) = record { declares = None; settles = None; arrives = Some (c, k, r); revokes = None; makes = None }
+says (Event.Revoke c) = record { declares = None; settles = None; arrives = None; revokes = Some c; makes = None }
+says (Event.Spawn j c k) = record { declares = None; settles = None; arrives = None; revokes = None; makes = Some (c, k) }
 
 -- whether two places, each a communicator, a round and a rank, are one
 abbrev pub same_place : ℕ × ℕ × ℕ → ℕ × ℕ × ℕ → Bool
@@ -67,18 +70,18 @@ spawns h = filter_map (λ e. (says e.event).makes) h
 
 -- how many failures a mark or a contribution names
 abbrev pub known_of : {P : Type 0} → Slot P → ℕ
-known_of (Marked mark) = mark.known.count
-known_of (Given given) = given.known.count
+known_of (Slot.Mark mark) = mark.known.count
+known_of (Slot.Given given) = given.known.count
 
 -- an offer as a body
 abbrev pub body_of : {P : Type 0} → Offer P → Body P
-body_of (OfFlag flag) = Flag flag
-body_of (OfIds mask) = Ctx mask
+body_of (Offer.Flag flag) = Body.Flag flag
+body_of (Offer.Ctx mask) = Body.Ctx mask
 
 -- the contribution, where it is no mark
 abbrev pub contribution_of : {P : Type 0} → Slot P → Option (Contribution P)
-contribution_of (Marked mark) = None
-contribution_of (Given given) = Some given
+contribution_of (Slot.Mark mark) = None
+contribution_of (Slot.Given given) = Some given
 
 -- the declared ranks among some members, in the order of their failures
 abbrev pub failed_among : {P : Type 0} → List ℕ → History P → List ℕ
@@ -92,11 +95,15 @@ round_among members h c k = filter_map (slot h c k) members
 abbrev pub union_of : {P : Type 0} → List ℕ → List (Slot P) → List ℕ
 union_of failed settled = filter (λ r. list_any (λ s. has (take (known_of s) failed) r) settled) failed
 
+-- the group that a round of these members leaves out
+abbrev pub group_among : {P : Type 0} → List ℕ → History P → ℕ → ℕ → List ℕ
+group_among members h c k = union_of (failed_among members h) (round_among members h c k)
+
 -- the members of c after an event; one that it makes has its parent's, in their order, without the group that its round leaves out
 abbrev pub members_after : {P : Type 0} → (ℕ → List ℕ) → History P → Option (ℕ × ℕ) → ℕ → List ℕ
 members_after earlier h None c = earlier c
 members_after earlier h (Some made) c =
-    if c == length (spawns h) + 1 then without (earlier made.0) (union_of (failed_among (earlier made.0) h) (round_among (earlier made.0) h made.0 made.1)) else earlier c
+    if c == length (spawns h) + 1 then without (earlier made.0) (group_among (earlier made.0) h made.0 made.1) else earlier c
 
 -- the same after all events, given the latest first; at the start all ranks, in order, are the world's members
 abbrev pub members_by : {P : Type 0} → ℕ → List (Entry P) → ℕ → List ℕ
@@ -125,12 +132,16 @@ pub record Decision (P : Type 0) : Type 0 where
   pub failed : List ℕ
   pub raised : Bool
 
+-- whether a contributor had not acknowledged some rank of a group: its acknowledged group is the first so many of the failed group
+abbrev pub lacks_one : {P : Type 0} → List ℕ → List ℕ → Contribution P → Bool
+lacks_one failed group given = let acknowledged = take given.acked.count failed in list_any (λ r. not (has acknowledged r)) group
+
 -- the contributed bodies combined; the named groups united; an error where a contributor had not acknowledged all of that (ULFM: MPI_COMM_AGREE)
 abbrev pub decided_by : {P : Type 0} → (P → P → P) → List ℕ → List (Slot P) → Decision P
 decided_by meld failed settled =
     let given = filter_map contribution_of settled in
     let group = union_of failed settled in
-    record { body = combined body_unit (body_meld meld) (map (λ g. body_of g.offer) given); failed = group; raised = list_any (λ g. list_any (λ r. not (has (take g.acked.count failed) r)) group) given }
+    record { body = combined body_unit (body_meld meld) (map (λ g. body_of g.offer) given); failed = group; raised = list_any (lacks_one failed group) given }
 
 -- the decision of a round
 abbrev pub decision : {P : Type 0} → (P → P → P) → ℕ → History P → ℕ → ℕ → Decision P
@@ -146,6 +157,10 @@ pub record IsPlace {P : Type 0} (limits : Limits) (h : History P) (c k r : ℕ) 
   pub member : IsTrue (has (members limits.ranks h c) r)
   pub in_rounds : k < limits.rounds
 
+-- of which parent and round communicator c was made, if it was
+abbrev pub made_of : {P : Type 0} → History P → ℕ → Option (ℕ × ℕ)
+made_of h c = slice_get (spawns h) (c - 1)
+
 -- whether a communicator was made of this round
 abbrev pub is_made : {P : Type 0} → History P → ℕ → ℕ → Bool
 is_made h c k = list_any (λ made. (made.0 == c) && (made.1 == k)) (spawns h)
@@ -157,19 +172,19 @@ pub record MaySpawn {P : Type 0} (meld : P → P → P) (limits : Limits) (h : H
   pub exists : Exists h c
   pub in_rounds : k < limits.rounds
   pub decided : IsTrue (is_decided limits.ranks h c k)
-  pub ids : (mask : CtxMask) × ((decision meld limits.ranks h c k).body ≡ Ctx mask) × (0 < mask.bits)
+  pub ids : (mask : CtxMask) × ((decision meld limits.ranks h c k).body ≡ Body.Ctx mask) × (0 < mask.bits)
   pub first : IsFalse (is_made h c k)
 
 -- the event may come next: a rank fails once; a member settles once, and knows no more failures of its communicator than there are; only a
 -- declared member is marked, unsettled, with the failed group's count up to and with it; a member arrives once; a communicator is revoked once
 abbrev pub MayFollow : {P : Type 0} → (P → P → P) → Limits → History P → Event P → Type 0
-MayFollow meld limits h (Fail r) = (r < limits.ranks) × IsFalse (has (failures h) r)
-MayFollow meld limits h (Settle c k r given) = IsPlace limits h c k r × (slot h c k r ≡ None) × (given.known.count ≤ length (failed limits.ranks h c))
-MayFollow meld limits h (Mark c k r mark) =
+MayFollow meld limits h (Event.Fail r) = (r < limits.ranks) × IsFalse (has (failures h) r)
+MayFollow meld limits h (Event.Settle c k r given) = IsPlace limits h c k r × (slot h c k r ≡ None) × (given.known.count ≤ length (failed limits.ranks h c))
+MayFollow meld limits h (Event.Mark c k r mark) =
     IsPlace limits h c k r × (slot h c k r ≡ None) × (slice_get (failed limits.ranks h c) (mark.known.count - 1) ≡ Some r)
-MayFollow meld limits h (Arrive c k r) = IsPlace limits h c k r × IsFalse (has_arrived h c k r)
-MayFollow meld limits h (Revoke c) = Exists h c × IsFalse (is_revoked h c)
-MayFollow meld limits h (Spawn j c k) = MaySpawn meld limits h j c k
+MayFollow meld limits h (Event.Arrive c k r) = IsPlace limits h c k r × IsFalse (has_arrived h c k r)
+MayFollow meld limits h (Event.Revoke c) = Exists h c × IsFalse (is_revoked h c)
+MayFollow meld limits h (Event.Spawn j c k) = MaySpawn meld limits h j c k
 
 -- after a history, each further event is allowed by what came before it
 abbrev pub IsLegalAfter : {P : Type 0} → (P → P → P) → Limits → History P → History P → Type 0

@@ -1,9 +1,16 @@
 -- The laws of the object, as statements: each is what a function of src/laws.rt ensures.
-use Rattle.std.specs.{Prelude.{Bool, ◌≡◌, ◌≢◌, ◌↔◌, ℕ, ◌+◌, ◌<◌, ◌==◌, ◌&&◌, List, [], ◌∷◌, ◌++◌, filter_map, map, take, slice_get, Some, IsTrue, IsFalse, nat_eq}, Int.{bit_at}, List.{IsDistinct}}
+use Rattle.std.specs.Prelude.{◌≡◌, ◌≢◌, ◌↔◌, ℕ, ◌+◌, ◌<◌, ◌==◌, nat_eq, Bool, ◌&&◌, IsTrue, IsFalse}
+use Rattle.std.specs.{Prelude.{List, [], ◌∷◌, ◌++◌, filter_map, map, take, slice_get, Some}, Int.{bit_at}, List.{IsDistinct}}
 use mathlib.Core.List.{IsPrefix}
-use Rattle.ulfm_laws.specs.{declared.summary.Summary.{Summary}, Bodies.{body_unit}, Combined.{combined}, Counts.{acked_unit}, Summaries.{summary_unit, summary_meld}}
-use Rattle.ulfm_model.specs.declared.{call.Call.{Call}, call.Call.TheVariants.{Shrink}, contribution.Slot.{Slot}, contribution.Slot.TheVariants.{Given, Mark as Marked}, event.Entry.{Entry}, limits.Limits.{Limits}, place.Place.{Place}, reply.Reply.{Reply}, reply.Reply.TheVariants.{Started}}
-use Rattle.ulfm_model.specs.{Answers.{traits_of}, History.{Decision, Exists, History, IsLegal, MayFollow, body_of, decision, failed, failures, has, is_decided, members, round, same_place, says, spawns, without}, Records.{Fits, Held, IsContext, Record, free_ids, held_at}, Runs.{IsCall, IsSound, IsStep, State, new_state}, Words.{MayOpen, place_of, word_at, word_of}}
+use Rattle.ulfm_laws.specs.{declared.summary.Summary.{Summary}, Bodies.{body_unit}, Combined.{combined}, Counts.{acked_unit}}
+use Rattle.ulfm_laws.specs.Summaries.{summary_unit, summary_meld}
+use Rattle.ulfm_model.specs.declared.{call.Call.{Call}, contribution.Slot.{Slot}, event.Entry.{Entry}, limits.Limits.{Limits}}
+use Rattle.ulfm_model.specs.declared.{place.Place.{Place}, reply.Reply.{Reply}}
+use Rattle.ulfm_model.specs.Answers.{traits_of}
+use Rattle.ulfm_model.specs.History.{Decision, Exists, History, IsLegal, MayFollow, body_of, decision, failed, failures, has, is_decided, members}
+use Rattle.ulfm_model.specs.History.{round, same_place, says, spawns, without}
+use Rattle.ulfm_model.specs.{Records.{Fits, Held, IsContext, Record, free_ids, held_at}, Runs.{IsCall, IsSound, IsStep, State, new_state}}
+use Rattle.ulfm_model.specs.Words.{MayOpen, place_of, word_at, word_of}
 
 -- a record that fits a history fits every longer legal one
 abbrev pub RecordsStay : {P : Type 0} → (P → P → P) → Type 0
@@ -45,8 +52,8 @@ SurvivorsAreSpawned {P} meld =
 
 -- what a mark or a contribution says, as a summary: a mark has no body, and acknowledges everyone
 abbrev pub summary_of : {P : Type 0} → Slot P → Summary P
-summary_of (Marked mark) = record { body = body_unit; known = mark.known; acked = acked_unit }
-summary_of (Given given) = record { body = body_of given.offer; known = given.known; acked = given.acked }
+summary_of (Slot.Mark mark) = record { body = body_unit; known = mark.known; acked = acked_unit }
+summary_of (Slot.Given given) = record { body = body_of given.offer; known = given.known; acked = given.acked }
 
 -- what all of them say together
 abbrev pub all_of : {P : Type 0} → (P → P → P) → List (Slot P) → Summary P
@@ -150,6 +157,6 @@ pub record IsLeftOut {P : Type 0} (meld : P → P → P) (ranks : ℕ) (h : Hist
 abbrev pub ShrinksExcludeFailures : {P : Type 0} → (P → P → P) → Type 0
 ShrinksExcludeFailures {P} meld =
     (limits : Limits) (alone : Bool) (before after longer : History P) (own new : Record) (rank c : ℕ) (x : Held)
-    → Fits meld limits before own → IsCall meld limits alone before after own (Shrink rank c) Started new → held_at own c ≡ Some x
+    → Fits meld limits before own → IsCall meld limits alone before after own (Call.Shrink rank c) Reply.Started new → held_at own c ≡ Some x
     → IsPrefix after longer → IsLegal meld limits longer
     → (r : ℕ) → IsTrue (has (failed limits.ranks before c) r) → IsLeftOut meld limits.ranks longer c x.next_agreement r

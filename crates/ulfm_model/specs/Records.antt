@@ -1,10 +1,13 @@
 -- What one rank holds, and when that fits a history.
-use Rattle.std.specs.{Prelude.{◌≡◌, ◌⊎◌, ℕ, ◌<◌, ◌≤◌, ◌-◌, ◌^◌, ◌==◌, Bool, true, false, ⊤, if◌then◌else◌, List, [], ◌∷◌, length, filter, map, find, slice_get, Option, Some, None, IsTrue, Contains, nat_eq}, Int.{bit_at}, List.{AllByRecursion, IsDistinct}}
-use Rattle.std.proofs.{Common.{lit<, lt_of_le_of_lt}, Math.Nat.{sub-le}}
+use Rattle.std.specs.Prelude.{◌≡◌, ◌⊎◌, ℕ, ◌<◌, ◌≤◌, ◌==◌, Bool, true, false, ⊤, if◌then◌else◌, IsTrue}
+use Rattle.std.specs.Prelude.{List, [], ◌∷◌, length, filter, map, find, Option, Some, None, Contains, nat_eq}
+use Rattle.std.specs.{Int.{bit_at}, List.{AllByRecursion, IsDistinct}}
 use mathlib.Core.List.{IsPrefix}
-use Rattle.ulfm_laws.specs.{declared.body.Body.TheVariants.{Ctx as Ids}, declared.ctx_mask.CtxMask.{CtxMask}, Combined.{combined}, Masks.{mask_unit, mask_meld}}
-use Rattle.ulfm_model.specs.declared.{call.Request.{Request}, call.Request.TheVariants.{Agree, Shrink, Barrier}, limits.Limits.{Limits}, contribution.Contribution.{Contribution}, contribution.Offer.TheVariants.{Flag, Ctx}, event.Caller.TheVariants.{Rank}, event.Event.TheVariants.{Settle, Arrive}}
-use Rattle.ulfm_model.specs.History.{Exists, History, decision, failed, failures, first_ranks, has, members, spawns}
+pub use Rattle.ulfm_laws.specs.Within.{all_but}
+use Rattle.ulfm_laws.specs.{declared.body.Body.{Body}, declared.ctx_mask.CtxMask.{CtxMask}, Combined.{combined}, Masks.{mask_unit, mask_meld}}
+use Rattle.ulfm_model.specs.declared.{call.Request.{Request}, contribution.Contribution.{Contribution}, contribution.Offer.{Offer}}
+use Rattle.ulfm_model.specs.declared.{event.Caller.{Caller}, event.Event.{Event}, limits.Limits.{Limits}}
+use Rattle.ulfm_model.specs.History.{Exists, History, decision, failed, failures, first_ranks, has, made_of, members}
 
 -- a communicator that a rank holds, with how many of its failures the rank has acknowledged, its next rounds and its open request
 pub record Held : Type 0 where
@@ -37,16 +40,16 @@ change_at c f (x ∷ xs) = if x.comm == c then f x ∷ xs else x ∷ change_at c
 abbrev pub with_held : Record → ℕ → (Held → Held) → Record
 with_held own c f = record own { held = change_at c f own.held }
 
+-- the round of the agreement that is open, if one is
+abbrev pub agreement_of : Option Request → Option ℕ
+agreement_of (Some (Request.Agree k)) = Some k
+agreement_of (Some (Request.Shrink k)) = Some k
+agreement_of _ = None
+
 -- whether a request is a shrink
 abbrev pub is_shrink : Option Request → Bool
-is_shrink None = false
-is_shrink (Some (Agree k)) = false
-is_shrink (Some (Shrink k)) = true
-is_shrink (Some (Barrier k)) = false
-
--- all context ids but i, which is below 32: all bits but bit i
-abbrev pub all_but : ℕ → CtxMask
-all_but i = record { bits = 0xffff_ffff - 2 ^ i; fits = lt_of_le_of_lt (sub-le 0xffff_ffff (2 ^ i)) (lit< tt) }
+is_shrink (Some (Request.Shrink k)) = true
+is_shrink _ = false
 
 -- the context ids that none of these communicators has
 abbrev pub free_ids : List Held → CtxMask
@@ -61,15 +64,22 @@ pub record IsLowestId (mask i : ℕ) : Type 0 where
 abbrev pub IsContext : {P : Type 0} → (P → P → P) → ℕ → History P → ℕ → ℕ → Type 0
 IsContext {P} meld ranks h c context =
     ((c ≡ 0) × (context ≡ 0))
-    ⊎ ((parent k : ℕ) × (mask : CtxMask) × (0 < c) × (slice_get (spawns h) (c - 1) ≡ Some (parent, k)) × ((decision meld ranks h parent k).body ≡ Ids mask) × IsLowestId mask.bits context)
+    ⊎ ((parent k : ℕ) × (mask : CtxMask) × (0 < c) × (made_of h c ≡ Some (parent, k)) × ((decision meld ranks h parent k).body ≡ Body.Ctx mask)
+    × IsLowestId mask.bits context)
+
+-- the history has this event in the name of rank r
+abbrev pub IsOwn : {P : Type 0} → History P → ℕ → Event P → Type 0
+IsOwn h r event = Contains h (record { by = Caller.Rank r; event = event })
 
 -- an open request has the rank's own event at its place: a flag, a mask without the ids that the rank holds, or an arrival
 abbrev pub FitsRequest : {P : Type 0} → History P → ℕ → List ℕ → ℕ → Option Request → Type 0
 FitsRequest h r ids c None = ⊤
-FitsRequest {P} h r ids c (Some (Agree k)) = (given : Contribution P) × (flag : P) × Contains h (record { by = Rank r; event = Settle c k r given }) × (given.offer ≡ Flag flag)
-FitsRequest {P} h r ids c (Some (Shrink k)) =
-    (given : Contribution P) × (mask : CtxMask) × Contains h (record { by = Rank r; event = Settle c k r given }) × (given.offer ≡ Ctx mask) × AllByRecursion (λ i. bit_at mask.bits i ≡ 0) ids
-FitsRequest h r ids c (Some (Barrier k)) = Contains h (record { by = Rank r; event = Arrive c k r })
+FitsRequest {P} h r ids c (Some (Request.Agree k)) =
+    (given : Contribution P) × (flag : P) × IsOwn h r (Event.Settle c k r given) × (given.offer ≡ Offer.Flag flag)
+FitsRequest {P} h r ids c (Some (Request.Shrink k)) =
+    (given : Contribution P) × (mask : CtxMask) × IsOwn h r (Event.Settle c k r given) × (given.offer ≡ Offer.Ctx mask)
+    × AllByRecursion (λ i. bit_at mask.bits i ≡ 0) ids
+FitsRequest h r ids c (Some (Request.Barrier k)) = IsOwn h r (Event.Arrive c k r)
 
 -- a communicator is held as the history has it, by a rank of this number that holds these context ids
 pub record FitsHeld {P : Type 0} (meld : P → P → P) (ranks : ℕ) (h : History P) (r : ℕ) (ids : List ℕ) (x : Held) : Type 0 where
@@ -89,6 +99,10 @@ pub record Fits {P : Type 0} (meld : P → P → P) (limits : Limits) (h : Histo
   pub seen : IsPrefix own.seen (failures h)
   pub refused : IsTrue own.refused → IsTrue (has (failures h) own.number)
 
+-- a communicator as a rank first holds it
+abbrev pub new_held : ℕ → ℕ → List ℕ → Held
+new_held c context group = record { comm = c; group = group; context = context; acked = 0; next_agreement = 0; next_barrier = 0; request = None }
+
 -- a new rank holds the world's communicator alone
 abbrev pub new_record : Limits → ℕ → Record
-new_record limits number = record { number = number; limits = limits; held = record { comm = 0; group = first_ranks limits.ranks; context = 0; acked = 0; next_agreement = 0; next_barrier = 0; request = None } ∷ []; seen = []; refused = false }
+new_record limits number = record { number = number; limits = limits; held = new_held 0 0 (first_ranks limits.ranks) ∷ []; seen = []; refused = false }

@@ -1,8 +1,13 @@
 -- What one call is: among the steps of others, and where nobody else steps.
-use Rattle.std.specs.{Prelude.{◌≡◌, ◌⊎◌, ℕ, ◌==◌, Bool, true, not, List, [], ◌∷◌, ◌++◌, ⊤, map, filter, filter_map, find, Option, Some, None, is_some, if◌then◌else◌, IsTrue, IsFalse}, List.{AllByRecursion}}
+use Rattle.std.specs.Prelude.{◌≡◌, ◌⊎◌, ℕ, ◌==◌, Bool, true, not, IsTrue, IsFalse, ⊤, if◌then◌else◌}
+use Rattle.std.specs.Prelude.{List, [], ◌∷◌, ◌++◌, map, filter, filter_map, find, Option, Some, None, is_some}
+use Rattle.std.specs.{List.{AllByRecursion}, Option.{option_map_or}}
 use mathlib.Core.List.{IsPrefix}
-use Rattle.ulfm_model.specs.declared.{call.Call.{Call}, call.Call.TheVariants.{Fail}, call.Request.{Request}, call.Request.TheVariants.{Agree, Shrink, Barrier}, reply.Reply.{Reply}, reply.Reply.TheVariants.{Refused}, refusal.Refusal.TheVariants.{NoSuchRank, SelfFailed}, event.Caller.{Caller}, event.Caller.TheVariants.{Outside, Rank}, event.Event.{Event}, limits.Limits.{Limits}}
-use Rattle.ulfm_model.specs.{Answers.{Answers, AnswersFail, polled_by, traits_of}, History.{History, IsLegal, entries_by, failed, failures, first_ranks, has, says, slot}, Records.{Fits, Record, new_record}}
+use Rattle.ulfm_model.specs.declared.{call.Call.{Call}, call.Request.{Request}, event.Caller.{Caller}, event.Event.{Event}, limits.Limits.{Limits}}
+use Rattle.ulfm_model.specs.declared.{refusal.Refusal.{Refusal}, reply.Reply.{Reply}}
+use Rattle.ulfm_model.specs.Answers.{Answers, AnswersFail, View, comm_of, polled_by, traits_of}
+use Rattle.ulfm_model.specs.History.{History, IsLegal, entries_by, failed, failures, first_ranks, has, says, slot}
+use Rattle.ulfm_model.specs.Records.{Fits, Record, agreement_of, new_record}
 
 -- the first list stands in the second, in order, with others in between
 abbrev pub StandsIn : {E : Type 0} → List E → List E → Type 0
@@ -28,35 +33,45 @@ pub record IsSpan {P : Type 0} (meld : P → P → P) (limits : Limits) (alone :
   pub point_ends : IsPrefix point after
   pub legal : IsLegal meld limits after
 
+-- what the reply of a call rests on
+abbrev pub view_of : {P : Type 0} {meld : P → P → P} {limits : Limits} {alone : Bool} {before after : History P} {caller : Caller}
+    → IsSpan meld limits alone before after caller → View P
+view_of span = record { look = failures span.look; history = span.point; own = span.own }
+
 -- a call of a rank that wasn't refused for good before: its reply is an answer at its point
-pub record IsRun {P : Type 0} (meld : P → P → P) (limits : Limits) (alone : Bool) (before after : History P) (old : Record) (asked : Call P) (reply : Reply P) (new : Record) : Type 0 where
+pub record IsRun {P : Type 0} (meld : P → P → P) (limits : Limits) (alone : Bool) (before after : History P) (old : Record)
+    (asked : Call P) (reply : Reply P) (new : Record) : Type 0 where
   pub in_use : IsFalse old.refused
-  pub span : IsSpan meld limits alone before after (Rank old.number)
-  pub answer : Answers meld limits (record { look = failures span.look; history = span.point; own = span.own }) after old asked reply new
+  pub span : IsSpan meld limits alone before after (Caller.Rank old.number)
+  pub answer : Answers meld limits (view_of span) after old asked reply new
 
 -- a call of a rank: one that was refused for good before is refused again, without a step
 abbrev pub IsCall : {P : Type 0} → (P → P → P) → Limits → Bool → History P → History P → Record → Call P → Reply P → Record → Type 0
 IsCall meld limits alone before after old asked reply new =
-    (IsTrue old.refused × (after ≡ before) × (reply ≡ Refused SelfFailed) × (new ≡ old)) ⊎ IsRun meld limits alone before after old asked reply new
+    (IsTrue old.refused × (after ≡ before) × (reply ≡ Reply.Refused Refusal.SelfFailed) × (new ≡ old))
+    ⊎ IsRun meld limits alone before after old asked reply new
 
 -- the outside's declaration of a rank; it makes no look
 pub record IsFailRun {P : Type 0} (meld : P → P → P) (limits : Limits) (alone : Bool) (before after : History P) (rank : ℕ) (reply : Reply P) : Type 0 where
-  pub span : IsSpan meld limits alone before after Outside
+  pub span : IsSpan meld limits alone before after Caller.Outside
   pub no_look : span.look ≡ before
-  pub answer : AnswersFail limits (record { look = failures span.look; history = span.point; own = span.own }) rank reply
+  pub answer : AnswersFail limits (view_of span) rank reply
 
 -- whom a poll marks where nobody else steps: in an agreement's round, the unsettled declared members, in the order of their failures
 abbrev pub unsettled_of : {P : Type 0} → ℕ → History P → ℕ → Option Request → List ℕ
-unsettled_of ranks h c None = []
-unsettled_of ranks h c (Some (Agree k)) = filter (λ r. not (is_some (slot h c k r))) (failed ranks h c)
-unsettled_of ranks h c (Some (Shrink k)) = filter (λ r. not (is_some (slot h c k r))) (failed ranks h c)
-unsettled_of ranks h c (Some (Barrier k)) = []
+unsettled_of ranks h c request = option_map_or (λ k. filter (λ r. not (is_some (slot h c k r))) (failed ranks h c)) (agreement_of request) []
+
+-- the ranks that some events settle, by contributions or marks
+abbrev pub settled_by : {P : Type 0} → List (Event P) → List ℕ
+settled_by events = map (λ put. put.0.2) (filter_map (λ e. (says e).settles) events)
 
 -- a run where nobody else steps: its point is its end, and the poll of a rank that isn't declared has marked them all
-pub record IsAloneRun {P : Type 0} (meld : P → P → P) (limits : Limits) (before after : History P) (old : Record) (asked : Call P) (reply : Reply P) (new : Record) : Type 0 where
+pub record IsAloneRun {P : Type 0} (meld : P → P → P) (limits : Limits) (before after : History P) (old : Record)
+    (asked : Call P) (reply : Reply P) (new : Record) : Type 0 where
   pub run : IsRun meld limits true before after old asked reply new
   pub at_end : run.span.point ≡ after
-  pub marks : IsTrue (traits_of asked).polls → IsFalse (has (failures before) old.number) → map (λ put. put.0.2) (filter_map (λ e. (says e).settles) run.span.own) ≡ unsettled_of limits.ranks before (traits_of asked).comm (polled_by old asked)
+  pub marks : IsTrue (traits_of asked).polls → IsFalse (has (failures before) old.number)
+      → settled_by run.span.own ≡ unsettled_of limits.ranks before (comm_of asked) (polled_by old asked)
 
 -- the object's state: its limits, what has happened, and what each rank holds
 pub record State (P : Type 0) : Type 0 where
@@ -76,13 +91,15 @@ pub record IsSound {P : Type 0} (meld : P → P → P) (state : State P) : Type 
 
 -- a call of rank r: of a rank that the world doesn't have; of one that was refused for good; of any other
 abbrev pub IsRankStep : {P : Type 0} → (P → P → P) → State P → ℕ → Option Record → Call P → Reply P → State P → Type 0
-IsRankStep meld old r None asked reply new = (reply ≡ Refused NoSuchRank) × (new ≡ old)
+IsRankStep meld old r None asked reply new = (reply ≡ Reply.Refused Refusal.NoSuchRank) × (new ≡ old)
 IsRankStep {P} meld old r (Some own) asked reply new =
-    (IsTrue own.refused × (reply ≡ Refused SelfFailed) × (new ≡ old))
-    ⊎ ((after : History P) × (left : Record) × IsAloneRun meld old.limits old.history after own asked reply left × (new ≡ record old { history = after; records = map (λ x. if x.number == r then left else x) old.records }))
+    (IsTrue own.refused × (reply ≡ Reply.Refused Refusal.SelfFailed) × (new ≡ old))
+    ⊎ ((after : History P) × (left : Record) × IsAloneRun meld old.limits old.history after own asked reply left
+    × (new ≡ record old { history = after; records = map (λ x. if x.number == r then left else x) old.records }))
 
 -- one call where nobody else steps: its reply, and the next state
 abbrev pub IsStep : {P : Type 0} → (P → P → P) → State P → Caller → Call P → Reply P → State P → Type 0
-IsStep {P} meld old (Rank r) asked reply new = IsRankStep meld old r (find (λ x. x.number == r) old.records) asked reply new
-IsStep {P} meld old Outside asked reply new =
-    (r : ℕ) × (asked ≡ Fail r) × (after : History P) × (run : IsFailRun meld old.limits true old.history after r reply) × (run.span.point ≡ after) × (new ≡ record old { history = after })
+IsStep {P} meld old (Caller.Rank r) asked reply new = IsRankStep meld old r (find (λ x. x.number == r) old.records) asked reply new
+IsStep {P} meld old Caller.Outside asked reply new =
+    (r : ℕ) × (asked ≡ Call.Fail r) × (after : History P) × (run : IsFailRun meld old.limits true old.history after r reply)
+    × (run.span.point ≡ after) × (new ≡ record old { history = after })

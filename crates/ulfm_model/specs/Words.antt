@@ -1,6 +1,7 @@
 -- The words of a world: how many there are, which limits may be opened, and which word each event sets.
 use Rattle.std.specs.{Prelude.{ℕ, zero, suc, ◌+◌, ◌*◌, ◌^◌, ◌<◌, ◌≤◌, if◌then◌else◌, length, slice_get}, Option.{option_map_or}}
-use Rattle.ulfm_model.specs.declared.{contribution.Offer.{Offer}, contribution.Offer.TheVariants.{Flag, Ctx}, contribution.Slot.{Slot}, contribution.Slot.TheVariants.{Given, Mark as Marked}, event.Event.{Event}, event.Event.TheVariants.{Fail, Settle, Mark, Arrive, Revoke, Spawn}, limits.Limits.{Limits}, limits.OpenFault.{OpenFault}, limits.OpenFault.TheVariants.{OutOfRange, TooLarge, OutOfMemory}, place.Place.{Place}, place.Place.TheVariants.{List as ListAt, Comm as CommAt, Revoked as RevokedAt, Slot as SlotAt, Arrival as ArrivalAt}}
+use Rattle.ulfm_model.specs.declared.{contribution.Offer.{Offer}, contribution.Slot.{Slot}, event.Event.{Event}, place.Place.{Place}}
+use Rattle.ulfm_model.specs.declared.{limits.Limits.{Limits}, limits.OpenFault.{OpenFault}}
 use Rattle.ulfm_model.specs.History.{History, failures, has_arrived, is_revoked, slot, spawns}
 
 -- a word for each rank, two for each communicator, and two for each rank in each round of each communicator
@@ -23,9 +24,9 @@ pub record MayOpen (limits : Limits) : Type 0 where
 
 -- this fault is the first that these limits have
 abbrev pub IsUnfit : Limits → OpenFault → Type 0
-IsUnfit limits OutOfRange = ¬ IsInRange limits
-IsUnfit limits TooLarge = IsInRange limits × (4194304 < size_of limits)
-IsUnfit limits OutOfMemory = ⊥
+IsUnfit limits OpenFault.OutOfRange = ¬ IsInRange limits
+IsUnfit limits OpenFault.TooLarge = IsInRange limits × (4194304 < size_of limits)
+IsUnfit limits OpenFault.OutOfMemory = ⊥
 
 -- a word of a slot, from its lowest bit on: a 1, two bits for the tag, 11 for known, 11 for acked, 32 for the payload
 abbrev pub packed : ℕ → ℕ → ℕ → ℕ → ℕ
@@ -33,37 +34,37 @@ packed tag known acked payload = 1 + tag * 2 + known * 2 ^ 3 + acked * 2 ^ 14 + 
 
 -- the word of an offer with these counts
 abbrev pub offer_word : {P : Type 0} → (P → ℕ) → ℕ → ℕ → Offer P → ℕ
-offer_word pack known acked (Flag flag) = packed 1 known acked (pack flag)
-offer_word pack known acked (Ctx mask) = packed 2 known acked mask.bits
+offer_word pack known acked (Offer.Flag flag) = packed 1 known acked (pack flag)
+offer_word pack known acked (Offer.Ctx mask) = packed 2 known acked mask.bits
 
 -- the word of a slot; a mark has acknowledged everyone, which is 2047, and no payload
 abbrev pub slot_word : {P : Type 0} → (P → ℕ) → Slot P → ℕ
-slot_word pack (Marked mark) = packed 0 mark.known.count 2047 0
-slot_word pack (Given given) = offer_word pack given.known.count given.acked.count given.offer
+slot_word pack (Slot.Mark mark) = packed 0 mark.known.count 2047 0
+slot_word pack (Slot.Given given) = offer_word pack given.known.count given.acked.count given.offer
 
 -- the place of the word that an event sets after a history
 abbrev pub place_of : {P : Type 0} → History P → Event P → Place
-place_of h (Fail rank) = ListAt (length (failures h))
-place_of h (Settle c k r given) = SlotAt c k r
-place_of h (Mark c k r mark) = SlotAt c k r
-place_of h (Arrive c k r) = ArrivalAt c k r
-place_of h (Revoke c) = RevokedAt c
-place_of h (Spawn j c k) = CommAt j
+place_of h (Event.Fail rank) = Place.List (length (failures h))
+place_of h (Event.Settle c k r given) = Place.Slot c k r
+place_of h (Event.Mark c k r mark) = Place.Slot c k r
+place_of h (Event.Arrive c k r) = Place.Arrival c k r
+place_of h (Event.Revoke c) = Place.Revoked c
+place_of h (Event.Spawn j c k) = Place.Comm j
 
 -- the word that an event sets
 abbrev pub word_of : {P : Type 0} → (P → ℕ) → Event P → ℕ
-word_of pack (Fail rank) = rank + 1
-word_of pack (Settle c k r given) = slot_word pack (Given given)
-word_of pack (Mark c k r mark) = slot_word pack (Marked mark)
-word_of pack (Arrive c k r) = 1
-word_of pack (Revoke c) = 1
-word_of pack (Spawn j c k) = 1 + c * 4096 + k
+word_of pack (Event.Fail rank) = rank + 1
+word_of pack (Event.Settle c k r given) = slot_word pack (Slot.Given given)
+word_of pack (Event.Mark c k r mark) = slot_word pack (Slot.Mark mark)
+word_of pack (Event.Arrive c k r) = 1
+word_of pack (Event.Revoke c) = 1
+word_of pack (Event.Spawn j c k) = 1 + c * 4096 + k
 
 -- the word at a place after a history: that of what stands there, and 0 where nothing does
 abbrev pub word_at : {P : Type 0} → (P → ℕ) → History P → Place → ℕ
-word_at pack h (ListAt i) = option_map_or (λ rank. rank + 1) (slice_get (failures h) i) 0
-word_at pack h (CommAt zero) = 0
-word_at pack h (CommAt (suc j)) = option_map_or (λ made. 1 + made.0 * 4096 + made.1) (slice_get (spawns h) j) 0
-word_at pack h (RevokedAt c) = if is_revoked h c then 1 else 0
-word_at pack h (SlotAt c k r) = option_map_or (slot_word pack) (slot h c k r) 0
-word_at pack h (ArrivalAt c k r) = if has_arrived h c k r then 1 else 0
+word_at pack h (Place.List i) = option_map_or (λ rank. rank + 1) (slice_get (failures h) i) 0
+word_at pack h (Place.Comm zero) = 0
+word_at pack h (Place.Comm (suc j)) = option_map_or (λ made. 1 + made.0 * 4096 + made.1) (slice_get (spawns h) j) 0
+word_at pack h (Place.Revoked c) = if is_revoked h c then 1 else 0
+word_at pack h (Place.Slot c k r) = option_map_or (slot_word pack) (slot h c k r) 0
+word_at pack h (Place.Arrival c k r) = if has_arrived h c k r then 1 else 0

@@ -1,5 +1,7 @@
 //! The laws of the object. Each function does nothing: what it ensures is a law, proved for every sort of contribution.
-ghost use Rattle.ulfm_model.specs.Laws.{CallsHaveOneStep, CallsKeepRecords, HoldersAgree, StatesStaySound, RecordsStay, DecisionsStay, CommunicatorsStay, ContextsAreIds, SurvivorsAreSpawned, DecisionsAreCombined, EventsHappenOnce, ShrinksExcludeFailures, UnheldIdsAreOffered, WordsTellEvents};
+ghost use Rattle.ulfm_model.specs.Laws.{CallsHaveOneStep, CallsKeepRecords, CommunicatorsStay, ContextsAreIds, DecisionsAreCombined, DecisionsStay};
+ghost use Rattle.ulfm_model.specs.Laws.{EventsHappenOnce, HoldersAgree, RecordsStay, ShrinksExcludeFailures, StatesStaySound, SurvivorsAreSpawned};
+ghost use Rattle.ulfm_model.specs.Laws.{UnheldIdsAreOffered, WordsTellEvents};
 
 use ulfm_laws::meld::Meld;
 

@@ -1,6 +1,6 @@
 //! What a reply leaves of a rank's record.
 ghost use Rattle.std.specs.Prelude.{◌≡◌, ◌==◌, ◌++◌, ◌∷◌, [], OnErr, OnOk, Some, None, ℕ, filter, find, map, not};
-ghost use Rattle.ulfm_model.specs.Answers.{left_by, opened, printed, refused_with, traits_of};
+ghost use Rattle.ulfm_model.specs.Answers.{left_by, opened, printed, left_with, traits_of};
 ghost use Rattle.ulfm_model.specs.History.{History};
 ghost use Rattle.ulfm_model.specs.Records.{Held, change_at};
 ghost use Rattle.ulfm_record.specs.Kept.{FitsNext, held_of, record_of};
@@ -88,7 +88,7 @@ fn release<A: Allocator + Copy + Drop>(held: &mut Vec<HeldComm<A>, A>, comm: u16
 
 /// Takes in a refusal.
 fn refuse<A: Allocator>(own: &mut RankRecord<A>, comm: u16, refusal: Refusal)
-    ensures { (limits : Limits) → record_of limits own.new ≡ refused_with (record_of limits own.old) comm (printed refusal).2 }
+    ensures { (limits : Limits) → record_of limits own.new ≡ left_with (record_of limits own.old) comm (printed refusal).2 }
 {
     match refusal {
         Refusal::SelfFailed => own.refused = true,
