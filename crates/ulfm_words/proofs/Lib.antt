@@ -9,3 +9,4 @@ pub mod Telling
 pub mod Ranks
 pub mod Reading
 pub mod Setting
+pub mod Numbered

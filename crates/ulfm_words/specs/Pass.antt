@@ -1,9 +1,9 @@
 -- How the words and the journal of a plain pass are tied.
-use Rattle.std.specs.Prelude.{◌≡◌, ◌≢◌, ℕ, ◌+◌, ◌≤◌, ◌==◌, Bool, List, [], ◌∷◌, length, count_by, slice_index, filter_map, Option, Some, None}
+use Rattle.std.specs.Prelude.{◌≡◌, ◌≢◌, ℕ, ◌+◌, ◌≤◌, ◌==◌, Bool, List, [], ◌∷◌, length, count_by, slice_get, slice_index, take, filter_map, Option, Some, None}
 use Rattle.std.specs.List.{AllByRecursion}
 use Rattle.ulfm_model.specs.declared.{event.Entry.{Entry}, limits.Limits.{Limits}, place.Place.{Place}}
-use Rattle.ulfm_model.specs.{History.{History, IsLegal}, Words.{MayOpen, size_of, word_at}}
-use Rattle.ulfm_words.specs.declared.{pass.Setting.{Setting}, step.Last.{Last}}
+use Rattle.ulfm_model.specs.{History.{History, IsLegal}, Words.{MayOpen, place_of, size_of, word_at, word_of}}
+use Rattle.ulfm_words.specs.declared.{pass.Setting.{Setting}, step.Last.{Last}, step.Step.{Step}}
 use Rattle.ulfm_words.specs.{Entries.{entry_of}, Places.{IsWithin, key_in}, Steps.{Name, Sight}}
 
 -- plain words are told apart by their limits alone
@@ -48,3 +48,12 @@ pub record IsTied {P : Type 0} (meld : P → P → P) (pack : P → ℕ) (unpack
   pub same : (p : Place) → IsWithin limits p → slice_index words (key_in limits p) ≡ word_at pack (entries unpack limits words journal) p
   pub legal : IsLegal meld limits (entries unpack limits words journal)
   pub room : length journal + count_by is_zero words ≤ capacity
+
+-- the step that set the i-th event of a history, from 0: the place is that of its event after those before it, and the word is its
+-- event's
+pub record IsNth {P : Type 0} (pack : P → ℕ) (unpack : ℕ → Option P) (h : History P) (i : ℕ) (s : Step) : Type 0 where
+  pub entry : Entry P
+  pub stands : slice_get h i ≡ Some entry
+  pub is_entry : entry_of unpack s ≡ Some entry
+  pub place : s.place ≡ place_of (take i h) entry.event
+  pub word : s.word ≡ word_of pack entry.event

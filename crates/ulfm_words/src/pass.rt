@@ -1,7 +1,6 @@
-ghost use Rattle.std.specs.Prelude.{◌≡◌, ◌<◌, ◌≤◌, true, IfOk, MatchOption, length, slice_get};
+ghost use Rattle.std.specs.Prelude.{◌≡◌, ◌≤◌, true, IfOk, MatchOption, length};
 ghost use Rattle.ulfm_model.specs.Words.{MayOpen, word_at};
-ghost use Rattle.ulfm_words.specs.Entries.{entry_of};
-ghost use Rattle.ulfm_words.specs.Pass.{plain_name};
+ghost use Rattle.ulfm_words.specs.Pass.{IsNth, plain_name};
 ghost use Rattle.ulfm_words.specs.Places.{IsWithin};
 ghost use Rattle.ulfm_words.specs.Steps.{IsOf, IsNew, Loads, MaySet, Sets};
 
@@ -63,7 +62,7 @@ impl<P: Packed, A: Allocator + Copy> PlainPass<P, A> {
 
     /// The step that was set as the `i`-th, counted from 0; none past the last. It is no atomic step and takes no memory.
     pub fn nth(&self, i: usize) -> Option<Step>
-        ensures { MatchOption result (length self.now.seen ≤ i) (λ s. (i < length self.now.seen) × (slice_get self.now.seen i ≡ entry_of P.unpack s)) }
+        ensures { MatchOption result (length self.now.seen ≤ i) (IsNth P.pack P.unpack self.now.seen i) }
     {
         let setting = *self.journal.get(i)?;
         let word = self.row.get(setting.place);

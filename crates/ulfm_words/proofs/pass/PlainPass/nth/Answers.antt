@@ -1,7 +1,7 @@
-use Rattle.std.proofs.Common.{arith, ◌≡◌, ◌<◌, ◌≤◌, ◌∙◌, ap, sym, length}
+use Rattle.std.proofs.Common.{arith, ◌≡◌, ◌≤◌, ◌∙◌, Some, ap, sym, length}
 use Rattle.std.specs.List.{slice_index}
-use Rattle.ulfm_words.specs.{Entries.{entry_of}, Places.{key_in}}
-use Rattle.ulfm_words.proofs.Tied.{made-get, entries-get, entries-length, setting_found}
+use Rattle.ulfm_words.specs.{Entries.{entry_of}, Pass.{entries}, Places.{key_in}, declared.step.Step.{Step}}
+use Rattle.ulfm_words.proofs.{Numbered.{nth_step}, Tied.{made-get, entries-get, entries-length, setting_found}}
 use Rattle.ulfm_words.proofs.pass.PlainPass.nth.Goals as goal
 
 pub returns-in_err-setting : goal.returns-in_err-setting
@@ -27,10 +27,12 @@ returns g c =
     let js = c.self.inside.journal.items in
     let m = c.in_ok-setting.field-0.now in
     let e = c.in_ok-setting.ensures.lookup in
+    let inv = c.self.invariant in
     let found = setting_found c.deref.result.now js c.args.i m c.deref.ensures.value e.3.0 e.1 in
-    let entry = entries-get unpack limits ws js c.args.i m c.self.invariant.made found in
-    let len = entries-length unpack limits ws js c.self.invariant.made in
-    let items : length c.deref.result.now ≡ length js = ap length c.deref.ensures.value in
-    let below : c.args.i < length c.deref.result.now = e.3.0 in
+    let made = made-get unpack limits ws js c.args.i m inv.made found in
     let word : c.get-word.result ≡ slice_index ws (key_in limits m.place) = c.get-word.ensures in
-    rw (← c.self.view_is) (omega (arith, below, items, len), entry ∙ ap (λ n. entry_of unpack (record { place = m.place; word = n; by = m.by })) (sym word))
+    let step : Step = record { place = m.place; word = c.get-word.result; by = m.by } in
+    let is : entry_of unpack step ≡ Some made.entry = ap (λ n. entry_of unpack (record { place = m.place; word = n; by = m.by })) word ∙ made.is_entry in
+    rw (← c.self.view_is)
+    (nth_step g.P.Meld.meld g.P.Packed.pack unpack limits (entries unpack limits ws js) inv.legal c.args.i step made.entry (entries-get unpack limits ws js c.args.i m inv.made found ∙ made.is_entry) is
+    (λ zero. made.set (sym word ∙ zero)) (sym (inv.same m.place made.within) ∙ sym word))
