@@ -1,5 +1,5 @@
 -- Marking a round's declared members.
-use Rattle.std.proofs.Common.{◌≡◌, ℕ, zero, suc, ◌+◌, ◌-◌, ◌<◌, ◌≤◌, ◌==◌, Bool, true, false, cond, not, ◌||◌, ◌&&◌, List, [], ◌∷◌, ◌++◌, length, map, filter, filter_map, take, drop, slice_index_or, slice_get, Some, None, is_some, IsTrue, nat_eq, refl, ap, ap₂, sym, ◌∙◌, subst, arith, append-nil, append_assoc, length-append, if◌then◌else◌}
+use Rattle.std.proofs.Common.{◌≡◌, ℕ, zero, suc, ◌+◌, ◌-◌, ◌<◌, ◌≤◌, ◌==◌, Bool, true, false, cond, not, ◌||◌, ◌&&◌, List, [], ◌∷◌, ◌++◌, length, map, filter, filter_map, take, drop, slice_index_or, slice_get, Some, None, is_some, IsTrue, nat_eq, refl, ap, ap₂, sym, ◌∙◌, subst, arith, append-nil, append_assoc, length-append, if◌then◌else◌, inl, inr}
 use Rattle.std.specs.Prelude.{MatchBool}
 use Rattle.std.specs.List.{slice_index, cons_option, AllByRecursion, IsDistinct}
 use Rattle.std.proofs.lemmas.Bool.{eq-eqb, or_left, or_right, or_parts, or_from}
@@ -15,7 +15,7 @@ use Rattle.ulfm_model.proofs.{Histories.{failures_begin, legal_parts, slot_stays
 use Rattle.ulfm_words.specs.{Steps.{IsAdded, IsOf, Name, Sight}, Tries.{MayPut, Tries, entry}}
 use Rattle.ulfm_words.proofs.{Ranks.{failures_le}, Trails.{did_added, did_more, did_none, did_prefix, did_quiet, did_wait}}
 use Rattle.ulfm_steps.specs.declared.mark_all.MarkAll.{MarkAll}
-use Rattle.ulfm_steps.specs.Marks.{HasMarked, IsMarkOf, Marks, MarkSteps, MayMarkAll, members_in}
+use Rattle.ulfm_steps.specs.Marks.{HasMarked, IsMarkOf, Marks, MarksOnce, MarkSteps, MayMarkAll, members_in}
 use Rattle.ulfm_steps.proofs.Reading.{member_place, round_stays, take_one_more}
 
 filter_one : (b : Bool) (xs : List ℕ) (x : ℕ) → (let ys : List ℕ = cond b (x ∷ []) [] in xs ++ ys) ≡ cond b (xs ++ x ∷ []) xs
@@ -283,3 +283,9 @@ marked_push meld alone name start here after group declared x y z rank comm roun
 pub take_all : (xs : List ℕ) → take (length xs) xs ≡ xs
 take_all [] = refl
 take_all (x ∷ xs) = ap (λ w. x ∷ w) (take_all xs)
+
+-- one exchange, won or lost
+pub marks_once : {P : Type 0} (alone : Bool) (number c k r : ℕ) (mark : MarkCount) (old new : History P) (won : Bool) → MatchBool won (IsAdded alone (record { by = ByRank number; event = Mark c k r mark }) old new) (Did alone [] old new)
+    → MarksOnce alone number c k r old new
+marks_once alone number c k r mark old new true outcome = inr (mark, outcome)
+marks_once alone number c k r mark old new false outcome = inl outcome

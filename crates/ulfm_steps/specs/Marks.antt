@@ -1,11 +1,11 @@
 -- What marking a round's declared members asks for, and tells.
-use Rattle.std.specs.Prelude.{◌≡◌, ℕ, ◌+◌, ◌<◌, ◌≤◌, Bool, not, List, ◌++◌, length, filter, take, slice_index, is_some, IsTrue}
+use Rattle.std.specs.Prelude.{◌≡◌, ◌⊎◌, ℕ, ◌+◌, ◌<◌, ◌≤◌, Bool, not, List, [], ◌++◌, length, filter, take, slice_index, is_some, IsTrue}
 use Rattle.std.specs.List.{AllByRecursion}
 use mathlib.Core.List.{IsPrefix}
-use Rattle.ulfm_model.specs.declared.{event.Caller.TheVariants.{Rank as ByRank}, event.Event.{Event}, event.Event.TheVariants.{Mark}, limits.Limits.{Limits}}
+use Rattle.ulfm_model.specs.declared.{contribution.MarkCount.{MarkCount}, event.Caller.TheVariants.{Rank as ByRank}, event.Event.{Event}, event.Event.TheVariants.{Mark}, limits.Limits.{Limits}}
 use Rattle.ulfm_model.specs.{History.{History, entries_by, failures, has, slot}, Runs.{Did}}
 use Rattle.ulfm_model.proofs.Terms.{settled_by}
-use Rattle.ulfm_words.specs.Steps.{IsOf, Name, Sight}
+use Rattle.ulfm_words.specs.Steps.{IsAdded, IsOf, Name, Sight}
 use Rattle.ulfm_steps.specs.Rounds.{IsRoundOf}
 use Rattle.ulfm_steps.specs.declared.mark_all.MarkAll.{MarkAll}
 
@@ -23,6 +23,10 @@ pub record Marks {P : Type 0} (alone : Bool) (number c k : ℕ) (ranks : List �
   pub settled : AllByRecursion (λ r. IsTrue (is_some (slot after c k r))) ranks
   pub exact : IsTrue alone → settled_by own ≡ filter (λ r. not (is_some (slot before c k r))) ranks
   pub others : IsTrue alone → (r : ℕ) → IsTrue (not (has ranks r)) → slot after c k r ≡ slot before c k r
+
+-- one exchange: the rank was marked last, after events by others, or there were others' events alone
+abbrev pub MarksOnce : {P : Type 0} → Bool → ℕ → ℕ → ℕ → ℕ → History P → History P → Type 0
+MarksOnce alone number c k r old new = Did alone [] old new ⊎ ((mark : MarkCount) × IsAdded alone (record { by = ByRank number; event = Mark c k r mark }) old new)
 
 -- one exchange for each of these ranks, at most
 pub record MarkSteps {P : Type 0} (meld : P → P → P) (alone : Bool) (name : Name) (number c k : ℕ) (ranks : List ℕ) (old new : Sight P) : Type 0 where

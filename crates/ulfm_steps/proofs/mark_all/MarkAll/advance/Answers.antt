@@ -17,6 +17,7 @@ loop-self-init g c =
       more = λ lt. absurd (omega arith);
       first = λ _. refl;
       none = λ _. refl;
+      same = λ _. (refl, refl);
       marked = marked_none g.P.Meld.meld g.W.Words.alone (g.W.Words.name c.args.words.now) c.args.self.now c.args.group.now c.args.declared.now (g.W.Words.sight c.args.pass.now) c.requires.of;
     }
 
@@ -45,8 +46,14 @@ loop-self-preserved g c =
       more = λ _. omega (arith, inv.marked.marks.onward, e.one);
       first = λ not. absurd (cc (not, c.if-not-whole.false));
       none = λ not. absurd (cc (not, c.if-not-whole.false));
+      same = λ not. absurd (cc (not, c.if-not-whole.false));
       marked = marked g at;
     }
 
 pub returns-then-not-whole-clause-marks : goal.returns-then-not-whole-clause-marks
 returns-then-not-whole-clause-marks g c = marked g (goal.at.returns-then-not-whole-clause-marks g c).After-step
+
+pub returns-then-not-whole-clause-once : goal.returns-then-not-whole-clause-once
+returns-then-not-whole-clause-once g c = λ not.
+    let same = c.loop-self.invariant.same not in
+    rw (same.0, same.1) at c.step.ensures.once
