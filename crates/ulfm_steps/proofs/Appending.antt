@@ -10,7 +10,7 @@ use Rattle.ulfm_model.proofs.{Histories.{failures_begin}, Lists.{get_prefix, in_
 use Rattle.ulfm_words.specs.{Steps.{Goes, Name, Sight}, Tries.{MayMake, entry}}
 use Rattle.ulfm_words.proofs.Trails.{added_after, did_wait}
 use Rattle.ulfm_steps.specs.declared.{append.Append.{Append}, append.Appended.{Appended}, append.Appended.TheVariants.{Won, Found, Full}, item.Item.{Item}, item.Item.TheVariants.{Failure, Comm}}
-use Rattle.ulfm_steps.specs.{Appends.{AppendIs, Appends, MayAdd, MayAppend, Passed, event_at, items, room}, Turns.{turns_left}}
+use Rattle.ulfm_steps.specs.{Appends.{AppendIs, Appends, MayAdd, MayAppend, Passed, event_at, items, room, turns_left}}
 
 get_map : {X Y : Type 0} (f : X → Y) (xs : List X) (i : ℕ) (x : X) → slice_get xs i ≡ Some x → slice_get (map f xs) i ≡ Some (f x)
 get_map f [] i x e = absurd (cc e)
@@ -108,3 +108,11 @@ appends_next meld alone name item by most (Some a) x y z did onward fewer ends =
 -- at a place of the list there is a step to take
 pub turns_some : (places : ℕ) (a : Append) → a.index < places → 1 ≤ turns_left places a
 turns_some places a lt = elim a.empty as (λ b. 1 ≤ 2 * (places - a.index) - cond b 1 0) [ true ↦ omega (arith, lt) | false ↦ omega (arith, lt) ]
+
+-- past it two fewer are left, or one, where it was loaded before
+pub turns_fall : (places : ℕ) (a : Append) → a.index < places → turns_left places (record a { index = a.index + 1; empty = false }) + 1 ≤ turns_left places a
+turns_fall places a lt = elim a.empty as (λ b. 2 * (places - (a.index + 1)) - 0 + 1 ≤ 2 * (places - a.index) - cond b 1 0) [ true ↦ omega (arith, lt) | false ↦ omega (arith, lt) ]
+
+-- no more are left than two for each place
+pub turns_most : (places : ℕ) (a : Append) → turns_left places a ≤ 2 * places
+turns_most places a = elim a.empty as (λ b. 2 * (places - a.index) - cond b 1 0 ≤ 2 * places) [ true ↦ omega arith | false ↦ omega arith ]

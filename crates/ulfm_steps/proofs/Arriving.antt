@@ -94,7 +94,7 @@ fails_next : (p : ℕ → Bool) (xs : List ℕ) (at : ℕ) → at < length xs �
 fails_next p xs at below is = filter_more p xs at 0 below ∙ (ap (λ b. filter p (take at xs) ++ cond b (slice_index xs at ∷ []) []) is ∙ append-nil (filter p (take at xs)))
 
 -- one member more was asked about
-asked_next : (group declared : List ℕ) (others : Bool) (at : ℕ) → IsAsked group declared others at
+pub asked_next : (group declared : List ℕ) (others : Bool) (at : ℕ) → IsAsked group declared others at
     → asked_before group declared others (at + 1) ≡ asked_before group declared others at ++ rank_at group declared others at ∷ []
 asked_next group declared false at asked = passes_next (has group) declared at asked.0 asked.1
 asked_next group declared true at asked =

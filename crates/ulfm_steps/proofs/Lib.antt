@@ -1,3 +1,4 @@
+mod Turning
 pub mod Looking
 pub mod Settling
 pub mod Groups

@@ -1,10 +1,11 @@
 -- Appending to one of the two lists that fill from the front.
-use Rattle.std.specs.Prelude.{◌≡◌, ◌≢◌, ℕ, ◌+◌, ◌-◌, ◌<◌, ◌≤◌, Bool, List, [], length, map, Some, None, slice_get}
+use Rattle.std.specs.Prelude.{◌≡◌, ◌≢◌, ℕ, ◌+◌, ◌-◌, ◌*◌, ◌<◌, ◌≤◌, Bool, not, true, List, [], length, map, Option, Some, None, slice_get, if◌then◌else◌}
 use mathlib.Core.List.{IsPrefix}
 use Rattle.ulfm_model.specs.declared.{event.Caller.{Caller}, event.Event.{Event}, event.Event.TheVariants.{Fail, Spawn}, limits.Limits.{Limits}, place.Place.{Place}, place.Place.TheVariants.{List as ListAt, Comm as CommAt}}
 use Rattle.ulfm_model.specs.{History.{History, IsLegal, MayFollow, failures, spawns}, Runs.{Did}}
 use Rattle.ulfm_words.specs.{Steps.{IsAdded, IsOf, Name, Sight}, Tries.{entry}}
-use Rattle.ulfm_steps.specs.declared.{append.Appended.{Appended}, append.Appended.TheVariants.{Won, Found, Full}, item.Item.{Item}, item.Item.TheVariants.{Failure, Comm}}
+use Rattle.ulfm_steps.specs.Turns.{Takes, left_without}
+use Rattle.ulfm_steps.specs.declared.{append.Append.{Append}, append.Appended.{Appended}, append.Appended.TheVariants.{Won, Found, Full}, item.Item.{Item}, item.Item.TheVariants.{Failure, Comm}}
 
 -- the list in which an item stands, in order
 abbrev pub items : {P : Type 0} → Item → History P → List Item
@@ -57,3 +58,16 @@ pub record Appends {P : Type 0} (meld : P → P → P) (alone : Bool) (name : Na
 abbrev pub HasRound : Limits → Item → Type 0
 HasRound limits (Failure rank) = Unit {0}
 HasRound limits (Comm parent round) = round < limits.rounds
+
+-- how many steps an appending may still take: two for each place that is left, one less after a load that found nothing
+abbrev pub turns_left : ℕ → Append → ℕ
+turns_left places a = 2 * (places - a.index) - (if a.empty then 1 else 0)
+
+-- the steps of an appending, the first of them at the place that is tried: an exchange after a load that found nothing, or else a load
+abbrev pub AppendTakes : {P : Type 0} → Bool → Limits → Append → Option Appended → Append → Sight P → Sight P → Type 0
+AppendTakes whole limits old end new =
+    Takes whole (place_at old.item old.index) (not old.empty) (turns_left (room old.item limits) old) (left_without end (turns_left (room old.item limits) new))
+
+-- an exchange comes next only at a place that was empty in what is seen
+abbrev pub FoundEmpty : {P : Type 0} → History P → Append → Type 0
+FoundEmpty h a = a.empty ≡ true → slice_get (items a.item h) a.index ≡ None

@@ -1,7 +1,9 @@
 -- In which order the members of a barrier round are asked about, how far that has come, and what it ends with.
-use Rattle.std.specs.Prelude.{◌≡◌, ℕ, ◌<◌, ◌≤◌, Bool, true, false, not, List, ◌++◌, filter, length, take, slice_index, IsTrue}
+use Rattle.std.specs.Prelude.{◌≡◌, ℕ, ◌-◌, ◌<◌, ◌≤◌, Bool, true, false, not, List, ◌++◌, Option, filter, length, take, slice_index, IsTrue}
 use Rattle.std.specs.List.{list_all}
-use Rattle.ulfm_model.specs.History.{History, has, has_arrived, without}
+use Rattle.ulfm_model.specs.{History.{History, has, has_arrived, without}, declared.place.Place.TheVariants.{Arrival as ArrivalAt}}
+use Rattle.ulfm_words.specs.Steps.{Sight}
+use Rattle.ulfm_steps.specs.Turns.{Takes, left_without}
 use Rattle.ulfm_steps.specs.declared.arrivals.{Arrivals.{Arrivals}, Missing.{Missing}, Missing.TheVariants.{Nobody, Others, Declared}}
 
 -- first the members among the declared ranks, in the order of these, and then the others, in the group's order
@@ -60,3 +62,13 @@ abbrev pub MissingAre : {P : Type 0} → History P → ℕ → ℕ → List ℕ 
 MissingAre h c k group declared Nobody = list_all (has_arrived h c k) group ≡ true
 MissingAre h c k group declared Others = (list_all (has_arrived h c k) group ≡ false) × (list_all (has_arrived h c k) (filter (has group) declared) ≡ true)
 MissingAre h c k group declared Declared = (list_all (has_arrived h c k) group ≡ false) × (list_all (has_arrived h c k) (filter (has group) declared) ≡ false)
+
+-- how many members a reading of arrivals may still load
+abbrev pub arrivals_left : List ℕ → List ℕ → Arrivals → ℕ
+arrivals_left group declared a = length (in_order group declared) - length (asked_before group declared a.others a.next)
+
+-- the loads of a reading of arrivals, the first of them of the next member's place
+abbrev pub ArrivalsTake : {P : Type 0} → Bool → List ℕ → List ℕ → Arrivals → Option Missing → Arrivals → Sight P → Sight P → Type 0
+ArrivalsTake whole group declared old found new =
+    Takes whole (ArrivalAt old.comm old.round (rank_at group declared old.others old.next)) true
+    (arrivals_left group declared old) (left_without found (arrivals_left group declared new))

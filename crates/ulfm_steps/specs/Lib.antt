@@ -1,3 +1,4 @@
+pub mod Turns
 pub mod Looks
 pub mod Settles
 pub mod Rounds
@@ -5,5 +6,4 @@ pub mod Arriving
 pub mod ReadsOn
 pub mod Marks
 pub mod Appends
-pub mod Turns
 pub mod Intrusions

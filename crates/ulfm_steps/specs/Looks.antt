@@ -1,10 +1,21 @@
 -- What a look has found.
-use Rattle.std.specs.Prelude.{◌≡◌, ℕ, ◌<◌, Bool, false, true, List, length}
+use Rattle.std.specs.Prelude.{◌≡◌, ℕ, ◌-◌, ◌<◌, Bool, false, true, List, length}
 use mathlib.Core.List.{IsPrefix}
-use Rattle.ulfm_model.specs.declared.limits.Limits.{Limits}
+use Rattle.ulfm_model.specs.declared.{limits.Limits.{Limits}, place.Place.TheVariants.{List as ListAt}}
+use Rattle.ulfm_words.specs.Steps.{Sight}
+use Rattle.ulfm_steps.specs.Turns.{Takes}
 use Rattle.ulfm_model.specs.History.{History, failures}
 
 -- under way it has found a beginning of the list, of fewer ranks than there are; at its end, the list
 abbrev pub LookIs : {P : Type 0} → Limits → Bool → List ℕ → History P → Type 0
 LookIs limits false found h = IsPrefix found (failures h) × (length found < limits.ranks)
 LookIs limits true found h = found ≡ failures h
+
+-- how many loads a look may still make: one for each rank that it hasn't found, and none at its end
+abbrev pub looks_left : Limits → Bool → List ℕ → ℕ
+looks_left limits false found = limits.ranks - length found
+looks_left limits true found = 0
+
+-- the loads of a look, the first of them of the place past what it had found
+abbrev pub LookTakes : {P : Type 0} → Bool → Limits → List ℕ → Bool → List ℕ → Sight P → Sight P → Type 0
+LookTakes whole limits found done new = Takes whole (ListAt (length found)) true (looks_left limits false found) (looks_left limits done new)

@@ -1,9 +1,10 @@
 -- Reading on in the list of failures, until so many members of a group are among those that were seen.
-use Rattle.std.specs.Prelude.{◌≡◌, ℕ, ◌<◌, ◌≤◌, List, filter, length, take}
+use Rattle.std.specs.Prelude.{◌≡◌, ℕ, ◌-◌, ◌<◌, ◌≤◌, Bool, true, List, filter, length, take}
 use Rattle.std.specs.List.Sorted.{IsStrictlyIncreasing}
 use mathlib.Core.List.{IsPrefix}
-use Rattle.ulfm_model.specs.History.{has}
-use Rattle.ulfm_steps.specs.declared.read_on.ReadOn.{ReadOn}
+use Rattle.ulfm_model.specs.{History.{has}, declared.limits.Limits.{Limits}, declared.place.Place.TheVariants.{List as ListAt}}
+use Rattle.ulfm_words.specs.Steps.{Sight}
+use Rattle.ulfm_steps.specs.{Turns.{Takes}, declared.read_on.ReadOn.{ReadOn}}
 
 -- of the list of failures this beginning was seen, and the list has so many members of the group
 pub record MayReadOn (group : List ℕ) (count : ℕ) (seen whole : List ℕ) : Type 0 where
@@ -25,3 +26,7 @@ pub record ReadsOn (group : List ℕ) (count : ℕ) (old new whole : List ℕ) (
   pub begins : IsPrefix new whole
   pub within : reach ≤ length new
   pub counted : length (filter (has group) (take reach new)) ≡ count
+
+-- the loads of a reading on, the first of them of the place past what was seen: one at most for each rank that wasn't
+abbrev pub ReadOnTakes : {P : Type 0} → Bool → Limits → List ℕ → List ℕ → Sight P → Sight P → Type 0
+ReadOnTakes whole limits seen new = Takes whole (ListAt (length seen)) true (limits.ranks - length seen) (limits.ranks - length new)

@@ -1,10 +1,11 @@
 -- What reading a round asks for, and tells.
-use Rattle.std.specs.Prelude.{◌≡◌, ℕ, ◌<◌, true, List, Option, Some, None, is_some, IsTrue}
+use Rattle.std.specs.Prelude.{◌≡◌, ℕ, ◌-◌, ◌<◌, Bool, true, List, Option, Some, None, is_some, IsTrue, length, slice_index, if◌then◌else◌}
 use Rattle.std.specs.List.{list_all}
 use Rattle.ulfm_laws.specs.declared.summary.Summary.{Summary}
 use Rattle.ulfm_model.specs.declared.{limits.Limits.{Limits}, place.Place.TheVariants.{Slot as SlotAt}}
 use Rattle.ulfm_model.specs.{History.{Exists, History, has, members, round_among, slot}, Laws.{all_of}}
-use Rattle.ulfm_words.specs.declared.step.Last.{Last}
+use Rattle.ulfm_words.specs.{Steps.{Sight}, declared.step.Last.{Last}}
+use Rattle.ulfm_steps.specs.{Turns.{Takes}, declared.read_round.ReadRound.{ReadRound}}
 
 -- the communicator exists, these are its members, and it has the round
 pub record IsRoundOf {P : Type 0} (limits : Limits) (h : History P) (c k : ℕ) (group : List ℕ) : Type 0 where
@@ -23,3 +24,12 @@ pub record IsMissing {P : Type 0} (last : Option Last) (h : History P) (c k : �
   pub member : IsTrue (has group rank)
   pub empty : slot h c k rank ≡ None
   pub found : last ≡ Some (record { place = SlotAt c k rank; word = 0; load = true })
+
+-- how many loads a reading may still make, of a round of these members
+abbrev pub reads_left : {P : Type 0} → List ℕ → ReadRound P → ℕ
+reads_left group reading = length group - reading.read
+
+-- the loads of a reading, the first of them of the next member's place; none is left once a member was missing
+abbrev pub ReadTakes : {P : Type 0} → Bool → List ℕ → ReadRound P → Bool → ReadRound P → Sight P → Sight P → Type 0
+ReadTakes whole group old settled new =
+    Takes whole (SlotAt old.comm old.round (slice_index group old.read)) true (reads_left group old) (if settled then reads_left group new else 0)

@@ -2,8 +2,7 @@
 // an exchange. A place that was passed has another item for good, so the first place that is empty is the next one.
 ghost use Rattle.std.specs.Prelude.{◌≡◌, ◌<◌, ◌≤◌, ◌+◌, ◌*◌, ◌-◌, false, MatchOption};
 ghost use Rattle.ulfm_words.specs.Steps.{IsOf, Goes};
-ghost use Rattle.ulfm_steps.specs.Appends.{room, HasRound, MayAppend, Passed, Appends};
-ghost use Rattle.ulfm_steps.specs.Turns.{turns_left};
+ghost use Rattle.ulfm_steps.specs.Appends.{AppendTakes, Appends, FoundEmpty, HasRound, MayAppend, Passed, room};
 
 use crate::item::Item;
 use crate::items::{load_item, room_for, set_item};
@@ -62,9 +61,9 @@ impl Append {
         requires more { self.old.index < room self.old.item (W.name words.now).limits }
         ensures same { (self.new.item ≡ self.old.item) × (self.new.by ≡ self.old.by) }
         ensures goes { MatchOption result (Goes P.meld W.alone (W.name words.now) 1 (W.sight pass.old) (W.sight pass.new)) (λ a. Appends P.meld W.alone (W.name words.now) self.old.item self.old.by 1 (W.sight pass.old) a (W.sight pass.new)) }
-        ensures one { (W.sight pass.new).steps ≡ (W.sight pass.old).steps + 1 }
+        ensures takes { AppendTakes false (W.name words.now).limits self.old result self.new (W.sight pass.old) (W.sight pass.new) }
         ensures passed { MatchOption result (Passed (W.sight pass.new).seen self.old.item self.new.index) (λ _. Unit {0}) }
-        ensures turns { MatchOption result (turns_left (room self.old.item (W.name words.now).limits) self.new + 1 ≤ turns_left (room self.old.item (W.name words.now).limits) self.old) (λ _. Unit {0}) }
+        ensures empty { MatchOption result (FoundEmpty (W.sight pass.new).seen self.new) (λ _. Unit {0}) }
         ensures within { MatchOption result (self.new.index < room self.old.item (W.name words.now).limits) (λ _. Unit {0}) }
     {
         let standing = if self.empty {
@@ -108,10 +107,9 @@ impl Append {
         requires more { self.old.index < room self.old.item (W.name words.now).limits }
         ensures same { (self.new.item ≡ self.old.item) × (self.new.by ≡ self.old.by) }
         ensures goes { MatchOption result (Goes P.meld W.alone (W.name words.now) (2 * room self.old.item (W.name words.now).limits) (W.sight pass.old) (W.sight pass.new)) (λ a. Appends P.meld W.alone (W.name words.now) self.old.item self.old.by (2 * room self.old.item (W.name words.now).limits) (W.sight pass.old) a (W.sight pass.new)) }
-        ensures one { whole ≡ false → (W.sight pass.new).steps ≡ (W.sight pass.old).steps + 1 }
-        ensures more { (W.sight pass.old).steps < (W.sight pass.new).steps }
+        ensures takes { AppendTakes whole (W.name words.now).limits self.old result self.new (W.sight pass.old) (W.sight pass.new) }
         ensures passed { MatchOption result (Passed (W.sight pass.new).seen self.old.item self.new.index) (λ _. Unit {0}) }
-        ensures turns { MatchOption result (turns_left (room self.old.item (W.name words.now).limits) self.new + 1 ≤ turns_left (room self.old.item (W.name words.now).limits) self.old) (λ _. Unit {0}) }
+        ensures empty { MatchOption result (FoundEmpty (W.sight pass.new).seen self.new) (λ _. Unit {0}) }
         ensures within { MatchOption result (self.new.index < room self.old.item (W.name words.now).limits) (λ _. Unit {0}) }
         ensures done { MatchOption result (whole ≡ false) (λ _. Unit {0}) }
     {

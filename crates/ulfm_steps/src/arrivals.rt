@@ -7,7 +7,7 @@ ghost use Rattle.std.specs.List.Sorted.{IsStrictlyIncreasing};
 ghost use Rattle.ulfm_model.specs.History.{has_arrived};
 ghost use Rattle.ulfm_words.specs.Places.{IsCell};
 ghost use Rattle.ulfm_words.specs.Steps.{IsOf, Goes};
-ghost use Rattle.ulfm_steps.specs.Arriving.{AtArrival, IsAsked, IsNextOther, IsWithin, MissingAre, asked_before, asked_of, asks, in_order};
+ghost use Rattle.ulfm_steps.specs.Arriving.{ArrivalsTake, AtArrival, IsAsked, IsNextOther, IsWithin, MissingAre, asked_before, asked_of, asks, in_order};
 ghost use Rattle.ulfm_steps.specs.Rounds.{IsRoundOf};
 
 use crate::group::{has_rank, is_member};
@@ -172,7 +172,7 @@ impl Arrivals {
         requires round { IsRoundOf (W.name words.now).limits (W.sight pass.old).seen self.old.comm self.old.round group.now }
         requires at { AtArrival group.now declared.now self.old (W.sight pass.old).seen }
         ensures goes { Goes P.meld W.alone (W.name words.now) 1 (W.sight pass.old) (W.sight pass.new) }
-        ensures one { (W.sight pass.new).steps ≡ (W.sight pass.old).steps + 1 }
+        ensures takes { ArrivalsTake false group.now declared.now self.old result self.new (W.sight pass.old) (W.sight pass.new) }
         ensures comm { self.new.comm ≡ self.old.comm }
         ensures round { self.new.round ≡ self.old.round }
         ensures further { MatchOption result (length (asked_before group.now declared.now self.new.others self.new.next) ≡ length (asked_before group.now declared.now self.old.others self.old.next) + 1) (λ _. Unit {0}) }
@@ -212,8 +212,7 @@ impl Arrivals {
         requires round { IsRoundOf (W.name words.now).limits (W.sight pass.old).seen self.old.comm self.old.round group.now }
         requires at { AtArrival group.now declared.now self.old (W.sight pass.old).seen }
         ensures goes { Goes P.meld W.alone (W.name words.now) (length (in_order group.now declared.now) - length (asked_before group.now declared.now self.old.others self.old.next)) (W.sight pass.old) (W.sight pass.new) }
-        ensures one { whole ≡ false → (W.sight pass.new).steps ≡ (W.sight pass.old).steps + 1 }
-        ensures more { (W.sight pass.old).steps < (W.sight pass.new).steps }
+        ensures takes { ArrivalsTake whole group.now declared.now self.old result self.new (W.sight pass.old) (W.sight pass.new) }
         ensures comm { self.new.comm ≡ self.old.comm }
         ensures round { self.new.round ≡ self.old.round }
         ensures further { MatchOption result (length (asked_before group.now declared.now self.new.others self.new.next) ≡ length (asked_before group.now declared.now self.old.others self.old.next) + 1) (λ _. Unit {0}) }

@@ -3,7 +3,7 @@
 ghost use Rattle.std.specs.Prelude.{◌≡◌, ◌+◌, ◌<◌, ◌≤◌, [], false, true, vec_capacity, vec_len, if◌then◌else◌};
 ghost use Rattle.ulfm_model.specs.History.{failures};
 ghost use Rattle.ulfm_words.specs.Steps.{IsOf, Goes};
-ghost use Rattle.ulfm_steps.specs.Looks.{LookIs};
+ghost use Rattle.ulfm_steps.specs.Looks.{LookIs, LookTakes};
 
 use std::alloc::Allocator;
 use ulfm_laws::meld::Packed;
@@ -40,7 +40,7 @@ impl Look {
         requires look { LookIs (W.name words.now).limits false found.old.items (W.sight pass.old).seen }
         requires room { (W.name words.now).limits.ranks ≤ vec_capacity found.old }
         ensures goes { Goes P.meld W.alone (W.name words.now) 1 (W.sight pass.old) (W.sight pass.new) }
-        ensures one { (W.sight pass.new).steps ≡ (W.sight pass.old).steps + 1 }
+        ensures takes { LookTakes false (W.name words.now).limits found.old.items self.new.done found.new.items (W.sight pass.old) (W.sight pass.new) }
         ensures look { LookIs (W.name words.now).limits self.new.done found.new.items (W.sight pass.new).seen }
         ensures further { self.new.done ≡ false → vec_len found.new ≡ vec_len found.old + 1 }
         ensures room { vec_capacity found.old ≤ vec_capacity found.new }
@@ -69,8 +69,7 @@ impl Look {
         requires look { LookIs (W.name words.now).limits false found.old.items (W.sight pass.old).seen }
         requires room { (W.name words.now).limits.ranks ≤ vec_capacity found.old }
         ensures goes { Goes P.meld W.alone (W.name words.now) (if whole then (W.name words.now).limits.ranks else 1) (W.sight pass.old) (W.sight pass.new) }
-        ensures one { whole ≡ false → (W.sight pass.new).steps ≡ (W.sight pass.old).steps + 1 }
-        ensures more { (W.sight pass.old).steps < (W.sight pass.new).steps }
+        ensures takes { LookTakes whole (W.name words.now).limits found.old.items self.new.done found.new.items (W.sight pass.old) (W.sight pass.new) }
         ensures look { LookIs (W.name words.now).limits self.new.done found.new.items (W.sight pass.new).seen }
         ensures further { self.new.done ≡ false → vec_len found.new ≡ vec_len found.old + 1 }
         ensures done { whole ≡ true → self.new.done ≡ true }

@@ -5,7 +5,7 @@ ghost use Rattle.std.specs.List.Sorted.{IsStrictlyIncreasing};
 ghost use mathlib.Core.List.{IsPrefix};
 ghost use Rattle.ulfm_model.specs.History.{failures};
 ghost use Rattle.ulfm_words.specs.Steps.{IsOf, Goes};
-ghost use Rattle.ulfm_steps.specs.ReadsOn.{AtFailure, MayReadOn};
+ghost use Rattle.ulfm_steps.specs.ReadsOn.{AtFailure, MayReadOn, ReadOnTakes};
 
 use crate::group::is_member;
 use std::alloc::Allocator;
@@ -63,7 +63,7 @@ impl ReadOn {
         requires more { self.old.found < count }
         requires room { (W.name words.now).limits.ranks ≤ vec_capacity seen.old }
         ensures goes { Goes P.meld W.alone (W.name words.now) 1 (W.sight pass.old) (W.sight pass.new) }
-        ensures one { (W.sight pass.new).steps ≡ (W.sight pass.old).steps + 1 }
+        ensures takes { ReadOnTakes false (W.name words.now).limits seen.old.items seen.new.items (W.sight pass.old) (W.sight pass.new) }
         ensures at { AtFailure group.now count self.new seen.new.items }
         ensures further { vec_len seen.new ≡ vec_len seen.old + 1 }
         ensures goes_on { IsPrefix seen.old.items seen.new.items }
@@ -95,8 +95,7 @@ impl ReadOn {
         requires more { self.old.found < count }
         requires room { (W.name words.now).limits.ranks ≤ vec_capacity seen.old }
         ensures goes { Goes P.meld W.alone (W.name words.now) (W.name words.now).limits.ranks (W.sight pass.old) (W.sight pass.new) }
-        ensures one { whole ≡ false → (W.sight pass.new).steps ≡ (W.sight pass.old).steps + 1 }
-        ensures more { (W.sight pass.old).steps < (W.sight pass.new).steps }
+        ensures takes { ReadOnTakes whole (W.name words.now).limits seen.old.items seen.new.items (W.sight pass.old) (W.sight pass.new) }
         ensures at { AtFailure group.now count self.new seen.new.items }
         ensures further { (W.sight pass.new).steps + vec_len seen.old ≡ (W.sight pass.old).steps + vec_len seen.new }
         ensures goes_on { IsPrefix seen.old.items seen.new.items }

@@ -3,7 +3,7 @@
 ghost use Rattle.std.specs.Prelude.{◌≡◌, ◌+◌, ◌≤◌, ◌<◌, ◌-◌, false, true, length, take, MatchBool, MatchOption};
 ghost use Rattle.ulfm_laws.specs.Summaries.{summary_unit};
 ghost use Rattle.ulfm_words.specs.Steps.{IsOf, Goes};
-ghost use Rattle.ulfm_steps.specs.Rounds.{IsRoundOf, IsSummed, IsMissing};
+ghost use Rattle.ulfm_steps.specs.Rounds.{IsRoundOf, IsSummed, IsMissing, ReadTakes};
 
 use std::alloc::Allocator;
 use ulfm_laws::meld::{Meld, Packed};
@@ -47,7 +47,7 @@ impl<P: Packed> ReadRound<P> {
         requires more { self.old.read < length group.now }
         requires read { IsSummed P.meld (W.sight pass.old).seen self.old.comm self.old.round (take self.old.read group.now) self.old.all }
         ensures goes { Goes P.meld W.alone (W.name words.now) 1 (W.sight pass.old) (W.sight pass.new) }
-        ensures one { (W.sight pass.new).steps ≡ (W.sight pass.old).steps + 1 }
+        ensures takes { ReadTakes false group.now self.old result self.new (W.sight pass.old) (W.sight pass.new) }
         ensures comm { self.new.comm ≡ self.old.comm }
         ensures round { self.new.round ≡ self.old.round }
         ensures further { MatchBool result (self.new.read ≡ self.old.read + 1) (self.new.read ≡ self.old.read) }
@@ -79,9 +79,7 @@ impl<P: Packed> ReadRound<P> {
         requires more { self.old.read < length group.now }
         requires read { IsSummed P.meld (W.sight pass.old).seen self.old.comm self.old.round (take self.old.read group.now) self.old.all }
         ensures goes { Goes P.meld W.alone (W.name words.now) (length group.now) (W.sight pass.old) (W.sight pass.new) }
-        ensures turns { (W.sight pass.new).steps + self.old.read ≤ (W.sight pass.old).steps + length group.now }
-        ensures one { whole ≡ false → (W.sight pass.new).steps ≡ (W.sight pass.old).steps + 1 }
-        ensures more { (W.sight pass.old).steps < (W.sight pass.new).steps }
+        ensures takes { ReadTakes whole group.now self.old result self.new (W.sight pass.old) (W.sight pass.new) }
         ensures comm { self.new.comm ≡ self.old.comm }
         ensures round { self.new.round ≡ self.old.round }
         ensures onward { MatchBool result (self.old.read < self.new.read) (self.old.read ≤ self.new.read) }

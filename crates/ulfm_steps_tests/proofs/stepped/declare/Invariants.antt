@@ -1,6 +1,6 @@
 use Rattle.std.proofs.Common.{◌<◌}
 use Rattle.ulfm_words.specs.Steps.{IsOf}
-use Rattle.ulfm_steps.specs.{Appends.{HasRound, MayAppend, Passed, room}, Turns.{turns_left}}
+use Rattle.ulfm_steps.specs.Appends.{HasRound, MayAppend, Passed, room, turns_left}
 use Rattle.ulfm_steps_tests.proofs.stepped.declare.Given as goal
 
 abbrev pub invariant-loop-end : goal.invariant-loop-end

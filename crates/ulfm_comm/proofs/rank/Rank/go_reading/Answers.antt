@@ -42,7 +42,7 @@ pub returns-then-not-advance-clause-turns : goal.returns-then-not-advance-clause
 returns-then-not-advance-clause-turns g c = λ alone only old before stands.
     reading_pends g.P.Meld.meld (g.W.Words.name c.args.world.now.words) c.args.asked.now c.args.reading c.args.shrinks c.args.group.now.items c.args.self.now (g.W.Words.sight c.args.pass.now)
     c.in-Some.x.now c.comm_of-comm.result c.in-Some.ensures.held c.comm_of-comm.ensures c.deref.result.now (members g (goal.at.returns-then-not-advance-clause-turns g c).After-deref) alone old before stands
-    g.W.Words.alone only (g.W.Words.sight c.advance.new.pass) c.advance.ensures.goes.of c.advance.ensures.goes.did c.advance.ensures.goes.onward c.advance.ensures.more c.if-not-advance.ensures.missing
+    g.W.Words.alone only (g.W.Words.sight c.advance.new.pass) c.advance.ensures.goes.of c.advance.ensures.goes.did c.advance.ensures.goes.onward c.advance.ensures.takes.some c.if-not-advance.ensures.missing
 
 pub returns-then-reading-len-clause-walks : goal.returns-then-reading-len-clause-walks
 returns-then-reading-len-clause-walks g c = walks g (goal.at.returns-then-reading-len-clause-walks g c).After-advance

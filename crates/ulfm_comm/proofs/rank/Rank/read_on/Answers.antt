@@ -53,7 +53,7 @@ pub returns-clause-goes : goal.returns-clause-goes
 returns-clause-goes g c = c.advance.ensures.goes
 
 pub returns-clause-one : goal.returns-clause-one
-returns-clause-one g c = c.advance.ensures.one
+returns-clause-one g c = λ single. (c.advance.ensures.takes.one single).steps
 
 pub returns-clause-kept : goal.returns-clause-kept
 returns-clause-kept g c = ap (λ (own : Record). record own { seen = c.advance.new.seen.items }) c.self.view_is

@@ -1,9 +1,9 @@
-use Rattle.std.proofs.Common.{◌≡◌, ◌*◌, None, [], sym, ◌∙◌, arith}
+use Rattle.std.proofs.Common.{◌≡◌, ◌*◌, not, false, None, [], subst, ap, sym, ◌∙◌, arith}
 use Rattle.ulfm_model.proofs.Lists.{none_of}
 use Rattle.ulfm_words.specs.Steps.{Goes}
 use Rattle.ulfm_words.proofs.Trails.{did_prefix, did_wait}
-use Rattle.ulfm_steps.specs.Appends.{room}
-use Rattle.ulfm_steps.proofs.Appending.{append_stays, appends_next, turns_some}
+use Rattle.ulfm_steps.specs.{Appends.{place_at, room, turns_left}, Turns.{Takes, left_without}, declared.append.Append.{Append}}
+use Rattle.ulfm_steps.proofs.{Appending.{append_stays, appends_next, turns_most, turns_some}, Turning.{takes_on}}
 use Rattle.ulfm_steps.proofs.append.Append.advance.Goals as goal
 use Rattle.ulfm_steps.proofs.append.Append.advance.Goals.{After-step-end}
 
@@ -13,8 +13,9 @@ returns-then-not-whole-clause-goes g c =
     let inv = c.loop-end.invariant in
     let places = room c.args.self.now.item name.limits in
     let some = turns_some (room c.loop-end.self.item name.limits) c.loop-end.self inv.within in
+    let few = turns_most places c.args.self.now in
     appends_next g.P.Meld.meld g.W.Words.alone name c.args.self.now.item c.args.self.now.by (2 * places) c.step-end.result (g.W.Words.sight c.args.pass.now) (g.W.Words.sight c.loop-end.pass) (g.W.Words.sight c.step-end.new.pass)
-    inv.did inv.onward (omega (arith, some, inv.steps)) (rw (← inv.item, ← inv.by) c.step-end.ensures.goes)
+    inv.did inv.onward (omega (arith, some, few, inv.steps)) (rw (← inv.item, ← inv.by) c.step-end.ensures.goes)
 
 pub returns-then-not-whole-clause-passed : goal.returns-then-not-whole-clause-passed
 returns-then-not-whole-clause-passed g c = rw (← c.loop-end.invariant.item) c.step-end.ensures.passed
@@ -31,7 +32,7 @@ loop-end-preserved g c =
     let went : Goes g.P.Meld.meld g.W.Words.alone name 1 (g.W.Words.sight c.loop-end.pass) (g.W.Words.sight c.step-end.new.pass) = rw going at e.goes in
     let passed = rw going at e.passed in
     let within = rw going at e.within in
-    let turns = rw going at e.turns in
+    let turns = (rw going at e.takes).turns in
     let same = e.same in
     record {
       item = same.0 ∙ inv.item;
@@ -44,5 +45,16 @@ loop-end-preserved g c =
       first = λ not. absurd (cc (not, c.if-not-whole.false));
       turn = λ not. absurd (cc (not, c.if-not-whole.false));
       onward = omega (arith, inv.onward, went.onward);
-      steps = rw same.0 (omega (arith, inv.steps, went.steps, turns));
+      steps = rw same.0 (omega (arith, inv.steps, turns));
     }
+
+pub returns-then-not-whole-clause-takes : goal.returns-then-not-whole-clause-takes
+returns-then-not-whole-clause-takes g c =
+    let inv = c.loop-end.invariant in
+    let limits = (g.W.Words.name c.args.words.now).limits in
+    let a = c.loop-end.self in
+    let first = c.args.self.now in
+    takes_on c.args.whole (place_at first.item first.index) (place_at a.item a.index) (not first.empty) (not a.empty) (turns_left (room first.item limits) first) (turns_left (room a.item limits) a)
+    (left_without c.step-end.result (turns_left (room first.item limits) c.step-end.new.self)) (g.W.Words.sight c.args.pass.now) (g.W.Words.sight c.loop-end.pass) (g.W.Words.sight c.step-end.new.pass)
+    (λ single. let same = inv.turn single in (sym (inv.first single), ap (λ (x : Append). place_at x.item x.index) same, ap (λ (x : Append). not x.empty) same)) inv.onward inv.steps
+    (subst (λ i. Takes false (place_at a.item a.index) (not a.empty) (turns_left (room a.item limits) a) (left_without c.step-end.result (turns_left (room i limits) c.step-end.new.self)) (g.W.Words.sight c.loop-end.pass) (g.W.Words.sight c.step-end.new.pass)) inv.item c.step-end.ensures.takes)

@@ -1,7 +1,7 @@
-use Rattle.std.proofs.Common.{◌≡◌, ◌+◌, ◌*◌, ◌<◌, ◌≤◌, [], false}
+use Rattle.std.proofs.Common.{◌≡◌, ◌+◌, ◌<◌, ◌≤◌, [], false}
 use Rattle.ulfm_model.specs.Runs.{Did}
 use Rattle.ulfm_words.specs.Steps.{IsOf}
-use Rattle.ulfm_steps.specs.{Appends.{MayAppend, Passed, room}, Turns.{turns_left}}
+use Rattle.ulfm_steps.specs.Appends.{MayAppend, Passed, room, turns_left}
 use Rattle.ulfm_steps.proofs.append.Append.advance.Given as goal
 
 abbrev pub invariant-loop-end : goal.invariant-loop-end
@@ -16,7 +16,7 @@ invariant-loop-end g l = record {
   first : l.whole ≡ false → (g.W.Words.sight l.pass).steps ≡ (g.W.Words.sight l.initial.pass).steps;
   turn : l.whole ≡ false → l.self ≡ l.initial.self;
   onward : (g.W.Words.sight l.initial.pass).steps ≤ (g.W.Words.sight l.pass).steps;
-  steps : (g.W.Words.sight l.pass).steps + turns_left (room l.self.item (g.W.Words.name l.words).limits) l.self ≤ (g.W.Words.sight l.initial.pass).steps + 2 * room l.initial.self.item (g.W.Words.name l.words).limits;
+  steps : (g.W.Words.sight l.pass).steps + turns_left (room l.self.item (g.W.Words.name l.words).limits) l.self ≤ (g.W.Words.sight l.initial.pass).steps + turns_left (room l.initial.self.item (g.W.Words.name l.words).limits) l.initial.self;
 }
 
 abbrev pub decreases-loop-end : goal.decreases-loop-end

@@ -1,8 +1,8 @@
-use Rattle.std.proofs.Common.{◌≡◌, ◌≢◌, ◌+◌, Some, slice_get, ap, sym, ◌∙◌, arith, rules}
+use Rattle.std.proofs.Common.{◌≡◌, ◌≢◌, ℕ, ◌+◌, ◌≤◌, not, false, Some, slice_get, refl, subst, ap, sym, ◌∙◌, arith, rules}
 use Rattle.ulfm_words.specs.Steps.{Goes}
 use Rattle.ulfm_words.proofs.Trails.{did_prefix}
-use Rattle.ulfm_steps.specs.Appends.{Passed, items, room}
-use Rattle.ulfm_steps.proofs.Appending.{may_add, passed_stays, passed_push}
+use Rattle.ulfm_steps.specs.{Appends.{Passed, items, place_at, room, turns_left}, Turns.{Takes}}
+use Rattle.ulfm_steps.proofs.{Appending.{may_add, passed_stays, passed_push, turns_fall, turns_some}, Turning.{takes_exchange, takes_load}}
 use Rattle.ulfm_steps.proofs.append.Append.step.Goals as goal
 use Rattle.ulfm_steps.proofs.append.Append.step.Goals.{After-eq, then-self+in-Err, else-self+in-Some}
 
@@ -22,6 +22,26 @@ goes g c = elim c.if-self.branch [
   | then-self+in-Err w ↦ let t = w.in-Err.ensures.tries in rw w.pass-is (record { of = t.of; did = t.outcome; onward = omega (arith, t.steps); steps = omega (arith, t.steps) })
   | else-self+in-Some w ↦ let l = w.load_item.ensures.loads in rw w.pass-is (record { of = l.of; did = l.did; onward = omega (arith, l.steps); steps = omega (arith, l.steps) })
 ]
+
+-- .. and it was one step
+took : (g : _) (c : After-eq g) (after : ℕ) → after + 1 ≤ turns_left (room c.args.self.now.item (g.W.Words.name c.args.words.now).limits) c.args.self.now
+    → Takes false (place_at c.args.self.now.item c.args.self.now.index) (not c.args.self.now.empty) (turns_left (room c.args.self.now.item (g.W.Words.name c.args.words.now).limits) c.args.self.now) after (g.W.Words.sight c.args.pass.now) (g.W.Words.sight c.if-self.pass)
+took g c after fewer =
+    let a = c.args.self.now in
+    let name = g.W.Words.name c.args.words.now in
+    let before = turns_left (room a.item name.limits) a in
+    let place = place_at a.item a.index in
+    let old = g.W.Words.sight c.args.pass.now in
+    elim c.if-self.branch [
+      | then-self+in-Err w ↦
+          subst (λ p. Takes false place (not a.empty) before after old (g.W.Words.sight p)) (sym w.pass-is)
+          (subst (λ b. Takes false place b before after old (g.W.Words.sight w.set_item.new.pass)) (sym (ap not w.if-self.true))
+          (takes_exchange g.P.Meld.meld g.P.Packed.pack g.W.Words.alone name place old (g.W.Words.sight w.set_item.new.pass) _ _ before after w.in-Err.ensures.tries fewer))
+      | else-self+in-Some w ↦
+          subst (λ p. Takes false place (not a.empty) before after old (g.W.Words.sight p)) (sym w.pass-is)
+          (subst (λ b. Takes false place b before after old (g.W.Words.sight w.load_item.new.pass)) (sym (ap not w.if-self.false))
+          (takes_load g.P.Meld.meld g.P.Packed.pack g.W.Words.alone name place old (g.W.Words.sight w.load_item.new.pass) place before after w.load_item.ensures.loads refl fewer))
+    ]
 
 stands : (g : _) (c : After-eq g) → slice_get (items c.args.self.now.item (g.W.Words.sight c.if-self.pass).seen) c.args.self.now.index ≡ Some c.if-self.standing
 stands g c = elim c.if-self.branch [
@@ -48,3 +68,17 @@ pub returns-clause-passed : goal.returns-clause-passed
 returns-clause-passed g c =
     let other : c.if-self.standing ≢ c.args.self.now.item = search rules in
     passed g (goal.at.returns-clause-passed g c).After-eq other
+
+pub returns-then-eq-clause-takes : goal.returns-then-eq-clause-takes
+returns-then-eq-clause-takes g c =
+    took g (goal.at.returns-then-eq-clause-takes g c).After-eq 0 (turns_some (room c.args.self.now.item (g.W.Words.name c.args.words.now).limits) c.args.self.now c.requires.more)
+
+pub returns-then-self-room_for-clause-takes : goal.returns-then-self-room_for-clause-takes
+returns-then-self-room_for-clause-takes g c =
+    took g (goal.at.returns-then-self-room_for-clause-takes g c).After-eq 0 (turns_some (room c.args.self.now.item (g.W.Words.name c.args.words.now).limits) c.args.self.now c.requires.more)
+
+pub returns-clause-takes : goal.returns-clause-takes
+returns-clause-takes g c =
+    let a = c.args.self.now in
+    let places = room a.item (g.W.Words.name c.args.words.now).limits in
+    took g (goal.at.returns-clause-takes g c).After-eq (turns_left places (record a { index = a.index + 1; empty = false })) (turns_fall places a c.requires.more)

@@ -1,10 +1,11 @@
-use Rattle.std.proofs.Common.{◌≡◌, ◌+◌, true, false, cond, [], subst, ap, sym, ◌∙◌}
+use Rattle.std.proofs.Common.{◌≡◌, ℕ, ◌+◌, ◌≤◌, true, false, cond, [], ◌∷◌, length, length-append, subst, ap, sym, ◌∙◌, arith}
 use Rattle.std.specs.List.{list_all}
 use Rattle.ulfm_model.specs.History.{has_arrived}
+use Rattle.ulfm_model.specs.declared.place.Place.TheVariants.{Arrival as ArrivalAt}
 use Rattle.ulfm_words.proofs.Trails.{did_prefix}
-use Rattle.ulfm_steps.specs.Arriving.{AtArrival, MissingAre, asked_before, rank_at}
+use Rattle.ulfm_steps.specs.{Arriving.{AtArrival, MissingAre, arrivals_left, asked_before, rank_at}, Turns.{Takes}}
 use Rattle.ulfm_steps.specs.declared.arrivals.Missing.TheVariants.{Others, Declared}
-use Rattle.ulfm_steps.proofs.{Arriving.{arrived_further, asked_member, at_arrival_next, at_arrival_stays, missing_found, nobody_missing}, Groups.{round_rises}, Reading.{member_within}}
+use Rattle.ulfm_steps.proofs.{Arriving.{arrived_further, asked_left, asked_member, asked_next, at_arrival_next, at_arrival_stays, missing_found, nobody_missing}, Groups.{round_rises}, Reading.{member_within}, Turning.{takes_load}}
 use Rattle.ulfm_steps.proofs.arrivals.Arrivals.step.Goals as goal
 use Rattle.ulfm_steps.proofs.arrivals.Arrivals.step.Goals.{Joined-self, After-load_arrival, then-self, else-self}
 
@@ -78,3 +79,36 @@ returns-clause-are g c =
     let all = came g (goal.at.returns-clause-are g c).After-load_arrival c.if-not-load_arrival.false in
     nobody_missing (g.W.Words.sight c.load_arrival.new.pass).seen a.comm a.round c.args.group.now c.args.declared.now (asked_before c.args.group.now c.args.declared.now a.others (a.next + 1))
     (asked_before c.args.group.now c.args.declared.now c.move_on.new.self.others c.move_on.new.self.next) all e.none_between c.if-move_on.ensures.next
+
+-- it is one step, after which fewer are left
+took : (g : _) (c : After-load_arrival g) (after : ℕ) → after + 1 ≤ arrivals_left c.args.group.now c.args.declared.now c.args.self.now
+    → Takes false (ArrivalAt c.args.self.now.comm c.args.self.now.round (rank_at c.args.group.now c.args.declared.now c.args.self.now.others c.args.self.now.next)) true (arrivals_left c.args.group.now c.args.declared.now c.args.self.now) after (g.W.Words.sight c.args.pass.now) (g.W.Words.sight c.load_arrival.new.pass)
+took g c after fewer =
+    let a = c.args.self.now in
+    takes_load g.P.Meld.meld g.P.Packed.pack g.W.Words.alone (g.W.Words.name c.args.words.now) (ArrivalAt a.comm a.round c.if-self.rank) (g.W.Words.sight c.args.pass.now) (g.W.Words.sight c.load_arrival.new.pass)
+    (ArrivalAt a.comm a.round (rank_at c.args.group.now c.args.declared.now a.others a.next)) (arrivals_left c.args.group.now c.args.declared.now a) after c.load_arrival.ensures.loads
+    (ap (λ r. ArrivalAt a.comm a.round r) (rank_is g (goal.at.After-load_arrival g c).Joined-self)) fewer
+
+-- one was left, at least
+one_left : (g : _) (c : After-load_arrival g) → 1 ≤ arrivals_left c.args.group.now c.args.declared.now c.args.self.now
+one_left g c = let left = asked_left c.args.group.now c.args.declared.now c.args.self.now.others c.args.self.now.next c.requires.at.asked in omega (arith, left)
+
+pub returns-then-self-2-clause-takes : goal.returns-then-self-2-clause-takes
+returns-then-self-2-clause-takes g c = let at = (goal.at.returns-then-self-2-clause-takes g c).After-load_arrival in took g at 0 (one_left g at)
+
+pub returns-else-self-2-clause-takes : goal.returns-else-self-2-clause-takes
+returns-else-self-2-clause-takes g c = let at = (goal.at.returns-else-self-2-clause-takes g c).After-load_arrival in took g at 0 (one_left g at)
+
+pub returns-then-move_on-clause-takes : goal.returns-then-move_on-clause-takes
+returns-then-move_on-clause-takes g c =
+    let at = (goal.at.returns-then-move_on-clause-takes g c).After-load_arrival in
+    let a = c.args.self.now in
+    let group = c.args.group.now in
+    let declared = c.args.declared.now in
+    let left = asked_left group declared a.others a.next c.requires.at.asked in
+    let next = ap length (c.move_on.ensures.none_between ∙ asked_next group declared a.others a.next c.requires.at.asked) in
+    let longer = length-append (asked_before group declared a.others a.next) (rank_at group declared a.others a.next ∷ []) in
+    took g at (arrivals_left group declared c.move_on.new.self) (omega (arith, left, next, longer))
+
+pub returns-clause-takes : goal.returns-clause-takes
+returns-clause-takes g c = let at = (goal.at.returns-clause-takes g c).After-load_arrival in took g at 0 (one_left g at)

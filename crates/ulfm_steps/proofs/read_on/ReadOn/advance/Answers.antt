@@ -1,4 +1,4 @@
-use Rattle.std.proofs.Common.{◌≡◌, ◌≤◌, [], length, vec_len, arith, rules}
+use Rattle.std.proofs.Common.{◌≡◌, ◌≤◌, [], length, vec_len, refl, arith, rules}
 use Rattle.ulfm_model.specs.History.{failures}
 use Rattle.ulfm_model.proofs.Lists.{length_prefix, prefix_trans}
 use Rattle.ulfm_words.proofs.{Ranks.{failures_le}, Trails.{did_prefix, did_wait}}
@@ -24,7 +24,7 @@ returns-then-not-whole-clause-goes g c =
       of = e.goes.of;
       did = did_wait g.W.Words.alone [] (g.W.Words.sight c.args.pass.now).seen (g.W.Words.sight c.loop-self.pass).seen (g.W.Words.sight c.step.new.pass).seen i.did e.goes.did;
       onward = omega (arith, i.onward, e.goes.onward);
-      steps = omega (arith, i.steps, e.one, e.further, all);
+      steps = omega (arith, i.steps, (e.takes.one refl).steps, e.further, all);
     }
 
 pub loop-self-smaller : goal.loop-self-smaller
@@ -44,7 +44,7 @@ loop-self-preserved g c =
       at = e.at;
       more = fewer_found c.is_done.result c.step.new.self.found c.args.count c.is_done.ensures c.if-is_done.false e.at.few;
       goes_on = prefix_trans c.args.seen.now.items c.loop-self.seen.items c.step.new.seen.items i.goes_on e.goes_on;
-      steps = omega (arith, i.steps, e.one, e.further);
+      steps = omega (arith, i.steps, (e.takes.one refl).steps, e.further);
       onward = omega (arith, i.onward, e.goes.onward);
       first = λ single. let whole = c.if-not-whole.false in absurd (cc (whole, single));
       room = omega (arith, i.room, e.room);

@@ -1,10 +1,11 @@
-use Rattle.std.proofs.Common.{◌≡◌, ◌<◌, ◌+◌, cond, [], ◌∷◌, ◌++◌, length, slice_get, refl, ap, sym, ◌∙◌, arith, rules, length-append}
+use Rattle.std.proofs.Common.{◌≡◌, ◌<◌, ◌+◌, ◌-◌, cond, [], ◌∷◌, ◌++◌, length, slice_get, refl, ap, sym, ◌∙◌, arith, rules, length-append}
 use Rattle.std.proofs.lemmas.Grind.{common_steps}
 use mathlib.Core.List.{IsPrefix}
 use Rattle.ulfm_model.specs.History.{failures, has}
+use Rattle.ulfm_model.specs.declared.place.Place.TheVariants.{List as ListAt}
 use Rattle.ulfm_model.proofs.{Histories.{failures_begin}, Lists.{prefix_trans}}
 use Rattle.ulfm_words.proofs.{Ranks.{failures_le}, Trails.{did_prefix}}
-use Rattle.ulfm_steps.proofs.{Looking.{more_found}, ReadingOn.{list_goes_on, no_end, rank_further}}
+use Rattle.ulfm_steps.proofs.{Looking.{more_found}, ReadingOn.{list_goes_on, no_end, rank_further}, Turning.{takes_load}}
 use Rattle.ulfm_steps.proofs.read_on.ReadOn.step.Goals as goal
 use Rattle.ulfm_steps.proofs.read_on.ReadOn.step.Goals.{After-len, After-load_failure, After-push}
 
@@ -72,3 +73,14 @@ returns-clause-begins g c =
     let later = failures (g.W.Words.sight c.load_failure.new.pass).seen in
     let begins = prefix_trans c.args.seen.now.items whole later c.requires.may.begins (grown g all.After-load_failure) in
     rw (pushed g all.After-push) (more_found c.args.seen.now.items later c.in-Some.rank begins (loaded g all.After-load_failure ∙ c.in-Some.is))
+
+pub returns-clause-takes : goal.returns-clause-takes
+returns-clause-takes g c =
+    let all = goal.at.returns-clause-takes g c in
+    let limits = (g.W.Words.name c.args.words.now).limits in
+    let left = room_left g all.After-len in
+    let size : c.len.result ≡ length c.args.seen.now.items = search rules in
+    let longer = ap length (pushed g all.After-push) ∙ length-append c.args.seen.now.items (c.in-Some.rank ∷ []) in
+    takes_load g.P.Meld.meld g.P.Packed.pack g.W.Words.alone (g.W.Words.name c.args.words.now) (ListAt c.len.result) (g.W.Words.sight c.args.pass.now) (g.W.Words.sight c.load_failure.new.pass)
+    (ListAt (length c.args.seen.now.items)) (limits.ranks - length c.args.seen.now.items) (limits.ranks - length c.push.new.self.items) c.load_failure.ensures.loads (ap (λ i. ListAt i) size)
+    (omega (arith, left, size, longer))

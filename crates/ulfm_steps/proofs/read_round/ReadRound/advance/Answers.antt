@@ -1,4 +1,4 @@
-use Rattle.std.proofs.Common.{◌≡◌, ◌+◌, [], subst, ◌∙◌, arith}
+use Rattle.std.proofs.Common.{◌≡◌, ◌+◌, [], refl, subst, ◌∙◌, arith}
 use Rattle.std.specs.Prelude.{MatchBool}
 use Rattle.ulfm_words.proofs.Trails.{did_prefix, did_wait}
 use Rattle.ulfm_steps.proofs.Reading.{round_stays}
@@ -22,6 +22,6 @@ loop-reading-preserved g c =
       onward = omega (arith, inv.onward, one);
       within = omega (arith, inv.within, one, c.loop-reading-test.true);
       read = rw (e.comm, e.round) e.read;
-      steps = omega (arith, inv.steps, e.one, one);
+      steps = omega (arith, inv.steps, (e.takes.one refl).steps, one);
       first = λ not. absurd (cc (not, c.if-not-whole.false));
     }
