@@ -3,7 +3,7 @@
 ghost use Rattle.std.specs.Prelude.{◌≡◌, ◌<◌, ◌≤◌, ◌+◌, ◌++◌, ◌∷◌, [], false, true, length, slice_index};
 ghost use Rattle.std.specs.List.Sorted.{IsStrictlyIncreasing};
 ghost use Rattle.ulfm_words.specs.Steps.{IsOf};
-ghost use Rattle.ulfm_steps.specs.Marks.{HasMarked, MarksOnce, MarkSteps, MayMarkAll, members_in, IsNext, IsAt};
+ghost use Rattle.ulfm_steps.specs.Marks.{HasMarked, MarksOnce, MarksTake, MarkSteps, MayMarkAll, members_in, IsNext, IsAt};
 
 use crate::group::is_member;
 use std::alloc::Allocator;
@@ -72,7 +72,7 @@ impl MarkAll {
         requires may { MayMarkAll (W.name words.now).limits (W.sight pass.old).seen self.old.comm self.old.round group.now declared.now }
         requires at { IsAt group.now declared.now self.old.next self.old.known }
         requires more { self.old.next < length declared.now }
-        ensures one { (W.sight pass.new).steps ≡ (W.sight pass.old).steps + 1 }
+        ensures takes { MarksTake false group.now declared.now self.old self.new (W.sight pass.old) (W.sight pass.new) }
         ensures rank { self.new.rank ≡ self.old.rank }
         ensures comm { self.new.comm ≡ self.old.comm }
         ensures round { self.new.round ≡ self.old.round }
@@ -106,8 +106,7 @@ impl MarkAll {
         requires may { MayMarkAll (W.name words.now).limits (W.sight pass.old).seen self.old.comm self.old.round group.now declared.now }
         requires at { IsAt group.now declared.now self.old.next self.old.known }
         requires more { self.old.next < length declared.now }
-        ensures one { whole ≡ false → (W.sight pass.new).steps ≡ (W.sight pass.old).steps + 1 }
-        ensures more { (W.sight pass.old).steps < (W.sight pass.new).steps }
+        ensures takes { MarksTake whole group.now declared.now self.old self.new (W.sight pass.old) (W.sight pass.new) }
         ensures rank { self.new.rank ≡ self.old.rank }
         ensures comm { self.new.comm ≡ self.old.comm }
         ensures round { self.new.round ≡ self.old.round }
