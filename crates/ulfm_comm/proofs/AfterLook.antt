@@ -1,5 +1,5 @@
 -- What comes after the look of a call.
-use Rattle.std.proofs.Common.{◌≡◌, ℕ, ◌<◌, ◌==◌, Bool, true, false, not, List, [], ◌∷◌, length, filter, max, min, Option, Some, None, is_some, refl, ap, ap₂, sym, ◌∙◌, subst, arith, inr, IsTrue, if◌then◌else◌}
+use Rattle.std.proofs.Common.{◌≡◌, ℕ, ◌<◌, ◌≤◌, ◌==◌, Bool, true, false, not, List, [], ◌∷◌, length, filter, max, min, Option, Some, None, is_some, refl, ap, ap₂, sym, ◌∙◌, subst, arith, inr, IsTrue, if◌then◌else◌}
 use Rattle.std.specs.List.{AllByRecursion}
 use Rattle.ulfm_laws.specs.declared.ctx_mask.CtxMask.{CtxMask}
 use Rattle.ulfm_model.specs.declared.call.Call.TheVariants as call
@@ -71,11 +71,11 @@ module _ {P : Type 0} (meld : P → P → P) (alone : Bool) (name : Name) (asked
 
 module _ {P : Type 0} (meld : P → P → P) (alone : Bool) (name : Name) (asked : Call P) (old : Record) (before : Sight P) (mid : Record) (now : Sight P) (j : JustLooked meld alone name asked old before mid now) (of : IsOf meld name now) where
   pub just_fits : Fits meld name.limits now.seen mid
-  just_fits = looked_fits meld alone name before now old mid of j.fits j.looked
+  just_fits = looked_fits meld alone name before now j.onward old mid of j.fits j.looked
 
   -- on a communicator that the rank doesn't hold
   pub just_missing : held_at mid (comm_of asked) ≡ None → Answered meld alone name asked old before (Refused NoSuchComm) mid now
-  just_missing missing = answered_by meld alone name asked old before mid now (Refused NoSuchComm) refl (λ is. absurd (cc is)) (calls_missing meld alone name before now asked old mid of j.fits j.looked missing)
+  just_missing missing = answered_by meld alone name asked old before mid now (Refused NoSuchComm) refl (λ is. absurd (cc is)) (calls_missing meld alone name before now j.onward asked old mid of j.fits j.looked missing)
 
   module _ (x : Held) (held : held_at mid (comm_of asked) ≡ Some x) where
     pub tests_before : tests_of mid x asked ≡ tests_of old x asked
@@ -88,7 +88,7 @@ module _ {P : Type 0} (meld : P → P → P) (alone : Bool) (name : Name) (asked
         let first : first_refusal (tests_of old x asked) ≡ Some refusal = sym (ap first_refusal tests_before) ∙ is in
         let at = held_before meld name.limits alone before.seen now.seen old mid j.looked (comm_of asked) (Some x) held in
         answered_by meld alone name asked old before mid now (Refused refusal) mild.1 (λ same. absurd (cc same))
-        (calls_is meld alone name before now asked old (Refused refusal) mid of j.fits
+        (calls_is meld alone name before now j.onward asked old (Refused refusal) mid of j.fits
         (refused meld name.limits alone before.seen now.seen old mid j.looked asked refusal mid of.legal
         (by_tests meld alone name before now asked old mid j.fits j.looked x held (Some refusal) first)
         (sym (ap (λ (e : Effect). left_with mid (comm_of asked) e) mild.0))
@@ -113,7 +113,7 @@ module _ {P : Type 0} (meld : P → P → P) (alone : Bool) (name : Name) (rank 
   pub just_counted : (n : ℕ) → n ≡ length (filter (has x.group) mid.seen) → JustLooked meld alone name (call.GetFailed rank c) old before mid now → Answered meld alone name (call.GetFailed rank c) old before (FailedGroup n) mid now
   just_counted n is j =
       answered_by meld alone name (call.GetFailed rank c) old before mid now (FailedGroup n) refl (λ same. absurd (cc same))
-      (calls_is meld alone name before now (call.GetFailed rank c) old (FailedGroup n) mid of j.fits
+      (calls_is meld alone name before now j.onward (call.GetFailed rank c) old (FailedGroup n) mid of j.fits
       (get_failed_is meld name.limits alone before.seen now.seen old mid j.looked of.legal (just_fits meld alone name (call.GetFailed rank c) old before mid now j of) rank c x held n mid
       (is ∙ ap (λ (w : Record). length (filter (has x.group) w.seen)) j.looked.record_is) refl))
 
@@ -122,7 +122,7 @@ module _ {P : Type 0} (meld : P → P → P) (alone : Bool) (name : Name) (rank 
       → Answered meld alone name (call.Ack rank c count) old before (Acked n) new now
   just_acked count n new is left j =
       answered_by meld alone name (call.Ack rank c count) old before new now (Acked n) refl (λ same. absurd (cc same))
-      (calls_is meld alone name before now (call.Ack rank c count) old (Acked n) new of j.fits
+      (calls_is meld alone name before now j.onward (call.Ack rank c count) old (Acked n) new of j.fits
       (ack_failed_is meld name.limits alone before.seen now.seen old mid j.looked of.legal (just_fits meld alone name (call.Ack rank c count) old before mid now j of) rank c x held count n new
       (is ∙ ap (λ (w : Record). max x.acked (min count (length (filter (has x.group) w.seen)))) j.looked.record_is) left))
 
@@ -131,13 +131,13 @@ module _ {P : Type 0} (meld : P → P → P) (alone : Bool) (name : Name) (rank 
       → Answered meld alone name (call.Free rank c) old before Freed new now
   just_freed new passed left j =
       answered_by meld alone name (call.Free rank c) old before new now Freed refl (λ same. absurd (cc same))
-      (calls_freed meld alone name before now rank c old mid new of j.fits j.looked x held (sym (ap first_refusal (tests_before meld alone name (call.Free rank c) old before mid now j of x held)) ∙ passed) left)
+      (calls_freed meld alone name before now j.onward rank c old mid new of j.fits j.looked x held (sym (ap first_refusal (tests_before meld alone name (call.Free rank c) old before mid now j of x held)) ∙ passed) left)
 
 -- a rank that its look finds declared
-pub just_declared : {P : Type 0} (meld : P → P → P) (alone : Bool) (name : Name) (asked : Call P) (old : Record) (before : Sight P) (new : Record) (now : Sight P) → IsOf meld name now → Fits meld name.limits before.seen old → old.refused ≡ false
+pub just_declared : {P : Type 0} (meld : P → P → P) (alone : Bool) (name : Name) (asked : Call P) (old : Record) (before : Sight P) (new : Record) (now : Sight P) → before.steps ≤ now.steps → IsOf meld name now → Fits meld name.limits before.seen old → old.refused ≡ false
     → Did alone [] before.seen now.seen → IsTrue (has (failures now.seen) old.number) → new ≡ record old { seen = failures now.seen; refused = true } → Answered meld alone name asked old before (Refused SelfFailed) new now
-just_declared meld alone name asked old before new now of fits in_use did declared is =
-    answered_by meld alone name asked old before new now (Refused SelfFailed) refl (λ same. absurd (cc same)) (calls_declared meld alone name before now asked old new of fits in_use did declared is)
+just_declared meld alone name asked old before new now onward of fits in_use did declared is =
+    answered_by meld alone name asked old before new now (Refused SelfFailed) refl (λ same. absurd (cc same)) (calls_declared meld alone name before now onward asked old new of fits in_use did declared is)
 
 -- a rank's call is in its own name
 same_rank : (rank r : ℕ) → Rank rank ≡ Rank r → rank ≡ r

@@ -1,20 +1,21 @@
 -- The poll of a barrier.
-use Rattle.std.proofs.Common.{◌≡◌, ◌⊎◌, ℕ, ◌<◌, Bool, true, false, not, List, [], ◌∷◌, filter, Some, is_some, refl, ap, ap₂, sym, ◌∙◌, subst, arith, inl, inr, if◌then◌else◌}
+use Rattle.std.proofs.Common.{◌≡◌, ◌⊎◌, ℕ, ◌<◌, ◌≤◌, Bool, true, false, not, List, [], ◌∷◌, filter, Some, is_some, refl, ap, ap₂, sym, ◌∙◌, subst, arith, inl, inr, if◌then◌else◌}
 use Rattle.std.specs.Prelude.{Err}
 use Rattle.std.specs.List.{list_all}
 use Rattle.std.proofs.lemmas.List.Elements.{Contains-push_cases}
 use Rattle.ulfm_model.specs.declared.call.Call.TheVariants as call
-use Rattle.ulfm_model.specs.declared.{call.Call.{Call}, call.Request.TheVariants.{Barrier}, event.Caller.TheVariants.{Rank}, event.Entry.{Entry}, event.Event.TheVariants.{Arrive}, limits.Limits.{Limits}, refusal.Refusal.TheVariants.{Idle, IsRevoked, ProcFailed}, reply.Reply.{Reply}, reply.Reply.TheVariants.{Done, FailedGroup, Pending, Refused}}
+use Rattle.ulfm_model.specs.declared.{call.Call.{Call}, call.Request.TheVariants.{Barrier}, event.Caller.TheVariants.{Rank}, event.Entry.{Entry}, event.Event.TheVariants.{Arrive}, limits.Limits.{Limits}, refusal.Refusal.TheVariants.{Idle, IsRevoked, ProcFailed}, reply.Reply.{Reply}, reply.Reply.TheVariants.{Done, Pending, Refused}}
 use Rattle.ulfm_model.specs.{Answers.{PollReplies, View, barrier_reply, closed, first_refusal, left_by, polled_by, refusal_on}, History.{History, IsLegal, MayFollow, failures, has, has_arrived, is_revoked}, Records.{Fits, FitsRequest, Record, held_at}, Runs.{Did, unsettled_of}}
 use Rattle.ulfm_model.specs.Terms.{IsOwn, contexts_of, request_of}
 use Rattle.ulfm_model.proofs.{Histories.{by_events}}
 use Rattle.ulfm_words.specs.Steps.{IsOf, Name, Sight}
-use Rattle.ulfm_words.proofs.Trails.{did_prefix}
+use Rattle.ulfm_words.proofs.Trails.{did_prefix, did_wait}
+use Rattle.ulfm_steps.proofs.Arriving.{arrivals_stay}
 use Rattle.ulfm_steps.specs.Rounds.{IsRoundOf}
 use Rattle.ulfm_steps.specs.Arriving.{MissingAre}
 use Rattle.ulfm_steps.specs.declared.arrivals.{Missing.{Missing}, Missing.TheVariants.{Nobody, Others, Declared}}
 use Rattle.ulfm_comm.specs.{Barriers.{Awaits, missing_leaves, missing_reply}, Calls.{Calls}, Ends.{IsEndRun}, Looked.{Looked}, Polls.{Polls}}
-use Rattle.ulfm_comm.proofs.{Calling.{calls_is, calls_waited}, Revoking.{standing_before}, Holding.{comm_is, exists_is, group_is, holds}, Replying.{held_before, replied}}
+use Rattle.ulfm_comm.proofs.{Calling.{calls_early, calls_is}, Revoking.{standing_before}, Holding.{comm_is, exists_is, group_is, holds}, Replying.{held_before, replied}}
 
 -- an arrival of a legal history is in a round that there is
 arrived_in_rounds : {P : Type 0} (meld : P → P → P) (limits : Limits) (h : History P) → IsLegal meld limits h → (c k r : ℕ) → IsOwn h r (Arrive c k r) → k < limits.rounds
@@ -81,26 +82,38 @@ module _ {P : Type 0} (meld : P → P → P) (limits : Limits) (alone : Bool) (b
     barrier_waits Others new standing are left = barrier_run Pending new (by_tests false false true standing are.0 are.1) left
     barrier_waits Declared new standing are left = barrier_run (Refused ProcFailed) new (by_tests false false false standing are.0 are.1) left
 
--- it counts no failures
-missing_counts_none : {P : Type 0} (missing : Missing) (count : ℕ) → missing_reply {P = P} missing ≡ FailedGroup count → ⊥
-missing_counts_none Nobody count is = absurd (cc is)
-missing_counts_none Others count is = absurd (cc is)
-missing_counts_none Declared count is = absurd (cc is)
-
 -- what the poll of a barrier promises
 module _ {P : Type 0} (meld : P → P → P) (alone : Bool) (name : Name) (before look after : Sight P) (old mid : Record) (fits : Fits meld name.limits before.seen old) (looked : Looked alone before.seen look.seen old mid)
-    (c k : ℕ) (a : Awaits meld name.limits look.seen c k mid) (of : IsOf meld name after) where
+    (c k : ℕ) (a : Awaits meld name.limits look.seen c k mid) (of : IsOf meld name after) (onward : before.steps ≤ after.steps) where
   -- where the communicator is revoked at its end
   pub polls_revoked : (new : Record) → Did alone [] look.seen after.seen → is_revoked after.seen c ≡ true → new ≡ closed mid c → Polls meld alone name (call.Poll old.number c) old before (Err IsRevoked) new after
   polls_revoked new did is left =
-      let called = calls_is meld alone name before after (call.Poll old.number c) old (Refused IsRevoked) new of fits (barrier_revoked meld name.limits alone before.seen look.seen old mid looked c k a after.seen did of.legal new is left) in
+      let called = calls_is meld alone name before after onward (call.Poll old.number c) old (Refused IsRevoked) new of fits (barrier_revoked meld name.limits alone before.seen look.seen old mid looked c k a after.seen did of.legal new is left) in
       record { of = called.of; fits = called.fits; run = called; memory = λ out. absurd (cc out) }
 
-  -- where it isn't, by who was missing before the last load
+  -- where it isn't, and somebody was missing before the last load
+  calls_waiting_at : (point : History P) (group fs : List ℕ) (missing : Missing) (new : Record) → Did alone [] look.seen point → IsLegal meld name.limits point → Did alone [] point after.seen → is_revoked after.seen c ≡ false
+      → group ≡ a.x.group → fs ≡ mid.seen → MissingAre point c k group fs missing → new ≡ missing_leaves mid c missing → (missing_reply {P = P} missing ≡ Pending) ⊎ (missing_reply {P = P} missing ≡ Refused ProcFailed)
+      → Calls meld alone name (call.Poll old.number c) old before (missing_reply missing) new after
+  calls_waiting_at point group fs missing new did legal wait standing same seen are left early =
+      let found = seen ∙ ap (λ (r : Record). r.seen) looked.record_is in
+      calls_early meld alone name before after onward (call.Poll old.number c) old (missing_reply missing) new of fits (record {
+        found = point;
+        run =
+            barrier_waits meld name.limits alone before.seen look.seen old mid looked c k a point did legal missing new (standing_before point after.seen c (did_prefix alone [] point after.seen wait) standing)
+            (subst (λ w. MissingAre point c k w (failures look.seen) missing) same (subst (λ w. MissingAre point c k group w missing) found are)) left;
+        waited = wait;
+        round = k;
+        open_is = barrier_polled meld name.limits alone before.seen look.seen old mid looked c k a;
+        missing = early;
+      })
+
+  -- the same, by who was missing; where nobody was, nobody is at the end
   pub calls_missing_at : (point : History P) (group fs : List ℕ) (missing : Missing) (new : Record) → Did alone [] look.seen point → IsLegal meld name.limits point → Did alone [] point after.seen → is_revoked after.seen c ≡ false
       → group ≡ a.x.group → fs ≡ mid.seen → MissingAre point c k group fs missing → new ≡ missing_leaves mid c missing → Calls meld alone name (call.Poll old.number c) old before (missing_reply missing) new after
-  calls_missing_at point group fs missing new did legal wait standing same seen are left =
-      let found = seen ∙ ap (λ (r : Record). r.seen) looked.record_is in
-      calls_waited meld alone name before after (call.Poll old.number c) old (missing_reply missing) new point of fits
-      (barrier_waits meld name.limits alone before.seen look.seen old mid looked c k a point did legal missing new (standing_before point after.seen c (did_prefix alone [] point after.seen wait) standing)
-      (subst (λ w. MissingAre point c k w (failures look.seen) missing) same (subst (λ w. MissingAre point c k group w missing) found are)) left) wait (missing_counts_none missing)
+  calls_missing_at point group fs Nobody new did legal wait standing same seen are left =
+      calls_is meld alone name before after onward (call.Poll old.number c) old Done new of fits
+      (barrier_waits meld name.limits alone before.seen look.seen old mid looked c k a after.seen (did_wait alone [] look.seen point after.seen did wait) of.legal Nobody new standing
+      (subst (λ w. MissingAre after.seen c k w (failures look.seen) Nobody) same (arrivals_stay point after.seen c k group (did_prefix alone [] point after.seen wait) are)) left)
+  calls_missing_at point group fs Others new did legal wait standing same seen are left = calls_waiting_at point group fs Others new did legal wait standing same seen are left (inl refl)
+  calls_missing_at point group fs Declared new did legal wait standing same seen are left = calls_waiting_at point group fs Declared new did legal wait standing same seen are left (inr refl)

@@ -1,65 +1,119 @@
 -- What a call promises, by its run.
-use Rattle.std.proofs.Common.{◌≡◌, ℕ, Bool, true, false, List, [], None, refl, ap, sym, ◌∙◌, subst, append-nil, inr, IsTrue}
+use Rattle.std.proofs.Common.{◌≡◌, ◌⊎◌, ℕ, ◌≤◌, Bool, true, false, List, [], None, refl, ap, sym, ◌∙◌, subst, append-nil, inl, inr, IsTrue}
 use Rattle.std.specs.List.{AllByRecursion}
 use mathlib.Core.List.{IsPrefix}
-use Rattle.ulfm_model.specs.declared.{call.Call.{Call}, event.Caller.TheVariants.{Rank}, event.Event.{Event}, refusal.Refusal.TheVariants.{NoSuchComm, SelfFailed}, reply.Reply.{Reply}, reply.Reply.TheVariants.{FailedGroup, Refused}}
-use Rattle.ulfm_model.specs.{Answers.{MayOwn, Sees, polled_by, refusal_of}, History.{History, entries_by, failures, has, spawns}, Records.{Fits, Record, held_at, is_shrink}, Runs.{Did, IsRun}}
+use Rattle.ulfm_model.specs.declared.{call.Call.{Call}, event.Caller.TheVariants.{Rank}, event.Event.{Event}, limits.Limits.{Limits}, refusal.Refusal.TheVariants.{NoSuchComm, ProcFailed, SelfFailed}}
+use Rattle.ulfm_model.specs.declared.{reply.Reply.{Reply}, reply.Reply.TheVariants.{FailedGroup, Pending, Refused}}
+use Rattle.ulfm_model.specs.{Answers.{MayOwn, Sees, polled_by, refusal_of}, History.{History, IsLegal, entries_by, failures, has, spawns}, Records.{Fits, Record, held_at, is_shrink}, Runs.{Did, IsAloneRun, IsCall, IsRun}}
 use Rattle.ulfm_model.specs.Terms.{comm_of}
 use Rattle.ulfm_model.proofs.{LeftFits.{fits_seen}, LeftRuns.{call_fits}, Lists.{prefix_trans}, Stable.{fits_stays}}
 use Rattle.ulfm_words.specs.Steps.{IsOf, Name, Sight}
 use Rattle.ulfm_words.proofs.Trails.{did_none, did_prefix, did_quiet, did_wait}
-use Rattle.ulfm_comm.specs.{Calls.{Calls, RunsOut}, Ends.{IsAloneCall, IsEndRun}, Looked.{Looked}}
+use Rattle.ulfm_comm.specs.{Calls.{Calls, RunsOut}, Ends.{IsEarlyRun, IsEndRun, IsRefusedAgain}, Looked.{Looked}}
 use Rattle.ulfm_comm.proofs.ReplyKinds.{counted_seen}
-use Rattle.ulfm_comm.proofs.Replying.{alone_of, call_of, refused_missing, sees_later, self_failed}
+use Rattle.ulfm_comm.proofs.Replying.{refused_missing, sees_later, self_failed, view_at}
 
-module _ {P : Type 0} (meld : P → P → P) (alone : Bool) (name : Name) (before after : Sight P) where
-  -- a call with its point at its end
-  pub calls_is : (asked : Call P) (old : Record) (reply : Reply P) (new : Record) → IsOf meld name after → Fits meld name.limits before.seen old
-      → IsEndRun meld name.limits alone before.seen after.seen old asked reply new → Calls meld alone name asked old before reply new after
-  calls_is asked old reply new of fits ended =
-      let called = call_of meld name.limits alone before.seen after.seen old asked reply new ended in
-      record {
-        of = of;
-        fits = call_fits meld name.limits alone before.seen after.seen old asked reply new fits called;
-        run = called;
-        run_alone = alone_of meld name.limits alone before.seen after.seen old asked reply new ended;
-        no_step = λ refused. absurd (cc (refused, ended.run.in_use));
-        counts = λ count is. counted_seen meld name.limits alone before.seen after.seen old asked reply new ended.run count is ∙ ap failures ended.at_end;
-      }
+-- a call of a rank where nobody else steps: one that was refused for good before is refused again, without a step
+abbrev pub IsAloneCall : {P : Type 0} → (P → P → P) → Limits → History P → History P → Record → Call P → Reply P → Record → Type 0
+IsAloneCall meld limits before after old asked reply new =
+    (IsTrue old.refused × (after ≡ before) × (reply ≡ Refused SelfFailed) × (new ≡ old)) ⊎ IsAloneRun meld limits before after old asked reply new
 
-  -- a call with its point at the end of what it had seen before others stepped once more, that counts no failures
-  pub calls_waited : (asked : Call P) (old : Record) (reply : Reply P) (new : Record) (point : History P) → IsOf meld name after → Fits meld name.limits before.seen old
-      → IsEndRun meld name.limits alone before.seen point old asked reply new → Did alone [] point after.seen → ((count : ℕ) → reply ≡ FailedGroup count → ⊥) → Calls meld alone name asked old before reply new after
-  calls_waited asked old reply new point of fits ended wait other =
+module _ {P : Type 0} (meld : P → P → P) (limits : Limits) (alone : Bool) (before after : History P) (old : Record) (asked : Call P) (reply : Reply P) (new : Record) where
+  -- a run of which the caller saw the end, and then others' events
+  pub run_early : IsLegal meld limits after → IsEarlyRun meld limits alone before after old asked reply new → IsRun meld limits alone before after old asked reply new
+  run_early legal early =
+      let ended = early.run in
       let span = ended.run.span in
-      let run : IsRun meld name.limits alone before.seen after.seen old asked reply new = record {
+      record {
         in_use = ended.run.in_use;
         span = record {
           look = span.look;
           point = span.point;
           own = span.own;
           looked = span.looked;
-          did = did_wait alone (entries_by (Rank old.number) span.own) span.look point after.seen span.did wait;
+          did = did_wait alone (entries_by (Rank old.number) span.own) span.look early.found after span.did early.waited;
           point_begins = span.point_begins;
-          point_ends = prefix_trans span.point point after.seen span.point_ends (did_prefix alone [] point after.seen wait);
-          legal = of.legal;
+          point_ends = prefix_trans span.point early.found after span.point_ends (did_prefix alone [] early.found after early.waited);
+          legal = legal;
         };
         answer = record {
           own = ended.run.answer.own;
           replies = ended.run.answer.replies;
           leaves = record {
-            seen = sees_later (is_shrink (polled_by old asked)) (failures span.look) point after.seen new.seen (did_prefix alone [] point after.seen wait) ended.run.answer.leaves.seen;
+            seen = sees_later (is_shrink (polled_by old asked)) (failures span.look) early.found after new.seen
+                (did_prefix alone [] early.found after early.waited) ended.run.answer.leaves.seen;
             record_is = ended.run.answer.leaves.record_is;
           };
         };
-      } in
+      }
+
+  -- where nobody else steps, a run is one of the sequential object
+  pub alone_of : IsEndRun meld limits alone before after old asked reply new → IsTrue alone → IsAloneCall meld limits before after old asked reply new
+  alone_of ended here = inr (by_alone alone here ended)
+    where
+      by_alone : (b : Bool) → IsTrue b → IsEndRun meld limits b before after old asked reply new → IsAloneRun meld limits before after old asked reply new
+      by_alone true here ended = record { run = ended.run; at_end = ended.at_end; marks = ended.marks refl }
+      by_alone false here ended = absurd (cc here)
+
+-- what a call is, by its end
+module _ {P : Type 0} (meld : P → P → P) (alone : Bool) (name : Name) (asked : Call P) (old : Record) (before : Sight P) (reply : Reply P) (new : Record) (after : Sight P) (called : Calls meld alone name asked old before reply new after) where
+  -- it is one of the sequential object, among the steps of others
+  pub called_run : IsCall meld name.limits alone before.seen after.seen old asked reply new
+  called_run = by_end called.ends
+    where
+      by_end : (IsRefusedAgain old reply new × (after ≡ before)) ⊎ (IsEndRun meld name.limits alone before.seen after.seen old asked reply new ⊎ IsEarlyRun meld name.limits alone before.seen after.seen old asked reply new)
+          → IsCall meld name.limits alone before.seen after.seen old asked reply new
+      by_end (inl (again, same)) = inl (again.refused, ap (λ (w : Sight P). w.seen) same, again.reply_is, again.record_is)
+      by_end (inr (inl ended)) = inr ended.run
+      by_end (inr (inr early)) = inr (run_early meld name.limits alone before.seen after.seen old asked reply new called.of.legal early)
+
+  -- where nobody else steps, it is one of the sequential object alone
+  pub called_alone : IsTrue alone → IsAloneCall meld name.limits before.seen after.seen old asked reply new
+  called_alone here = by_end called.ends
+    where
+      by_end : (IsRefusedAgain old reply new × (after ≡ before)) ⊎ (IsEndRun meld name.limits alone before.seen after.seen old asked reply new ⊎ IsEarlyRun meld name.limits alone before.seen after.seen old asked reply new)
+          → IsAloneCall meld name.limits before.seen after.seen old asked reply new
+      by_end (inl (again, same)) = inl (again.refused, ap (λ (w : Sight P). w.seen) same, again.reply_is, again.record_is)
+      by_end (inr (inl ended)) = alone_of meld name.limits alone before.seen after.seen old asked reply new ended here
+      by_end (inr (inr early)) =
+          subst (λ h. IsAloneCall meld name.limits before.seen h old asked reply new) (sym (did_quiet alone early.found after.seen early.waited here))
+          (alone_of meld name.limits alone before.seen early.found old asked reply new early.run here)
+
+  -- one that counted failures has seen all that are declared at its end
+  pub called_counts : (count : ℕ) → reply ≡ FailedGroup count → new.seen ≡ failures after.seen
+  called_counts count is = by_end called.ends
+    where
+      by_end : (IsRefusedAgain old reply new × (after ≡ before)) ⊎ (IsEndRun meld name.limits alone before.seen after.seen old asked reply new ⊎ IsEarlyRun meld name.limits alone before.seen after.seen old asked reply new)
+          → new.seen ≡ failures after.seen
+      by_end (inl (again, same)) = let other = again.reply_is in absurd (cc (other, is))
+      by_end (inr (inl ended)) = counted_seen meld name.limits alone before.seen after.seen old asked reply new ended.run count is ∙ ap failures ended.at_end
+      by_end (inr (inr early)) = absurd (not_early early.missing)
+        where
+          not_early : (reply ≡ Pending) ⊎ (reply ≡ Refused ProcFailed) → ⊥
+          not_early (inl waits) = cc (waits, is)
+          not_early (inr failed) = cc (failed, is)
+
+module _ {P : Type 0} (meld : P → P → P) (alone : Bool) (name : Name) (before after : Sight P) (onward : before.steps ≤ after.steps) where
+  -- a call with its point at its end
+  pub calls_is : (asked : Call P) (old : Record) (reply : Reply P) (new : Record) → IsOf meld name after → Fits meld name.limits before.seen old
+      → IsEndRun meld name.limits alone before.seen after.seen old asked reply new → Calls meld alone name asked old before reply new after
+  calls_is asked old reply new of fits ended =
       record {
         of = of;
-        fits = call_fits meld name.limits alone before.seen after.seen old asked reply new fits (inr run);
-        run = inr run;
-        run_alone = λ here. subst (λ h. IsAloneCall meld name.limits before.seen h old asked reply new) (sym (did_quiet alone point after.seen wait here)) (alone_of meld name.limits alone before.seen point old asked reply new ended here);
-        no_step = λ refused. absurd (cc (refused, ended.run.in_use));
-        counts = λ count is. absurd (other count is);
+        onward = onward;
+        fits = call_fits meld name.limits alone before.seen after.seen old asked reply new fits (inr ended.run);
+        ends = inr (inl ended);
+      }
+
+  -- the poll of a barrier, with its point where somebody was found missing
+  pub calls_early : (asked : Call P) (old : Record) (reply : Reply P) (new : Record) → IsOf meld name after → Fits meld name.limits before.seen old
+      → IsEarlyRun meld name.limits alone before.seen after.seen old asked reply new → Calls meld alone name asked old before reply new after
+  calls_early asked old reply new of fits early =
+      record {
+        of = of;
+        onward = onward;
+        fits = call_fits meld name.limits alone before.seen after.seen old asked reply new fits (inr (run_early meld name.limits alone before.seen after.seen old asked reply new of.legal early));
+        ends = inr (inr early);
       }
 
   -- a rank that its look finds declared
@@ -91,6 +145,7 @@ module _ {P : Type 0} (meld : P → P → P) (alone : Bool) (name : Name) (befor
       let still = fits_stays meld name.limits before.seen after.seen old whole of.legal fits in
       record {
         of = of;
+        onward = onward;
         fits = subst (Fits meld name.limits after.seen) (sym is) (fits_seen meld name.limits after.seen old new.seen still begins);
         run_out = record {
           in_use = looked.in_use;

@@ -1,12 +1,12 @@
 -- The end of a shrink's poll, step by step.
-use Rattle.std.proofs.Common.{◌≡◌, ℕ, ◌<◌, ◌≤◌, ◌==◌, ◌&&◌, Bool, true, false, not, List, [], ◌∷◌, ◌++◌, length, take, nat_eq, Some, refl, ap, ap₂, sym, ◌∙◌, subst, append-nil, arith, inr, IsTrue}
+use Rattle.std.proofs.Common.{◌≡◌, ℕ, ◌<◌, ◌≤◌, ◌==◌, ◌&&◌, Bool, true, false, not, List, [], ◌∷◌, ◌++◌, length, take, nat_eq, Some, refl, ap, ap₂, sym, ◌∙◌, subst, append-nil, arith, inl, inr, IsTrue, Option, ◌⊎◌}
 use Rattle.std.specs.List.{AllByRecursion, list_any}
 use Rattle.std.specs.List.Sorted.{IsStrictlyIncreasing}
 use mathlib.Core.List.{IsPrefix}
 use Rattle.ulfm_laws.specs.declared.{body.Body.TheVariants.{Ctx as OfIds}, ctx_mask.CtxMask.{CtxMask}, summary.Summary.{Summary}}
 use Rattle.ulfm_model.specs.declared.call.Call.TheVariants as call
-use Rattle.ulfm_model.specs.declared.{call.Call.{Call}, event.Caller.TheVariants.{Rank}, event.Event.{Event}, limits.Limits.{Limits}, refusal.Refusal.TheVariants.{Mismatch, NoContext, NoRoom, OutOfMemory, SelfFailed}, reply.Reply.{Reply}, reply.Reply.TheVariants.{Pending, Refused, Shrunk}}
-use Rattle.ulfm_model.specs.{Answers.{closed, polled_by}, History.{History, IsLegal, entries_by, failures, has, spawns, without}, Records.{Fits, Held, IsLowestId, Record, held_at, is_shrink}, Runs.{Did}}
+use Rattle.ulfm_model.specs.declared.{call.Call.{Call}, event.Caller.TheVariants.{Rank}, event.Event.{Event}, event.Event.TheVariants.{Spawn}, limits.Limits.{Limits}, refusal.Refusal.TheVariants.{Mismatch, NoContext, NoRoom, OutOfMemory, SelfFailed}, reply.Reply.{Reply}, reply.Reply.TheVariants.{Pending, Refused, Shrunk}}
+use Rattle.ulfm_model.specs.{Answers.{CallAdds, PollAdds, closed, polled_by, traits_of}, History.{History, IsLegal, entries_by, failures, has, spawns, without}, Records.{Fits, Held, IsLowestId, Record, held_at, is_shrink}, Runs.{Did}}
 use Rattle.ulfm_model.specs.Terms.{comm_of, contexts_of, new_held}
 use Rattle.ulfm_model.proofs.{Histories.{failures_begin}, LeftFits.{fits_seen}, Lists.{length-filter-le, prefix_trans}, Stable.{fits_stays}}
 use Rattle.ulfm_words.specs.Steps.{IsOf, Name, Sight}
@@ -18,9 +18,10 @@ use Rattle.ulfm_comm.specs.declared.{doing.Made.{Made}, doing.Phase.TheVariants.
 use Rattle.ulfm_comm.specs.declared.spawned.Spawned.TheVariants as spawned
 use Rattle.ulfm_steps.specs.declared.read_on.ReadOn.{ReadOn}
 use Rattle.ulfm_steps.specs.ReadsOn.{AtFailure, MayReadOn, ReadsOn}
-use Rattle.ulfm_comm.specs.{Calls.{EndsAs, RunsOut, wants_memory}, Ends.{IsEndRun}, Shrinks.{Holds, IsFullBy, IsMadeBy, MayHold, MaySpawn, SpawnIs}, Stages.{Answered, HasReached, HasReadAll, IsDecided, Stands, Walks}}
+use Rattle.ulfm_comm.specs.{Calls.{EndsAs, RunsOut, wants_memory}, Ends.{IsEndRun}, Shrinks.{Holds, IsFullBy, IsMadeBy, MayHold, MaySpawn, SpawnIs}, Stages.{Adds, Answered, HasReached, HasReadAll, IsDecided, Makes, Stands, Walks}}
 use Rattle.ulfm_steps.proofs.ReadingOn.{passing_grow}
-use Rattle.ulfm_comm.proofs.{Calling.{calls_is, runs_out_after}, Holding.{exists_is, failed_is, group_is, group_rises}, Loosely.{did_loosely}, Members.{members_few}, Polls.{body_read, enough_read, later, not_refused, open_round, read_decided, read_fresh, polls_it}, Shrinks.{all_did, marks_make_none, may_own, sees_on, shrink_mismatch, shrink_no_context, shrink_no_room, shrink_self_failed, shrink_shrunk}}
+use Rattle.ulfm_comm.proofs.Adding.{adds_none}
+use Rattle.ulfm_comm.proofs.{Calling.{calls_is, runs_out_after}, Holding.{comm_is, exists_is, failed_is, group_is, group_rises}, Loosely.{did_loosely}, Members.{members_few}, Polls.{body_read, enough_read, later, not_refused, open_round, read_decided, read_fresh, polls_it}, Shrinks.{all_did, marks_make_none, may_own, sees_on, shrink_mismatch, shrink_no_context, shrink_no_room, shrink_self_failed, shrink_shrunk}}
 
 -- so many failures were gone through as have the decision's failed group
 pub reads_of : (group : List ℕ) (count : ℕ) (on : ReadOn) (old new whole : List ℕ) → AtFailure group count on new → count ≤ on.found → IsPrefix old new → IsPrefix new whole → ReadsOn group count old new whole on.reach
@@ -35,12 +36,12 @@ reads_stay group count old new whole longer reach reads more =
     record { goes_on = reads.goes_on; begins = prefix_trans new whole longer reads.begins more; within = reads.within; counted = reads.counted }
 
 -- the poll of a shrink is answered, with its point at its end
-pub answered_with : {P : Type 0} (meld : P → P → P) (alone : Bool) (name : Name) (asked : Call P) (old : Record) (before : Sight P) (reply : Reply P) (new : Record) (after : Sight P) → IsOf meld name after → Fits meld name.limits before.seen old
+pub answered_with : {P : Type 0} (meld : P → P → P) (alone : Bool) (name : Name) (asked : Call P) (old : Record) (before : Sight P) (reply : Reply P) (new : Record) (after : Sight P) → IsOf meld name after → before.steps ≤ after.steps → Fits meld name.limits before.seen old
     → asked ≡ call.Poll old.number (comm_of asked) → IsEndRun meld name.limits alone before.seen after.seen old (call.Poll old.number (comm_of asked)) reply new → wants_memory reply ≡ false → (reply ≡ Pending → ⊥)
     → Answered meld alone name asked old before reply new after
-answered_with meld alone name asked old before reply new after of fits polls ended answers decides =
+answered_with meld alone name asked old before reply new after of onward fits polls ended answers decides =
     let mine = subst (λ (a : Call _). IsEndRun meld name.limits alone before.seen after.seen old a reply new) (sym polls) ended in
-    let called = calls_is meld alone name before after asked old reply new of fits mine in
+    let called = calls_is meld alone name before after onward asked old reply new of fits mine in
     record { ends = inr (subst (λ b. EndsAs meld alone name asked old before reply b new after) (sym answers) called); pending = λ waits. absurd (decides waits) }
 
 -- no communicator was made
@@ -128,7 +129,7 @@ module _ {P : Type 0} (meld : P → P → P) (limits : Limits) (alone : Bool) (c
             (read_fresh meld limits d.decided d.mid c k x d.marked.legal fits_decided d.marked.held d.all d.read d.marked.open_is mask context d.body lowest.in_it);
       }
 
-module _ {P : Type 0} (meld : P → P → P) (alone : Bool) (name : Name) (asked : Call P) (k : ℕ) (mask : CtxMask) (x : Held) (count reach : ℕ) (old : Record) (before : Sight P) (own : Record) (now : Sight P) (of : IsOf meld name now)
+module _ {P : Type 0} (meld : P → P → P) (alone : Bool) (name : Name) (asked : Call P) (k : ℕ) (mask : CtxMask) (x : Held) (count reach : ℕ) (old : Record) (before : Sight P) (own : Record) (now : Sight P) (of : IsOf meld name now) (onward : before.steps ≤ now.steps)
     (fits : Fits meld name.limits before.seen old) (polls : asked ≡ call.Poll old.number (comm_of asked)) (d : IsDecided meld name.limits alone (comm_of asked) k mask x count old before.seen own now.seen)
     (reads : ReadsOn x.group count d.mid.seen own.seen (failures now.seen) reach) where
   abbrev c : ℕ
@@ -148,14 +149,14 @@ module _ {P : Type 0} (meld : P → P → P) (alone : Bool) (name : Name) (asked
   -- the rank is in the decision's failed group
   pub ends_self_failed : (new : Record) → has (take reach own.seen) own.number ≡ true → new ≡ record own { refused = true } → Answered meld alone name asked old before (Refused SelfFailed) new now
   ends_self_failed new among is =
-      answered_with meld alone name asked old before (Refused SelfFailed) new now of fits polls
+      answered_with meld alone name asked old before (Refused SelfFailed) new now of onward fits polls
       (shrink_self_failed meld name.limits alone before.seen old d.mid c k x d.decided d.marked d.all d.read now.seen begins_now of.legal own.seen reach counted
       [] now.seen (did_none alone now.seen) d.waited tt refl of.legal new (mine true among) (is ∙ ap (λ (w : Record). record w { refused = true }) d.own_is)) refl (λ waits. absurd (cc waits))
 
   -- no communicator is left
   pub ends_full : (new : Record) (after : Sight P) → IsFullBy meld alone name c k now after → has (take reach own.seen) own.number ≡ false → new ≡ closed own c → Answered meld alone name asked old before (Refused NoRoom) new after
   ends_full new after full out is =
-      answered_with meld alone name asked old before (Refused NoRoom) new after full.of fits polls
+      answered_with meld alone name asked old before (Refused NoRoom) new after full.of (omega (arith, onward, full.onward)) fits polls
       (shrink_no_room meld name.limits alone before.seen old d.mid c k x d.decided d.marked d.all d.read now.seen begins_now of.legal own.seen reach counted
       [] after.seen full.did d.waited tt refl full.of.legal mask d.body d.some (mine false out) new full.full full.unmade (is ∙ ap (λ (w : Record). closed w c) d.own_is)) refl (λ waits. absurd (cc waits))
 
@@ -163,7 +164,7 @@ module _ {P : Type 0} (meld : P → P → P) (alone : Bool) (name : Name) (asked
   pub ends_made : (j context size : ℕ) (group : List ℕ) (new : Record) (after : Sight P) → IsMadeBy meld alone name (Rank old.number) c k now j after → Holds c context group own j size new → IsLowestId mask.bits context
       → group ≡ without x.group (take reach own.seen) → has (take reach own.seen) own.number ≡ false → Answered meld alone name asked old before (Shrunk j context size) new after
   ends_made j context size group new after made holds lowest left out =
-      answered_with meld alone name asked old before (Shrunk j context size) new after made.of fits polls
+      answered_with meld alone name asked old before (Shrunk j context size) new after made.of (omega (arith, onward, made.onward)) fits polls
       (shrink_shrunk meld name.limits alone before.seen old d.mid c k x d.decided d.marked d.all d.read now.seen begins_now of.legal own.seen reach counted
       made.own after.seen made.did d.waited made.makes made.settles_none made.of.legal mask d.body d.some (mine false out) j context size new made.some made.made lowest (holds.size_is ∙ ap length left)
       (holds.record_is ∙ ap₂ (λ (w : Record) ms. let rest = closed w c in record rest { held = rest.held ++ new_held j context ms ∷ [] }) d.own_is left)) refl (λ waits. absurd (cc waits))
@@ -174,7 +175,7 @@ module _ {P : Type 0} (meld : P → P → P) (alone : Bool) (name : Name) (asked
       let poll = call.Poll old.number c in
       let quiet = did_none alone now.seen in
       let out : RunsOut meld alone name poll old before own now =
-      runs_out_after meld alone name before now poll old own d.marked.look (d.marked.marks.own ++ []) of fits
+      runs_out_after meld alone name before now onward poll old own d.marked.look (d.marked.marks.own ++ []) of fits
       (record { in_use = d.marked.looked.in_use; did = d.marked.looked.did; not_declared = d.marked.looked.not_declared; record_is = refl })
       (all_did meld name.limits alone before.seen old d.mid c k x d.decided d.marked d.all d.read now.seen begins_now of.legal own.seen reach counted [] now.seen quiet d.waited tt refl of.legal)
       (not_refused meld name.limits alone before.seen old d.mid c true k x d.decided d.marked)
@@ -196,13 +197,13 @@ module _ {P : Type 0} (meld : P → P → P) (alone : Bool) (name : Name) (asked
   -- some have offered no mask
   pub ends_mismatch : (new : Record) → ((mask : CtxMask) → all.body ≡ OfIds mask → ⊥) → new ≡ closed mid (comm_of asked) → Answered meld alone name asked old before (Refused Mismatch) new now
   ends_mismatch new other is =
-      answered_with meld alone name asked old before (Refused Mismatch) new now of r.fits r.polls
+      answered_with meld alone name asked old before (Refused Mismatch) new now of r.onward r.fits r.polls
       (shrink_mismatch meld name.limits alone before.seen old mid (comm_of asked) k r.x now.seen r.marked all r.read new other is) refl (λ waits. absurd (cc waits))
 
   -- no context id is free
   pub ends_no_context : (mask : CtxMask) (new : Record) → all.body ≡ OfIds mask → mask.bits ≡ 0 → new ≡ closed mid (comm_of asked) → Answered meld alone name asked old before (Refused NoContext) new now
   ends_no_context mask new body none is =
-      answered_with meld alone name asked old before (Refused NoContext) new now of r.fits r.polls
+      answered_with meld alone name asked old before (Refused NoContext) new now of r.onward r.fits r.polls
       (shrink_no_context meld name.limits alone before.seen old mid (comm_of asked) k r.x now.seen r.marked all r.read mask new body none is) refl (λ waits. absurd (cc waits))
 
   -- the round is decided on this mask
@@ -309,6 +310,33 @@ module _ {P : Type 0} (meld : P → P → P) (alone quiet : Bool) (only : IsTrue
     spawn_walks spawned.Full is = record { of = is.0.of; own = []; did = is.0.did; onward = is.0.onward }
     spawn_walks spawned.NoMemory is = subst (Walks meld quiet name own.number now) (sym is.0) (record { of = of; own = []; did = did_none quiet now.seen; onward = omega arith })
 
+    -- and add nothing, or the communicator
+    pub spawn_adds : (reply : Option (Reply P)) (result : Spawned) → SpawnIs meld quiet name comm s.at.1.round context append next group own now result new after → Adds quiet [] own asked reply now.seen after.seen
+    spawn_adds reply spawned.Unknown is = adds_none quiet [] own asked reply now.seen after.seen is.0.did
+    spawn_adds reply (spawned.Made j size) is =
+        record { events = is.0.own; did = subst (λ by. Did quiet (entries_by by is.0.own) now.seen after.seen) rank_is is.0.did; few = by_few is.0.few }
+      where
+        by_few : (is.0.own ≡ []) ⊎ ((i : ℕ) × (is.0.own ≡ Spawn i comm s.at.1.round ∷ [])) → (is.0.own ≡ []) ⊎ ((event : Event P) × (is.0.own ≡ event ∷ []) × Makes [] own asked reply event)
+        by_few (inl none) = inl none
+        by_few (inr (i, one)) =
+            let at = s.at.1 in
+            let fits = fits_now meld name.limits alone (comm_of asked) at.round at.mask at.x at.count old before.seen own now.seen at.decided of.legal in
+            let held = held_is meld name.limits alone (comm_of asked) at.round at.mask at.x at.count old before.seen own now.seen at.decided in
+            let named = comm_is meld name.limits now.seen own (comm_of asked) at.x fits held in
+            inr (
+              Spawn i comm at.round,
+              one,
+              record {
+                x = at.x;
+                held = held;
+                adds = subst (λ (a : Call P). CallAdds [] own.number at.x a (Spawn i comm at.round)) (sym s.at.0)
+                    (subst (λ request. PollAdds {P = P} [] at.x request (Spawn i comm at.round)) (sym at.decided.marked.open_is) (inr (i, ap (λ n. Spawn i n at.round) (there ∙ sym named))));
+                wins = λ no_poll. absurd (cc (no_poll, ap (λ (a : Call P). (traits_of a).polls) s.at.0));
+              },
+            )
+    spawn_adds reply spawned.Full is = adds_none quiet [] own asked reply now.seen after.seen is.0.did
+    spawn_adds reply spawned.NoMemory is = subst (λ (a : Sight P). Adds quiet [] own asked reply now.seen a.seen) (sym is.0) (adds_none quiet [] own asked reply now.seen now.seen (did_none quiet now.seen))
+
     -- it isn't found yet
     pub spawn_goes_on : (others : List ℕ) → others ≡ group → SpawnIs meld quiet name comm s.at.1.round context append next group own now spawned.Unknown new after
         → Stands meld alone name old before (record { asked = asked; phase = Spawning next context reach; group = others }) new after
@@ -358,13 +386,14 @@ module _ {P : Type 0} (meld : P → P → P) (alone quiet : Bool) (only : IsTrue
           of = made.of;
           own = made.own;
           makes = made.makes;
+          few = made.few;
           settles_none = made.settles_none;
           did = subst (λ by. Did alone (entries_by by made.own) now.seen after.seen) i.mine (did_loosely alone quiet only (entries_by append.by made.own) now.seen after.seen made.did);
           some = made.some;
           made = made.made;
           onward = made.onward;
         }) in
-        ends_made meld alone name asked i.round i.mask i.x i.count reach old before own now of s.fits s.at.0 i.decided i.reads j context size group new after mine
+        ends_made meld alone name asked i.round i.mask i.x i.count reach old before own now of s.onward s.fits s.at.0 i.decided i.reads j context size group new after mine
         (subst (λ n. Holds n context group own j size new) there is.1) i.lowest i.left i.stays
 
     -- there is no room for it
@@ -375,7 +404,7 @@ module _ {P : Type 0} (meld : P → P → P) (alone quiet : Bool) (only : IsTrue
         let loosely : IsFullBy meld alone name (comm_of asked) i.round now after =
         subst (λ n. IsFullBy meld alone name n i.round now after) there
         (record { of = full.of; did = did_loosely alone quiet only [] now.seen after.seen full.did; full = full.full; unmade = full.unmade; onward = full.onward }) in
-        ends_full meld alone name asked i.round i.mask i.x i.count reach old before own now of s.fits s.at.0 i.decided i.reads ended after loosely i.stays (closes ∙ ap₂ closed is.1 there)
+        ends_full meld alone name asked i.round i.mask i.x i.count reach old before own now of s.onward s.fits s.at.0 i.decided i.reads ended after loosely i.stays (closes ∙ ap₂ closed is.1 there)
 
     -- memory for it was refused
     pub spawn_out : SpawnIs meld quiet name comm s.at.1.round context append next group own now spawned.NoMemory new after → Answered meld alone name asked old before (Refused OutOfMemory) new after
@@ -383,4 +412,4 @@ module _ {P : Type 0} (meld : P → P → P) (alone quiet : Bool) (only : IsTrue
         let i = s.at.1 in
         subst (λ (w : Sight P). Answered meld alone name asked old before (Refused OutOfMemory) new w) (sym is.0)
         (subst (λ (w : Record). Answered meld alone name asked old before (Refused OutOfMemory) w now) (sym is.1)
-        (ends_out meld alone name asked i.round i.mask i.x i.count reach old before own now of s.fits s.at.0 i.decided i.reads))
+        (ends_out meld alone name asked i.round i.mask i.x i.count reach old before own now of s.onward s.fits s.at.0 i.decided i.reads))

@@ -1,5 +1,5 @@
 -- The start of a barrier.
-use Rattle.std.proofs.Common.{◌≡◌, ℕ, ◌<◌, Bool, true, false, [], ◌∷◌, Some, None, refl, ap, ap₂, sym, ◌∙◌, subst, inl, inr, IsTrue, MatchBool}
+use Rattle.std.proofs.Common.{◌≡◌, ℕ, ◌≤◌, ◌<◌, Bool, true, false, [], ◌∷◌, Some, None, refl, ap, ap₂, sym, ◌∙◌, subst, inl, inr, IsTrue, MatchBool}
 use mathlib.Core.List.{IsPrefix}
 use Rattle.ulfm_model.specs.declared.call.Call.TheVariants as call
 use Rattle.ulfm_model.specs.declared.{call.Request.TheVariants.{Barrier}, event.Caller.TheVariants.{Rank}, event.Event.TheVariants.{Arrive}, limits.Limits.{Limits}, refusal.Refusal.TheVariants.{Twice}, reply.Reply.TheVariants.{Refused, Started}}
@@ -46,7 +46,7 @@ module _ {P : Type 0} (meld : P → P → P) (limits : Limits) (look : History P
   pub barrier_may_come : MayCome meld limits look c x.next_barrier own.number
   barrier_may_come more begins legal absent = arrive_stays meld limits look more c x.next_barrier own.number begins legal (barrier_place, absent_before look more c x.next_barrier own.number begins absent) absent
 
-module _ {P : Type 0} (meld : P → P → P) (alone : Bool) (name : Name) (before look after : Sight P) (rank c : ℕ) (old mid : Record) (fits : Fits meld name.limits before.seen old)
+module _ {P : Type 0} (meld : P → P → P) (alone : Bool) (name : Name) (before look after : Sight P) (onward : before.steps ≤ after.steps) (rank c : ℕ) (old mid : Record) (fits : Fits meld name.limits before.seen old)
     (looked : Looked alone before.seen look.seen old mid) (now : Fits meld name.limits look.seen mid) (x : Held) (held : held_at mid c ≡ Some x) (passed : first_refusal (tests_of {P = P} old x (call.Barrier rank c)) ≡ None)
     (of : IsOf meld name after) (stands : IsTrue (has_arrived after.seen c x.next_barrier mid.number)) where
   mine : mid.number ≡ old.number
@@ -62,7 +62,7 @@ module _ {P : Type 0} (meld : P → P → P) (alone : Bool) (name : Name) (befor
   pub calls_entered : (new : Record) → IsAdded alone (record { by = Rank mid.number; event = Arrive c x.next_barrier mid.number }) look.seen after.seen → new ≡ with_held mid c (λ y. opened y (Some (Barrier x.next_barrier)))
       → Calls meld alone name (call.Barrier rank c) old before Started new after
   calls_entered new added is =
-      calls_is meld alone name before after (call.Barrier rank c) old Started new of fits
+      calls_is meld alone name before after onward (call.Barrier rank c) old Started new of fits
       (replied meld name.limits alone before.seen look.seen old mid looked after.seen (Arrive x.comm x.next_barrier old.number ∷ []) (call.Barrier rank c) Started new x
       (did_added alone (record { by = Rank old.number; event = Arrive x.comm x.next_barrier old.number }) look.seen after.seen
       (subst (λ w. IsAdded alone (record { by = Rank old.number; event = Arrive w x.next_barrier old.number }) look.seen after.seen) (sym at)
@@ -75,7 +75,7 @@ module _ {P : Type 0} (meld : P → P → P) (alone : Bool) (name : Name) (befor
   -- or before
   pub calls_entered_before : Did alone [] look.seen after.seen → Calls meld alone name (call.Barrier rank c) old before (Refused Twice) mid after
   calls_entered_before did =
-      calls_is meld alone name before after (call.Barrier rank c) old (Refused Twice) mid of fits
+      calls_is meld alone name before after onward (call.Barrier rank c) old (Refused Twice) mid of fits
       (replied meld name.limits alone before.seen look.seen old mid looked after.seen [] (call.Barrier rank c) (Refused Twice) mid x did of.legal
       (held_before meld name.limits alone before.seen look.seen old mid looked c (Some x) held) (by_tests meld alone name before look (call.Barrier rank c) old mid fits looked x held None passed) tt
       (arrived, inr (refl, refl)) refl (λ here polls. absurd (cc polls)))

@@ -115,7 +115,7 @@ settles_loosely alone quiet only now after own x offer (Ok done) gave =
     record { given = gave.given; did = did_loosely alone quiet only _ now after gave.did; stands = gave.stands; offer_is = gave.offer_is; known = gave.known; acked = gave.acked }
 settles_loosely alone quiet only now after own x offer (Err put) was = record { did = did_loosely alone quiet only [] now after was.did; stands = was.stands }
 
-module _ {P : Type 0} (meld : P → P → P) (alone quiet : Bool) (only : IsTrue alone → IsTrue quiet) (name : Name) (asked : Call P) (request : Request) (offer : Offer P) (group : List ℕ) (old : Record) (before : Sight P) (own : Record) (now after : Sight P)
+module _ {P : Type 0} (meld : P → P → P) (alone quiet : Bool) (only : IsTrue alone → IsTrue quiet) (name : Name) (asked : Call P) (request : Request) (offer : Offer P) (group : List ℕ) (old : Record) (before : Sight P) (own : Record) (now after : Sight P) (went : now.steps ≤ after.steps)
     (stood : Stands meld alone name old before (record { asked = asked; phase = Settling request offer; group = group }) own now) (x : Held) (held : held_at own (comm_of asked) ≡ Some x) where
   by_exchange : (settled : Result (Unit {0}) (Slot P)) (new : Record) → IsOf meld name after → Settles quiet now.seen after.seen own x offer settled → new ≡ start_leaves own (comm_of asked) request settled
       → Calls meld alone name asked old before (reply_of (λ _. Started) (start_result settled)) new after
@@ -123,7 +123,7 @@ module _ {P : Type 0} (meld : P → P → P) (alone quiet : Bool) (only : IsTrue
       let p = stood.at.0 in
       let same = found_same meld name.limits alone asked old before.seen own now.seen p x held in
       let has = is_starting meld name.limits asked old p.x request offer (passes_tests meld name.limits alone asked old before.seen own now.seen p) stood.at.1 in
-      calls_started meld alone name before (record now { seen = p.look }) after asked old own stood.fits p.looked p.x p.held p.passed now.seen p.waited offer request has.no_poll has.starts (has.adds (failures p.look)) has.replies
+      calls_started meld alone name before (record now { seen = p.look }) after (omega (arith, stood.onward, went)) asked old own stood.fits p.looked p.x p.held p.passed now.seen p.waited offer request has.no_poll has.starts (has.adds (failures p.look)) has.replies
       settled (start_result settled) new of
       (subst (λ y. Settles alone now.seen after.seen own y offer settled) (sym same) (settles_loosely alone quiet only now.seen after.seen own x offer settled settles)) refl leaves
 
@@ -152,7 +152,7 @@ module _ {P : Type 0} (meld : P → P → P) (limits : Limits) (alone : Bool) (a
   pub arriving_may : IsLegal meld limits now → MayCome meld limits now (comm_of asked) p.x.next_barrier own.number
   arriving_may legal = barrier_may_come meld limits now own (comm_of asked) p.x (fits_now meld limits alone asked old before own now p legal) p.held barrier_room
 
-module _ {P : Type 0} (meld : P → P → P) (alone quiet : Bool) (only : IsTrue alone → IsTrue quiet) (name : Name) (c round : ℕ) (old : Record) (before : Sight P) (own : Record) (now after : Sight P) (fits : Fits meld name.limits before.seen old)
+module _ {P : Type 0} (meld : P → P → P) (alone quiet : Bool) (only : IsTrue alone → IsTrue quiet) (name : Name) (c round : ℕ) (old : Record) (before : Sight P) (own : Record) (now after : Sight P) (onward : before.steps ≤ after.steps) (fits : Fits meld name.limits before.seen old)
     (p : HasLooked meld name.limits alone (call.Barrier old.number c) old before.seen own now.seen) (round_is : round ≡ p.x.next_barrier) (of : IsOf meld name after) (stands : IsTrue (has_arrived after.seen c round own.number)) where
   -- the rank has arrived by this call, or before
   pub arrived_now : (new : Record) → IsAdded quiet (record { by = Rank own.number; event = Arrive c round own.number }) now.seen after.seen → new ≡ with_held own c (λ y. opened y (Some (Barrier round)))
@@ -163,7 +163,7 @@ module _ {P : Type 0} (meld : P → P → P) (alone quiet : Bool) (only : IsTrue
       let passed = passes_tests meld name.limits alone (call.Barrier old.number c) old before.seen own now.seen p in
       let since = added_after alone e p.look now.seen after.seen p.waited (added_loosely alone quiet only e now.seen after.seen added) in
       record {
-        ends = inr (calls_entered meld alone name before look after old.number c old own fits p.looked p.fits p.x p.held passed of
+        ends = inr (calls_entered meld alone name before look after onward old.number c old own fits p.looked p.fits p.x p.held passed of
             (subst (λ k. IsTrue (has_arrived after.seen c k own.number)) round_is stands) new
             (subst (λ k. IsAdded alone (record { by = Rank own.number; event = Arrive c k own.number }) p.look after.seen) round_is since)
             (is ∙ ap (λ k. with_held own c (λ y. opened y (Some (Barrier k)))) round_is));
@@ -175,14 +175,14 @@ module _ {P : Type 0} (meld : P → P → P) (alone quiet : Bool) (only : IsTrue
       let look : Sight P = record now { seen = p.look } in
       let passed = passes_tests meld name.limits alone (call.Barrier old.number c) old before.seen own now.seen p in
       record {
-        ends = inr (calls_entered_before meld alone name before look after old.number c old own fits p.looked p.fits p.x p.held passed of
+        ends = inr (calls_entered_before meld alone name before look after onward old.number c old own fits p.looked p.fits p.x p.held passed of
             (subst (λ k. IsTrue (has_arrived after.seen c k own.number)) round_is stands)
             (did_after alone [] p.look now.seen after.seen p.waited (did_loosely alone quiet only [] now.seen after.seen did)));
         pending = λ same. absurd (cc same);
       }
 
 -- a revocation, and the question after it
-module _ {P : Type 0} (meld : P → P → P) (alone quiet : Bool) (only : IsTrue alone → IsTrue quiet) (name : Name) (c : ℕ) (old : Record) (before : Sight P) (own : Record) (now after : Sight P) (fits : Fits meld name.limits before.seen old) (of : IsOf meld name after) where
+module _ {P : Type 0} (meld : P → P → P) (alone quiet : Bool) (only : IsTrue alone → IsTrue quiet) (name : Name) (c : ℕ) (old : Record) (before : Sight P) (own : Record) (now after : Sight P) (onward : before.steps ≤ after.steps) (fits : Fits meld name.limits before.seen old) (of : IsOf meld name after) where
   revoked_once : (p : HasLooked meld name.limits alone (call.Revoke old.number c) old before.seen own now.seen) (won : Bool)
       → MatchBool won (IsAdded quiet (record { by = Rank own.number; event = Revoke c }) now.seen after.seen) (Did quiet [] now.seen after.seen) → IsTrue (is_revoked after.seen c)
       → Calls meld alone name (call.Revoke old.number c) old before (revoked won) own after
@@ -191,7 +191,7 @@ module _ {P : Type 0} (meld : P → P → P) (alone quiet : Bool) (only : IsTrue
       let e : Entry P = record { by = Rank old.number; event = Revoke c } in
       let tried = tried_loosely alone quiet only won e now.seen after.seen
       (subst (λ n. MatchBool won (IsAdded quiet (record { by = Rank n; event = Revoke c }) now.seen after.seen) (Did quiet [] now.seen after.seen)) mine outcome) in
-      calls_revoked meld alone name before (record now { seen = p.look }) after old.number c old own fits p.looked p.fits p.x p.held won of (tried_after alone won e p.look now.seen after.seen p.waited tried) stands
+      calls_revoked meld alone name before (record now { seen = p.look }) after onward old.number c old own fits p.looked p.fits p.x p.held won of (tried_after alone won e p.look now.seen after.seen p.waited tried) stands
 
   -- the communicator is revoked
   pub revoke_answered : HasLooked meld name.limits alone (call.Revoke old.number c) old before.seen own now.seen → (won : Bool)
@@ -205,7 +205,7 @@ module _ {P : Type 0} (meld : P → P → P) (alone quiet : Bool) (only : IsTrue
       → Answered meld alone name (call.IsRevoked old.number c) old before (Standing found) own after
   asked_answered p found did is =
       record {
-        ends = inr (calls_standing meld alone name before (record now { seen = p.look }) after old.number c old own fits p.looked p.fits p.x p.held found of
+        ends = inr (calls_standing meld alone name before (record now { seen = p.look }) after onward old.number c old own fits p.looked p.fits p.x p.held found of
             (did_after alone [] p.look now.seen after.seen p.waited (did_loosely alone quiet only [] now.seen after.seen did)) is);
         pending = λ same. absurd (cc same);
       }

@@ -6,7 +6,7 @@ use Rattle.ulfm_model.specs.declared.{call.Call.TheVariants.{Poll}, reply.Reply.
 use Rattle.ulfm_model.specs.{Answers.{closed}, History.{members}, Records.{Held, Record, held_at}, Runs.{IsCall}}
 use Rattle.ulfm_words.specs.Steps.{Name, Sight}
 use Rattle.ulfm_comm.specs.Calls.{Calls}
-use Rattle.ulfm_comm.proofs.Holding.{group_is}
+use Rattle.ulfm_comm.proofs.{Calling.{called_run}, Holding.{group_is}}
 
 -- a list with one that passes at its end has one that is found
 found_last : (p : Held → Bool) (xs : List Held) (y : Held) → p y ≡ true → (x : Held) × (find p (xs ++ y ∷ []) ≡ Some x)
@@ -18,7 +18,7 @@ found_last p (x ∷ xs) y is =
 module _ {P : Type 0} (meld : P → P → P) (alone : Bool) (name : Name) (c : ℕ) (old : Record) (before : Sight P) (j context size : ℕ) (new : Record) (after : Sight P) where
   -- it holds the communicator that was made
   holds_made : Calls meld alone name (Poll old.number c) old before (Shrunk j context size) new after → (x : Held) × (held_at new j ≡ Some x)
-  holds_made calls = by_run calls.run
+  holds_made calls = by_run (called_run meld alone name (Poll old.number c) old before (Shrunk j context size) new after calls)
     where
       by_run : IsCall meld name.limits alone before.seen after.seen old (Poll old.number c) (Shrunk j context size) new → (x : Held) × (held_at new j ≡ Some x)
       by_run (inl refused) = absurd (cc refused.2)

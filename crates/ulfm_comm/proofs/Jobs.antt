@@ -10,7 +10,8 @@ use Rattle.ulfm_model.specs.declared.refusal.Refusal.TheVariants.{SelfFailed, No
 use Rattle.ulfm_model.specs.{Answers.{traits_of}, Records.{Fits, Record, new_record}, Runs.{IsFailRun, IsRankStep, IsStep, State}}
 use Rattle.ulfm_model.proofs.{LeftRuns.{call_legal, call_number, fail_fits, fail_legal, span_begins}, Lists.{each_from}, Stable.{fits_stays}}
 use Rattle.ulfm_words.specs.Steps.{IsOf, Name, Sight}
-use Rattle.ulfm_comm.specs.{Calls.{Calls, EndsBy, RunsOut, is_out_of_memory}, Ends.{IsAloneCall}, Fails.{Fails}, Jobs.{IsJob, StepsBy, state_of}}
+use Rattle.ulfm_comm.specs.{Calls.{Calls, EndsBy, RunsOut, is_out_of_memory}, Fails.{Fails}, Jobs.{IsJob, StepsBy, state_of}}
+use Rattle.ulfm_comm.proofs.Calling.{IsAloneCall, called_alone, called_run}
 use Rattle.ulfm_comm.proofs.InOrder.{count_is, each_set, number_at, rank_changed, rank_found, rank_missing}
 
 -- what holds anyway holds of an error
@@ -49,14 +50,15 @@ module _ {P : Type 0} (meld : P → P → P) (alone : Bool) (name : Name) (befor
     calls_step asks reply by made =
         let asked = asks i in
         let calls = subst (λ r. Calls meld alone name (asks r) (get_or ranks i d) before reply new after) (number_at name.limits.ranks ranks job.sound.numbers i d below) made in
-        let begins = (call_legal meld name.limits alone before.seen after.seen (get_or ranks i d) asked reply new job.sound.legal calls.run).0 in
+        let run = called_run meld alone name asked (get_or ranks i d) before reply new after calls in
+        let begins = (call_legal meld name.limits alone before.seen after.seen (get_or ranks i d) asked reply new job.sound.legal run).0 in
         record {
-          job = job_after i d new after calls.of calls.fits (call_number meld name.limits alone before.seen after.seen (get_or ranks i d) asked reply new calls.run) begins;
+          job = job_after i d new after calls.of calls.fits (call_number meld name.limits alone before.seen after.seen (get_or ranks i d) asked reply new run) begins;
           begins = begins;
           step = λ here.
               subst (λ caller. IsStep meld (state_of name before ranks) caller asked reply (state_of name after (set ranks i new))) (sym by)
               (subst (λ own. IsRankStep meld (state_of name before ranks) i own asked reply (state_of name after (set ranks i new))) (sym (rank_found name.limits.ranks ranks job.sound.numbers i d below))
-              (step_of asked reply (calls.run_alone here)));
+              (step_of asked reply (called_alone meld alone name asked (get_or ranks i d) before reply new after calls here)));
         }
 
     -- a call that ran out of memory

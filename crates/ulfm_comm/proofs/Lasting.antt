@@ -105,7 +105,7 @@ module _ {P : Type 0} (meld : P → P → P) (limits : Limits) (alone : Bool) (o
 
 module _ {P : Type 0} (meld : P → P → P) (alone : Bool) (name : Name) (asked : Call P) (old : Record) (before : Sight P) (group : List ℕ) (own : Record) (now later : Sight P) (did : Did alone [] now.seen later.seen) (of : IsOf meld name later) where
   at_lasts : (phase : Phase P) → StandsAt meld alone name asked old before phase group own now → StandsAt meld alone name asked old before phase group own later
-  at_lasts Over p = p
+  at_lasts Over p = (p.0, p.1, did_wait alone [] before.seen now.seen later.seen p.2 did)
   at_lasts Begun p = (p.0, p.1, did_wait alone [] before.seen now.seen later.seen p.2 did)
   at_lasts Looking p =
       let more = failures_begin now.seen later.seen (did_prefix alone [] now.seen later.seen did) in
@@ -125,7 +125,9 @@ module _ {P : Type 0} (meld : P → P → P) (alone : Bool) (name : Name) (asked
     waiting_lasts meld name.limits alone old before.seen own now.seen later.seen did of.legal (comm_of asked) arrivals.round p.2 p.3,
     at_arrival_stays p.2.group own.seen arrivals now.seen later.seen (did_prefix alone [] now.seen later.seen did) p.4,
   )
-  at_lasts (Checking missing) p = (p.0, p.1, p.2, p.3, p.4, p.5, p.6, did_wait alone [] p.3 now.seen later.seen p.7 did)
+  at_lasts (Checking missing) p =
+      let i = p.2 in
+      (p.0, p.1, record { x = i.x; k = i.k; waits = i.waits; are = i.are; legal = i.legal; waited = did_wait alone [] p.1 now.seen later.seen i.waited did })
 
 -- the call stands
 pub stands_lasts : {P : Type 0} (meld : P → P → P) (alone : Bool) (name : Name) (old : Record) (before : Sight P) (doing : UnderWay P) (own : Record) (now later : Sight P) → Stands meld alone name old before doing own now → Waits alone now later

@@ -1,3 +1,4 @@
+pub mod Adding
 pub mod Acks
 pub mod Barriers
 pub mod Calling

@@ -9,7 +9,7 @@ use Rattle.ulfm_model.specs.{Answers.{rank_of, traits_of}, Records.{Held, Record
 use Rattle.ulfm_model.specs.Terms.{view_of}
 use Rattle.ulfm_words.specs.Steps.{Name, Sight}
 use Rattle.ulfm_comm.specs.{Calls.{Calls, EndsAs, EndsReply, wants_memory}, Jobs.{IsAbout, IsJob, IsOther, StepsBy, state_of}}
-use Rattle.ulfm_comm.proofs.{Handing.{has_members}, InOrder.{number_at}, Jobs.{calls_step, out_begins, out_job}, ReplyKinds.{IsKind, answered_on, replies_kind}}
+use Rattle.ulfm_comm.proofs.{Calling.{called_run}, Handing.{has_members}, InOrder.{number_at}, Jobs.{calls_step, out_begins, out_job}, ReplyKinds.{IsKind, answered_on, replies_kind}}
 
 -- a reply that doesn't say that memory ran out
 kept_memory : {P : Type 0} (reply : Reply P) → (reply ≡ Refused OutOfMemory → ⊥) → wants_memory reply ≡ false
@@ -166,7 +166,7 @@ module _ {P : Type 0} (meld : P → P → P) (alone : Bool) (name : Name) (befor
 
       -- and its reply is of its kind
       other_kind : ((refusal : Refusal) → reply ≡ Refused refusal → ⊥) → IsKind asked reply
-      other_kind answers = by_run other_calls.run
+      other_kind answers = by_run (called_run meld alone name asked own before reply new after other_calls)
         where
           by_run : IsCall meld name.limits alone before.seen after.seen own asked reply new → IsKind asked reply
           by_run (inl refused) = absurd (answers SelfFailed refused.2)

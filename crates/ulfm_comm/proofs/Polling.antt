@@ -11,13 +11,13 @@ use Rattle.ulfm_words.proofs.Trails.{did_none, did_prefix, did_wait}
 use Rattle.ulfm_steps.specs.declared.{arrivals.Arrivals.{Arrivals}, arrivals.Missing.{Missing}, arrivals.Missing.TheVariants.{Nobody, Others, Declared}, mark_all.MarkAll.{MarkAll}, read_round.ReadRound.{ReadRound}}
 use Rattle.ulfm_steps.specs.{Arriving.{AtArrival, IsAsked, MissingAre, asked_before}, Marks.{HasMarked as MarkedOn, IsAt, Marks, MayMarkAll, members_in}, Rounds.{IsMissing, IsRoundOf, IsSummed}}
 use Rattle.ulfm_steps.proofs.{Arriving.{at_arrival_new}, Marking.{marks_join, marks_none, marks_wait, new_members, take_all}, Reading.{summed_none}}
-use Rattle.ulfm_comm.specs.{Barriers.{Awaits, missing_leaves, missing_reply}, Calls.{Calls, EndsReply}, Polls.{EndsInMissing, HasMarked, IsAgreement, agreement}}
-use Rattle.ulfm_comm.specs.Stages.{Answered, HasReadAll, IsMarking, IsReading, IsWaiting, JustLooked, Stands, agreed_reply}
+use Rattle.ulfm_comm.specs.{Barriers.{Awaits, missing_leaves, missing_reply}, Calls.{Calls, EndsReply}, Ends.{IsEndRun}, Polls.{EndsInMissing, HasMarked, IsAgreement, agreement}}
+use Rattle.ulfm_comm.specs.Stages.{Answered, HasReadAll, IsChecking, IsMarking, IsReading, IsWaiting, JustLooked, Stands, agreed_reply}
 use Rattle.ulfm_comm.specs.declared.doing.Phase.TheVariants.{Marking, Reading, Waiting, Checking}
-use Rattle.ulfm_comm.proofs.{Barriers.{awaited_round, barrier_polled, calls_missing_at, polls_revoked}, Calling.{calls_is, looked_fits}, Holding.{exists_is, group_is, holds}}
+use Rattle.ulfm_comm.proofs.{Barriers.{awaited_round, barrier_polled, barrier_waits, calls_missing_at, polls_revoked}, Calling.{calls_is, looked_fits}, Holding.{exists_is, group_is, holds}}
 use Rattle.ulfm_comm.proofs.Loosely.{did_loosely, marks_loosely}
 use Rattle.ulfm_comm.proofs.Polls.{held_first, later, not_found, not_marked, open_round, poll_agreed, poll_mismatch, poll_pending}
-use Rattle.ulfm_comm.proofs.Revoking.{held_below}
+use Rattle.ulfm_comm.proofs.Revoking.{held_below, standing_before}
 
 -- the poll of a rank is one in its own name
 pub poll_mine : {P : Type 0} (asked : Call P) (old : Record) (rank comm : ℕ) → asked ≡ call.Poll rank comm → (traits_of asked).by ≡ Rank old.number → asked ≡ call.Poll old.number (comm_of asked)
@@ -76,7 +76,7 @@ reading_begins {P} meld limits alone c shrinks k x old before mid now p reading 
 -- the poll of a request that is open, right after its look
 module _ {P : Type 0} (meld : P → P → P) (alone : Bool) (name : Name) (asked : Call P) (old : Record) (before : Sight P) (own : Record) (now : Sight P) (just : JustLooked meld alone name asked old before own now) (of : IsOf meld name now) where
   pub just_fits : Fits meld name.limits now.seen own
-  just_fits = looked_fits meld alone name before now old own of just.fits just.looked
+  just_fits = looked_fits meld alone name before now just.onward old own of just.fits just.looked
 
   just_seen : own.seen ≡ failures now.seen
   just_seen = ap (λ (w : Record). w.seen) just.looked.record_is
@@ -334,7 +334,7 @@ module _ {P : Type 0} (meld : P → P → P) (limits : Limits) (alone : Bool) (c
         }
 
 -- the poll of an agreement that was read
-module _ {P : Type 0} (meld : P → P → P) (alone : Bool) (name : Name) (c k : ℕ) (old : Record) (before : Sight P) (mid : Record) (after : Sight P) (fits : Fits meld name.limits before.seen old) (of : IsOf meld name after) where
+module _ {P : Type 0} (meld : P → P → P) (alone : Bool) (name : Name) (c k : ℕ) (old : Record) (before : Sight P) (mid : Record) (after : Sight P) (fits : Fits meld name.limits before.seen old) (of : IsOf meld name after) (onward : before.steps ≤ after.steps) where
   abbrev polling : Call P
   polling = call.Poll old.number c
 
@@ -345,7 +345,7 @@ module _ {P : Type 0} (meld : P → P → P) (alone : Bool) (name : Name) (c k :
       let ended = poll_pending meld limits alone before.seen old mid c shrinks k x after.seen m one.rank mid one.member one.empty refl in
       let alive = not_marked meld limits alone before.seen old mid c shrinks k x after.seen m one.rank one.member one.empty in
       record {
-        ends = inr (calls_is meld alone name before after polling old Pending mid of fits ended);
+        ends = inr (calls_is meld alone name before after onward polling old Pending mid of fits ended);
         pending = λ is agrees. record {
           run = ended.run;
           at_end = ended.at_end;
@@ -372,7 +372,7 @@ module _ {P : Type 0} (meld : P → P → P) (alone : Bool) (name : Name) (c k :
       mismatch : ((flag : P) → all.body ≡ OfFlags flag → ⊥) → Answered meld alone name polling old before (Refused Mismatch) new after
       mismatch other =
           record {
-            ends = inr (calls_is meld alone name before after polling old (Refused Mismatch) new of fits (poll_mismatch meld name.limits alone before.seen old mid c k x after.seen m all new read other left));
+            ends = inr (calls_is meld alone name before after onward polling old (Refused Mismatch) new of fits (poll_mismatch meld name.limits alone before.seen old mid c k x after.seen m all new read other left));
             pending = λ is agrees. absurd (cc is);
           }
 
@@ -382,7 +382,7 @@ module _ {P : Type 0} (meld : P → P → P) (alone : Bool) (name : Name) (c k :
           let count = all.known.count in
           let raised = nat_lt all.acked.count count in
           record {
-            ends = inr (calls_is meld alone name before after polling old (Agreed value count raised) new of fits (poll_agreed meld name.limits alone before.seen old mid c k x after.seen m all new read value is left));
+            ends = inr (calls_is meld alone name before after onward polling old (Agreed value count raised) new of fits (poll_agreed meld name.limits alone before.seen old mid c k x after.seen m all new read value is left));
             pending = λ same agrees. absurd (cc same);
           }
       by_body (OfIds mask) is = mismatch (λ flag same. absurd (cc (is, same)))
@@ -419,7 +419,7 @@ module _ {P : Type 0} (meld : P → P → P) (name : Name) (asked : Call P) (rea
         let there : IsMissing after.last after.seen (comm_of asked) reading.round reads.x.group =
         subst (λ ms. IsMissing after.last after.seen (comm_of asked) reading.round ms) read_same (subst (λ c. IsMissing after.last after.seen c reading.round members) reads.there missing) in
         subst (λ (a : Call P). Answered meld alone name a old before Pending own after) (sym st.at.0)
-        (answers_pending meld alone name (comm_of asked) reading.round old before own after st.fits of shrinks reads.x marked_on (omega (arith, st.onward, further)) there)
+        (answers_pending meld alone name (comm_of asked) reading.round old before own after st.fits of (omega (arith, st.onward, steps)) shrinks reads.x marked_on (omega (arith, st.onward, further)) there)
 
     -- more are left
     pub reading_goes : (next : ReadRound P) → next.comm ≡ reading.comm → next.round ≡ reading.round → next.read < length members → IsSummed meld after.seen reading.comm reading.round (take next.read members) next.all
@@ -454,7 +454,7 @@ module _ {P : Type 0} (meld : P → P → P) (name : Name) (asked : Call P) (rea
       pub reading_agrees : shrinks ≡ false → (new : Record) → new ≡ closed own w → (reply : Reply P) → reply ≡ agreed_reply next.all next.all.body → Answered meld alone name asked old before reply new after
       reading_agrees is new left reply reply_is =
           subst (λ (a : Call P). Answered meld alone name a old before reply new after) (sym st.at.0)
-          (answers_agreed meld alone name (comm_of asked) reading.round old before own after st.fits of reads.x (subst (λ b. HasMarked meld name.limits alone (comm_of asked) b reading.round reads.x old before.seen own after.seen) is marked_on)
+          (answers_agreed meld alone name (comm_of asked) reading.round old before own after st.fits of (omega (arith, st.onward, steps)) reads.x (subst (λ b. HasMarked meld name.limits alone (comm_of asked) b reading.round reads.x old before.seen own after.seen) is marked_on)
           next.all all_read new (left ∙ ap (closed own) w_is) reply reply_is)
 
 -- the poll of a barrier, under way
@@ -515,30 +515,34 @@ module _ {P : Type 0} (meld : P → P → P) (name : Name) (asked : Call P) (arr
           );
         }
 
+    -- who is missing is known from now on
+    pub waiting_checks : (missing : Missing) → MissingAre after.seen arrivals.comm arrivals.round members declared missing → IsLegal meld name.limits after.seen
+        → IsChecking meld name.limits alone (comm_of asked) missing after.seen old before.seen own after.seen
+    waiting_checks missing are legal =
+        let there : MissingAre after.seen (comm_of asked) arrivals.round members declared missing = subst (λ c. MissingAre after.seen c arrivals.round members declared missing) st.at.1 are in
+        record {
+          x = st.at.2;
+          k = arrivals.round;
+          waits = waits_on;
+          are = subst (λ ms. MissingAre after.seen (comm_of asked) arrivals.round ms own.seen missing) arrived_same (subst (λ s. MissingAre after.seen (comm_of asked) arrivals.round members s missing) declared_are there);
+          legal = legal;
+          waited = did_none alone after.seen;
+        }
+
     -- it is known who is missing
     pub waiting_ends : (missing : Missing) → MissingAre after.seen arrivals.comm arrivals.round members declared missing → IsLegal meld name.limits after.seen
         → Stands meld alone name old before (record { asked = asked; phase = Checking missing; group = group }) own after
     waiting_ends missing are legal =
-        let there : MissingAre after.seen (comm_of asked) arrivals.round members declared missing = subst (λ c. MissingAre after.seen c arrivals.round members declared missing) st.at.1 are in
         record {
           fits = st.fits;
           mine = st.mine;
           onward = omega (arith, st.onward, steps);
-          at = (
-            st.at.0,
-            st.at.2,
-            arrivals.round,
-            after.seen,
-            waits_on,
-            subst (λ ms. MissingAre after.seen (comm_of asked) arrivals.round ms own.seen missing) arrived_same (subst (λ s. MissingAre after.seen (comm_of asked) arrivals.round members s missing) declared_are there),
-            legal,
-            did_none alone after.seen,
-          );
+          at = (st.at.0, after.seen, waiting_checks missing are legal);
         }
 
 -- its answer, by the revocation
 module _ {P : Type 0} (meld : P → P → P) (alone : Bool) (name : Name) (c k : ℕ) (x : Held) (old : Record) (before : Sight P) (own : Record) (earlier : History P) (after : Sight P) (fits : Fits meld name.limits before.seen old)
-    (p : IsWaiting meld name.limits alone c k x old before.seen own earlier) (of : IsOf meld name after) (wait : Did alone [] earlier after.seen) where
+    (p : IsWaiting meld name.limits alone c k x old before.seen own earlier) (of : IsOf meld name after) (onward : before.steps ≤ after.steps) (wait : Did alone [] earlier after.seen) where
   abbrev asked : Call P
   asked = call.Poll old.number c
 
@@ -555,7 +559,7 @@ module _ {P : Type 0} (meld : P → P → P) (alone : Bool) (name : Name) (c k :
   answers_revoked : is_revoked after.seen c ≡ true → (new : Record) → new ≡ closed own c → Answered meld alone name asked old before (Refused IsRevoked) new after
   answers_revoked is new left =
       record {
-        ends = inr (polls_revoked meld alone name before look after old own fits p.looked c k awaits of new (did_wait alone [] p.look earlier after.seen p.waited wait) is left).run;
+        ends = inr (polls_revoked meld alone name before look after old own fits p.looked c k awaits of onward new (did_wait alone [] p.look earlier after.seen p.waited wait) is left).run;
         pending = no_agreement (Refused IsRevoked) new;
       }
 
@@ -563,7 +567,7 @@ module _ {P : Type 0} (meld : P → P → P) (alone : Bool) (name : Name) (c k :
       → Answered meld alone name asked old before (missing_reply missing) new after
   answers_missing standing missing are legal new left =
       record {
-        ends = inr (by_missing missing (calls_missing_at meld alone name before look after old own fits p.looked c k awaits of earlier x.group own.seen missing new p.waited legal wait standing refl refl are left));
+        ends = inr (by_missing missing (calls_missing_at meld alone name before look after old own fits p.looked c k awaits of onward earlier x.group own.seen missing new p.waited legal wait standing refl refl are left));
         pending = no_agreement (missing_reply missing) new;
       }
     where
@@ -578,13 +582,21 @@ module _ {P : Type 0} (meld : P → P → P) (alone : Bool) (name : Name) (asked
   -- the communicator has a place of its own
   pub checking_within : (w : ℕ) → w ≡ comm_of asked → w < name.limits.comms
   checking_within w is =
-      let fits = fits_stays meld name.limits st.at.4.look now.seen own (did_prefix alone [] st.at.4.look now.seen (did_wait alone [] st.at.4.look st.at.3 now.seen st.at.4.waited st.at.7)) of.legal st.at.4.fits in
-      let within = held_below meld name.limits now.seen own (comm_of asked) st.at.1 fits st.at.4.held of.legal of.may_open in
+      let i = st.at.2 in
+      let p = i.waits in
+      let fits = fits_stays meld name.limits p.look now.seen own (did_prefix alone [] p.look now.seen (did_wait alone [] p.look st.at.1 now.seen p.waited i.waited)) of.legal p.fits in
+      let within = held_below meld name.limits now.seen own (comm_of asked) i.x fits p.held of.legal of.may_open in
       omega (arith, is, within)
 
-  module _ (quiet : Bool) (only : IsTrue alone → IsTrue quiet) (after : Sight P) (of_after : IsOf meld name after) (did : Did quiet [] now.seen after.seen) (w : ℕ) (w_is : w ≡ comm_of asked) (new : Record) where
-    wait : Did alone [] st.at.3 after.seen
-    wait = did_wait alone [] st.at.3 now.seen after.seen st.at.7 (did_loosely alone quiet only [] now.seen after.seen did)
+  module _ (quiet : Bool) (only : IsTrue alone → IsTrue quiet) (after : Sight P) (of_after : IsOf meld name after) (did : Did quiet [] now.seen after.seen) (went : now.steps ≤ after.steps) (w : ℕ) (w_is : w ≡ comm_of asked) (new : Record) where
+    abbrev i : IsChecking meld name.limits alone (comm_of asked) missing st.at.1 old before.seen own now.seen
+    i = st.at.2
+
+    onward : before.steps ≤ after.steps
+    onward = omega (arith, st.onward, went)
+
+    wait : Did alone [] st.at.1 after.seen
+    wait = did_wait alone [] st.at.1 now.seen after.seen i.waited (did_loosely alone quiet only [] now.seen after.seen did)
 
     named : (reply : Reply P) → Answered meld alone name (call.Poll old.number (comm_of asked)) old before reply new after → Answered meld alone name asked old before reply new after
     named reply answered = subst (λ (a : Call P). Answered meld alone name a old before reply new after) (sym st.at.0) answered
@@ -592,10 +604,25 @@ module _ {P : Type 0} (meld : P → P → P) (alone : Bool) (name : Name) (asked
     pub checking_revoked : is_revoked after.seen w ≡ true → new ≡ closed own w → Answered meld alone name asked old before (Refused IsRevoked) new after
     checking_revoked is left =
         named (Refused IsRevoked)
-        (answers_revoked meld alone name (comm_of asked) st.at.2 st.at.1 old before own st.at.3 after st.fits st.at.4 of_after wait (sym (ap (is_revoked after.seen) w_is) ∙ is) new (left ∙ ap (closed own) w_is))
+        (answers_revoked meld alone name (comm_of asked) i.k i.x old before own st.at.1 after st.fits i.waits of_after onward wait (sym (ap (is_revoked after.seen) w_is) ∙ is) new (left ∙ ap (closed own) w_is))
 
     pub checking_missing : is_revoked after.seen w ≡ false → (which : Missing) → missing ≡ which → new ≡ missing_leaves own w which → Answered meld alone name asked old before (missing_reply which) new after
     checking_missing standing which is left =
         named (missing_reply which)
-        (answers_missing meld alone name (comm_of asked) st.at.2 st.at.1 old before own st.at.3 after st.fits st.at.4 of_after wait (sym (ap (is_revoked after.seen) w_is) ∙ standing) which
-        (subst (MissingAre st.at.3 (comm_of asked) st.at.2 st.at.1.group own.seen) is st.at.5) st.at.6 new (left ∙ ap (λ c. missing_leaves own c which) w_is))
+        (answers_missing meld alone name (comm_of asked) i.k i.x old before own st.at.1 after st.fits i.waits of_after onward wait (sym (ap (is_revoked after.seen) w_is) ∙ standing) which
+        (subst (MissingAre st.at.1 (comm_of asked) i.k i.x.group own.seen) is i.are) i.legal new (left ∙ ap (λ c. missing_leaves own c which) w_is))
+
+-- where the communicator isn't revoked, the answer holds when it was found who was missing
+pub checking_early : {P : Type 0} (meld : P → P → P) (limits : Limits) (alone quiet : Bool) (only : IsTrue alone → IsTrue quiet) (asked : Call P) (missing : Missing) (earlier : History P) (old : Record) (before : History P) (own : Record) (now after : History P)
+    → asked ≡ call.Poll old.number (comm_of asked) → (i : IsChecking meld limits alone (comm_of asked) missing earlier old before own now) → Did quiet [] now after → (w : ℕ) → w ≡ comm_of asked → is_revoked after w ≡ false
+    → (which : Missing) → missing ≡ which → (new : Record) → new ≡ missing_leaves own w which → IsEndRun meld limits alone before earlier old asked (missing_reply which) new
+checking_early {P} meld limits alone quiet only asked missing earlier old before own now after polls i did w w_is standing which is new left =
+    let c = comm_of asked in
+    let p = i.waits in
+    let awaits : Awaits meld limits p.look c i.k own = record { fits = p.fits; x = i.x; held = p.held; open_is = p.open_is } in
+    let wait = did_wait alone [] earlier now after i.waited (did_loosely alone quiet only [] now after did) in
+    let here = sym (ap (is_revoked after) w_is) ∙ standing in
+    let seen = ap (λ (r : Record). r.seen) p.looked.record_is in
+    subst (λ (a : Call P). IsEndRun meld limits alone before earlier old a (missing_reply which) new) (sym polls)
+    (barrier_waits meld limits alone before p.look old own p.looked c i.k awaits earlier p.waited i.legal which new (standing_before earlier after c (did_prefix alone [] earlier after wait) here)
+    (subst (λ s. MissingAre earlier c i.k i.x.group s which) seen (subst (MissingAre earlier c i.k i.x.group own.seen) is i.are)) (left ∙ ap (λ n. missing_leaves own n which) w_is))

@@ -3,11 +3,11 @@ use Rattle.std.proofs.Common.{◌≡◌, ◌⊎◌, Bool, true, false, List, [],
 use Rattle.std.specs.List.{AllByRecursion}
 use mathlib.Core.List.{IsPrefix}
 use Rattle.ulfm_model.specs.declared.{call.Call.{Call}, event.Caller.TheVariants.{Rank}, event.Event.{Event}, limits.Limits.{Limits}, refusal.Refusal.{Refusal}, refusal.Refusal.TheVariants.{NoSuchComm, SelfFailed}, reply.Reply.{Reply}, reply.Reply.TheVariants.{Started, Pending, Agreed, Shrunk, Done, FailedGroup, Acked, Declared, AlreadyFailed, Revoked, AlreadyRevoked, Standing, Freed, Refused}}
-use Rattle.ulfm_model.specs.{Answers.{CallAdds, Effect, IsReply, IsSelfFailed, MayOwn, Replies, RepliesBy, Sees, View, left_by, polled_by, printed, refusal_of, refusal_on, left_with, traits_of}, Answers.Effect.{Ends, ForGood, Keeps}, History.{History, IsLegal, entries_by, failures, has}, Records.{Held, Record, held_at, is_shrink}, Runs.{Did, IsAloneRun, IsCall, unsettled_of}}
+use Rattle.ulfm_model.specs.{Answers.{CallAdds, Effect, IsReply, IsSelfFailed, MayOwn, Replies, RepliesBy, Sees, View, left_by, polled_by, printed, refusal_of, refusal_on, left_with, traits_of}, Answers.Effect.{Ends, ForGood, Keeps}, History.{History, IsLegal, entries_by, failures, has}, Records.{Held, Record, held_at, is_shrink}, Runs.{Did, unsettled_of}}
 use Rattle.ulfm_model.specs.Terms.{comm_of, request_of, settled_by}
 use Rattle.ulfm_model.proofs.{Histories.{failures_begin}, Lists.{each_from, prefix_trans}}
 use Rattle.ulfm_words.proofs.Trails.{did_none, did_prefix, did_quiet}
-use Rattle.ulfm_comm.specs.{Ends.{IsAloneCall, IsEndRun}, Looked.{Looked}}
+use Rattle.ulfm_comm.specs.{Ends.{IsEndRun}, Looked.{Looked}}
 
 -- a reply leaves what the rank has seen
 left_seen : {P : Type 0} (ranks : ℕ) (h : History P) (now : Record) (asked : Call P) (reply : Reply P) → (left_by ranks h now asked reply).seen ≡ now.seen
@@ -142,16 +142,3 @@ module _ {P : Type 0} (meld : P → P → P) (limits : Limits) (alone : Bool) (b
       }))
       (left_is after asked reply new left)
       marks
-
-module _ {P : Type 0} (meld : P → P → P) (limits : Limits) (alone : Bool) (before after : History P) (old : Record) (asked : Call P) (reply : Reply P) (new : Record) where
-  -- a rank that wasn't refused for good before has made a call
-  pub call_of : IsEndRun meld limits alone before after old asked reply new → IsCall meld limits alone before after old asked reply new
-  call_of ended = inr ended.run
-
-  -- where nobody else steps, one of the sequential object
-  pub alone_of : IsEndRun meld limits alone before after old asked reply new → IsTrue alone → IsAloneCall meld limits before after old asked reply new
-  alone_of ended here = inr (by_alone alone here ended)
-    where
-      by_alone : (b : Bool) → IsTrue b → IsEndRun meld limits b before after old asked reply new → IsAloneRun meld limits before after old asked reply new
-      by_alone true here ended = record { run = ended.run; at_end = ended.at_end; marks = ended.marks refl }
-      by_alone false here ended = absurd (cc here)

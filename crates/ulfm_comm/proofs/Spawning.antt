@@ -54,6 +54,7 @@ module _ {P : Type 0} (meld : P → P → P) (alone : Bool) (name : Name) (by : 
         of = appends.of;
         own = Spawn (i + 1) c k ∷ [];
         makes = ((i + 1, refl), tt);
+        few = inr (i + 1, refl);
         settles_none = refl;
         did = did_added alone (record { by = by; event = Spawn (i + 1) c k }) before.seen after.seen appends.outcome.0;
         some = omega arith;
@@ -68,6 +69,7 @@ module _ {P : Type 0} (meld : P → P → P) (alone : Bool) (name : Name) (by : 
         of = appends.of;
         own = [];
         makes = tt;
+        few = inl refl;
         settles_none = refl;
         did = appends.outcome.0;
         some = omega arith;

@@ -32,7 +32,7 @@ settles_is {P} alone now after own x offer given r (Err put) mine outcome stands
     record { did = outcome; stands = subst (λ n. slot after x.comm x.next_agreement n ≡ Some put) mine stands }
 
 -- a start that its record doesn't refuse
-module _ {P : Type 0} (meld : P → P → P) (alone : Bool) (name : Name) (before look after : Sight P) (asked : Call P) (old mid : Record) (fits : Fits meld name.limits before.seen old)
+module _ {P : Type 0} (meld : P → P → P) (alone : Bool) (name : Name) (before look after : Sight P) (onward : before.steps ≤ after.steps) (asked : Call P) (old mid : Record) (fits : Fits meld name.limits before.seen old)
     (looked : Looked alone before.seen look.seen old mid) (x : Held) (held : held_at mid (comm_of asked) ≡ Some x) (passed : refusal_of old asked ≡ None) (now : History P) (waited : Did alone [] look.seen now)
     (offer : Offer P) (request : Request) (no_poll : (traits_of asked).polls ≡ false) (starts : (traits_of asked).starts x ≡ Some request)
     (adds : (given : Contribution P) → CallAdds (failures look.seen) old.number x asked (Settle x.comm x.next_agreement old.number given))
@@ -73,7 +73,7 @@ module _ {P : Type 0} (meld : P → P → P) (alone : Bool) (name : Name) (befor
       → new ≡ start_leaves mid (comm_of asked) request settled → Calls meld alone name asked old before (reply_of (λ _. Started) result) new after
   calls_started settled result new of settles gives leaves =
       subst (λ r. Calls meld alone name asked old before (reply_of (λ _. Started) r) new after) (sym gives)
-      (calls_is meld alone name before after asked old (reply_of (λ _. Started) (start_result settled)) new of fits (by_outcome settled new of.legal settles leaves))
+      (calls_is meld alone name before after onward asked old (reply_of (λ _. Started) (start_result settled)) new of fits (by_outcome settled new of.legal settles leaves))
 
 -- what a start asks of its exchange, where others may have stepped since the rank's look
 module _ {P : Type 0} (meld : P → P → P) (limits : Limits) (now : History P) (own : Record) (c : ℕ) (x : Held) (fits : Fits meld limits now own) (held : held_at own c ≡ Some x) where

@@ -7,7 +7,7 @@ use Rattle.ulfm_model.specs.{Answers.{MayOwn, polled_by}, History.{entries_by, f
 use Rattle.ulfm_model.proofs.Histories.{members_stay}
 use Rattle.ulfm_words.specs.Steps.{Name, Sight}
 use Rattle.ulfm_comm.specs.Calls.{Calls, EndsAs, EndsReply, RunsOut, wants_memory}
-use Rattle.ulfm_comm.proofs.{Holding.{exists_is, failed_is}, ReplyKinds.{answered_on}}
+use Rattle.ulfm_comm.proofs.{Calling.{called_counts, called_run}, Holding.{exists_is, failed_is}, ReplyKinds.{answered_on}}
 
 module _ {P : Type 0} (meld : P → P → P) (alone : Bool) (name : Name) (asked : Call P) (old : Record) (before : Sight P) (new : Record) (after : Sight P) where
   calls_as : (reply : Reply P) (b : Bool) → EndsAs meld alone name asked old before reply b new after → is_shrink (polled_by old asked) ≡ false → Calls meld alone name asked old before reply new after
@@ -40,7 +40,7 @@ module _ {P : Type 0} (meld : P → P → P) (alone : Bool) (name : Name) (rank 
       let answered = answered_on meld limits alone before.seen after.seen old (call.GetFailed rank c) (FailedGroup count) new run (λ refusal is. absurd (cc is)) in
       let is : new ≡ record old { seen = new.seen } = run.answer.leaves.record_is in
       let held : held_at new c ≡ Some answered.x = ap (λ (r : Record). held_at r c) is ∙ answered.held in
-      let end = called.counts count refl in
+      let end = called_counts meld alone name (call.GetFailed rank c) old before (FailedGroup count) new after called count refl in
       let group : filter (has answered.x.group) new.seen ≡ failed limits.ranks after.seen c = ap (filter (has answered.x.group)) end ∙ failed_is meld limits after.seen new c answered.x called.fits held in
       let exists = (members_stay limits.ranks before.seen span.point c span.point_begins (exists_is meld limits before.seen old c answered.x fits answered.held)).0 in
       let members_same = (members_stay limits.ranks span.point after.seen c span.point_ends exists).1 in
@@ -54,6 +54,7 @@ module _ {P : Type 0} (meld : P → P → P) (alone : Bool) (name : Name) (rank 
         counted = number ∙ ap length (sym failed_same ∙ sym group);
         run_out = record {
           of = called.of;
+          onward = called.onward;
           fits = called.fits;
           run_out = record {
             in_use = run.in_use;
@@ -73,4 +74,4 @@ module _ {P : Type 0} (meld : P → P → P) (alone : Bool) (name : Name) (rank 
   by_call (inr run) = by_run run
 
   pub has_counted : HasCounted meld alone name rank c count old before new after
-  has_counted = by_call called.run
+  has_counted = by_call (called_run meld alone name (call.GetFailed rank c) old before (FailedGroup count) new after called)

@@ -1,26 +1,31 @@
 -- What a call of a rank promises.
-use Rattle.std.specs.Prelude.{◌≡◌, ℕ, Bool, ◌==◌, true, false, [], None, IsTrue, IsFalse, Result, Ok, Err}
+use Rattle.std.specs.Prelude.{◌≡◌, ◌⊎◌, ℕ, ◌≤◌, Bool, ◌==◌, true, false, [], None, IsTrue, IsFalse, Result, Ok, Err}
 use Rattle.std.specs.List.{AllByRecursion}
-use Rattle.ulfm_model.specs.declared.{call.Call.{Call}, event.Caller.TheVariants.{Rank}, limits.Limits.{Limits}, refusal.Refusal.{Refusal}, reply.Reply.{Reply}, reply.Reply.TheVariants.{Started, Pending, Agreed, Shrunk, Done, FailedGroup, Acked, Declared, AlreadyFailed, Revoked, AlreadyRevoked, Standing, Freed, Refused}}
-use Rattle.ulfm_model.specs.{Answers.{MayOwn, Sees, polled_by, printed, refusal_of}, History.{History, entries_by, failures, has, spawns}, Records.{Fits, Record, is_shrink}, Runs.{IsCall, IsSpan}}
+use Rattle.ulfm_model.specs.declared.{call.Call.{Call}, event.Caller.TheVariants.{Rank}, limits.Limits.{Limits}, refusal.Refusal.{Refusal}, reply.Reply.{Reply}}
+use Rattle.ulfm_model.specs.declared.reply.Reply.TheVariants.{Started, Pending, Agreed, Shrunk, Done, FailedGroup, Acked, Declared, AlreadyFailed}
+use Rattle.ulfm_model.specs.declared.reply.Reply.TheVariants.{Revoked, AlreadyRevoked, Standing, Freed, Refused}
+use Rattle.ulfm_model.specs.{Answers.{MayOwn, Sees, polled_by, printed, refusal_of}, History.{History, entries_by, failures, has, spawns}}
+use Rattle.ulfm_model.specs.{Records.{Fits, Record, is_shrink}, Runs.{IsSpan}}
+use Rattle.ulfm_model.specs.Terms.{view_of}
 use Rattle.ulfm_words.specs.Steps.{IsOf, Name, Sight}
-use Rattle.ulfm_comm.specs.Ends.{IsAloneCall}
+use Rattle.ulfm_comm.specs.Ends.{IsEarlyRun, IsEndRun, IsRefusedAgain}
 
 -- the reply that a result stands for
 abbrev pub reply_of : {P X : Type 0} → (X → Reply P) → Result X Refusal → Reply P
 reply_of reply (Ok x) = reply x
 reply_of reply (Err refusal) = Refused refusal
 
--- A call of a rank: the pass is of these words still, the record fits what it has seen, and the call is one of the sequential
--- object, among the steps of others; where nobody else steps, it is one of the sequential object alone. A rank that was refused
--- for good makes no step. One that counted failures has seen all that are declared at its end.
-pub record Calls {P : Type 0} (meld : P → P → P) (alone : Bool) (name : Name) (asked : Call P) (old : Record) (before : Sight P) (reply : Reply P) (new : Record) (after : Sight P) : Type 0 where
+-- A call of a rank: the pass is of these words still, its steps were counted onward, and the record fits what it has seen. A rank
+-- that was refused for good is refused again, without a step. For any other, the call is one of the sequential object, among the
+-- steps of others, with its point at its end; or, where the poll of a barrier found somebody missing, when that was found.
+pub record Calls {P : Type 0} (meld : P → P → P) (alone : Bool) (name : Name)
+    (asked : Call P) (old : Record) (before : Sight P) (reply : Reply P) (new : Record) (after : Sight P) : Type 0 where
   pub of : IsOf meld name after
+  pub onward : before.steps ≤ after.steps
   pub fits : Fits meld name.limits after.seen new
-  pub run : IsCall meld name.limits alone before.seen after.seen old asked reply new
-  pub run_alone : IsTrue alone → IsAloneCall meld name.limits before.seen after.seen old asked reply new
-  pub no_step : IsTrue old.refused → after ≡ before
-  pub counts : (count : ℕ) → reply ≡ FailedGroup count → new.seen ≡ failures after.seen
+  pub ends : (IsRefusedAgain old reply new × (after ≡ before))
+      ⊎ (IsEndRun meld name.limits alone before.seen after.seen old asked reply new
+      ⊎ IsEarlyRun meld name.limits alone before.seen after.seen old asked reply new)
 
 -- A call that ran out of memory is a run but for its reply: its rank isn't declared at the look, its record doesn't refuse it,
 -- it has made no communicator, and of the record only what was seen is new.
@@ -35,8 +40,10 @@ pub record IsRunOut {P : Type 0} (meld : P → P → P) (limits : Limits) (alone
   pub record_is : new ≡ record old { seen = new.seen }
 
 -- the same of a call that ran out of memory
-pub record RunsOut {P : Type 0} (meld : P → P → P) (alone : Bool) (name : Name) (asked : Call P) (old : Record) (before : Sight P) (new : Record) (after : Sight P) : Type 0 where
+pub record RunsOut {P : Type 0} (meld : P → P → P) (alone : Bool) (name : Name)
+    (asked : Call P) (old : Record) (before : Sight P) (new : Record) (after : Sight P) : Type 0 where
   pub of : IsOf meld name after
+  pub onward : before.steps ≤ after.steps
   pub fits : Fits meld name.limits after.seen new
   pub run_out : IsRunOut meld name.limits alone before.seen after.seen old asked new
 

@@ -1,5 +1,5 @@
 -- How a shrink's poll comes by its communicator.
-use Rattle.std.specs.Prelude.{◌≡◌, ℕ, ◌+◌, ◌-◌, ◌<◌, ◌≤◌, ◌^◌, Bool, false, List, [], ◌∷◌, ◌++◌, length, nat_eq, IsFalse, Some, slice_get}
+use Rattle.std.specs.Prelude.{◌≡◌, ◌⊎◌, ℕ, ◌+◌, ◌-◌, ◌<◌, ◌≤◌, ◌^◌, Bool, false, List, [], ◌∷◌, ◌++◌, length, nat_eq, IsFalse, Some, slice_get}
 use Rattle.std.specs.List.{AllByRecursion}
 use Rattle.ulfm_model.specs.declared.{event.Caller.{Caller}, event.Event.{Event}, event.Event.TheVariants.{Spawn}, limits.Limits.{Limits}}
 use Rattle.ulfm_model.specs.{Answers.{closed}, History.{History, entries_by, is_made, spawns}, Records.{Held, Record, held_at}, Runs.{Did}}
@@ -29,6 +29,7 @@ pub record IsMadeBy {P : Type 0} (meld : P → P → P) (alone : Bool) (name : N
   pub of : IsOf meld name after
   pub own : List (Event P)
   pub makes : AllByRecursion (λ event. (i : ℕ) × (event ≡ Spawn i c k)) own
+  pub few : (own ≡ []) ⊎ ((i : ℕ) × (own ≡ Spawn i c k ∷ []))
   pub settles_none : settled_by own ≡ []
   pub did : Did alone (entries_by by own) before.seen after.seen
   pub some : 0 < j

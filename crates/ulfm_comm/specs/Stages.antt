@@ -1,16 +1,17 @@
 -- Where a call of a rank stands between two steps.
-use Rattle.std.specs.Prelude.{◌≡◌, ◌⊎◌, ℕ, ◌<◌, ◌≤◌, Bool, true, false, List, [], Some, None, Option, length, nat_lt, take, IsTrue, IsFalse, if◌then◌else◌, ⊤}
+use Rattle.std.specs.Prelude.{◌≡◌, ◌⊎◌, ℕ, ◌<◌, ◌≤◌, Bool, true, false, List, [], ◌∷◌, Some, None, Option, length, nat_lt, take, IsTrue, IsFalse, if◌then◌else◌, ⊤}
 use mathlib.Core.List.{IsPrefix}
 use Rattle.ulfm_laws.specs.declared.{body.Body.{Body}, body.Body.TheVariants.{Unit as Nothing, Flag as OfFlag, Ctx as OfIds, Clash}, ctx_mask.CtxMask.{CtxMask}, summary.Summary.{Summary}}
 use Rattle.ulfm_model.specs.declared.call.Call.TheVariants as call
-use Rattle.ulfm_model.specs.declared.{call.Call.{Call}, call.Request.{Request}, call.Request.TheVariants.{Agree, Shrink, Barrier}, contribution.Offer.{Offer}, contribution.Offer.TheVariants.{Flag, Ctx}, event.Caller.TheVariants.{Rank}, event.Event.{Event}, limits.Limits.{Limits}, refusal.Refusal.TheVariants.{Mismatch, SelfFailed}, reply.Reply.{Reply}, reply.Reply.TheVariants.{Agreed, Pending, Refused}}
-use Rattle.ulfm_model.specs.{Answers.{first_refusal, polled_by, refusal_of, traits_of}, History.{History, IsLegal, entries_by, failures, has, without}, Records.{Fits, Held, IsLowestId, Record, free_ids, held_at}, Runs.{Did}}
+use Rattle.ulfm_model.specs.declared.{call.Call.{Call}, call.Request.{Request}, call.Request.TheVariants.{Agree, Shrink, Barrier}, contribution.Offer.{Offer}, contribution.Offer.TheVariants.{Flag, Ctx}, event.Caller.TheVariants.{Rank}, event.Event.{Event}, limits.Limits.{Limits}, refusal.Refusal.TheVariants.{IsRevoked, Mismatch, SelfFailed}, reply.Reply.{Reply}, reply.Reply.TheVariants.{Agreed, Pending, Refused, Revoked, Started}}
+use Rattle.ulfm_model.specs.{Answers.{CallAdds, first_refusal, polled_by, refusal_of, traits_of}, History.{History, IsLegal, entries_by, failures, has, without}, Records.{Fits, Held, IsLowestId, Record, free_ids, held_at}, Runs.{Did}}
 use Rattle.ulfm_model.specs.Terms.{comm_of, tests_of}
 use Rattle.ulfm_words.specs.Steps.{IsOf, Name, Sight}
 use Rattle.ulfm_steps.specs.declared.{append.Append.{Append}, item.Item.TheVariants.{Comm as OfComm}, mark_all.MarkAll.{MarkAll}, read_round.ReadRound.{ReadRound}}
 use Rattle.ulfm_steps.specs.{Appends.{Passed, room}, Arriving.{AtArrival, MissingAre}, Looks.{LookIs}, Marks.{IsAt, Marks, members_in}, Rounds.{IsSummed}}
 use Rattle.ulfm_steps.specs.ReadsOn.{AtFailure, ReadsOn}
-use Rattle.ulfm_comm.specs.{Calls.{EndsReply}, Looked.{Looked}, Polls.{EndsInMissing, HasMarked, IsAgreement, agreement}}
+use Rattle.ulfm_steps.specs.declared.arrivals.{Arrivals.{Arrivals}, Missing.{Missing}, Missing.TheVariants.{Nobody}}
+use Rattle.ulfm_comm.specs.{Calls.{EndsReply}, Ends.{IsEndRun, IsRefusedAgain}, Looked.{Looked}, Polls.{EndsInMissing, HasMarked, IsAgreement, agreement}}
 use Rattle.ulfm_comm.specs.declared.doing.{Made.{Made}, Next.{Next}, Next.TheVariants.{Goes, Ends}, Phase.{Phase}, StepName.{StepName}}
 use Rattle.ulfm_comm.specs.declared.doing.Phase.TheVariants.{Over, Begun, Looking, Settling, Arriving, Revoking, Asking, Marking, Reading, ReadingOn, Spawning, Waiting, Checking}
 use Rattle.ulfm_comm.specs.declared.doing.StepName.TheVariants as step
@@ -128,9 +129,18 @@ pub record IsWaiting {P : Type 0} (meld : P → P → P) (limits : Limits) (alon
   pub open_is : x.request ≡ Some (Barrier k)
   pub waited : Did alone [] look now
 
+-- The poll of a barrier is about to load the revocation: who was missing was found when this had been seen.
+pub record IsChecking {P : Type 0} (meld : P → P → P) (limits : Limits) (alone : Bool) (c : ℕ) (missing : Missing) (earlier : History P) (old : Record) (before : History P) (own : Record) (now : History P) : Type 0 where
+  pub x : Held
+  pub k : ℕ
+  pub waits : IsWaiting meld limits alone c k x old before own earlier
+  pub are : MissingAre earlier c k x.group own.seen missing
+  pub legal : IsLegal meld limits earlier
+  pub waited : Did alone [] earlier now
+
 -- where a call stands that goes on with this phase
 abbrev pub StandsAt : {P : Type 0} → (P → P → P) → Bool → Name → Call P → Record → Sight P → Phase P → List ℕ → Record → Sight P → Type 0
-StandsAt meld alone name asked old before Over group own now = IsTrue old.refused × (own ≡ old)
+StandsAt meld alone name asked old before Over group own now = IsTrue old.refused × (own ≡ old) × Did alone [] before.seen now.seen
 StandsAt meld alone name asked old before Begun group own now = IsFalse old.refused × (own ≡ old) × Did alone [] before.seen now.seen
 StandsAt meld alone name asked old before Looking group own now = IsFalse old.refused × (own ≡ record old { seen = own.seen }) × Did alone [] before.seen now.seen × LookIs name.limits false own.seen now.seen
 StandsAt meld alone name asked old before (Settling request offer) group own now = (p : HasLooked meld name.limits alone asked old before.seen own now.seen) × StartsWith asked old p.x request offer
@@ -145,7 +155,7 @@ StandsAt meld alone name asked old before (Spawning append context reach) group 
 StandsAt meld alone name asked old before (Waiting arrivals) group own now =
     (asked ≡ call.Poll old.number (comm_of asked)) × (arrivals.comm ≡ comm_of asked) × (x : Held) × (p : IsWaiting meld name.limits alone (comm_of asked) arrivals.round x old before.seen own now.seen) × AtArrival x.group own.seen arrivals now.seen
 StandsAt {P} meld alone name asked old before (Checking missing) group own now =
-    (asked ≡ call.Poll old.number (comm_of asked)) × (x : Held) × (k : ℕ) × (earlier : History P) × (p : IsWaiting meld name.limits alone (comm_of asked) k x old before.seen own earlier) × MissingAre earlier (comm_of asked) k x.group own.seen missing × IsLegal meld name.limits earlier × Did alone [] earlier now.seen
+    (asked ≡ call.Poll old.number (comm_of asked)) × (earlier : History P) × IsChecking meld name.limits alone (comm_of asked) missing earlier old before.seen own now.seen
 
 -- A call that began with this record, and when this was seen, stands here now.
 pub record Stands {P : Type 0} (meld : P → P → P) (alone : Bool) (name : Name) (old : Record) (before : Sight P) (doing : UnderWay P) (own : Record) (now : Sight P) : Type 0 where
@@ -154,10 +164,15 @@ pub record Stands {P : Type 0} (meld : P → P → P) (alone : Bool) (name : Nam
   pub onward : before.steps ≤ now.steps
   pub at : StandsAt meld alone name doing.asked old before doing.phase doing.group own now
 
+-- since then there were others' events alone
+pub record Waits {P : Type 0} (alone : Bool) (old new : Sight P) : Type 0 where
+  pub did : Did alone [] old.seen new.seen
+  pub onward : old.steps ≤ new.steps
+
 -- A call's reply: of a rank that was refused for good before; or as the sequential object answers, or for want of memory. A
 -- pending agreement ends in a load that found a member missing.
 pub record Answered {P : Type 0} (meld : P → P → P) (alone : Bool) (name : Name) (asked : Call P) (old : Record) (before : Sight P) (reply : Reply P) (new : Record) (after : Sight P) : Type 0 where
-  pub ends : (IsTrue old.refused × (reply ≡ Refused SelfFailed) × (new ≡ old)) ⊎ EndsReply meld alone name asked old before reply new after
+  pub ends : (IsRefusedAgain old reply new × Waits alone before after) ⊎ EndsReply meld alone name asked old before reply new after
   pub pending : reply ≡ Pending → IsAgreement (polled_by old asked) → EndsInMissing meld alone name (comm_of asked) old before new after
 
 -- what comes next: further steps, or the reply
@@ -220,6 +235,83 @@ agreed_reply all (OfFlag value) = Agreed value all.known.count (nat_lt all.acked
 agreed_reply all (OfIds mask) = Refused Mismatch
 agreed_reply all Clash = Refused Mismatch
 
+-- whether a call is in its look
+abbrev pub is_looking : {P : Type 0} → Phase P → Bool
+is_looking Over = false
+is_looking Begun = true
+is_looking Looking = true
+is_looking (Settling request offer) = false
+is_looking (Arriving round) = false
+is_looking Revoking = false
+is_looking Asking = false
+is_looking (Marking marks shrinks) = false
+is_looking (Reading reading shrinks) = false
+is_looking (ReadingOn on made) = false
+is_looking (Spawning append context reach) = false
+is_looking (Waiting arrivals) = false
+is_looking (Checking missing) = false
+
+-- the reply, if the call ends
+abbrev pub reply_in : {P : Type 0} → Next P → Option (Reply P)
+reply_in (Goes phase) = None
+reply_in (Ends reply) = Some reply
+
+-- An event that a call adds in a step with this reply, if it ends so. A start adds one only where it has started, and a revocation
+-- only where it has revoked.
+pub record Makes {P : Type 0} (look : List ℕ) (own : Record) (asked : Call P) (reply : Option (Reply P)) (event : Event P) : Type 0 where
+  pub x : Held
+  pub held : held_at own (comm_of asked) ≡ Some x
+  pub adds : CallAdds look own.number x asked event
+  pub wins : (traits_of asked).polls ≡ false → (reply ≡ Some Started) ⊎ (reply ≡ Some Revoked)
+
+-- nothing happened but others' events, or one event of the call's own after them
+pub record Adds {P : Type 0} (quiet : Bool) (look : List ℕ) (own : Record) (asked : Call P) (reply : Option (Reply P)) (old new : History P) : Type 0 where
+  pub events : List (Event P)
+  pub did : Did quiet (entries_by (Rank own.number) events) old new
+  pub few : (events ≡ []) ⊎ ((event : Event P) × (events ≡ event ∷ []) × Makes look own asked reply event)
+
+-- what one step adds, by what the call does
+abbrev pub StepAdds : {P : Type 0} → Bool → Record → Call P → Phase P → Option (Reply P) → History P → History P → Type 0
+StepAdds quiet own asked Over reply old new = Did quiet [] old new
+StepAdds quiet own asked Begun reply old new = Did quiet [] old new
+StepAdds quiet own asked Looking reply old new = Did quiet [] old new
+StepAdds quiet own asked (Settling request offer) reply old new = Adds quiet own.seen own asked reply old new
+StepAdds quiet own asked (Arriving round) reply old new = Adds quiet own.seen own asked reply old new
+StepAdds quiet own asked Revoking reply old new = Adds quiet own.seen own asked reply old new
+StepAdds quiet own asked Asking reply old new = Did quiet [] old new
+StepAdds quiet own asked (Marking marks shrinks) reply old new = Adds quiet own.seen own asked reply old new
+StepAdds quiet own asked (Reading reading shrinks) reply old new = Did quiet [] old new
+StepAdds quiet own asked (ReadingOn on made) reply old new = Did quiet [] old new
+StepAdds quiet own asked (Spawning append context reach) reply old new = Adds quiet [] own asked reply old new
+StepAdds quiet own asked (Waiting arrivals) reply old new = Did quiet [] old new
+StepAdds quiet own asked (Checking missing) reply old new = Did quiet [] old new
+
+-- what one step leaves of the failures that were seen: all, but for a load of their list
+abbrev pub StepSees : {P : Type 0} → Phase P → List ℕ → List ℕ → Type 0
+StepSees Over old new = new ≡ old
+StepSees Begun old new = ⊤
+StepSees Looking old new = ⊤
+StepSees (Settling request offer) old new = new ≡ old
+StepSees (Arriving round) old new = new ≡ old
+StepSees Revoking old new = new ≡ old
+StepSees Asking old new = new ≡ old
+StepSees (Marking marks shrinks) old new = new ≡ old
+StepSees (Reading reading shrinks) old new = new ≡ old
+StepSees (ReadingOn on made) old new = ⊤
+StepSees (Spawning append context reach) old new = new ≡ old
+StepSees (Waiting arrivals) old new = new ≡ old
+StepSees (Checking missing) old new = new ≡ old
+
+-- a call doesn't come back to its look
+abbrev pub IsPast : {P : Type 0} → Next P → Type 0
+IsPast (Goes next) = is_looking next ≡ false
+IsPast (Ends reply) = ⊤
+
+-- where somebody was missing, that is when the poll is answered so
+abbrev pub AnswersEarly : {P : Type 0} → (P → P → P) → Limits → Bool → Call P → Missing → History P → Record → History P → Reply P → Record → Type 0
+AnswersEarly meld limits alone asked missing earlier old before reply new =
+    (missing ≡ Nobody) ⊎ ((reply ≡ Refused IsRevoked) ⊎ IsEndRun meld limits alone before earlier old asked reply new)
+
 -- how far a call is from its reply, by what it does next
 abbrev pub left : {P : Type 0} → Phase P → ℕ
 left Over = 0
@@ -245,7 +337,27 @@ NextBelow n (Ends reply) = ⊤
 abbrev pub IsFurther : {P : Type 0} → Phase P → Next P → Type 0
 IsFurther phase next = NextBelow (left phase) next
 
--- since then there were others' events alone
-pub record Waits {P : Type 0} (alone : Bool) (old new : Sight P) : Type 0 where
-  pub did : Did alone [] old.seen new.seen
-  pub onward : old.steps ≤ new.steps
+-- what comes next, by the reply, if there is one
+abbrev pub next_of : {P : Type 0} → Option (Reply P) → Phase P → Next P
+next_of None phase = Goes phase
+next_of (Some reply) phase = Ends reply
+
+-- One step of a call that stood so. Of a rank that was refused for good before there is none, and it is refused again. Any other
+-- has added one event at most, and has seen more only by a load of the list of failures. A call doesn't come back to its look. The
+-- poll of a barrier that found somebody missing is answered, after its last load, as it was when that was found.
+pub record Stepped {P : Type 0} (meld : P → P → P) (quiet : Bool) (name : Name) (was : UnderWay P) (own : Record) (now : Sight P)
+    (next : Next P) (new : Record) (after : Sight P) : Type 0 where
+  pub of : IsOf meld name after
+  pub onward : now.steps ≤ after.steps
+  pub over : was.phase ≡ Over → (next ≡ Ends (Refused SelfFailed)) × (new ≡ own) × (after ≡ now)
+  pub adds : StepAdds quiet own was.asked was.phase (reply_in next) now.seen after.seen
+  pub sees : StepSees was.phase own.seen new.seen
+  pub past : is_looking was.phase ≡ false → IsPast next
+  pub checks : (arrivals : Arrivals) → was.phase ≡ Waiting arrivals → (missing : Missing) → next ≡ Goes (Checking missing)
+      → (alone : Bool) → (IsTrue alone → IsTrue quiet) → (old : Record) → (before : Sight P) → Stands meld alone name old before was own now
+      → IsChecking meld name.limits alone (comm_of was.asked) missing after.seen old before.seen new after.seen
+  pub early : (missing : Missing) → was.phase ≡ Checking missing → (reply : Reply P) → next ≡ Ends reply
+      → (alone : Bool) → (IsTrue alone → IsTrue quiet) → (old : Record) → (before : Sight P) → Fits meld name.limits before.seen old
+      → was.asked ≡ call.Poll old.number (comm_of was.asked)
+      → (earlier : History P) → IsChecking meld name.limits alone (comm_of was.asked) missing earlier old before.seen own now.seen
+      → AnswersEarly meld name.limits alone was.asked missing earlier old before.seen reply new

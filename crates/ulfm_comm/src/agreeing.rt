@@ -1,7 +1,8 @@
 // The steps of an agreement's poll: marks, and loads of the round.
-ghost use Rattle.std.specs.Prelude.{ℕ, List, ◌≡◌, ◌+◌, false, true};
+ghost use Rattle.std.specs.Prelude.{ℕ, List, [], ◌≡◌, ◌+◌, false, true};
+ghost use Rattle.ulfm_model.specs.Runs.{Did};
 ghost use Rattle.ulfm_model.specs.Answers.{closed};
-ghost use Rattle.ulfm_comm.specs.Stages.{IsFurther, agreed_reply, StillStands, Turns, Walks};
+ghost use Rattle.ulfm_comm.specs.Stages.{Adds, IsFurther, IsPast, reply_in, agreed_reply, StillStands, Turns, Walks};
 ghost use Rattle.ulfm_comm.specs.declared.doing.Phase.TheVariants.{Marking as AtMarking, Reading as AtReading};
 ghost use Rattle.ulfm_words.specs.Steps.{IsOf};
 
@@ -35,6 +36,8 @@ impl<P: Packed, A: Allocator> Rank<P, A> {
         ensures walks { Walks P.meld W.alone (W.name world.now.words) self.now.number (W.sight pass.old) (W.sight pass.new) }
         ensures one { whole ≡ false → (W.sight pass.new).steps ≡ (W.sight pass.old).steps + 1 }
         ensures further { whole ≡ true → IsFurther (AtMarking marks shrinks) result }
+        ensures past { IsPast result }
+        ensures adds { whole ≡ false → Adds W.alone self.now.seen self.now asked.now (reply_in result) (W.sight pass.old).seen (W.sight pass.new).seen }
         ensures turns { (group : List ℕ) → Turns P.meld W.alone (W.name world.now.words) asked.now (AtMarking marks shrinks) group self.now (W.sight pass.old) result group self.now (W.sight pass.new) }
     {
         let Some(x) = self.held(comm_of(asked)) else {
@@ -71,6 +74,9 @@ impl<P: Packed, A: Allocator + Copy> Rank<P, A> {
         ensures walks { Walks P.meld W.alone (W.name world.now.words) self.old.number (W.sight pass.old) (W.sight pass.new) }
         ensures one { whole ≡ false → (W.sight pass.new).steps ≡ (W.sight pass.old).steps + 1 }
         ensures further { whole ≡ true → IsFurther (AtReading reading shrinks) result }
+        ensures loads { Did W.alone [] (W.sight pass.old).seen (W.sight pass.new).seen }
+        ensures sees { self.new.seen ≡ self.old.seen }
+        ensures past { IsPast result }
         ensures turns { Turns P.meld W.alone (W.name world.now.words) asked.now (AtReading reading shrinks) group.old.items self.old (W.sight pass.old) result group.new.items self.new (W.sight pass.new) }
     {
         let comm = comm_of(asked);

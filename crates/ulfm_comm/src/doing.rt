@@ -1,6 +1,6 @@
 // A call that is under way.
 ghost use Rattle.std.specs.Prelude.{◌≡◌};
-ghost use Rattle.ulfm_comm.specs.Stages.{next_step};
+ghost use Rattle.ulfm_comm.specs.Stages.{is_looking, next_step};
 
 use std::alloc::Allocator;
 use std::marker::Model;
@@ -150,5 +150,15 @@ impl<P: Packed, A: Allocator> Doing<P, A> {
         ensures { result ≡ next_step self.now.phase }
     {
         self.phase.next()
+    }
+
+    /// Whether its look goes on: that it has not ended yet. The step after which it does has ended it.
+    pub fn is_looking(&self) -> bool
+        ensures { result ≡ is_looking self.now.phase }
+    {
+        match self.phase {
+            Phase::Begun | Phase::Looking => true,
+            _ => false,
+        }
     }
 }

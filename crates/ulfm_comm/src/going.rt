@@ -1,17 +1,20 @@
 // Calls, step by step and whole.
-ghost use Rattle.std.specs.Prelude.{◌≡◌, ◌≢◌, ◌+◌, Bool, false, true, Some, IsTrue, MatchOption, if◌then◌else◌};
+ghost use Rattle.std.specs.Prelude.{◌≡◌, ◌≢◌, ◌+◌, Bool, false, true, None, Some, IsTrue, MatchOption, if◌then◌else◌};
 ghost use Rattle.ulfm_model.specs.declared.event.Caller.TheVariants.{Rank as OfRank};
 ghost use Rattle.ulfm_model.specs.Answers.{traits_of};
 ghost use Rattle.ulfm_model.specs.Records.{Fits, Record};
 ghost use Rattle.ulfm_words.specs.Steps.{IsOf, Name, Sight};
+ghost use Rattle.ulfm_model.specs.History.{History};
+ghost use Rattle.ulfm_model.specs.declared.call.Call.TheVariants.{Poll as AskedPoll};
+ghost use Rattle.ulfm_steps.specs.declared.arrivals.{Arrivals.{Arrivals}, Missing.{Missing}};
 ghost use Rattle.ulfm_model.specs.Answers.{polled_by};
-ghost use Rattle.ulfm_model.specs.declared.{refusal.Refusal.TheVariants.{OutOfMemory}, reply.Reply.TheVariants.{Pending as StillPending, Refused}};
+ghost use Rattle.ulfm_model.specs.declared.{refusal.Refusal.TheVariants.{OutOfMemory, SelfFailed}, reply.Reply.TheVariants.{Pending as StillPending, Refused}};
 ghost use Rattle.ulfm_model.specs.Terms.{comm_of};
 ghost use Rattle.ulfm_comm.specs.Calls.{EndsReply};
 ghost use Rattle.ulfm_comm.specs.Polls.{EndsInMissing, IsAgreement};
-ghost use Rattle.ulfm_comm.specs.Stages.{Answered, IsFurther, Stands, StillStands, Turns, Waits, Walks};
-ghost use Rattle.ulfm_comm.specs.declared.doing.Next.TheVariants.{Ends as NextEnds};
-ghost use Rattle.ulfm_comm.specs.declared.doing.Phase.TheVariants.{Begun as AtBegun, Over as AtOver};
+ghost use Rattle.ulfm_comm.specs.Stages.{Answered, AnswersEarly, IsChecking, IsFurther, IsPast, StepAdds, StepSees, Stepped, is_looking, next_of, reply_in, Stands, StillStands, Turns, Waits, Walks};
+ghost use Rattle.ulfm_comm.specs.declared.doing.Next.TheVariants.{Ends as NextEnds, Goes as NextGoes};
+ghost use Rattle.ulfm_comm.specs.declared.doing.Phase.TheVariants.{Begun as AtBegun, Checking as AtChecking, Over as AtOver, Waiting as AtWaiting};
 
 use crate::doing::{Doing, Next, Phase};
 use crate::rank::Rank;
@@ -39,6 +42,7 @@ impl<P: Packed, A: Allocator + Copy> Rank<P, A> {
     pub fn begin(&self, asked: Call<P>) -> Doing<P, A>
         requires { (traits_of asked).by ≡ OfRank self.now.number }
         ensures asked { result.asked ≡ asked }
+        ensures first { result.phase ≡ (if self.now.refused then AtOver else AtBegun) }
         ensures stands { (alone : Bool) (name : Name) (before : Sight P) → IsOf P.meld name before → Fits P.meld name.limits before.seen self.now → Stands P.meld alone name self.now before result self.now before }
     {
         Doing {
@@ -63,7 +67,13 @@ impl<P: Packed, A: Allocator + Copy> Rank<P, A> {
         requires stands { StillStands P.meld (W.name world.now.words) asked.now phase group.old.items self.old (W.sight pass.old) }
         ensures walks { Walks P.meld W.alone (W.name world.now.words) self.old.number (W.sight pass.old) (W.sight pass.new) }
         ensures one { whole ≡ false → phase ≢ AtOver → result ≢ NextEnds (Refused OutOfMemory) → (W.sight pass.new).steps ≡ (W.sight pass.old).steps + 1 }
+        ensures over { phase ≡ AtOver → (result ≡ NextEnds (Refused SelfFailed)) × (self.new ≡ self.old) × (W.sight pass.new ≡ W.sight pass.old) }
         ensures further { whole ≡ true → IsFurther phase result }
+        ensures adds { whole ≡ false → StepAdds W.alone self.old asked.now phase (reply_in result) (W.sight pass.old).seen (W.sight pass.new).seen }
+        ensures sees { StepSees phase self.old.seen self.new.seen }
+        ensures past { is_looking phase ≡ false → IsPast result }
+        ensures checks { (arrivals : Arrivals) → phase ≡ AtWaiting arrivals → (missing : Missing) → result ≡ NextGoes (AtChecking missing) → (alone : Bool) → (IsTrue alone → IsTrue W.alone) → (old : Record) → (before : Sight P) → Stands P.meld alone (W.name world.now.words) old before (record { asked = asked.now; phase = phase; group = group.old.items }) self.old (W.sight pass.old) → IsChecking P.meld (W.name world.now.words).limits alone (comm_of asked.now) missing (W.sight pass.new).seen old before.seen self.new (W.sight pass.new).seen }
+        ensures early { (missing : Missing) → phase ≡ AtChecking missing → (reply : Reply P) → result ≡ NextEnds reply → (alone : Bool) → (IsTrue alone → IsTrue W.alone) → (old : Record) → (before : Sight P) → Fits P.meld (W.name world.now.words).limits before.seen old → asked.now ≡ AskedPoll old.number (comm_of asked.now) → (earlier : History P) → IsChecking P.meld (W.name world.now.words).limits alone (comm_of asked.now) missing earlier old before.seen self.old (W.sight pass.old).seen → AnswersEarly P.meld (W.name world.now.words).limits alone asked.now missing earlier old before.seen reply self.new }
         ensures turns { Turns P.meld W.alone (W.name world.now.words) asked.now phase group.old.items self.old (W.sight pass.old) result group.new.items self.new (W.sight pass.new) }
     {
         match phase {
@@ -106,10 +116,13 @@ impl<P: Packed, A: Allocator + Copy> Rank<P, A> {
     ) -> Option<Reply<P>>
         requires of { IsOf P.meld (W.name world.now.words) (W.sight pass.old) }
         requires stood { (old : Record) × (before : Sight P) × (stood : Sight P) × Stands P.meld false (W.name world.now.words) old before doing.old self.old stood × Waits false stood (W.sight pass.old) }
-        ensures walks { Walks P.meld W.alone (W.name world.now.words) self.old.number (W.sight pass.old) (W.sight pass.new) }
         ensures one { doing.old.phase ≢ AtOver → result ≢ Some (Refused OutOfMemory) → (W.sight pass.new).steps ≡ (W.sight pass.old).steps + 1 }
         ensures asked { doing.new.asked ≡ doing.old.asked }
-        ensures stands { (alone : Bool) → (IsTrue alone → IsTrue W.alone) → (old : Record) → (before : Sight P) → (stood : Sight P) → Stands P.meld alone (W.name world.now.words) old before doing.old self.old stood → Waits alone stood (W.sight pass.old) → MatchOption result (Stands P.meld alone (W.name world.now.words) old before doing.new self.new (W.sight pass.new)) (λ reply. Answered P.meld alone (W.name world.now.words) doing.old.asked old before reply self.new (W.sight pass.new)) }
+        ensures stepped { Stepped P.meld W.alone (W.name world.now.words) doing.old self.old (W.sight pass.old) (next_of result doing.new.phase) self.new (W.sight pass.new) }
+        ensures stands { (alone : Bool) → (IsTrue alone → IsTrue W.alone) → (old : Record) → (before : Sight P) → (stood : Sight P)
+            → Stands P.meld alone (W.name world.now.words) old before doing.old self.old stood → Waits alone stood (W.sight pass.old)
+            → MatchOption result (Stands P.meld alone (W.name world.now.words) old before doing.new self.new (W.sight pass.new))
+            (λ reply. Answered P.meld alone (W.name world.now.words) doing.old.asked old before reply self.new (W.sight pass.new)) }
     {
         let phase = mem::replace(&mut doing.phase, Phase::Over);
         match self.go(world, pass, &doing.asked, phase, &mut doing.group, false) {

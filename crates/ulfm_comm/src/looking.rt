@@ -1,6 +1,7 @@
 // The look of a call, and what comes after it.
-ghost use Rattle.std.specs.Prelude.{ℕ, Bool, List, ◌≡◌, ◌+◌, ◌<◌, false, true, max, min, None, Some, MatchOption};
+ghost use Rattle.std.specs.Prelude.{ℕ, Bool, List, [], ◌≡◌, ◌+◌, ◌<◌, false, true, max, min, None, Some, MatchOption};
 ghost use Rattle.ulfm_model.specs.Records.{Record};
+ghost use Rattle.ulfm_model.specs.Runs.{Did};
 ghost use Rattle.ulfm_model.specs.declared.call.Call.TheVariants.{Poll as PollAsked};
 ghost use Rattle.ulfm_model.specs.declared.call.Request.TheVariants.{Barrier as OfBarrier};
 ghost use Rattle.ulfm_comm.specs.Polls.{IsAgreement, agreement};
@@ -72,6 +73,7 @@ impl<P: Packed, A: Allocator> Rank<P, A> {
         ensures walks { Walks P.meld W.alone (W.name world.now.words) self.old.number (W.sight pass.old) (W.sight pass.new) }
         ensures one { whole ≡ false → (W.sight pass.new).steps ≡ (W.sight pass.old).steps + 1 }
         ensures further { whole ≡ true → IsFurther AtBegun result }
+        ensures loads { Did W.alone [] (W.sight pass.old).seen (W.sight pass.new).seen }
         ensures turns { (group : List ℕ) → Turns P.meld W.alone (W.name world.now.words) asked.now AtBegun group self.old (W.sight pass.old) result group self.new (W.sight pass.new) }
     {
         self.forget();
@@ -92,6 +94,7 @@ impl<P: Packed, A: Allocator> Rank<P, A> {
         ensures walks { Walks P.meld W.alone (W.name world.now.words) self.old.number (W.sight pass.old) (W.sight pass.new) }
         ensures one { whole ≡ false → (W.sight pass.new).steps ≡ (W.sight pass.old).steps + 1 }
         ensures further { whole ≡ true → IsFurther AtLooking result }
+        ensures loads { Did W.alone [] (W.sight pass.old).seen (W.sight pass.new).seen }
         ensures turns { (group : List ℕ) → Turns P.meld W.alone (W.name world.now.words) asked.now AtLooking group self.old (W.sight pass.old) result group self.new (W.sight pass.new) }
     {
         if !self.look_on(&world.words, pass, whole) {

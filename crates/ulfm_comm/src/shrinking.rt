@@ -1,7 +1,8 @@
 // The further steps of a shrink's poll, once its round is decided.
-ghost use Rattle.std.specs.Prelude.{Bool, ◌≡◌, ◌≢◌, ◌+◌, false, true};
+ghost use Rattle.std.specs.Prelude.{Bool, [], ◌≡◌, ◌≢◌, ◌+◌, false, true};
 ghost use Rattle.ulfm_model.specs.Records.{Record};
-ghost use Rattle.ulfm_comm.specs.Stages.{HasReached, HasReadAll, IsFurther, NextBelow, NextIs, StillStands, Turns, Walks};
+ghost use Rattle.ulfm_model.specs.Runs.{Did};
+ghost use Rattle.ulfm_comm.specs.Stages.{Adds, HasReached, HasReadAll, IsFurther, IsPast, NextBelow, NextIs, StillStands, reply_in, Turns, Walks};
 ghost use Rattle.ulfm_model.specs.declared.{refusal.Refusal.TheVariants.{OutOfMemory}, reply.Reply.TheVariants.{Refused}};
 ghost use Rattle.ulfm_comm.specs.declared.doing.Next.TheVariants.{Ends as NextEnds};
 ghost use Rattle.ulfm_comm.specs.declared.doing.Phase.TheVariants.{ReadingOn as AtReadingOn, Spawning as AtSpawning};
@@ -38,6 +39,8 @@ impl<P: Packed, A: Allocator + Copy> Rank<P, A> {
         requires of { IsOf P.meld (W.name world.now.words) (W.sight pass.now) }
         requires read { (old : Record) × (before : Sight P) × HasReadAll P.meld false (W.name world.now.words) asked.now true round all old before self.old (W.sight pass.now) }
         ensures further { NextBelow 5 result }
+        ensures sees { self.new.seen ≡ self.old.seen }
+        ensures past { IsPast result }
         ensures turns { (alone : Bool) (old : Record) (before : Sight P) → HasReadAll P.meld alone (W.name world.now.words) asked.now true round all old before self.old (W.sight pass.now) → NextIs P.meld alone (W.name world.now.words) asked.now old before result group.new.items self.new (W.sight pass.now) }
     {
         let comm = comm_of(asked);
@@ -78,6 +81,8 @@ impl<P: Packed, A: Allocator + Copy> Rank<P, A> {
         ensures walks { Walks P.meld W.alone (W.name world.now.words) self.old.number (W.sight pass.old) (W.sight pass.new) }
         ensures one { whole ≡ false → (W.sight pass.new).steps ≡ (W.sight pass.old).steps + 1 }
         ensures further { whole ≡ true → IsFurther (AtReadingOn on made) result }
+        ensures loads { Did W.alone [] (W.sight pass.old).seen (W.sight pass.new).seen }
+        ensures past { IsPast result }
         ensures turns { Turns P.meld W.alone (W.name world.now.words) asked.now (AtReadingOn on made) group.old.items self.old (W.sight pass.old) result group.new.items self.new (W.sight pass.new) }
     {
         let mut on = on;
@@ -108,6 +113,8 @@ impl<P: Packed, A: Allocator + Copy> Rank<P, A> {
         requires of { IsOf P.meld (W.name world.now.words) (W.sight pass.now) }
         requires reached { (old : Record) × (before : Sight P) × HasReached P.meld false (W.name world.now.words) asked.now made reach old before self.old (W.sight pass.now) }
         ensures further { NextBelow 4 result }
+        ensures sees { self.new.seen ≡ self.old.seen }
+        ensures past { IsPast result }
         ensures turns { (alone : Bool) (old : Record) (before : Sight P) → HasReached P.meld alone (W.name world.now.words) asked.now made reach old before self.old (W.sight pass.now) → NextIs P.meld alone (W.name world.now.words) asked.now old before result group.new.items self.new (W.sight pass.now) }
     {
         let number = self.number();
@@ -151,6 +158,9 @@ impl<P: Packed, A: Allocator + Copy> Rank<P, A> {
         ensures walks { Walks P.meld W.alone (W.name world.now.words) self.old.number (W.sight pass.old) (W.sight pass.new) }
         ensures one { whole ≡ false → result ≢ NextEnds (Refused OutOfMemory) → (W.sight pass.new).steps ≡ (W.sight pass.old).steps + 1 }
         ensures further { whole ≡ true → IsFurther (AtSpawning append context reach) result }
+        ensures sees { self.new.seen ≡ self.old.seen }
+        ensures past { IsPast result }
+        ensures adds { Adds W.alone [] self.old asked.now (reply_in result) (W.sight pass.old).seen (W.sight pass.new).seen }
         ensures turns { Turns P.meld W.alone (W.name world.now.words) asked.now (AtSpawning append context reach) group.old.items self.old (W.sight pass.old) result group.new.items self.new (W.sight pass.new) }
     {
         let comm = comm_of(asked);

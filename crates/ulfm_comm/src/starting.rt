@@ -1,6 +1,7 @@
 // The one step that starts and questions make after their look.
-ghost use Rattle.std.specs.Prelude.{ℕ, List, ◌≡◌, ◌+◌, false};
-ghost use Rattle.ulfm_comm.specs.Stages.{StillStands, Turns, Walks};
+ghost use Rattle.std.specs.Prelude.{ℕ, List, [], ◌≡◌, ◌+◌, false, Some};
+ghost use Rattle.ulfm_model.specs.Runs.{Did};
+ghost use Rattle.ulfm_comm.specs.Stages.{Adds, StillStands, Turns, Walks};
 ghost use Rattle.ulfm_comm.specs.declared.doing.Next.TheVariants.{Ends as NextEnds};
 ghost use Rattle.ulfm_comm.specs.declared.doing.Phase.TheVariants.{Settling as AtSettling, Arriving as AtArriving, Revoking as AtRevoking, Asking as AtAsking};
 ghost use Rattle.ulfm_words.specs.Steps.{IsOf};
@@ -31,6 +32,8 @@ impl<P: Packed, A: Allocator> Rank<P, A> {
         requires stands { (group : List ℕ) × StillStands P.meld (W.name world.now.words) asked.now (AtSettling request offer) group self.old (W.sight pass.old) }
         ensures walks { Walks P.meld W.alone (W.name world.now.words) self.old.number (W.sight pass.old) (W.sight pass.new) }
         ensures one { (W.sight pass.new).steps ≡ (W.sight pass.old).steps + 1 }
+        ensures adds { Adds W.alone self.old.seen self.old asked.now (Some result) (W.sight pass.old).seen (W.sight pass.new).seen }
+        ensures sees { self.new.seen ≡ self.old.seen }
         ensures turns { (group : List ℕ) → Turns P.meld W.alone (W.name world.now.words) asked.now (AtSettling request offer) group self.old (W.sight pass.old) (NextEnds result) group self.new (W.sight pass.new) }
     {
         let Some(x) = self.held(comm_of(asked)) else {
@@ -56,6 +59,8 @@ impl<P: Packed, A: Allocator> Rank<P, A> {
         requires stands { (group : List ℕ) × StillStands P.meld (W.name world.now.words) asked.now (AtArriving round) group self.old (W.sight pass.old) }
         ensures walks { Walks P.meld W.alone (W.name world.now.words) self.old.number (W.sight pass.old) (W.sight pass.new) }
         ensures one { (W.sight pass.new).steps ≡ (W.sight pass.old).steps + 1 }
+        ensures adds { Adds W.alone self.old.seen self.old asked.now (Some result) (W.sight pass.old).seen (W.sight pass.new).seen }
+        ensures sees { self.new.seen ≡ self.old.seen }
         ensures turns { (group : List ℕ) → Turns P.meld W.alone (W.name world.now.words) asked.now (AtArriving round) group self.old (W.sight pass.old) (NextEnds result) group self.new (W.sight pass.new) }
     {
         let comm = comm_of(asked);
@@ -80,6 +85,7 @@ impl<P: Packed, A: Allocator> Rank<P, A> {
         requires stands { (group : List ℕ) × StillStands P.meld (W.name world.now.words) asked.now AtRevoking group self.now (W.sight pass.old) }
         ensures walks { Walks P.meld W.alone (W.name world.now.words) self.now.number (W.sight pass.old) (W.sight pass.new) }
         ensures one { (W.sight pass.new).steps ≡ (W.sight pass.old).steps + 1 }
+        ensures adds { Adds W.alone self.now.seen self.now asked.now (Some result) (W.sight pass.old).seen (W.sight pass.new).seen }
         ensures turns { (group : List ℕ) → Turns P.meld W.alone (W.name world.now.words) asked.now AtRevoking group self.now (W.sight pass.old) (NextEnds result) group self.now (W.sight pass.new) }
     {
         let by = Caller::Rank(self.number());
@@ -102,6 +108,7 @@ impl<P: Packed, A: Allocator> Rank<P, A> {
         requires stands { (group : List ℕ) × StillStands P.meld (W.name world.now.words) asked.now AtAsking group self.now (W.sight pass.old) }
         ensures walks { Walks P.meld W.alone (W.name world.now.words) self.now.number (W.sight pass.old) (W.sight pass.new) }
         ensures one { (W.sight pass.new).steps ≡ (W.sight pass.old).steps + 1 }
+        ensures loads { Did W.alone [] (W.sight pass.old).seen (W.sight pass.new).seen }
         ensures turns { (group : List ℕ) → Turns P.meld W.alone (W.name world.now.words) asked.now AtAsking group self.now (W.sight pass.old) (NextEnds result) group self.now (W.sight pass.new) }
     {
         Reply::Standing {

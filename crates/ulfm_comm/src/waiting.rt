@@ -1,9 +1,13 @@
 // The steps of a barrier's poll: loads of arrivals, and last that of the revocation.
-ghost use Rattle.std.specs.Prelude.{ℕ, List, ◌≡◌, ◌+◌, false, true};
-ghost use Rattle.ulfm_comm.specs.Stages.{IsFurther, StillStands, Turns, Walks};
-ghost use Rattle.ulfm_comm.specs.declared.doing.Next.TheVariants.{Ends as NextEnds};
+ghost use Rattle.std.specs.Prelude.{ℕ, Bool, List, [], ◌≡◌, ◌+◌, false, true, IsTrue};
+ghost use Rattle.ulfm_model.specs.{History.{History}, Records.{Fits, Record}, Runs.{Did}};
+ghost use Rattle.ulfm_model.specs.declared.call.Call.TheVariants.{Poll as AskedPoll};
+ghost use Rattle.ulfm_model.specs.Terms.{comm_of};
+ghost use Rattle.ulfm_steps.specs.declared.arrivals.Missing.{Missing};
+ghost use Rattle.ulfm_comm.specs.Stages.{AnswersEarly, IsChecking, IsFurther, IsPast, Stands, StillStands, Turns, Walks};
+ghost use Rattle.ulfm_comm.specs.declared.doing.Next.TheVariants.{Ends as NextEnds, Goes as NextGoes};
 ghost use Rattle.ulfm_comm.specs.declared.doing.Phase.TheVariants.{Waiting as AtWaiting, Checking as AtChecking};
-ghost use Rattle.ulfm_words.specs.Steps.{IsOf};
+ghost use Rattle.ulfm_words.specs.Steps.{IsOf, Sight};
 
 use crate::doing::{Next, Phase};
 use crate::rank::Rank;
@@ -32,6 +36,9 @@ impl<P: Packed, A: Allocator> Rank<P, A> {
         ensures walks { Walks P.meld W.alone (W.name world.now.words) self.now.number (W.sight pass.old) (W.sight pass.new) }
         ensures one { whole ≡ false → (W.sight pass.new).steps ≡ (W.sight pass.old).steps + 1 }
         ensures further { whole ≡ true → IsFurther (AtWaiting arrivals) result }
+        ensures loads { Did W.alone [] (W.sight pass.old).seen (W.sight pass.new).seen }
+        ensures past { IsPast result }
+        ensures checks { (missing : Missing) → result ≡ NextGoes (AtChecking missing) → (group : List ℕ) → (alone : Bool) → (IsTrue alone → IsTrue W.alone) → (old : Record) → (before : Sight P) → Stands P.meld alone (W.name world.now.words) old before (record { asked = asked.now; phase = AtWaiting arrivals; group = group }) self.now (W.sight pass.old) → IsChecking P.meld (W.name world.now.words).limits alone (comm_of asked.now) missing (W.sight pass.new).seen old before.seen self.now (W.sight pass.new).seen }
         ensures turns { (group : List ℕ) → Turns P.meld W.alone (W.name world.now.words) asked.now (AtWaiting arrivals) group self.now (W.sight pass.old) result group self.now (W.sight pass.new) }
     {
         let Some(x) = self.held(comm_of(asked)) else {
@@ -57,6 +64,9 @@ impl<P: Packed, A: Allocator> Rank<P, A> {
         requires stands { (group : List ℕ) × StillStands P.meld (W.name world.now.words) asked.now (AtChecking missing) group self.old (W.sight pass.old) }
         ensures walks { Walks P.meld W.alone (W.name world.now.words) self.old.number (W.sight pass.old) (W.sight pass.new) }
         ensures one { (W.sight pass.new).steps ≡ (W.sight pass.old).steps + 1 }
+        ensures loads { Did W.alone [] (W.sight pass.old).seen (W.sight pass.new).seen }
+        ensures sees { self.new.seen ≡ self.old.seen }
+        ensures early { (alone : Bool) → (IsTrue alone → IsTrue W.alone) → (old : Record) → (before : Sight P) → Fits P.meld (W.name world.now.words).limits before.seen old → asked.now ≡ AskedPoll old.number (comm_of asked.now) → (earlier : History P) → IsChecking P.meld (W.name world.now.words).limits alone (comm_of asked.now) missing earlier old before.seen self.old (W.sight pass.old).seen → AnswersEarly P.meld (W.name world.now.words).limits alone asked.now missing earlier old before.seen result self.new }
         ensures turns { (group : List ℕ) → Turns P.meld W.alone (W.name world.now.words) asked.now (AtChecking missing) group self.old (W.sight pass.old) (NextEnds result) group self.new (W.sight pass.new) }
     {
         let comm = comm_of(asked);

@@ -1,13 +1,13 @@
 -- A rank whose calls are taken step by step, among others over one pass.
 use Rattle.std.proofs.Common.{◌≡◌, ◌⊎◌, ℕ, zero, suc, ◌<◌, ◌∷◌, length, get_or, Bool, true, false, List, [], Some, None, sym, subst, arith, append-nil, inl, inr, IsTrue, set}
 use Rattle.std.specs.{List.{AllByRecursion}, Prelude.{MatchOption, Option}}
-use Rattle.ulfm_model.specs.declared.{call.Call.{Call}, event.Caller.TheVariants.{Rank}, refusal.Refusal.TheVariants.{SelfFailed}, reply.Reply.{Reply}, reply.Reply.TheVariants.{Refused}}
+use Rattle.ulfm_model.specs.declared.{call.Call.{Call}, event.Caller.TheVariants.{Rank}, reply.Reply.{Reply}}
 use Rattle.ulfm_model.specs.{History.{IsLegal, entries_by}, Records.{Fits, Record}}
 use Rattle.ulfm_model.proofs.{LeftRuns.{fail_legal}, Lists.{each_from, prefix_trans}, Stable.{fits_stays}}
 use Rattle.ulfm_words.specs.Steps.{IsOf, Name, Sight}
 use Rattle.ulfm_words.proofs.Trails.{did_prefix, did_wait}
-use Rattle.ulfm_comm.specs.{Calls.{EndsAs, EndsReply, wants_memory}, Fails.{Fails}, Stages.{Answered, Stands, UnderWay, Waits, Walks}}
-use Rattle.ulfm_comm.proofs.{InOrder.{each_set}, Loosely.{did_among}}
+use Rattle.ulfm_comm.specs.{Calls.{EndsAs, EndsReply, wants_memory}, Fails.{Fails}, Ends.{IsRefusedAgain}, Stages.{Answered, Stands, Stepped, UnderWay, Waits, next_of, reply_in}}
+use Rattle.ulfm_comm.proofs.{Adding.{step_did}, InOrder.{each_set}, Loosely.{did_among}}
 use Rattle.ulfm_comm_tests.specs.Seats.{HasStood, IsPlay, Seated, Sits}
 use mathlib.Core.List.{IsPrefix}
 
@@ -31,9 +31,10 @@ module _ {P : Type 0} (meld : P → P → P) (name : Name) where
   waits_on stood now after p q = record { did = did_wait false [] stood.seen now.seen after.seen p.did q.did; onward = omega (arith, p.onward, q.onward) }
 
   -- for the others a rank's steps are others' events
-  pub walks_waits : (quiet : Bool) (rank : ℕ) (now after : Sight P) → Walks meld quiet name rank now after → Waits false now after
-  walks_waits quiet rank now after walks =
-      record { did = did_among now.seen after.seen (did_prefix quiet (entries_by (Rank rank) walks.own) now.seen after.seen walks.did); onward = walks.onward }
+  pub step_waits : (quiet : Bool) (was : UnderWay P) (own : Record) (now : Sight P) (reply : Option (Reply P)) (is : UnderWay P) (new : Record) (after : Sight P) → Stepped meld quiet name was own now (next_of reply is.phase) new after → Waits false now after
+  step_waits quiet was own now reply is new after step =
+      let did = step_did quiet own was.asked (reply_in (next_of reply is.phase)) now.seen after.seen was.phase step.adds in
+      record { did = did_among now.seen after.seen (did_prefix quiet (entries_by (Rank own.number) did.0) now.seen after.seen did.1); onward = step.onward }
 
   -- a call that has just begun
   pub stood_first : (own : Record) (now : Sight P) (doing : UnderWay P) → Stands meld false name own now doing own now → HasStood meld name own now doing
@@ -61,8 +62,8 @@ module _ {P : Type 0} (meld : P → P → P) (name : Name) where
         → ((old : Record) (before stood : Sight P) → Stands meld false name old before doing own stood → Waits false stood now → Answered meld false name asked old before reply own' after) → Fits meld name.limits after.seen own'
     answered_fits own' asked reply legal turns = go (turns was.old was.before was.stood was.stands was.waits).ends
       where
-        go : (IsTrue was.old.refused × (reply ≡ Refused SelfFailed) × (own' ≡ was.old)) ⊎ EndsReply meld false name asked was.old was.before reply own' after → Fits meld name.limits after.seen own'
-        go (inl (refused, reply_is, same)) = subst (λ r. Fits meld name.limits after.seen r) (sym same) (fits_stays meld name.limits was.before.seen after.seen was.old still_begins legal was.stands.fits)
+        go : (IsRefusedAgain was.old reply own' × Waits false was.before after) ⊎ EndsReply meld false name asked was.old was.before reply own' after → Fits meld name.limits after.seen own'
+        go (inl (again, waited)) = subst (λ r. Fits meld name.limits after.seen r) (sym again.record_is) (fits_stays meld name.limits was.before.seen after.seen was.old still_begins legal was.stands.fits)
         go (inr ends) = ends_fit asked reply was.old own' was.before (wants_memory reply) ends
 
   -- others step

@@ -1,5 +1,5 @@
 -- Marking a round's declared members.
-use Rattle.std.proofs.Common.{◌≡◌, ℕ, zero, suc, ◌+◌, ◌-◌, ◌<◌, ◌≤◌, ◌==◌, Bool, true, false, cond, not, ◌||◌, ◌&&◌, List, [], ◌∷◌, ◌++◌, length, map, filter, filter_map, take, drop, slice_index_or, slice_get, Some, None, is_some, IsTrue, nat_eq, refl, ap, ap₂, sym, ◌∙◌, subst, arith, append-nil, append_assoc, length-append, if◌then◌else◌}
+use Rattle.std.proofs.Common.{◌≡◌, ℕ, zero, suc, ◌+◌, ◌-◌, ◌<◌, ◌≤◌, ◌==◌, Bool, true, false, cond, not, ◌||◌, ◌&&◌, List, [], ◌∷◌, ◌++◌, length, map, filter, filter_map, take, drop, slice_index_or, slice_get, Some, None, is_some, IsTrue, nat_eq, refl, ap, ap₂, sym, ◌∙◌, subst, arith, append-nil, append_assoc, length-append, if◌then◌else◌, inl, inr}
 use Rattle.std.specs.Prelude.{MatchBool}
 use Rattle.std.specs.List.{slice_index, cons_option, AllByRecursion, IsDistinct}
 use Rattle.std.proofs.lemmas.Bool.{eq-eqb, or_left, or_right, or_parts, or_from}
@@ -15,7 +15,7 @@ use Rattle.ulfm_model.proofs.{Histories.{failures_begin, legal_parts, slot_stays
 use Rattle.ulfm_words.specs.{Steps.{IsAdded, IsOf, Name, Sight}, Tries.{MayPut, Tries, entry}}
 use Rattle.ulfm_words.proofs.{Ranks.{failures_le}, Trails.{did_added, did_more, did_none, did_prefix, did_quiet, did_wait}}
 use Rattle.ulfm_steps.specs.declared.mark_all.MarkAll.{MarkAll}
-use Rattle.ulfm_steps.specs.Marks.{HasMarked, IsMarkOf, Marks, MarkSteps, MayMarkAll, members_in}
+use Rattle.ulfm_steps.specs.Marks.{HasMarked, IsMarkOf, Marks, MarksOnce, MarkSteps, MayMarkAll, marks_left, members_in}
 use Rattle.ulfm_steps.proofs.Reading.{member_place, round_stays, take_one_more}
 
 filter_one : (b : Bool) (xs : List ℕ) (x : ℕ) → (let ys : List ℕ = cond b (x ∷ []) [] in xs ++ ys) ≡ cond b (xs ++ x ∷ []) xs
@@ -283,3 +283,36 @@ marked_push meld alone name start here after group declared x y z rank comm roun
 pub take_all : (xs : List ℕ) → take (length xs) xs ≡ xs
 take_all [] = refl
 take_all (x ∷ xs) = ap (λ w. x ∷ w) (take_all xs)
+
+-- one exchange, won or lost
+pub marks_once : {P : Type 0} (alone : Bool) (number c k r : ℕ) (mark : MarkCount) (old new : History P) (won : Bool) → MatchBool won (IsAdded alone (record { by = ByRank number; event = Mark c k r mark }) old new) (Did alone [] old new)
+    → MarksOnce alone number c k r old new
+marks_once alone number c k r mark old new true outcome = inr (mark, outcome)
+marks_once alone number c k r mark old new false outcome = inl outcome
+
+-- no more members stand before a place than there are
+members_within : (group declared : List ℕ) (at : ℕ) → length (members_in group declared at) ≤ length (filter (has group) declared)
+members_within group declared at =
+    length_prefix (members_in group declared at) (filter (has group) declared) (filter_begins (has group) (take at declared) declared (drop at declared, take-append-drop at declared))
+
+-- past a member one fewer is left
+pub marks_fall : (group declared : List ℕ) (at next : ℕ) → at < length declared → IsTrue (has group (slice_index declared at)) → members_in group declared next ≡ members_in group declared (at + 1)
+    → marks_left group declared next + 1 ≤ marks_left group declared at
+marks_fall group declared at next lt member same =
+    let before = members_in group declared at in
+    let r = slice_index declared at in
+    let one = members_next group declared at lt ∙ ap (λ b. cond b (before ++ r ∷ []) before) member in
+    let more = ap length (same ∙ one) in
+    let push = length-append before (r ∷ []) in
+    let within = members_within group declared next in
+    omega (arith, more, push, within)
+
+-- those that were marked, and those that are left, are no more than were left before
+pub marks_turn : {P : Type 0} (meld : P → P → P) (alone : Bool) (name : Name) (start : MarkAll) (group declared : List ℕ) (at : ℕ) (old new : Sight P) → HasMarked meld alone name start group declared at old new
+    → new.steps + marks_left group declared at ≤ old.steps + marks_left group declared start.next
+marks_turn meld alone name start group declared at old new marked =
+    let joined = ap length marked.members_are in
+    let push = length-append (members_in group declared start.next) marked.between in
+    let within = members_within group declared at in
+    let few = marked.marks.steps in
+    omega (arith, joined, push, within, few)

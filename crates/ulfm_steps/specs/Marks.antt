@@ -1,12 +1,12 @@
 -- What marking a round's declared members asks for, and tells.
-use Rattle.std.specs.Prelude.{◌≡◌, ℕ, ◌+◌, ◌<◌, ◌≤◌, Bool, not, List, ◌++◌, length, filter, take, slice_index, is_some, IsTrue}
+use Rattle.std.specs.Prelude.{◌≡◌, ◌⊎◌, ℕ, ◌+◌, ◌-◌, ◌<◌, ◌≤◌, Bool, false, not, List, [], ◌++◌, length, filter, take, slice_index, is_some, IsTrue}
 use Rattle.std.specs.List.{AllByRecursion}
 use mathlib.Core.List.{IsPrefix}
-use Rattle.ulfm_model.specs.declared.{event.Caller.TheVariants.{Rank as ByRank}, event.Event.{Event}, event.Event.TheVariants.{Mark}, limits.Limits.{Limits}}
+use Rattle.ulfm_model.specs.declared.{contribution.MarkCount.{MarkCount}, event.Caller.TheVariants.{Rank as ByRank}, event.Event.{Event}, event.Event.TheVariants.{Mark}, limits.Limits.{Limits}, place.Place.TheVariants.{Slot as SlotAt}}
 use Rattle.ulfm_model.specs.{History.{History, entries_by, failures, has, slot}, Runs.{Did}}
 use Rattle.ulfm_model.specs.Terms.{settled_by}
-use Rattle.ulfm_words.specs.Steps.{IsOf, Name, Sight}
-use Rattle.ulfm_steps.specs.Rounds.{IsRoundOf}
+use Rattle.ulfm_words.specs.Steps.{IsAdded, IsOf, Name, Sight}
+use Rattle.ulfm_steps.specs.{Rounds.{IsRoundOf}, Turns.{Takes}}
 use Rattle.ulfm_steps.specs.declared.mark_all.MarkAll.{MarkAll}
 
 -- a mark of one of these ranks in this round
@@ -23,6 +23,10 @@ pub record Marks {P : Type 0} (alone : Bool) (number c k : ℕ) (ranks : List �
   pub settled : AllByRecursion (λ r. IsTrue (is_some (slot after c k r))) ranks
   pub exact : IsTrue alone → settled_by own ≡ filter (λ r. not (is_some (slot before c k r))) ranks
   pub others : IsTrue alone → (r : ℕ) → IsTrue (not (has ranks r)) → slot after c k r ≡ slot before c k r
+
+-- one exchange: the rank was marked last, after events by others, or there were others' events alone
+abbrev pub MarksOnce : {P : Type 0} → Bool → ℕ → ℕ → ℕ → ℕ → History P → History P → Type 0
+MarksOnce alone number c k r old new = Did alone [] old new ⊎ ((mark : MarkCount) × IsAdded alone (record { by = ByRank number; event = Mark c k r mark }) old new)
 
 -- one exchange for each of these ranks, at most
 pub record MarkSteps {P : Type 0} (meld : P → P → P) (alone : Bool) (name : Name) (number c k : ℕ) (ranks : List ℕ) (old new : Sight P) : Type 0 where
@@ -58,3 +62,12 @@ pub record HasMarked {P : Type 0} (meld : P → P → P) (alone : Bool) (name : 
   pub between : List ℕ
   pub members_are : members_in group declared at ≡ members_in group declared start.next ++ between
   pub marks : MarkSteps meld alone name start.rank start.comm start.round between old new
+
+-- how many members a marking may still mark, from this place on
+abbrev pub marks_left : List ℕ → List ℕ → ℕ → ℕ
+marks_left group declared at = length (filter (has group) declared) - length (members_in group declared at)
+
+-- the exchanges of a marking, the first of them of the next member's place
+abbrev pub MarksTake : {P : Type 0} → Bool → List ℕ → List ℕ → MarkAll → MarkAll → Sight P → Sight P → Type 0
+MarksTake whole group declared old new =
+    Takes whole (SlotAt old.comm old.round (slice_index declared old.next)) false (marks_left group declared old.next) (marks_left group declared new.next)

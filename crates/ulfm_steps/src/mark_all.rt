@@ -3,7 +3,7 @@
 ghost use Rattle.std.specs.Prelude.{◌≡◌, ◌<◌, ◌≤◌, ◌+◌, ◌++◌, ◌∷◌, [], false, true, length, slice_index};
 ghost use Rattle.std.specs.List.Sorted.{IsStrictlyIncreasing};
 ghost use Rattle.ulfm_words.specs.Steps.{IsOf};
-ghost use Rattle.ulfm_steps.specs.Marks.{HasMarked, MarkSteps, MayMarkAll, members_in, IsNext, IsAt};
+ghost use Rattle.ulfm_steps.specs.Marks.{HasMarked, MarksOnce, MarksTake, MarkSteps, MayMarkAll, members_in, IsNext, IsAt};
 
 use crate::group::is_member;
 use std::alloc::Allocator;
@@ -72,13 +72,14 @@ impl MarkAll {
         requires may { MayMarkAll (W.name words.now).limits (W.sight pass.old).seen self.old.comm self.old.round group.now declared.now }
         requires at { IsAt group.now declared.now self.old.next self.old.known }
         requires more { self.old.next < length declared.now }
-        ensures one { (W.sight pass.new).steps ≡ (W.sight pass.old).steps + 1 }
+        ensures takes { MarksTake false group.now declared.now self.old self.new (W.sight pass.old) (W.sight pass.new) }
         ensures rank { self.new.rank ≡ self.old.rank }
         ensures comm { self.new.comm ≡ self.old.comm }
         ensures round { self.new.round ≡ self.old.round }
         ensures at { IsAt group.now declared.now self.new.next self.new.known }
         ensures onward { self.old.next < self.new.next }
         ensures further { members_in group.now declared.now self.new.next ≡ members_in group.now declared.now self.old.next ++ slice_index declared.now self.old.next ∷ [] }
+        ensures once { MarksOnce W.alone self.old.rank self.old.comm self.old.round (slice_index declared.now self.old.next) (W.sight pass.old).seen (W.sight pass.new).seen }
         ensures marks { MarkSteps P.meld W.alone (W.name words.now) self.old.rank self.old.comm self.old.round (slice_index declared.now self.old.next ∷ []) (W.sight pass.old) (W.sight pass.new) }
     {
         let rank = declared[self.next];
@@ -105,14 +106,14 @@ impl MarkAll {
         requires may { MayMarkAll (W.name words.now).limits (W.sight pass.old).seen self.old.comm self.old.round group.now declared.now }
         requires at { IsAt group.now declared.now self.old.next self.old.known }
         requires more { self.old.next < length declared.now }
-        ensures one { whole ≡ false → (W.sight pass.new).steps ≡ (W.sight pass.old).steps + 1 }
-        ensures more { (W.sight pass.old).steps < (W.sight pass.new).steps }
+        ensures takes { MarksTake whole group.now declared.now self.old self.new (W.sight pass.old) (W.sight pass.new) }
         ensures rank { self.new.rank ≡ self.old.rank }
         ensures comm { self.new.comm ≡ self.old.comm }
         ensures round { self.new.round ≡ self.old.round }
         ensures at { IsAt group.now declared.now self.new.next self.new.known }
         ensures onward { self.old.next < self.new.next }
         ensures done { whole ≡ true → self.new.next ≡ length declared.now }
+        ensures once { whole ≡ false → MarksOnce W.alone self.old.rank self.old.comm self.old.round (slice_index declared.now self.old.next) (W.sight pass.old).seen (W.sight pass.new).seen }
         ensures marks { HasMarked P.meld W.alone (W.name words.now) self.old group.now declared.now self.new.next (W.sight pass.old) (W.sight pass.new) }
     {
         while self.next < declared.len() {

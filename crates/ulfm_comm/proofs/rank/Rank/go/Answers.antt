@@ -1,4 +1,4 @@
-use Rattle.std.proofs.Common.{[], arith, subst}
+use Rattle.std.proofs.Common.{[], arith, inl, refl, subst}
 use Rattle.ulfm_words.proofs.Trails.{did_none}
 use Rattle.ulfm_comm.specs.Stages.{Stands}
 use Rattle.ulfm_comm.proofs.rank.Rank.go.Goals as goal
@@ -35,3 +35,19 @@ returns-in-Checking-clause-turns g c =
     λ alone only old before u.
     c.go_checking.ensures.turns c.args.group.now.items alone only old before
     (subst (λ phase. Stands g.P.Meld.meld alone (g.W.Words.name c.args.world.now.words) old before (record { asked = c.args.asked.now; phase = phase; group = c.args.group.now.items }) c.args.self.now (g.W.Words.sight c.args.pass.now)) c.in-Checking.is u)
+
+pub returns-in-Waiting-clause-checks : goal.returns-in-Waiting-clause-checks
+returns-in-Waiting-clause-checks g c =
+    λ arrivals is which ends alone only old before u.
+    c.go_waiting.ensures.checks which ends c.args.group.now.items alone only old before
+    (subst (λ phase. Stands g.P.Meld.meld alone (g.W.Words.name c.args.world.now.words) old before (record { asked = c.args.asked.now; phase = phase; group = c.args.group.now.items }) c.args.self.now (g.W.Words.sight c.args.pass.now)) c.in-Waiting.is u)
+
+pub returns-in-Over-clause-turns : goal.returns-in-Over-clause-turns
+returns-in-Over-clause-turns g c =
+    λ alone only old before u.
+    let at =
+    (subst (λ phase. Stands g.P.Meld.meld alone (g.W.Words.name c.args.world.now.words) old before (record { asked = c.args.asked.now; phase = phase; group = c.args.group.now.items }) c.args.self.now (g.W.Words.sight c.args.pass.now)) c.in-Over.is u).at in
+    record {
+      ends = inl (record { refused = at.0; reply_is = refl; record_is = at.1 }, record { did = at.2; onward = u.onward });
+      pending = λ waits. absurd (cc waits);
+    }

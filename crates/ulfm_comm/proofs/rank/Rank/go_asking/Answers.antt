@@ -1,4 +1,4 @@
-use Rattle.std.proofs.Common.{◌∙◌, ap, subst, sym}
+use Rattle.std.proofs.Common.{arith, ◌∙◌, ap, subst, sym}
 use Rattle.ulfm_model.specs.History.{is_revoked}
 use Rattle.ulfm_model.specs.declared.reply.Reply.TheVariants.{Standing}
 use Rattle.ulfm_model.specs.Terms.{comm_of}
@@ -29,5 +29,5 @@ returns-clause-turns g c =
     let found = c.load_revocation.result in
     let is = c.load_revocation.ensures.revoked ∙ ap (is_revoked after.seen) c.comm_of.ensures in
     subst (λ asked. HasLooked g.P.Meld.meld name.limits alone asked old before.seen own now.seen → Answered g.P.Meld.meld alone name asked old before (Standing found) own after) (sym stands.at.1)
-    (λ p. asked_answered g.P.Meld.meld alone g.W.Words.alone only name (comm_of c.args.asked.now) old before own now after stands.fits c.load_revocation.ensures.loads.of p found c.load_revocation.ensures.loads.did is)
+    (λ p. asked_answered g.P.Meld.meld alone g.W.Words.alone only name (comm_of c.args.asked.now) old before own now after (omega (arith, stands.onward, c.load_revocation.ensures.loads.steps)) stands.fits c.load_revocation.ensures.loads.of p found c.load_revocation.ensures.loads.did is)
     stands.at.0

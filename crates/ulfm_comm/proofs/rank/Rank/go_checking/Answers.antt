@@ -1,6 +1,6 @@
-use Rattle.std.proofs.Common.{false, refl, sym, ◌∙◌}
+use Rattle.std.proofs.Common.{arith, false, refl, sym, ◌∙◌, inl, inr}
 use Rattle.ulfm_steps.specs.declared.arrivals.Missing.TheVariants.{Nobody, Others, Declared}
-use Rattle.ulfm_comm.proofs.Polling.{checking_missing, checking_revoked, checking_within}
+use Rattle.ulfm_comm.proofs.Polling.{checking_early, checking_missing, checking_revoked, checking_within}
 use Rattle.ulfm_comm.proofs.rank.Rank.go_checking.Goals as goal
 
 pub load_revocation-requires-clause-within : goal.load_revocation-requires-clause-within
@@ -12,23 +12,39 @@ load_revocation-requires-clause-within g c =
 pub returns-then-load_revocation-clause-turns : goal.returns-then-load_revocation-clause-turns
 returns-then-load_revocation-clause-turns g c = λ group alone only old before stands.
     checking_revoked g.P.Meld.meld alone (g.W.Words.name c.args.world.now.words) c.args.asked.now c.args.missing group c.args.self.now (g.W.Words.sight c.args.pass.now) c.requires.of old before stands
-    g.W.Words.alone only (g.W.Words.sight c.load_revocation.new.pass) c.load_revocation.ensures.loads.of c.load_revocation.ensures.loads.did c.comm_of-comm.result c.comm_of-comm.ensures c.close.new.self
+    g.W.Words.alone only (g.W.Words.sight c.load_revocation.new.pass) c.load_revocation.ensures.loads.of c.load_revocation.ensures.loads.did (omega (arith, c.load_revocation.ensures.loads.steps)) c.comm_of-comm.result c.comm_of-comm.ensures c.close.new.self
     (sym c.load_revocation.ensures.revoked ∙ c.if-load_revocation.true) c.close.ensures
 
 pub returns-in-Nobody-clause-turns : goal.returns-in-Nobody-clause-turns
 returns-in-Nobody-clause-turns g c = λ group alone only old before stands.
     checking_missing g.P.Meld.meld alone (g.W.Words.name c.args.world.now.words) c.args.asked.now c.args.missing group c.args.self.now (g.W.Words.sight c.args.pass.now) c.requires.of old before stands
-    g.W.Words.alone only (g.W.Words.sight c.load_revocation.new.pass) c.load_revocation.ensures.loads.of c.load_revocation.ensures.loads.did c.comm_of-comm.result c.comm_of-comm.ensures c.close-in-Nobody.new.self
+    g.W.Words.alone only (g.W.Words.sight c.load_revocation.new.pass) c.load_revocation.ensures.loads.of c.load_revocation.ensures.loads.did (omega (arith, c.load_revocation.ensures.loads.steps)) c.comm_of-comm.result c.comm_of-comm.ensures c.close-in-Nobody.new.self
     (sym c.load_revocation.ensures.revoked ∙ c.if-load_revocation.false) Nobody c.in-Nobody.is c.close-in-Nobody.ensures
 
 pub returns-in-Others-clause-turns : goal.returns-in-Others-clause-turns
 returns-in-Others-clause-turns g c = λ group alone only old before stands.
     checking_missing g.P.Meld.meld alone (g.W.Words.name c.args.world.now.words) c.args.asked.now c.args.missing group c.args.self.now (g.W.Words.sight c.args.pass.now) c.requires.of old before stands
-    g.W.Words.alone only (g.W.Words.sight c.load_revocation.new.pass) c.load_revocation.ensures.loads.of c.load_revocation.ensures.loads.did c.comm_of-comm.result c.comm_of-comm.ensures c.args.self.now
+    g.W.Words.alone only (g.W.Words.sight c.load_revocation.new.pass) c.load_revocation.ensures.loads.of c.load_revocation.ensures.loads.did (omega (arith, c.load_revocation.ensures.loads.steps)) c.comm_of-comm.result c.comm_of-comm.ensures c.args.self.now
     (sym c.load_revocation.ensures.revoked ∙ c.if-load_revocation.false) Others c.in-Others.is refl
 
 pub returns-in-Declared-clause-turns : goal.returns-in-Declared-clause-turns
 returns-in-Declared-clause-turns g c = λ group alone only old before stands.
     checking_missing g.P.Meld.meld alone (g.W.Words.name c.args.world.now.words) c.args.asked.now c.args.missing group c.args.self.now (g.W.Words.sight c.args.pass.now) c.requires.of old before stands
-    g.W.Words.alone only (g.W.Words.sight c.load_revocation.new.pass) c.load_revocation.ensures.loads.of c.load_revocation.ensures.loads.did c.comm_of-comm.result c.comm_of-comm.ensures c.close-in-Declared.new.self
+    g.W.Words.alone only (g.W.Words.sight c.load_revocation.new.pass) c.load_revocation.ensures.loads.of c.load_revocation.ensures.loads.did (omega (arith, c.load_revocation.ensures.loads.steps)) c.comm_of-comm.result c.comm_of-comm.ensures c.close-in-Declared.new.self
     (sym c.load_revocation.ensures.revoked ∙ c.if-load_revocation.false) Declared c.in-Declared.is c.close-in-Declared.ensures
+
+pub returns-then-load_revocation-clause-early : goal.returns-then-load_revocation-clause-early
+returns-then-load_revocation-clause-early g c = λ alone only old before fits polls earlier i. inr (inl refl)
+
+pub returns-in-Nobody-clause-early : goal.returns-in-Nobody-clause-early
+returns-in-Nobody-clause-early g c = λ alone only old before fits polls earlier i. inl c.in-Nobody.is
+
+pub returns-in-Others-clause-early : goal.returns-in-Others-clause-early
+returns-in-Others-clause-early g c = λ alone only old before fits polls earlier i.
+    inr (inr (checking_early g.P.Meld.meld (g.W.Words.name c.args.world.now.words).limits alone g.W.Words.alone only c.args.asked.now c.args.missing earlier old before.seen c.args.self.now (g.W.Words.sight c.args.pass.now).seen (g.W.Words.sight c.load_revocation.new.pass).seen
+    polls i c.load_revocation.ensures.loads.did c.comm_of-comm.result c.comm_of-comm.ensures (sym c.load_revocation.ensures.revoked ∙ c.if-load_revocation.false) Others c.in-Others.is c.args.self.now refl))
+
+pub returns-in-Declared-clause-early : goal.returns-in-Declared-clause-early
+returns-in-Declared-clause-early g c = λ alone only old before fits polls earlier i.
+    inr (inr (checking_early g.P.Meld.meld (g.W.Words.name c.args.world.now.words).limits alone g.W.Words.alone only c.args.asked.now c.args.missing earlier old before.seen c.args.self.now (g.W.Words.sight c.args.pass.now).seen (g.W.Words.sight c.load_revocation.new.pass).seen
+    polls i c.load_revocation.ensures.loads.did c.comm_of-comm.result c.comm_of-comm.ensures (sym c.load_revocation.ensures.revoked ∙ c.if-load_revocation.false) Declared c.in-Declared.is c.close-in-Declared.new.self c.close-in-Declared.ensures))

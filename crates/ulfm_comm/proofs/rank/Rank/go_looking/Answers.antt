@@ -1,4 +1,4 @@
-use Rattle.std.proofs.Common.{◌≡◌, [], true, ap, ap₂, sym, ◌∙◌}
+use Rattle.std.proofs.Common.{◌≡◌, arith, [], true, ap, ap₂, sym, ◌∙◌}
 use Rattle.ulfm_model.specs.{History.{failures, has}, Records.{Record}}
 use Rattle.ulfm_words.proofs.Trails.{did_wait}
 use Rattle.ulfm_comm.proofs.{AfterLook.{just_declared}, Loosely.{did_loosely}}
@@ -14,6 +14,6 @@ returns-then-has_rank-clause-turns g c =
     let found : c.look_on.new.self.seen ≡ failures after.seen = c.if-not-look_on.ensures.look in
     let number = c.number.ensures ∙ (ap (λ (w : Record). w.number) c.look_on.ensures.kept ∙ ap (λ (w : Record). w.number) u.at.1) in
     let own = c.look_on.ensures.kept ∙ ap (λ (w : Record). record w { seen = c.look_on.new.self.seen }) u.at.1 in
-    just_declared g.P.Meld.meld alone name c.args.asked.now old before c.refuse.new.self after c.look_on.ensures.goes.of u.fits u.at.0 (did_wait alone [] before.seen now.seen after.seen u.at.2 goes)
+    just_declared g.P.Meld.meld alone name c.args.asked.now old before c.refuse.new.self after (omega (arith, u.onward, c.look_on.ensures.goes.onward)) c.look_on.ensures.goes.of u.fits u.at.0 (did_wait alone [] before.seen now.seen after.seen u.at.2 goes)
     (ap₂ has (sym (c.failures.ensures ∙ found)) (sym number) ∙ (sym c.has_rank.ensures ∙ c.if-has_rank.true))
     (c.refuse.ensures ∙ (ap (λ (w : Record). record w { refused = true }) own ∙ ap (λ s. record old { seen = s; refused = true }) found))

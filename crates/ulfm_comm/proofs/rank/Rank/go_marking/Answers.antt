@@ -1,8 +1,15 @@
 use Rattle.std.proofs.Common.{◌≡◌, false, ap, ◌∙◌, arith}
 use Rattle.ulfm_model.specs.Records.{Held}
 use Rattle.ulfm_comm.proofs.Polling.{marking_goes, marking_may_on, marking_reads}
+use Rattle.std.proofs.Common.{refl}
+use Rattle.std.specs.List.{slice_index}
+use Rattle.ulfm_steps.specs.Marks.{MarksOnce}
+use Rattle.ulfm_comm.proofs.Adding.{adds_marked}
+use Rattle.ulfm_comm.specs.Stages.{Adds}
+use Rattle.std.proofs.Common.{Option}
+use Rattle.ulfm_model.specs.declared.reply.Reply.{Reply}
 use Rattle.ulfm_comm.proofs.rank.Rank.go_marking.Goals as goal
-use Rattle.ulfm_comm.proofs.rank.Rank.go_marking.Goals.{After-deref}
+use Rattle.ulfm_comm.proofs.rank.Rank.go_marking.Goals.{After-advance, After-deref}
 
 -- the members that the code reads
 members : (g : _) (c : After-deref g) → c.deref.result.now ≡ c.in-Some.x.now.group
@@ -25,3 +32,18 @@ returns-clause-turns g c = λ group alone only old before stands.
     marking_reads g.P.Meld.meld (g.W.Words.name c.args.world.now.words) c.args.asked.now c.args.marks c.args.shrinks group c.args.self.now (g.W.Words.sight c.args.pass.now) c.requires.of
     c.in-Some.x.now c.comm_of.result c.in-Some.ensures.held c.comm_of.ensures c.deref.result.now c.failures-seen.result.now (members g (goal.at.returns-clause-turns g c).After-deref) c.failures-seen.ensures alone old before stands
     g.W.Words.alone only (g.W.Words.sight c.advance.new.pass) c.advance.new.self c.advance.ensures.rank c.advance.ensures.comm c.advance.ensures.round c.advance.ensures.at c.advance.ensures.marks c.new.result c.new.ensures (omega (arith, c.if-marks-seen.false))
+
+-- what its exchange adds
+adds : (g : _) (c : After-advance g) (reply : Option (Reply g.row.P.Denot)) → c.args.whole ≡ false → Adds g.W.Words.alone c.args.self.now.seen c.args.self.now c.args.asked.now reply (g.W.Words.sight c.args.pass.now).seen (g.W.Words.sight c.advance.new.pass).seen
+adds g c reply not =
+    let s = c.requires.stands in
+    let now = (g.W.Words.sight c.args.pass.now).seen in
+    let after = (g.W.Words.sight c.advance.new.pass).seen in
+    adds_marked g.P.Meld.meld g.W.Words.alone (g.W.Words.name c.args.world.now.words) c.args.asked.now c.args.marks c.args.shrinks s.0 s.1.0 s.1.1 c.args.self.now (g.W.Words.sight c.args.pass.now) after c.requires.of s.1.2 reply
+    (rw (← c.failures-seen.ensures) (c.advance.ensures.once not))
+
+pub returns-then-marks-seen-clause-adds : goal.returns-then-marks-seen-clause-adds
+returns-then-marks-seen-clause-adds g c = adds g (goal.at.returns-then-marks-seen-clause-adds g c).After-advance _
+
+pub returns-clause-adds : goal.returns-clause-adds
+returns-clause-adds g c = adds g (goal.at.returns-clause-adds g c).After-advance _

@@ -1,6 +1,8 @@
-use Rattle.std.proofs.Common.{ℕ, List, refl, sym, subst}
+use Rattle.std.proofs.Common.{ℕ, arith, List, Some, ap, refl, sym, subst, ◌∙◌}
+use Rattle.ulfm_model.specs.Records.{Record}
+use Rattle.ulfm_comm.proofs.Adding.{adds_settled, start_keeps}
 use Rattle.ulfm_model.specs.declared.reply.Reply.TheVariants.{Started}
-use Rattle.ulfm_comm.specs.{Calls.{reply_of}, Stages.{Answered, Turns}}
+use Rattle.ulfm_comm.specs.{Calls.{reply_of}, Stages.{Adds, Answered, Turns}}
 use Rattle.ulfm_comm.specs.declared.doing.{Next.TheVariants.{Ends}, Phase.TheVariants.{Settling}}
 use Rattle.ulfm_comm.proofs.{Holding.{found_there}, Exchanging.{fits_now, seen_is, start_answered, walks_settled}, Starts.{acked_known}}
 use Rattle.ulfm_comm.proofs.rank.Rank.go_settling.Goals as goal
@@ -39,7 +41,7 @@ answered g c =
     let name = g.W.Words.name c.args.world.now.words in
     subst (λ r. Answered g.P.Meld.meld alone name c.args.asked.now old before (reply_of (λ _. Started) r) c.end_start.new.self (g.W.Words.sight c.contribute-settled.new.pass)) (sym c.end_start.ensures.result)
     (start_answered g.P.Meld.meld alone g.W.Words.alone only name c.args.asked.now c.args.request c.args.offer group old before c.args.self.now (g.W.Words.sight c.args.pass.now) (g.W.Words.sight c.contribute-settled.new.pass)
-    stands c.in-Some.x.now (rw (← c.comm_of.ensures) held) c.contribute-settled.result c.end_start.new.self c.contribute-settled.ensures.of c.contribute-settled.ensures.settles (rw (← c.comm_of-2.ensures) c.end_start.ensures.leaves))
+    (omega (arith, c.contribute-settled.ensures.one)) stands c.in-Some.x.now (rw (← c.comm_of.ensures) held) c.contribute-settled.result c.end_start.new.self c.contribute-settled.ensures.of c.contribute-settled.ensures.settles (rw (← c.comm_of-2.ensures) c.end_start.ensures.leaves))
 
 pub returns-in-Ok-clause-turns : goal.returns-in-Ok-clause-turns
 returns-in-Ok-clause-turns g c =
@@ -52,3 +54,30 @@ returns-in-Err-clause-turns g c =
     λ group alone only old before stands.
     subst (λ r. Answered g.P.Meld.meld alone (g.W.Words.name c.args.world.now.words) c.args.asked.now old before (reply_of (λ _. Started) r) c.end_start.new.self (g.W.Words.sight c.contribute-settled.new.pass)) c.in-Err.is
     (answered g (goal.at.returns-in-Err-clause-turns g c).After-end_start group alone only old before stands)
+
+-- what its exchange adds
+adds : (g : _) (c : After-end_start g) → Adds g.W.Words.alone c.args.self.now.seen c.args.self.now c.args.asked.now (Some (reply_of (λ _. Started) c.end_start.result)) (g.W.Words.sight c.args.pass.now).seen (g.W.Words.sight c.contribute-settled.new.pass).seen
+adds g c =
+    let s = c.requires.stands in
+    let now = g.W.Words.sight c.args.pass.now in
+    let after = g.W.Words.sight c.contribute-settled.new.pass in
+    let held = c.in-Some.ensures.held in
+    subst (λ r. Adds g.W.Words.alone c.args.self.now.seen c.args.self.now c.args.asked.now (Some (reply_of (λ _. Started) r)) now.seen after.seen) (sym c.end_start.ensures.result)
+    (adds_settled g.P.Meld.meld g.W.Words.alone (g.W.Words.name c.args.world.now.words) c.args.asked.now c.args.request c.args.offer s.0 s.1.0 s.1.1 c.args.self.now now after.seen s.1.2 c.in-Some.x.now (rw (← c.comm_of.ensures) held)
+    c.contribute-settled.result c.contribute-settled.ensures.settles)
+
+pub returns-in-Ok-clause-adds : goal.returns-in-Ok-clause-adds
+returns-in-Ok-clause-adds g c =
+    subst (λ r. Adds g.W.Words.alone c.args.self.now.seen c.args.self.now c.args.asked.now (Some (reply_of (λ _. Started) r)) (g.W.Words.sight c.args.pass.now).seen (g.W.Words.sight c.contribute-settled.new.pass).seen) c.in-Ok.is
+    (adds g (goal.at.returns-in-Ok-clause-adds g c).After-end_start)
+
+pub returns-in-Ok-clause-sees : goal.returns-in-Ok-clause-sees
+returns-in-Ok-clause-sees g c = ap (λ (w : Record). w.seen) c.end_start.ensures.leaves ∙ start_keeps c.args.self.now _ c.args.request c.contribute-settled.result
+
+pub returns-in-Err-clause-adds : goal.returns-in-Err-clause-adds
+returns-in-Err-clause-adds g c =
+    subst (λ r. Adds g.W.Words.alone c.args.self.now.seen c.args.self.now c.args.asked.now (Some (reply_of (λ _. Started) r)) (g.W.Words.sight c.args.pass.now).seen (g.W.Words.sight c.contribute-settled.new.pass).seen) c.in-Err.is
+    (adds g (goal.at.returns-in-Err-clause-adds g c).After-end_start)
+
+pub returns-in-Err-clause-sees : goal.returns-in-Err-clause-sees
+returns-in-Err-clause-sees g c = ap (λ (w : Record). w.seen) c.end_start.ensures.leaves ∙ start_keeps c.args.self.now _ c.args.request c.contribute-settled.result

@@ -1,6 +1,9 @@
-use Rattle.std.proofs.Common.{◌≡◌, false, ap, ◌∙◌}
+use Rattle.std.proofs.Common.{◌≡◌, false, ap, ◌∙◌, subst}
+use Rattle.ulfm_comm.specs.Stages.{IsChecking}
+use Rattle.ulfm_model.specs.Terms.{comm_of}
+use Rattle.ulfm_steps.specs.declared.arrivals.Missing.{Missing}
 use Rattle.ulfm_model.specs.Records.{Held}
-use Rattle.ulfm_comm.proofs.Polling.{waiting_ends, waiting_goes, waiting_may}
+use Rattle.ulfm_comm.proofs.Polling.{waiting_checks, waiting_ends, waiting_goes, waiting_may}
 use Rattle.ulfm_comm.proofs.rank.Rank.go_waiting.Goals as goal
 use Rattle.ulfm_comm.proofs.rank.Rank.go_waiting.Goals.{After-deref}
 
@@ -25,3 +28,15 @@ returns-in-Some-advance-clause-turns g c = λ group alone only old before stands
     waiting_ends g.P.Meld.meld (g.W.Words.name c.args.world.now.words) c.args.asked.now c.args.arrivals group c.args.self.now (g.W.Words.sight c.args.pass.now) c.requires.of
     c.in-Some.x.now c.comm_of.result c.in-Some.ensures.held c.comm_of.ensures c.deref.result.now c.failures.result.now (members g (goal.at.returns-in-Some-advance-clause-turns g c).After-deref) c.failures.ensures alone old before stands
     g.W.Words.alone only (g.W.Words.sight c.advance.new.pass) c.advance.ensures.goes.did c.advance.ensures.goes.onward c.in-Some-advance.missing c.in-Some-advance.ensures.are c.advance.ensures.goes.of.legal
+
+pub returns-in-None-clause-checks : goal.returns-in-None-clause-checks
+returns-in-None-clause-checks g c = λ which is group alone only old before stands. absurd (cc is)
+
+pub returns-in-Some-advance-clause-checks : goal.returns-in-Some-advance-clause-checks
+returns-in-Some-advance-clause-checks g c = λ which is group alone only old before stands.
+    let same : c.in-Some-advance.missing ≡ which = cc is in
+    let after = g.W.Words.sight c.advance.new.pass in
+    subst (λ m. IsChecking g.P.Meld.meld (g.W.Words.name c.args.world.now.words).limits alone (comm_of c.args.asked.now) m after.seen old before.seen c.args.self.now after.seen) same
+    (waiting_checks g.P.Meld.meld (g.W.Words.name c.args.world.now.words) c.args.asked.now c.args.arrivals group c.args.self.now (g.W.Words.sight c.args.pass.now) c.requires.of
+    c.in-Some.x.now c.comm_of.result c.in-Some.ensures.held c.comm_of.ensures c.deref.result.now c.failures.result.now (members g (goal.at.returns-in-Some-advance-clause-checks g c).After-deref) c.failures.ensures alone old before stands
+    g.W.Words.alone only after c.advance.ensures.goes.did c.advance.ensures.goes.onward c.in-Some-advance.missing c.in-Some-advance.ensures.are c.advance.ensures.goes.of.legal)

@@ -2,7 +2,7 @@ use Rattle.std.proofs.Common.{refl, subst, sym}
 use Rattle.ulfm_model.specs.declared.call.Call.TheVariants as call
 use Rattle.ulfm_model.specs.declared.reply.Reply.TheVariants.{Started}
 use Rattle.ulfm_comm.specs.Calls.{EndsReply, reply_of}
-use Rattle.ulfm_comm.proofs.{Excluding.{start_excludes}, Typed.{ends_calls}}
+use Rattle.ulfm_comm.proofs.{Calling.{called_run}, Excluding.{start_excludes}, Typed.{ends_calls}}
 use Rattle.ulfm_comm.proofs.rank.Rank.ishrink.Goals as goal
 
 pub returns-clause-excludes : goal.returns-clause-excludes
@@ -13,4 +13,5 @@ returns-clause-excludes g c =
     let asked = call.Shrink c.number-rank.result c.args.comm in
     let ends = subst (λ r. EndsReply g.P.Meld.meld g.W.Words.alone name asked c.args.self.now before r c.call.new.self after) (sym c.started.ensures) c.call.ensures.ends in
     start_excludes g.P.Meld.meld name.limits g.W.Words.alone before.seen after.seen c.args.self.now c.number-rank.result c.args.comm c.started.result c.call.new.self c.requires.fits
-    (ends_calls g.P.Meld.meld g.W.Words.alone name asked c.args.self.now before c.call.new.self after (reply_of (λ _. Started) c.started.result) ends refl).run
+    (called_run g.P.Meld.meld g.W.Words.alone name asked c.args.self.now before (reply_of (λ _. Started) c.started.result) c.call.new.self after
+    (ends_calls g.P.Meld.meld g.W.Words.alone name asked c.args.self.now before c.call.new.self after (reply_of (λ _. Started) c.started.result) ends refl))

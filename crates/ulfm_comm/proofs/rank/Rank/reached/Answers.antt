@@ -26,7 +26,7 @@ among g c = c.has_rank.ensures ∙ ap₂ (λ s n. has (take c.args.reach s) n) c
 pub returns-then-has_rank-clause-turns : goal.returns-then-has_rank-clause-turns
 returns-then-has_rank-clause-turns g c = λ alone old before r.
     ends_self_failed g.P.Meld.meld alone (g.W.Words.name c.args.world.now.words) c.args.asked.now c.args.made.round c.args.made.mask r.x c.args.made.count c.args.reach old before c.args.self.now (g.W.Words.sight c.args.pass.now)
-    c.requires.of r.fits r.polls r.decided r.reads c.refuse.new.self
+    c.requires.of r.onward r.fits r.polls r.decided r.reads c.refuse.new.self
     (sym (among g (goal.at.returns-then-has_rank-clause-turns g c).After-has_rank) ∙ c.if-has_rank.true) c.refuse.ensures
 
 pub returns-then-is_err-clause-turns : goal.returns-then-is_err-clause-turns
@@ -34,7 +34,7 @@ returns-then-is_err-clause-turns g c = λ alone old before r.
     let now = g.W.Words.sight c.args.pass.now in
     let name = g.W.Words.name c.args.world.now.words in
     subst (λ (own : Record). Answered g.P.Meld.meld alone name c.args.asked.now old before (Refused OutOfMemory) own now) (sym c.make_room.ensures.kept)
-    (ends_out g.P.Meld.meld alone name c.args.asked.now c.args.made.round c.args.made.mask r.x c.args.made.count c.args.reach old before c.args.self.now now c.requires.of r.fits r.polls r.decided r.reads)
+    (ends_out g.P.Meld.meld alone name c.args.asked.now c.args.made.round c.args.made.mask r.x c.args.made.count c.args.reach old before c.args.self.now now c.requires.of r.onward r.fits r.polls r.decided r.reads)
 
 pub returns-then-limits-eq1-clause-turns : goal.returns-then-limits-eq1-clause-turns
 returns-then-limits-eq1-clause-turns g c = λ alone old before r.
@@ -42,7 +42,7 @@ returns-then-limits-eq1-clause-turns g c = λ alone old before r.
     let name = g.W.Words.name c.args.world.now.words in
     let one : name.limits.comms ≡ 1 = ap (λ (l : Limits). l.comms) (sym c.limits.ensures.limits) ∙ c.if-limits-eq1.true in
     let there = among g (goal.at.returns-then-limits-eq1-clause-turns g c).After-has_rank in
-    ends_full g.P.Meld.meld alone name c.args.asked.now c.args.made.round c.args.made.mask r.x c.args.made.count c.args.reach old before c.args.self.now now c.requires.of r.fits r.polls r.decided r.reads c.close.new.self now
+    ends_full g.P.Meld.meld alone name c.args.asked.now c.args.made.round c.args.made.mask r.x c.args.made.count c.args.reach old before c.args.self.now now c.requires.of r.onward r.fits r.polls r.decided r.reads c.close.new.self now
     (full_alone g.P.Meld.meld alone name (comm_of c.args.asked.now) c.args.made.round now c.requires.of one) (sym there ∙ c.if-has_rank.false)
     (c.close.ensures ∙ ap₂ closed c.make_room.ensures.kept c.comm_of-comm.ensures)
 

@@ -1,7 +1,7 @@
 use Rattle.std.proofs.Common.{◌≡◌, Some, ap, sym, ◌∙◌, subst, false, arith}
 use Rattle.std.specs.List.Sorted.{IsStrictlyIncreasing}
 use Rattle.ulfm_model.specs.Answers.{closed, traits_of}
-use Rattle.ulfm_model.specs.Records.{Held, held_at}
+use Rattle.ulfm_model.specs.Records.{Held, Record, held_at}
 use Rattle.ulfm_model.specs.declared.call.Call.{Call}
 use Rattle.ulfm_model.specs.Terms.{comm_of}
 use Rattle.ulfm_steps.specs.ReadsOn.{AtFailure}
@@ -13,6 +13,8 @@ pub returns-in_default : goal.returns-in_default
 returns-in_default g c =
     record {
       further = tt;
+      sees = ap (λ (w : Record). w.seen) c.close.ensures;
+      past = tt;
       turns = λ alone old before r.
           ends_mismatch g.P.Meld.meld alone (g.W.Words.name c.args.world.now.words) c.args.asked.now c.args.round c.args.all old before c.args.self.now (g.W.Words.sight c.args.pass.now) c.requires.of r
           c.close.new.self c.in_default.not-Ctx (c.close.ensures ∙ ap (closed c.args.self.now) c.comm_of-comm.ensures);

@@ -1,8 +1,8 @@
-use Rattle.std.proofs.Common.{◌≡◌, Bool, IsTrue, ap, sym, ◌∙◌, subst, false}
+use Rattle.std.proofs.Common.{◌≡◌, Bool, IsTrue, ap, refl, sym, ◌∙◌, subst, false}
 use Rattle.ulfm_model.specs.declared.call.Call.{Call}
 use Rattle.ulfm_model.specs.Records.{Record}
 use Rattle.ulfm_words.specs.Steps.{Sight}
-use Rattle.ulfm_comm.specs.Stages.{Answered, NextIs, Stands, UnderWay, Waits}
+use Rattle.ulfm_comm.specs.Stages.{Answered, NextIs, Stands, Stepped, UnderWay, Waits}
 use Rattle.ulfm_comm.proofs.Lasting.{stands_lasts}
 use Rattle.ulfm_comm.proofs.rank.Rank.step.Goals as goal
 use Rattle.ulfm_comm.proofs.rank.Rank.step.Goals.{After-go, After-go-arg-4-1}
@@ -47,3 +47,30 @@ returns-in-Ends-clause-stands g c =
     subst (λ (a : Call g.row.P.Denot). Answered g.P.Meld.meld alone name a old before c.in-Ends.reply c.go.new.self after) (ap (λ (doing : UnderWay g.row.P.Denot). doing.asked) c.doing.view_is)
     (subst (λ next. NextIs g.P.Meld.meld alone name c.doing.inside.asked old before next c.go.new.group.items c.go.new.self after) c.in-Ends.is
     (turned g (goal.at.returns-in-Ends-clause-stands g c).After-go alone only old before stood u waits))
+
+-- what the step did
+stepped : (g : _) (c : After-go g)
+    → Stepped g.P.Meld.meld g.W.Words.alone (g.W.Words.name c.args.world.now.words) c.args.doing.now c.args.self.now (g.W.Words.sight c.args.pass.now) c.go.result c.go.new.self (g.W.Words.sight c.go.new.pass)
+stepped g c =
+    let at = (goal.at.After-go g c).After-go-arg-4-1 in
+    subst (λ (was : UnderWay g.row.P.Denot). Stepped g.P.Meld.meld g.W.Words.alone (g.W.Words.name c.args.world.now.words) was c.args.self.now (g.W.Words.sight c.args.pass.now) c.go.result c.go.new.self (g.W.Words.sight c.go.new.pass))
+    (sym (same g at)) (record {
+      of = c.go.ensures.walks.of;
+      onward = c.go.ensures.walks.onward;
+      over = c.go.ensures.over;
+      adds = c.go.ensures.adds refl;
+      sees = c.go.ensures.sees;
+      past = c.go.ensures.past;
+      checks = c.go.ensures.checks;
+      early = c.go.ensures.early;
+    })
+
+pub returns-in-Goes-clause-stepped : goal.returns-in-Goes-clause-stepped
+returns-in-Goes-clause-stepped g c =
+    subst (λ next. Stepped g.P.Meld.meld g.W.Words.alone (g.W.Words.name c.args.world.now.words) c.args.doing.now c.args.self.now (g.W.Words.sight c.args.pass.now) next c.go.new.self (g.W.Words.sight c.go.new.pass)) c.in-Goes.is
+    (stepped g (goal.at.returns-in-Goes-clause-stepped g c).After-go)
+
+pub returns-in-Ends-clause-stepped : goal.returns-in-Ends-clause-stepped
+returns-in-Ends-clause-stepped g c =
+    subst (λ next. Stepped g.P.Meld.meld g.W.Words.alone (g.W.Words.name c.args.world.now.words) c.args.doing.now c.args.self.now (g.W.Words.sight c.args.pass.now) next c.go.new.self (g.W.Words.sight c.go.new.pass)) c.in-Ends.is
+    (stepped g (goal.at.returns-in-Ends-clause-stepped g c).After-go)

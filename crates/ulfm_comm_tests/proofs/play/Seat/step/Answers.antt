@@ -1,5 +1,5 @@
 use Rattle.std.proofs.Common.{false, sym}
-use Rattle.ulfm_comm_tests.proofs.Seats.{answered_fits, stood_next, walks_waits}
+use Rattle.ulfm_comm_tests.proofs.Seats.{answered_fits, stood_next, step_waits}
 use Rattle.ulfm_comm_tests.proofs.play.Seat.step.Goals as goal
 
 pub returns-in-None-clause-sits : goal.returns-in-None-clause-sits
@@ -8,7 +8,7 @@ returns-in-None-clause-sits g c =
     let name = g.W.Words.name c.args.world.now.words in
     let now = g.W.Words.sight c.args.pass.now in
     let after = g.W.Words.sight c.step.new.pass in
-    let waits = walks_waits meld name g.W.Words.alone c.self.inside.own.number now after c.step.ensures.walks in
+    let waits = step_waits meld name g.W.Words.alone c.in-Some.doing c.self.inside.own now c.step.result c.step.new.doing c.step.new.self after c.step.ensures.stepped in
     let was = rw (sym c.in-Some.ensures.value) at (rw (sym c.self.view_is) at c.requires.sits) in
     stood_next meld name c.self.inside.own now c.in-Some.doing was after waits c.step.new.self c.step.new.doing
     (λ old before stood stands waits. c.in-None.ensures.stands false (λ here. absurd (cc here)) old before stood stands waits)
@@ -19,7 +19,7 @@ returns-in-Some-step-clause-sits g c =
     let name = g.W.Words.name c.args.world.now.words in
     let now = g.W.Words.sight c.args.pass.now in
     let after = g.W.Words.sight c.step.new.pass in
-    let waits = walks_waits meld name g.W.Words.alone c.self.inside.own.number now after c.step.ensures.walks in
+    let waits = step_waits meld name g.W.Words.alone c.in-Some.doing c.self.inside.own now c.step.result c.step.new.doing c.step.new.self after c.step.ensures.stepped in
     let was = rw (sym c.in-Some.ensures.value) at (rw (sym c.self.view_is) at c.requires.sits) in
-    rw c.take.ensures.after (answered_fits meld name c.self.inside.own now c.in-Some.doing was after waits c.step.new.self c.in-Some.doing.asked c.in-Some-step.reply c.step.ensures.walks.of.legal
+    rw c.take.ensures.after (answered_fits meld name c.self.inside.own now c.in-Some.doing was after waits c.step.new.self c.in-Some.doing.asked c.in-Some-step.reply c.step.ensures.stepped.of.legal
     (λ old before stood stands waits. c.in-Some-step.ensures.stands false (λ here. absurd (cc here)) old before stood stands waits))

@@ -1,7 +1,9 @@
-use Rattle.std.proofs.Common.{refl, ◌∙◌, arith}
+use Rattle.std.proofs.Common.{◌≡◌, false, refl, ◌∙◌, arith}
 use Rattle.ulfm_words.proofs.Trails.{did_prefix}
-use Rattle.ulfm_steps.specs.Marks.{HasMarked}
-use Rattle.ulfm_steps.proofs.Marking.{marked_none, marked_push, may_stays}
+use Rattle.ulfm_model.specs.declared.place.Place.TheVariants.{Slot as SlotAt}
+use Rattle.std.specs.List.{slice_index}
+use Rattle.ulfm_steps.specs.{Marks.{HasMarked}, Turns.{IsOneStep}}
+use Rattle.ulfm_steps.proofs.Marking.{marked_none, marked_push, marks_turn, may_stays}
 use Rattle.ulfm_steps.proofs.mark_all.MarkAll.advance.Goals as goal
 use Rattle.ulfm_steps.proofs.mark_all.MarkAll.advance.Goals.{After-step}
 
@@ -17,6 +19,7 @@ loop-self-init g c =
       more = λ lt. absurd (omega arith);
       first = λ _. refl;
       none = λ _. refl;
+      same = λ _. (refl, refl);
       marked = marked_none g.P.Meld.meld g.W.Words.alone (g.W.Words.name c.args.words.now) c.args.self.now c.args.group.now c.args.declared.now (g.W.Words.sight c.args.pass.now) c.requires.of;
     }
 
@@ -42,11 +45,44 @@ loop-self-preserved g c =
       may = rw (e.comm, e.round) (may_stays (g.W.Words.name c.args.words.now).limits now after c.loop-self.self.comm c.loop-self.self.round c.args.group.now c.args.declared.now (did_prefix g.W.Words.alone _ now after e.marks.marks.did) inv.may);
       at = e.at;
       onward = omega (arith, inv.onward, e.onward);
-      more = λ _. omega (arith, inv.marked.marks.onward, e.one);
+      more = λ _. omega (arith, inv.marked.marks.onward, e.takes.some);
       first = λ not. absurd (cc (not, c.if-not-whole.false));
       none = λ not. absurd (cc (not, c.if-not-whole.false));
+      same = λ not. absurd (cc (not, c.if-not-whole.false));
       marked = marked g at;
     }
 
 pub returns-then-not-whole-clause-marks : goal.returns-then-not-whole-clause-marks
 returns-then-not-whole-clause-marks g c = marked g (goal.at.returns-then-not-whole-clause-marks g c).After-step
+
+pub returns-then-not-whole-clause-once : goal.returns-then-not-whole-clause-once
+returns-then-not-whole-clause-once g c = λ not.
+    let same = c.loop-self.invariant.same not in
+    rw (same.0, same.1) at c.step.ensures.once
+
+-- the first step is at the next member's place
+first : (g : _) (c : After-step g) → c.args.whole ≡ false → IsOneStep (SlotAt c.args.self.now.comm c.args.self.now.round (slice_index c.args.declared.now c.args.self.now.next)) false (g.W.Words.sight c.args.pass.now) (g.W.Words.sight c.step.new.pass)
+first g c = λ not.
+    let same = c.loop-self.invariant.same not in
+    rw (same.0, same.1) at (c.step.ensures.takes.one refl)
+
+pub returns-then-not-whole-clause-takes : goal.returns-then-not-whole-clause-takes
+returns-then-not-whole-clause-takes g c =
+    let at = (goal.at.returns-then-not-whole-clause-takes g c).After-step in
+    let inv = c.loop-self.invariant in
+    record {
+      one = first g at;
+      some = omega (arith, inv.marked.marks.onward, c.step.ensures.takes.some);
+      turns =
+          marks_turn g.P.Meld.meld g.W.Words.alone (g.W.Words.name c.args.words.now) c.args.self.now c.args.group.now c.args.declared.now c.step.new.self.next (g.W.Words.sight c.args.pass.now) (g.W.Words.sight c.step.new.pass) (marked g at);
+    }
+
+pub returns-clause-takes : goal.returns-clause-takes
+returns-clause-takes g c =
+    let inv = c.loop-self.invariant in
+    record {
+      one = λ not. absurd (omega (arith, c.requires.more, c.loop-self-test.false, inv.first not));
+      some = inv.more (omega (arith, c.requires.more, c.loop-self-test.false));
+      turns =
+          marks_turn g.P.Meld.meld g.W.Words.alone (g.W.Words.name c.args.words.now) c.args.self.now c.args.group.now c.args.declared.now c.loop-self.self.next (g.W.Words.sight c.args.pass.now) (g.W.Words.sight c.loop-self.pass) inv.marked;
+    }

@@ -13,6 +13,7 @@ invariant-loop-self g l = record {
   more : l.initial.self.next < l.self.next → (g.W.Words.sight l.initial.pass).steps < (g.W.Words.sight l.pass).steps;
   first : l.whole ≡ false → l.self.next ≡ l.initial.self.next;
   none : l.whole ≡ false → (g.W.Words.sight l.pass).steps ≡ (g.W.Words.sight l.initial.pass).steps;
+  same : l.whole ≡ false → (l.self ≡ l.initial.self) × (g.W.Words.sight l.pass ≡ g.W.Words.sight l.initial.pass);
   marked : HasMarked g.P.Meld.meld g.W.Words.alone (g.W.Words.name l.words) l.initial.self l.group l.declared l.self.next (g.W.Words.sight l.initial.pass) (g.W.Words.sight l.pass);
 }
 

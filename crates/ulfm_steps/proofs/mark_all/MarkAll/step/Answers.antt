@@ -2,7 +2,7 @@ use Rattle.std.proofs.Common.{◌≡◌, ◌+◌, ◌≤◌, length, ap, arith, 
 use Rattle.std.specs.List.{slice_index}
 use Rattle.ulfm_model.specs.declared.contribution.MarkCount.{MarkCount}
 use Rattle.ulfm_steps.specs.Marks.{members_in}
-use Rattle.ulfm_steps.proofs.{Groups.{round_rises}, Marking.{count_fits, may_mark, marks_try}, Reading.{member_within}}
+use Rattle.ulfm_steps.proofs.{Groups.{round_rises}, Marking.{count_fits, marks_fall, marks_once, marks_try, may_mark}, Turning.{takes_exchange}, Reading.{member_within}}
 use Rattle.ulfm_steps.proofs.mark_all.MarkAll.step.Goals as goal
 
 pub overflow_add-self : goal.overflow_add-self
@@ -36,3 +36,13 @@ returns-clause-marks g c =
 
 pub next_member-self-requires-clause-rises : goal.next_member-self-requires-clause-rises
 next_member-self-requires-clause-rises g c = round_rises (g.W.Words.name c.args.words.now).limits (g.W.Words.sight c.args.pass.now).seen c.args.self.now.comm c.args.self.now.round c.args.group.now c.requires.may.round
+
+pub returns-clause-once : goal.returns-clause-once
+returns-clause-once g c =
+    marks_once g.W.Words.alone c.args.self.now.rank c.args.self.now.comm c.args.self.now.round (slice_index c.args.declared.now c.args.self.now.next) _ (g.W.Words.sight c.args.pass.now).seen (g.W.Words.sight c.put_slot.new.pass).seen
+    c.put_slot.result c.put_slot.ensures.tries.outcome
+
+pub returns-clause-takes : goal.returns-clause-takes
+returns-clause-takes g c =
+    takes_exchange g.P.Meld.meld g.P.Packed.pack g.W.Words.alone (g.W.Words.name c.args.words.now) _ (g.W.Words.sight c.args.pass.now) (g.W.Words.sight c.put_slot.new.pass) _ c.put_slot.result _ _ c.put_slot.ensures.tries
+    (marks_fall c.args.group.now c.args.declared.now c.args.self.now.next c.next_member-self.result c.requires.more (c.requires.at.member c.requires.more) c.next_member-self.ensures.none_between)
