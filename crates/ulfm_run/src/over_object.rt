@@ -1,5 +1,5 @@
 ghost use Rattle.std.specs.Prelude.{◌≡◌};
-ghost use Rattle.ulfm_model.specs.Terms.{comm_of};
+ghost use Rattle.ulfm_model.specs.Answers.{traits_of};
 
 use std::alloc::{AllocError, Allocator};
 use ulfm_laws::FlagAnd;
@@ -44,7 +44,7 @@ impl<A: Allocator + Copy + Drop> Machine<A> for ObjectMachine<A> {
 
 /// The communicator of a call; 0 for a declaration, which has none.
 fn comm_of(call: &Call<FlagAnd>) -> u16
-    ensures { result ≡ comm_of call.now }
+    ensures { result ≡ (traits_of call.now).comm }
 {
     match *call {
         Call::Fail { .. } => 0,

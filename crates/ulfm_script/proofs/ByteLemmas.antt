@@ -83,6 +83,10 @@ some_pending xs s e h k =
     let lt : s < length xs = omega arith in
     rw (z, drop-cons xs s 0 lt, add-one) refl
 
+-- what is pending of a small buffer is little
+pub few_pending : (xs : List ℕ) (s e most : ℕ) → e ≤ length xs → length xs ≤ most → length (slice_range xs s e) ≤ most
+few_pending xs s e most h k = omega (arith, length-take (e - s) (drop s xs))
+
 -- a buffer that was read into
 pub filled : (xs ys : List ℕ) (s e n : ℕ) (old new : Option (List ℕ)) → e ≤ s → Consumes old new (take n ys) → Keeps (prepend_known (slice_range xs s e) old) (prepend_known (slice_range ys 0 n) new)
 filled xs ys s e n None new h k = tt

@@ -1,12 +1,16 @@
 -- A flag is read just where it is printed.
-use Rattle.std.proofs.Common.{◌≡◌, ◌≢◌, ℕ, zero, suc, ◌+◌, ◌-◌, ◌*◌, ◌/◌, ◌%◌, ◌^◌, ◌<◌, ◌≤◌, List, [], ◌∷◌, ◌++◌, length, drop, Option, Some, None, Result, Ok, Err, Bool, true, false, cond, refl, sym, ap, ◌∙◌, append_assoc, inl, inr, arith, add-one, mod-eq_of_lt, length-append}
+use Rattle.std.proofs.Common.{◌≡◌, ◌≢◌, ℕ, zero, suc, ◌+◌, ◌-◌, ◌*◌, ◌/◌, ◌%◌, ◌^◌, ◌<◌, ◌≤◌, List, [], ◌∷◌, ◌++◌, length, drop, Option, Some, None, Result, Ok, Err, Bool, true, false, cond, refl, sym, ap, ◌∙◌, append_assoc, inl, inr, arith, add-one, mod-eq_of_lt, mod-lt, lit<, length-append}
 use Rattle.std.specs.{Prelude.{slice_set, ◌==◌}, List.{AllByRecursion}}
 use Rattle.std.proofs.lemmas.{Bool.{cases_lt, lt-ltb, le-ltb, lt-leb, le-leb}, Bool.Decides.{nat_tests}, List.{drop-set, drop_all}, Nat.{div-mul-add, mod-mul-add, div-add-mod'}}
 use Rattle.ulfm_laws.specs.{declared.flag_and.FlagAnd.{FlagAnd}, Flags.{same_flag}}
 use Rattle.ulfm_script.specs.declared.line_kind.LineKind.{LineKind}
 use Rattle.ulfm_script.specs.declared.line_kind.LineKind.TheVariants.{Flag}
-use Rattle.ulfm_script.specs.Digits.{as_flag, digits_after, flag_of, flag_text, hex_digit, hex_digits, hex_of}
+use Rattle.ulfm_script.specs.Digits.{digits_after, flag_of, flag_text, hex_digit, hex_digits, hex_of}
 use Rattle.ulfm_script.specs.Steps.{◌>>=◌, or_fault}
+
+-- the flag of a word
+abbrev as_flag : ℕ → FlagAnd
+as_flag n = record { bits = n % 2 ^ 32; fits = mod-lt n (lit< tt) }
 
 digit_again : (d : ℕ) → d < 16 → hex_of (hex_digit d) ≡ Some d
 digit_again d h = elim (cases_lt d 10) [

@@ -2,7 +2,7 @@
 use Rattle.std.specs.Prelude.{◌≡◌, ◌≢◌, ℕ, ◌<◌, List, [], ◌∷◌, ◌++◌, length, take, slice_range, Option, Some, None, Result, Ok, Err}
 use Rattle.std.specs.List.{AllByRecursion}
 use Rattle.std.specs.Io.KnownBytes.{Keeps, Appends, Consumes, IsAtEnd, prepend_known}
-use Rattle.ulfm_script.specs.Written.{WritesPart}
+use Rattle.ulfm_script.specs.Written.{Begins, WritesPart}
 use Rattle.ulfm_script.specs.declared.input.Input.{Input}
 use Rattle.ulfm_script.specs.declared.input.LineEnd.{LineEnd}
 use Rattle.ulfm_script.specs.declared.input.LineEnd.TheVariants.{Newline, Cut, Done}
@@ -33,13 +33,17 @@ TakesByte old new bytes (Err fault) = Keeps old new × (bytes ≡ []) × (fault 
 abbrev pub HasNoNewline : List ℕ → Type 0
 HasNoNewline xs = AllByRecursion (λ x. x ≢ 10) xs
 
--- a line was taken, and its first 65 bytes are kept; where the reader failed inside it, nothing is pending
+-- bytes of one line: the line and its newline begin with them
+abbrev pub IsOfLine : List ℕ → Type 0
+IsOfLine bytes = (line : List ℕ) × HasNoNewline line × Begins bytes (line ++ 10 ∷ [])
+
+-- A line was taken, and its first 65 bytes are kept. Where the reader failed inside it, nothing is pending.
 abbrev pub TakesLine : Option (List ℕ) → Option (List ℕ) → List ℕ → List ℕ → Result LineEnd RunFault → Type 0
 TakesLine old new bytes kept (Ok Newline) = (line : List ℕ) × HasNoNewline line × (kept ≡ take 65 line) × Consumes old new (line ++ 10 ∷ [])
 TakesLine old new bytes kept (Ok Cut) = (line : List ℕ) × HasNoNewline line × (0 < length line) × Consumes old new line × IsAtEnd new
 TakesLine old new bytes kept (Ok Done) = Keeps old new × IsAtEnd new
 TakesLine old new bytes kept (Err Read) = (part : List ℕ) × HasNoNewline part × (bytes ≡ []) × Consumes old new part
-TakesLine old new bytes kept (Err Memory) = (part : List ℕ) × Consumes old new part
+TakesLine old new bytes kept (Err Memory) = (part : List ℕ) × HasNoNewline part × Consumes old new part
 TakesLine old new bytes kept (Err Write) = ⊥
 TakesLine old new bytes kept (Err (Line number kind)) = ⊥
 

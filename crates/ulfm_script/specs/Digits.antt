@@ -1,7 +1,8 @@
 -- Numbers and flags in words.
-use Rattle.std.specs.Prelude.{ℕ, zero, suc, ◌+◌, ◌*◌, ◌-◌, ◌/◌, ◌%◌, ◌^◌, List, [], ◌∷◌, ◌++◌, length, slice_index, Option, Some, None, Result, Ok, Err, ◌&&◌, ◌||◌, ◌==◌, nat_lt, nat_le, if◌then◌else◌}
-use Rattle.std.proofs.Common.{lit<, mod-lt}
+use Rattle.std.specs.Prelude.{ℕ, zero, suc, ◌+◌, ◌*◌, ◌-◌, ◌/◌, ◌%◌, ◌&&◌, ◌||◌, ◌==◌, nat_lt, nat_le, if◌then◌else◌}
+use Rattle.std.specs.Prelude.{List, [], ◌∷◌, ◌++◌, length, slice_index, Option, Some, None, Result, Ok, Err}
 use Rattle.ulfm_laws.specs.declared.flag_and.FlagAnd.{FlagAnd}
+use Rattle.ulfm_laws.specs.Flags.{flag_unpack}
 use Rattle.ulfm_script.specs.declared.line_kind.LineKind.{LineKind}
 use Rattle.ulfm_script.specs.declared.line_kind.LineKind.TheVariants.{Number, Flag}
 use Rattle.ulfm_script.specs.Steps.{◌>>=◌, or_fault}
@@ -37,13 +38,10 @@ rank_of word = number_to 1023 word
 abbrev pub comm_of : List ℕ → Result ℕ LineKind
 comm_of word = number_to 255 word
 
--- the flag of these bits; eight digits are less than 2 ^ 32, so all of them are kept
-abbrev pub as_flag : ℕ → FlagAnd
-as_flag n = record { bits = n % 2 ^ 32; fits = mod-lt n (lit< tt) }
-
--- a flag has eight hexadecimal digits
+-- a flag has eight hexadecimal digits, whose value is its word
 unfoldable pub flag_of : List ℕ → Result FlagAnd LineKind
-flag_of word = if length word == 8 then (digits_after Flag 16 hex_of 0 word >>= λ n. Ok (as_flag n)) else Err Flag
+flag_of word =
+    if length word == 8 then (digits_after Flag 16 hex_of 0 word >>= λ n. or_fault Flag (flag_unpack n)) else Err Flag
 
 -- the digit of a value below 16
 abbrev pub hex_digit : ℕ → ℕ

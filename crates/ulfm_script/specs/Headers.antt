@@ -9,11 +9,14 @@ use Rattle.ulfm_script.specs.Digits.{number_of}
 use Rattle.ulfm_script.specs.Steps.{◌>>=◌, with_fault}
 use Rattle.ulfm_script.specs.Words.{word_of, four_of}
 
+-- a number from 1 to a greatest one
+abbrev pub is_up_to : ℕ → ℕ → Bool
+is_up_to most n = nat_lt 0 n && nat_le n most
+
 -- whether a world of these limits may be opened
 abbrev pub may_open : Limits → Bool
 may_open limits =
-    nat_lt 0 limits.ranks && nat_le limits.ranks 1024 && (nat_lt 0 limits.comms && nat_le limits.comms 256) && (nat_lt 0 limits.rounds && nat_le limits.rounds 4096)
-    && nat_le (size_of limits) 4194304
+    is_up_to 1024 limits.ranks && is_up_to 256 limits.comms && is_up_to 4096 limits.rounds && nat_le (size_of limits) 4194304
 
 -- the limits that three words give
 abbrev pub numbers_of : List ℕ × List ℕ × List ℕ → Result Limits LineKind

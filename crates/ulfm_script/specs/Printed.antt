@@ -3,7 +3,7 @@ use Rattle.std.specs.Prelude.{ℕ, Bool, true, false, List, [], ◌∷◌, ◌++
 use Rattle.std.specs.Fmt.{decimal}
 use Rattle.ulfm_laws.specs.declared.flag_and.FlagAnd.{FlagAnd}
 use Rattle.ulfm_model.specs.declared.reply.Reply.{Reply}
-use Rattle.ulfm_model.specs.declared.reply.Reply.TheVariants.{Started, Pending, Agreed, Shrunk, Done, FailedGroup, Acked, Declared, AlreadyFailed, Revoked, AlreadyRevoked, Standing, Freed, Refused}
+use Rattle.ulfm_model.specs.declared.reply.Reply.TheVariants as reply
 use Rattle.ulfm_model.specs.declared.refusal.Refusal.{Refusal}
 use Rattle.ulfm_model.specs.Answers.{printed}
 use Rattle.ulfm_script.specs.Digits.{flag_text}
@@ -46,17 +46,17 @@ refused_text refusal = codes "refused " ++ (decimal (printed refusal).0 ++ 32 �
 
 -- a reply, with the group that it is about: a communicator's failed group or its members
 abbrev pub reply_text : List ℕ → Reply FlagAnd → List ℕ
-reply_text group Started = codes "started"
-reply_text group Pending = codes "pending"
-reply_text group (Agreed value failed raised) = agreed_text value failed raised
-reply_text group (Shrunk comm context size) = shrunk_text comm context group
-reply_text group Done = codes "done"
-reply_text group (FailedGroup count) = failed_text group
-reply_text group (Acked count) = acked_text count
-reply_text group Declared = codes "declared"
-reply_text group AlreadyFailed = codes "already-failed"
-reply_text group Revoked = codes "revoked"
-reply_text group AlreadyRevoked = codes "already-revoked"
-reply_text group (Standing revoked) = standing_text revoked
-reply_text group Freed = codes "freed"
-reply_text group (Refused refusal) = refused_text refusal
+reply_text group reply.Started = codes "started"
+reply_text group reply.Pending = codes "pending"
+reply_text group (reply.Agreed value failed raised) = agreed_text value failed raised
+reply_text group (reply.Shrunk comm context size) = shrunk_text comm context group
+reply_text group reply.Done = codes "done"
+reply_text group (reply.FailedGroup count) = failed_text group
+reply_text group (reply.Acked count) = acked_text count
+reply_text group reply.Declared = codes "declared"
+reply_text group reply.AlreadyFailed = codes "already-failed"
+reply_text group reply.Revoked = codes "revoked"
+reply_text group reply.AlreadyRevoked = codes "already-revoked"
+reply_text group (reply.Standing revoked) = standing_text revoked
+reply_text group reply.Freed = codes "freed"
+reply_text group (reply.Refused refusal) = refused_text refusal

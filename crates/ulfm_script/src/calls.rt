@@ -1,6 +1,7 @@
 //! The calls of a script, line by line.
 ghost use Rattle.std.specs.Prelude.{◌≡◌, Ok, IfOk};
-ghost use Rattle.ulfm_script.specs.Calls.{ScriptCall, call_of, place_of, fail_of, get_of, ack_of, agree_of, shrink_of, barrier_of, poll_of, revoke_of, is_revoked_of, free_of};
+ghost use Rattle.ulfm_script.specs.Calls.{ScriptCall, call_of, place_of, fail_of, get_of, ack_of, agree_of, shrink_of};
+ghost use Rattle.ulfm_script.specs.Calls.{barrier_of, poll_of, revoke_of, is_revoked_of, free_of};
 ghost use Rattle.ulfm_script.specs.Spelling.{Spells};
 ghost use Rattle.ulfm_script.specs.Words.{rest_at};
 

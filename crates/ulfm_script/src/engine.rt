@@ -1,7 +1,7 @@
 //! The engine that runs a script, over anything that answers its calls.
 ghost use Rattle.std.specs.Prelude.{◌≡◌, [], OnOk};
 ghost use Rattle.ulfm_script.specs.Buffers.{pending, waiting, unread};
-ghost use Rattle.ulfm_script.specs.Runs.{Answered, Opens, Runs, RunsLine, RunsUpTo};
+ghost use Rattle.ulfm_script.specs.Runs.{Answered, Opens, Runs, RunsLine, RunsThrough, RunsUpTo};
 ghost use Rattle.ulfm_script.specs.Scripts.{call_at};
 ghost use Rattle.ulfm_script.specs.Spelling.{IsSpelled};
 
@@ -32,10 +32,11 @@ const LAST_LINE: u32 = 100_000;
 ///
 /// At `Ok` the whole text was read, and exactly its output was written. At `Line` the fault is the first of the text, in the order
 /// of [`crate::LineKind`] within a line, and exactly the output of the lines before was written. At `Read` exactly the output of
-/// the lines that the reader gave whole was written. At `Memory`, which is no reply, exactly the output of the first lines was
-/// written, those before the one under work. At `Write` a beginning of the output was written: the writer failed, took nothing, or
-/// couldn't be flushed, also where it had to take what waited at another fault. Every error of the reader or the writer is a fault,
-/// of whatever kind; none is tried again. Reader and writer have buffers of 8 KB here and need none of their own.
+/// the lines that the reader gave whole was written, and they have no fault. At `Memory`, which is no reply, exactly the output of
+/// the lines before the one under work was written, and they have no fault; the reader gave at most 8 KB behind the line under
+/// work, and [`run_script_through`] shows which line that is. At `Write` a beginning of the output was written: the writer failed,
+/// took nothing, or couldn't be flushed, also where it had to take what waited at another fault. Every error of the reader or the
+/// writer is a fault, of whatever kind; none is tried again. Reader and writer have buffers of 8 KB here and need none of their own.
 pub fn run_script<M: Machine<A>, A: Allocator + Copy, R: Read, W: Write>(
     alloc: A,
     reader: &mut R,
@@ -44,8 +45,25 @@ pub fn run_script<M: Machine<A>, A: Allocator + Copy, R: Read, W: Write>(
     ensures { Runs (R.remaining reader.old) (R.remaining reader.new) (W.contents writer.old) (W.contents writer.new) result }
 {
     let mut input = Input::new(alloc)?;
+    run_script_through::<M, A, R, W>(alloc, &mut input, reader, writer)
+}
+
+/// Runs a script as [`run_script`] does, through a buffer of the caller's. What it holds of the reader's bytes is read first; what it
+/// holds afterwards was read and not taken.
+///
+/// At `Memory` exactly the lines that were taken from the buffer were run and their output written, but for the last: it is the line
+/// under work, was taken in part or whole, and nothing of its output is written.
+pub fn run_script_through<M: Machine<A>, A: Allocator + Copy, R: Read, W: Write>(
+    alloc: A,
+    input: &mut Input<A>,
+    reader: &mut R,
+    writer: &mut W,
+) -> Result<(), RunFault>
+    ensures { RunsThrough (unread R.remaining input.old reader.old) (R.remaining reader.new) (pending input.new)
+        (W.contents writer.old) (W.contents writer.new) result }
+{
     let mut output = Output::new(alloc)?;
-    let Err(fault) = run_lines::<M, A, R, W>(alloc, reader, writer, &mut input, &mut output) else {
+    let Err(fault) = run_lines::<M, A, R, W>(alloc, reader, writer, input, &mut output) else {
         return output.finish(writer);
     };
     match fault {
@@ -65,10 +83,9 @@ fn run_lines<M: Machine<A>, A: Allocator + Copy, R: Read, W: Write>(
     input: &mut Input<A>,
     output: &mut Output<A>,
 ) -> Result<(), RunFault>
-    requires input { pending input.old ≡ [] }
-    requires output { waiting output.old ≡ [] }
-    ensures { RunsUpTo (R.remaining reader.old) (R.remaining reader.new) (W.contents writer.old) (W.contents writer.new)
-        (waiting output.new) result }
+    requires { waiting output.old ≡ [] }
+    ensures { RunsUpTo (unread R.remaining input.old reader.old) (R.remaining reader.new) (pending input.new)
+        (W.contents writer.old) (W.contents writer.new) (waiting output.new) result }
 {
     let mut line = Vec::with_capacity(alloc, LONGEST + 1)?;
     let mut text = Vec::with_capacity(alloc, LONGEST)?;

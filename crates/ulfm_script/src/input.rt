@@ -11,15 +11,16 @@ const SIZE: usize = 8192;
 /// How much of a line is kept: one byte more than a line may have.
 const KEPT: usize = 65;
 
-/// The bytes that were read, from `start` to `end` those that are not yet taken.
+/// A buffer over a reader: the bytes that were read, from `start` to `end` those that are not yet taken.
 #[derive(Drop)]
-pub(crate) struct Input<A: Allocator> {
+pub struct Input<A: Allocator> {
     bytes: Vec<u8, A>,
     start: usize,
     end: usize,
     ghost ordered: { start ≤ end },
     ghost within: { end ≤ length bytes.items },
     ghost room: { 0 < length bytes.items },
+    ghost small: { length bytes.items ≤ 8192 },
 }
 
 /// How a line ends.
@@ -36,8 +37,8 @@ pub(crate) enum LineEnd {
 impl<A: Allocator> Input<A> {
     ghost use Rattle.ulfm_script.specs.Buffers.{pending, unread, Fills, TakesByte, TakesLine};
 
-    /// Nothing is read yet.
-    pub(crate) fn new(alloc: A) -> Result<Input<A>, AllocError>
+    /// Nothing is read yet. Only memory can be refused, for 8 KB.
+    pub fn new(alloc: A) -> Result<Input<A>, AllocError>
         ensures { IfOk result (λ input. pending input ≡ []) }
     {
         let bytes = vec![in alloc; 0; SIZE]?;
@@ -46,6 +47,14 @@ impl<A: Allocator> Input<A> {
             start: 0,
             end: 0,
         })
+    }
+
+    /// The bytes that were read and not yet taken, at most 8192.
+    pub fn pending(&self) -> &[u8]
+        ensures is { result.now ≡ pending self.now }
+        ensures few { length result.now ≤ 8192 }
+    {
+        &self.bytes[self.start..self.end]
     }
 
     /// Reads where no byte is left to take. Any error of the reader is a fault, of whatever kind.

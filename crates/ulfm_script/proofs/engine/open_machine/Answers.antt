@@ -1,8 +1,9 @@
 use Rattle.std.proofs.Common.{arith, refl, ◌<◌, ◌≤◌, length, Ok, Err, []}
 use Rattle.ulfm_script.specs.Buffers.{pending, unread}
+use Rattle.ulfm_script.specs.declared.fault.RunFault.TheVariants.{Memory}
 use Rattle.ulfm_script.specs.declared.line_kind.LineKind.TheVariants.{Long}
 use Rattle.ulfm_script.proofs.ByteLemmas.{keeps_nothing}
-use Rattle.ulfm_script.proofs.RunLemmas.{handed_on, header_long, header_read, unopened_line, unopened_read, whole_text}
+use Rattle.ulfm_script.proofs.RunLemmas.{handed_on, header_long, header_read, unopened_line, unopened_machine, unopened_read, whole_text}
 use Rattle.ulfm_script.proofs.ScriptLemmas.{header_cut, no_header}
 use Rattle.ulfm_script.proofs.engine.open_machine.Goals as goal
 use Rattle.ulfm_script.proofs.engine.open_machine.Goals.{in-Done, in-Cut, in-Newline+then-len-gt-LONGEST, in-Newline+else-len-gt-LONGEST+in-Err}
@@ -14,11 +15,26 @@ returns-in_err-read_line g c =
     rw (handed_on c.from_residual.result fault c.from_residual.ensures.1)
     (unopened_read g.M.Machine.state (unread k c.args.input.now c.args.reader.now) (unread k c.read_line.new.self c.read_line.new.reader) (pending c.read_line.new.self) c.read_line.new.line.items fault c.in_err-read_line.ensures)
 
+pub returns-in_err-open-in-Ok : goal.returns-in_err-open-in-Ok
+returns-in_err-open-in-Ok g c =
+    let k = g.R.Read.remaining in
+    let e = rw c.in-Newline.is at c.in_ok-read_line.ensures in
+    rw (handed_on c.from_residual-in_err-open-in-Ok.result Memory c.from_residual-in_err-open-in-Ok.ensures.1)
+    (unopened_machine g.M.Machine.state (unread k c.args.input.now c.args.reader.now) (unread k c.read_line.new.self c.read_line.new.reader)
+    (pending c.read_line.new.self) e.0 e.1 e.3)
+
 pub returns-in-Ok : goal.returns-in-Ok
 returns-in-Ok g c =
     let e = rw c.in-Newline.is at c.in_ok-read_line.ensures in
     let short : length c.read_line.new.line.items ≤ 64 = omega (arith, c.len.ensures, c.if-len-gt-LONGEST.false, c.read_line.new.line.ok.0) in
-    (e.0, c.in-Ok.limits, e.1, header_read e.0 c.read_line.new.line.items c.deref.result.now (Ok c.in-Ok.limits) e.2 short c.deref.ensures.value c.in-Ok.ensures.exact, e.3, c.in_ok-open-in-Ok.ensures)
+    record {
+      line = e.0;
+      limits = c.in-Ok.limits;
+      free = e.1;
+      header = header_read e.0 c.read_line.new.line.items c.deref.result.now (Ok c.in-Ok.limits) e.2 short c.deref.ensures.value c.in-Ok.ensures.exact;
+      taken = e.3;
+      new_one = c.in_ok-open-in-Ok.ensures;
+    }
 
 pub returns : goal.returns
 returns g c =

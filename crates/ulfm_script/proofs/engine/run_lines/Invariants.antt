@@ -5,5 +5,8 @@ use Rattle.ulfm_script.proofs.engine.run_lines.Given as goal
 
 abbrev pub invariant-lines : goal.invariant-lines
 invariant-lines g l =
+    let k = g.R.Read.remaining in
+    let w = g.W.Write.contents in
     (l.number ≤ 100001)
-    × Going (g.R.Read.remaining l.fn.reader) (unread g.R.Read.remaining l.input l.reader) (g.W.Write.contents l.fn.writer) (g.W.Write.contents l.writer) (waiting l.output) (g.M.Machine.state l.machine) l.number
+    × Going (unread k l.fn.input l.fn.reader) (unread k l.input l.reader) (w l.fn.writer) (w l.writer) (waiting l.output)
+    (g.M.Machine.state l.machine) l.number

@@ -1,22 +1,20 @@
+use Rattle.std.proofs.Common.{[]}
 use Rattle.ulfm_script.specs.declared.fault.RunFault.TheVariants.{Memory}
-use Rattle.ulfm_script.specs.Buffers.{waiting}
-use Rattle.ulfm_script.proofs.RunLemmas.{handed_on, ran_nothing, ran_to_end, ran_to_writer}
+use Rattle.ulfm_script.specs.Buffers.{pending}
+use Rattle.ulfm_script.proofs.ByteLemmas.{few_pending}
+use Rattle.ulfm_script.proofs.RunLemmas.{handed_on, ran_alone, ran_none}
 use Rattle.ulfm_script.proofs.engine.run_script.Goals as goal
 
 pub returns-in_err-input : goal.returns-in_err-input
-returns-in_err-input g c = rw (handed_on c.from_residual.result Memory c.from_residual.ensures.1) (ran_nothing (g.R.Read.remaining c.args.reader.now) (g.R.Read.remaining c.args.reader.now) (g.W.Write.contents c.args.writer.now))
+returns-in_err-input g c =
+    rw (handed_on c.from_residual.result Memory c.from_residual.ensures.1)
+    (ran_none (g.R.Read.remaining c.args.reader.now) (g.W.Write.contents c.args.writer.now))
 
-pub returns-in_err-output : goal.returns-in_err-output
-returns-in_err-output g c = rw (handed_on c.from_residual-in_err-output.result Memory c.from_residual-in_err-output.ensures.1) (ran_nothing (g.R.Read.remaining c.args.reader.now) (g.R.Read.remaining c.args.reader.now) (g.W.Write.contents c.args.writer.now))
-
-pub returns-in_default : goal.returns-in_default
-returns-in_default g c =
+pub returns : goal.returns
+returns g c =
+    let k = g.R.Read.remaining in
     let w = g.W.Write.contents in
-    ran_to_end (g.R.Read.remaining c.args.reader.now) (g.R.Read.remaining c.run_lines.new.reader) (w c.args.writer.now) (w c.run_lines.new.writer) (w c.finish.new.writer) (waiting c.run_lines.new.output) (waiting c.finish.new.self) c.finish.result c.in_default.ensures c.finish.ensures
-
-pub returns-in_err-finish-in_default-fault : goal.returns-in_err-finish-in_default-fault
-returns-in_err-finish-in_default-fault g c =
-    let w = g.W.Write.contents in
-    let failed = c.in_err-finish-in_default-fault.ensures in
-    rw (handed_on c.from_residual-in_err-finish-in_default-fault.result c.in_err-finish-in_default-fault.field-0.0 c.from_residual-in_err-finish-in_default-fault.ensures.1, failed.0)
-    (ran_to_writer (g.R.Read.remaining c.args.reader.now) (g.R.Read.remaining c.run_lines.new.reader) (w c.args.writer.now) (w c.run_lines.new.writer) (w c.finish-in_default-fault.new.writer) (waiting c.run_lines.new.output) c.in-Err.fault c.in_default-fault.not-Write c.in-Err.ensures failed.1)
+    let input = c.run_script_through.new.input in
+    ran_alone (k c.args.reader.now) (k c.run_script_through.new.reader) (w c.args.writer.now) (w c.run_script_through.new.writer)
+    (pending c.in_ok-input.input) (pending input) c.run_script_through.result c.in_ok-input.ensures
+    (few_pending input.bytes.items input.start input.end 8192 input.within input.small) c.run_script_through.ensures

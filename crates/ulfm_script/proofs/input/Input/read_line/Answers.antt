@@ -22,7 +22,11 @@ pub returns-then-is_err : goal.returns-then-is_err
 returns-then-is_err g c =
     let k = g.R.Read.remaining in
     let i = c.bytes.invariant in
-    (i.0 ++ c.in-Ok-Some.byte ∷ [], consumes_then (unread k c.args.self.now c.args.reader.now) (unread k c.bytes.self c.bytes.reader) (unread k c.next_byte.new.self c.next_byte.new.reader) i.0 (c.in-Ok-Some.byte ∷ []) i.3 (rw c.in-Ok-Some.field-0-is at c.in-Ok-Some.ensures))
+    let x = c.in-Ok-Some.byte in (
+      i.0 ++ x ∷ [],
+      no_newline_push i.0 x i.1 c.in-Ok-Some.byte-test.1,
+      consumes_then (unread k c.args.self.now c.args.reader.now) (unread k c.bytes.self c.bytes.reader) (unread k c.next_byte.new.self c.next_byte.new.reader) i.0 (x ∷ []) i.3 (rw c.in-Ok-Some.field-0-is at c.in-Ok-Some.ensures),
+    )
 
 pub returns-in-Ok-None : goal.returns-in-Ok-None
 returns-in-Ok-None g c =
