@@ -9,7 +9,7 @@ use Rattle.ulfm_model.specs.Terms.{comm_of}
 use Rattle.ulfm_model.proofs.{LeftFits.{fits_seen}, LeftRuns.{call_fits}, Lists.{prefix_trans}, Stable.{fits_stays}}
 use Rattle.ulfm_words.specs.Steps.{IsOf, Name, Sight}
 use Rattle.ulfm_words.proofs.Trails.{did_none, did_prefix, did_quiet, did_wait}
-use Rattle.ulfm_comm.specs.{Calls.{Calls, RunsOut}, Ends.{IsEarlyRun, IsEndRun, IsRefusedAgain}, Looked.{Looked}}
+use Rattle.ulfm_comm.specs.{Calls.{Calls, HadCome, RunsOut}, Ends.{IsEarlyRun, IsEndRun, IsRefusedAgain}, Looked.{Looked}}
 use Rattle.ulfm_comm.proofs.ReplyKinds.{counted_seen}
 use Rattle.ulfm_comm.proofs.Replying.{refused_missing, sees_later, self_failed, view_at}
 
@@ -136,9 +136,9 @@ module _ {P : Type 0} (meld : P → P → P) (alone : Bool) (name : Name) (befor
 
   -- a call that ran out of memory, of a rank that has then seen so much
   pub runs_out_after : (asked : Call P) (old new : Record) (look : History P) (own : List (Event P)) → IsOf meld name after → Fits meld name.limits before.seen old → Looked alone before.seen look old (record old { seen = failures look })
-      → Did alone (entries_by (Rank old.number) own) look after.seen → refusal_of old asked ≡ None → AllByRecursion (MayOwn (failures look) old asked) own → spawns (entries_by (Rank old.number) own) ≡ []
+      → Did alone (entries_by (Rank old.number) own) look after.seen → refusal_of old asked ≡ None → AllByRecursion (MayOwn (failures look) old asked) own → spawns (entries_by (Rank old.number) own) ≡ [] → HadCome meld name.limits after.seen old.number (comm_of asked) (polled_by old asked)
       → Sees (is_shrink (polled_by old asked)) (failures look) after.seen new.seen → IsPrefix new.seen (failures after.seen) → new ≡ record old { seen = new.seen } → RunsOut meld alone name asked old before new after
-  runs_out_after asked old new look own of fits looked did passed may none sees begins is =
+  runs_out_after asked old new look own of fits looked did passed may none come sees begins is =
       let to_look = did_prefix alone [] before.seen look looked.did in
       let to_end = did_prefix alone (entries_by (Rank old.number) own) look after.seen did in
       let whole = prefix_trans before.seen look after.seen to_look to_end in
@@ -163,6 +163,7 @@ module _ {P : Type 0} (meld : P → P → P) (alone : Bool) (name : Name) (befor
           not_refused = passed;
           own = may;
           makes_none = none;
+          had_come = come;
           sees = sees;
           record_is = is;
         };

@@ -1,7 +1,9 @@
 -- The end of a shrink's poll, step by step.
-use Rattle.std.proofs.Common.{◌≡◌, ℕ, ◌<◌, ◌≤◌, ◌==◌, ◌&&◌, Bool, true, false, not, List, [], ◌∷◌, ◌++◌, length, take, nat_eq, Some, refl, ap, ap₂, sym, ◌∙◌, subst, append-nil, arith, inl, inr, IsTrue, Option, ◌⊎◌}
+use Rattle.std.proofs.Common.{◌≡◌, ℕ, ◌<◌, ◌≤◌, ◌==◌, ◌&&◌, Bool, true, false, not, List, [], ◌∷◌, ◌++◌, length, take, nat_eq, nat_lt, Some, refl, ap, ap₂, sym, ◌∙◌, subst, append-nil, arith, inl, inr, IsTrue, Option, ◌⊎◌}
 use Rattle.std.specs.List.{AllByRecursion, list_any}
 use Rattle.std.specs.List.Sorted.{IsStrictlyIncreasing}
+use Rattle.std.proofs.lemmas.Bool.Decides.{nat_tests}
+use Rattle.std.proofs.lemmas.Nat.Bits.{bit_at_above}
 use mathlib.Core.List.{IsPrefix}
 use Rattle.ulfm_laws.specs.declared.{body.Body.TheVariants.{Ctx as OfIds}, ctx_mask.CtxMask.{CtxMask}, summary.Summary.{Summary}}
 use Rattle.ulfm_model.specs.declared.call.Call.TheVariants as call
@@ -18,10 +20,10 @@ use Rattle.ulfm_comm.specs.declared.{doing.Made.{Made}, doing.Phase.TheVariants.
 use Rattle.ulfm_comm.specs.declared.spawned.Spawned.TheVariants as spawned
 use Rattle.ulfm_steps.specs.declared.read_on.ReadOn.{ReadOn}
 use Rattle.ulfm_steps.specs.ReadsOn.{AtFailure, MayReadOn, ReadsOn}
-use Rattle.ulfm_comm.specs.{Calls.{EndsAs, RunsOut, wants_memory}, Ends.{IsEndRun}, Shrinks.{Holds, IsFullBy, IsMadeBy, MayHold, MaySpawn, SpawnIs}, Stages.{Adds, Answered, HasReached, HasReadAll, IsDecided, Makes, Stands, Walks}}
+use Rattle.ulfm_comm.specs.{Calls.{EndsAs, HadCome, RunsOut, wants_memory}, Ends.{IsEndRun}, Shrinks.{Holds, IsFullBy, IsMadeBy, MayHold, MaySpawn, SpawnIs}, Stages.{Adds, Answered, HasReached, HasReadAll, IsDecided, Makes, Stands, Walks}}
 use Rattle.ulfm_steps.proofs.ReadingOn.{passing_grow}
 use Rattle.ulfm_comm.proofs.Adding.{adds_none}
-use Rattle.ulfm_comm.proofs.{Calling.{calls_is, runs_out_after}, Holding.{comm_is, exists_is, failed_is, group_is, group_rises}, Loosely.{did_loosely}, Members.{members_few}, Polls.{body_read, enough_read, later, not_refused, open_round, read_decided, read_fresh, polls_it}, Shrinks.{all_did, marks_make_none, may_own, sees_on, shrink_mismatch, shrink_no_context, shrink_no_room, shrink_self_failed, shrink_shrunk}}
+use Rattle.ulfm_comm.proofs.{Calling.{calls_is, runs_out_after}, Holding.{comm_is, exists_is, failed_is, group_is, group_rises}, Loosely.{did_loosely}, Members.{members_few}, Polls.{body_read, enough_read, later, not_refused, open_round, read_decided, read_fresh, polls_it}, Shrinks.{all_did, marks_make_none, may_own, sees_on, shrink_decided, shrink_mismatch, shrink_no_context, shrink_no_room, shrink_self_failed, shrink_shrunk}}
 
 -- so many failures were gone through as have the decision's failed group
 pub reads_of : (group : List ℕ) (count : ℕ) (on : ReadOn) (old new whole : List ℕ) → AtFailure group count on new → count ≤ on.found → IsPrefix old new → IsPrefix new whole → ReadsOn group count old new whole on.reach
@@ -55,6 +57,17 @@ full_alone meld alone name c k now of one =
     let below = spawns_below meld name.limits now.seen of.legal of.may_open.in_range.some_comms in
     let none : length (spawns now.seen) ≡ 0 = omega (arith, below, one) in
     record { of = of; did = did_none alone now.seen; full = omega (arith, none, one); unmade = none_made (spawns now.seen) c k none; onward = omega arith }
+
+-- the ids of a mask are below 32
+id_below : (mask : CtxMask) (i : ℕ) → IsLowestId mask.bits i → i < 32
+id_below mask i lowest = go (nat_lt i 32) refl
+  where
+    go : (b : Bool) → nat_lt i 32 ≡ b → i < 32
+    go true below = grind (arith, nat_tests)
+    go false above =
+        let from : 32 ≤ i = grind (arith, nat_tests) in
+        let none = bit_at_above mask.bits 32 i mask.fits from in
+        let one = lowest.in_it in absurd (cc (none, one))
 
 module _ {P : Type 0} (meld : P → P → P) (limits : Limits) (alone : Bool) (c k : ℕ) (mask : CtxMask) (x : Held) (count : ℕ) (old : Record) (before : History P) (own : Record) (now : History P)
     (d : IsDecided meld limits alone c k mask x count old before own now) where
@@ -124,6 +137,7 @@ module _ {P : Type 0} (meld : P → P → P) (limits : Limits) (alone : Bool) (c
         x = x;
         held = held_is;
         few = omega (arith, least, same, members, few, ranks);
+        id = id_below mask context lowest;
         fresh =
             subst (λ (w : Record). AllByRecursion (λ i. nat_eq i context ≡ false) (contexts_of w.held)) (sym d.own_is)
             (read_fresh meld limits d.decided d.mid c k x d.marked.legal fits_decided d.marked.held d.all d.read d.marked.open_is mask context d.body lowest.in_it);
@@ -170,8 +184,8 @@ module _ {P : Type 0} (meld : P → P → P) (alone : Bool) (name : Name) (asked
       (holds.record_is ∙ ap₂ (λ (w : Record) ms. let rest = closed w c in record rest { held = rest.held ++ new_held j context ms ∷ [] }) d.own_is left)) refl (λ waits. absurd (cc waits))
 
   -- memory for it was refused, before the list of communicators was changed
-  pub ends_out : Answered meld alone name asked old before (Refused OutOfMemory) own now
-  ends_out =
+  pub ends_out : has (take reach own.seen) own.number ≡ false → Answered meld alone name asked old before (Refused OutOfMemory) own now
+  ends_out out_of_it =
       let poll = call.Poll old.number c in
       let quiet = did_none alone now.seen in
       let out : RunsOut meld alone name poll old before own now =
@@ -181,6 +195,8 @@ module _ {P : Type 0} (meld : P → P → P) (alone : Bool) (name : Name) (asked
       (not_refused meld name.limits alone before.seen old d.mid c true k x d.decided d.marked)
       (may_own meld name.limits alone before.seen old d.mid c k x d.decided d.marked d.all d.read now.seen begins_now of.legal own.seen reach counted [] now.seen quiet d.waited tt refl of.legal)
       (subst (λ (events : List (Event P)). spawns (entries_by (Rank old.number) events) ≡ []) (sym (append-nil d.marked.marks.own)) (marks_make_none (Rank old.number) c k _ d.marked.marks.own d.marked.marks.marks))
+      (subst (HadCome meld name.limits now.seen old.number c) (sym (polls_it meld name.limits alone before.seen old d.mid c true k x d.decided d.marked))
+      (shrink_decided meld name.limits alone before.seen old d.mid c k x d.decided d.marked d.all d.read now.seen begins_now of.legal own.seen reach counted [] now.seen quiet d.waited tt refl of.legal mask d.body d.some (mine false out_of_it)))
       (sees_on meld name.limits alone before.seen old d.mid c k x d.decided d.marked d.all d.read now.seen begins_now of.legal own.seen reach counted [] now.seen quiet d.waited tt refl of.legal)
       d.begins (d.own_is ∙ ap (λ (w : Record). record w { seen = own.seen }) d.marked.looked.record_is) in
       let shrinking : IsTrue (is_shrink (polled_by {P = P} old poll)) = ap is_shrink (polls_it meld name.limits alone before.seen old d.mid c true k x d.decided d.marked) in
@@ -308,7 +324,6 @@ module _ {P : Type 0} (meld : P → P → P) (alone quiet : Bool) (only : IsTrue
     spawn_walks (spawned.Made j size) is =
         record { of = is.0.of; own = is.0.own; did = subst (λ by. Did quiet (entries_by by is.0.own) now.seen after.seen) rank_is is.0.did; onward = is.0.onward }
     spawn_walks spawned.Full is = record { of = is.0.of; own = []; did = is.0.did; onward = is.0.onward }
-    spawn_walks spawned.NoMemory is = subst (Walks meld quiet name own.number now) (sym is.0) (record { of = of; own = []; did = did_none quiet now.seen; onward = omega arith })
 
     -- and add nothing, or the communicator
     pub spawn_adds : (reply : Option (Reply P)) (result : Spawned) → SpawnIs meld quiet name comm s.at.1.round context append next group own now result new after → Adds quiet [] own asked reply now.seen after.seen
@@ -335,7 +350,6 @@ module _ {P : Type 0} (meld : P → P → P) (alone quiet : Bool) (only : IsTrue
               },
             )
     spawn_adds reply spawned.Full is = adds_none quiet [] own asked reply now.seen after.seen is.0.did
-    spawn_adds reply spawned.NoMemory is = subst (λ (a : Sight P). Adds quiet [] own asked reply now.seen a.seen) (sym is.0) (adds_none quiet [] own asked reply now.seen now.seen (did_none quiet now.seen))
 
     -- it isn't found yet
     pub spawn_goes_on : (others : List ℕ) → others ≡ group → SpawnIs meld quiet name comm s.at.1.round context append next group own now spawned.Unknown new after
@@ -405,11 +419,3 @@ module _ {P : Type 0} (meld : P → P → P) (alone quiet : Bool) (only : IsTrue
         subst (λ n. IsFullBy meld alone name n i.round now after) there
         (record { of = full.of; did = did_loosely alone quiet only [] now.seen after.seen full.did; full = full.full; unmade = full.unmade; onward = full.onward }) in
         ends_full meld alone name asked i.round i.mask i.x i.count reach old before own now of s.onward s.fits s.at.0 i.decided i.reads ended after loosely i.stays (closes ∙ ap₂ closed is.1 there)
-
-    -- memory for it was refused
-    pub spawn_out : SpawnIs meld quiet name comm s.at.1.round context append next group own now spawned.NoMemory new after → Answered meld alone name asked old before (Refused OutOfMemory) new after
-    spawn_out is =
-        let i = s.at.1 in
-        subst (λ (w : Sight P). Answered meld alone name asked old before (Refused OutOfMemory) new w) (sym is.0)
-        (subst (λ (w : Record). Answered meld alone name asked old before (Refused OutOfMemory) w now) (sym is.1)
-        (ends_out meld alone name asked i.round i.mask i.x i.count reach old before own now of s.onward s.fits s.at.0 i.decided i.reads))

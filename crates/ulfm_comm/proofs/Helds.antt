@@ -1,15 +1,17 @@
 -- The communicators that a rank holds, by their places.
-use Rattle.std.proofs.Common.{◌≡◌, ℕ, zero, suc, ◌<◌, ◌≤◌, ◌==◌, Bool, true, false, cond, List, [], ◌∷◌, ◌++◌, filter, length, nat_eq, Some, None, slice_get, slice_index_or, slice_set, refl, ap, sym, ◌∙◌, subst, arith}
-use Rattle.std.specs.List.{AllByRecursion, IsDistinct, find, position, position_or_len}
-use Rattle.std.proofs.lemmas.List.{get_or_append_left, set-append_left}
+use Rattle.std.proofs.Common.{◌≡◌, ℕ, zero, suc, ◌<◌, ◌≤◌, ◌==◌, Bool, true, false, cond, List, [], ◌∷◌, ◌++◌, filter, length, nat_eq, Some, None, slice_get, slice_index_or, slice_set, not, ◌||◌, remove, length-append, refl, ap, sym, ◌∙◌, subst, arith}
+use Rattle.std.specs.List.{AllByRecursion, IsDistinct, find, list_any, position, position_or_len}
+use Rattle.std.proofs.lemmas.List.{get_or_append_left, length-map, set-append_left}
 use Rattle.std.proofs.lemmas.List.Quantifiers.{position-Some}
 use Rattle.std.proofs.lemmas.List.Folds.{find_at}
 use Rattle.std.proofs.lemmas.Grind.{common_steps}
 use Rattle.std.proofs.lemmas.Map.Keys.{IsDistinct-cons}
+use Rattle.std.proofs.lemmas.Map.Steps.{length-le_from_distinct_below}
+use Rattle.std.proofs.lemmas.Bool.Decides.{nat_tests}
 use Rattle.ulfm_model.specs.declared.{call.Request.{Request}, call.Request.TheVariants.{Agree, Shrink, Barrier}, limits.Limits.{Limits}}
 use Rattle.ulfm_model.specs.{Answers.{opened}, Records.{Held, change_at}, Words.{MayOpen}}
 use Rattle.ulfm_model.specs.Terms.{contexts_of}
-use Rattle.ulfm_model.proofs.{LeftHeld.{contexts_push, distinct_kept}, Lists.{any_none, distinct_push}}
+use Rattle.ulfm_model.proofs.{LeftHeld.{contexts_kept, contexts_push, distinct_kept}, Lists.{any_none, distinct_push, each_push}}
 use Rattle.ulfm_comm.specs.Ranks.{HasRoom}
 use Rattle.ulfm_comm.proofs.InOrder.{found_at}
 
@@ -62,26 +64,28 @@ contexts_changed c f same (x ∷ xs) =
     [ true ↦ ap (λ i. i ∷ contexts_of xs) (same x) | false ↦ ap (λ ids. x.context ∷ ids) rest ]
 
 -- a rank that holds one communicator
-pub room_new : (limits : Limits) (capacity : ℕ) (x : Held) → MayOpen limits → limits.ranks ≤ capacity → HasRoom limits capacity (x ∷ [])
+pub room_new : (limits : Limits) (capacity places : ℕ) (x : Held) → MayOpen limits → limits.ranks ≤ capacity → 32 ≤ places → x.context < 32 → HasRoom limits capacity places (x ∷ [])
 unfolding IsDistinct
-room_new limits capacity x may_open room =
-    record { may_open = may_open; room = room; contexts = IsDistinct-cons nat_eq x.context [] tt tt }
+room_new limits capacity places x may_open room enough id =
+    record { may_open = may_open; room = room; enough = enough; ids = (id, tt); contexts = IsDistinct-cons nat_eq x.context [] tt tt }
 
 -- a change that keeps the context id keeps what a rank keeps
-pub room_changed : (limits : Limits) (capacity c : ℕ) (f : Held → Held) (xs new : List Held) → HasRoom limits capacity xs → ((y : Held) → (f y).context ≡ y.context) → new ≡ change_at c f xs
-    → HasRoom limits capacity new
-room_changed limits capacity c f xs new old contexts is =
-    subst (HasRoom limits capacity) (sym is) (record {
+pub room_changed : (limits : Limits) (capacity places now c : ℕ) (f : Held → Held) (xs new : List Held) → HasRoom limits capacity places xs → ((y : Held) → (f y).context ≡ y.context) → new ≡ change_at c f xs → now ≡ places
+    → HasRoom limits capacity now new
+room_changed limits capacity places now c f xs new old contexts is same =
+    subst (HasRoom limits capacity now) (sym is) (record {
       may_open = old.may_open;
       room = old.room;
+      enough = omega (arith, old.enough, same);
+      ids = subst (AllByRecursion (λ i. i < 32)) (sym (contexts_changed c f contexts xs)) old.ids;
       contexts = subst (IsDistinct nat_eq) (sym (contexts_changed c f contexts xs)) old.contexts;
     })
 
 -- a request is opened
-pub room_opened : (limits : Limits) (capacity c : ℕ) (request : Request) (xs new : List Held) → HasRoom limits capacity xs → new ≡ change_at c (λ y. opened y (Some request)) xs → HasRoom limits capacity new
-room_opened limits capacity c (Agree k) xs new old is = room_changed limits capacity c (λ y. opened y (Some (Agree k))) xs new old (λ y. refl) is
-room_opened limits capacity c (Shrink k) xs new old is = room_changed limits capacity c (λ y. opened y (Some (Shrink k))) xs new old (λ y. refl) is
-room_opened limits capacity c (Barrier k) xs new old is = room_changed limits capacity c (λ y. opened y (Some (Barrier k))) xs new old (λ y. refl) is
+pub room_opened : (limits : Limits) (capacity places now c : ℕ) (request : Request) (xs new : List Held) → HasRoom limits capacity places xs → new ≡ change_at c (λ y. opened y (Some request)) xs → now ≡ places → HasRoom limits capacity now new
+room_opened limits capacity places now c (Agree k) xs new old is same = room_changed limits capacity places now c (λ y. opened y (Some (Agree k))) xs new old (λ y. refl) is same
+room_opened limits capacity places now c (Shrink k) xs new old is same = room_changed limits capacity places now c (λ y. opened y (Some (Shrink k))) xs new old (λ y. refl) is same
+room_opened limits capacity places now c (Barrier k) xs new old is same = room_changed limits capacity places now c (λ y. opened y (Some (Barrier k))) xs new old (λ y. refl) is same
 
 -- changes that do the same to the one that is found
 pub change_alike : (xs : List Held) (c : ℕ) (x : Held) (f g : Held → Held) → find (is_of c) xs ≡ Some x → f x ≡ g x → change_at c f xs ≡ change_at c g xs
@@ -93,11 +97,13 @@ change_alike (y ∷ xs) c x f g at same = go (is_of c y) at (λ more. change_ali
     go false more rest = ap (λ zs. y ∷ zs) (rest more)
 
 -- what a rank keeps is kept where it holds fewer communicators
-pub room_kept : (limits : Limits) (capacity : ℕ) (p : Held → Bool) (xs new : List Held) → HasRoom limits capacity xs → new ≡ filter p xs → HasRoom limits capacity new
-room_kept limits capacity p xs new old is =
-    subst (HasRoom limits capacity) (sym is) (record {
+pub room_kept : (limits : Limits) (capacity places now : ℕ) (p : Held → Bool) (xs new : List Held) → HasRoom limits capacity places xs → new ≡ filter p xs → now ≡ places → HasRoom limits capacity now new
+room_kept limits capacity places now p xs new old is same =
+    subst (HasRoom limits capacity now) (sym is) (record {
       may_open = old.may_open;
       room = old.room;
+      enough = omega (arith, old.enough, same);
+      ids = contexts_kept p (λ i. i < 32) xs old.ids;
       contexts = distinct_kept p xs old.contexts;
     })
 
@@ -114,18 +120,60 @@ pub push_missing : (xs pushed : List Held) (made : Held) (c : ℕ) (f : Held →
 push_missing xs pushed made c f none more = more ∙ ap (λ zs. zs ++ made ∷ []) (change_missing xs c f none)
 
 -- one communicator more, with a context id that none has
-pub room_pushed : (limits : Limits) (capacity c : ℕ) (f : Held → Held) (made : Held) (xs new : List Held) → HasRoom limits capacity xs → ((y : Held) → (f y).context ≡ y.context)
-    → AllByRecursion (λ i. nat_eq i made.context ≡ false) (contexts_of xs) → new ≡ change_at c f xs ++ made ∷ [] → HasRoom limits capacity new
-room_pushed limits capacity c f made xs new old contexts fresh is =
-    let rest = room_changed limits capacity c f xs (change_at c f xs) old contexts refl in
+pub room_pushed : (limits : Limits) (capacity places now c : ℕ) (f : Held → Held) (made : Held) (xs new : List Held) → HasRoom limits capacity places xs → ((y : Held) → (f y).context ≡ y.context) → made.context < 32
+    → AllByRecursion (λ i. nat_eq i made.context ≡ false) (contexts_of xs) → new ≡ change_at c f xs ++ made ∷ [] → places ≤ now → HasRoom limits capacity now new
+room_pushed limits capacity places now c f made xs new old contexts id fresh is more =
+    let rest = room_changed limits capacity places places c f xs (change_at c f xs) old contexts refl refl in
     let others = subst (AllByRecursion (λ i. nat_eq i made.context ≡ false)) (sym (contexts_changed c f contexts xs)) fresh in
-    subst (HasRoom limits capacity) (sym is) (record {
+    subst (HasRoom limits capacity now) (sym is) (record {
       may_open = rest.may_open;
       room = rest.room;
+      enough = omega (arith, old.enough, more);
+      ids = subst (AllByRecursion (λ i. i < 32)) (sym (contexts_push (change_at c f xs) made)) (each_push (λ i. i < 32) (contexts_of (change_at c f xs)) made.context rest.ids id);
       contexts =
           subst (IsDistinct nat_eq) (sym (contexts_push (change_at c f xs) made))
           (distinct_push nat_eq (contexts_of (change_at c f xs)) made.context rest.contexts (any_none (λ i. nat_eq i made.context) (contexts_of (change_at c f xs)) others));
     })
+
+ids_below : (ids : List ℕ) (q : ℕ) → AllByRecursion (λ i. i < 32) ids → list_any (nat_eq q) ids ≡ true → q < 32
+ids_below [] q all among = absurd (cc among)
+ids_below (i ∷ ids) q all among = go (nat_eq q i) refl (λ more. ids_below ids q all.1 more)
+  where
+    go : (b : Bool) → nat_eq q i ≡ b → (list_any (nat_eq q) ids ≡ true → q < 32) → q < 32
+    go true same rest = let is : q ≡ i = grind (arith, nat_tests) in subst (λ n. n < 32) (sym is) all.0
+    go false other rest = rest (sym (ap (λ b. b || list_any (nat_eq q) ids) other) ∙ among)
+
+-- where a context id is free, there is room for one communicator more
+pub room_left : (limits : Limits) (capacity places id : ℕ) (xs : List Held) → HasRoom limits capacity places xs → id < 32 → AllByRecursion (λ i. nat_eq i id ≡ false) (contexts_of xs) → length xs < places
+room_left limits capacity places id xs old below fresh =
+    let ids = contexts_of xs ++ id ∷ [] in
+    let distinct = distinct_push nat_eq (contexts_of xs) id old.contexts (any_none (λ i. nat_eq i id) (contexts_of xs) fresh) in
+    let all = each_push (λ i. i < 32) (contexts_of xs) id old.ids below in
+    let few = length-le_from_distinct_below ids 32 distinct (λ q among. ids_below ids q all among) in
+    let more = length-append (contexts_of xs) (id ∷ []) in
+    let same = length-map xs (λ (x : Held). x.context) in
+    omega (arith, few, more, same, old.enough)
+
+removed_at : (c : ℕ) (xs : List Held) (i : ℕ) (d : Held) → i < length xs → is_of c (slice_index_or xs i d) ≡ true → filter (λ x. not (is_of c x)) (remove xs i) ≡ filter (λ x. not (is_of c x)) xs
+removed_at c [] i d below is = absurd (omega arith)
+removed_at c (x ∷ xs) zero d below is = sym (ap (λ b. cond (not b) (x ∷ filter (λ y. not (is_of c y)) xs) (filter (λ y. not (is_of c y)) xs)) is)
+removed_at c (x ∷ xs) (suc i) d below is = ap (λ zs. cond (not (is_of c x)) (x ∷ zs) zs) (removed_at c xs i d (omega arith) is)
+
+-- those of other numbers are kept where one of this number is taken away
+pub kept_removed : (c : ℕ) (xs : List Held) (i : ℕ) (d : Held) → position (is_of c) xs ≡ Some i → filter (λ x. not (is_of c x)) (remove xs i) ≡ filter (λ x. not (is_of c x)) xs
+kept_removed c xs i d at = let p = position-Some (is_of c) xs i d at in removed_at c xs i d p.0 p.1
+
+all_other : (c : ℕ) (xs : List Held) → find (is_of c) xs ≡ None → filter (λ x. not (is_of c x)) xs ≡ xs
+all_other c [] none = refl
+all_other c (x ∷ xs) none = go (is_of c x) none (λ more. all_other c xs more)
+  where
+    go : (b : Bool) → cond b (Some x) (find (is_of c) xs) ≡ None → (find (is_of c) xs ≡ None → filter (λ y. not (is_of c y)) xs ≡ xs) → cond (not b) (x ∷ filter (λ y. not (is_of c y)) xs) (filter (λ y. not (is_of c y)) xs) ≡ x ∷ xs
+    go true none rest = absurd (cc none)
+    go false none rest = ap (λ zs. x ∷ zs) (rest none)
+
+-- and all are, where there is none of it
+pub kept_all : (c : ℕ) (xs : List Held) → position (is_of c) xs ≡ None → filter (λ x. not (is_of c x)) xs ≡ xs
+kept_all c xs none = all_other c xs (find_missing xs c none)
 
 -- the place of what is found is within the list
 pub position_below : {X : Type 0} (p : X → Bool) (xs : List X) (i : ℕ) → position p xs ≡ Some i → i < length xs

@@ -13,7 +13,7 @@ use Rattle.ulfm_model.proofs.{Decisions.{decision_stays}, Histories.{failures_be
 use Rattle.ulfm_words.proofs.Trails.{did_after, did_more, did_prefix}
 use Rattle.ulfm_steps.specs.{Marks.{IsMarkOf}, Rounds.{IsSummed}}
 use Rattle.ulfm_steps.specs.ReadsOn.{ReadsOn}
-use Rattle.ulfm_comm.specs.{Ends.{IsEndRun}, Polls.{HasMarked}}
+use Rattle.ulfm_comm.specs.{Calls.{IsDecidedFor}, Ends.{IsEndRun}, Polls.{HasMarked}}
 use Rattle.ulfm_steps.proofs.ReadingOn.{take_begins}
 use Rattle.ulfm_comm.proofs.{LeftOut.{has_first, reached_first, without_among}, Holding.{comm_is, exists_is, failed_is, group_is}, Polls.{answered, body_read, declared, due, enough_read, group_read, held_first, later, not_refused, polls_it, read_decided, read_masked, whole}, Replying.{run_ends}}
 
@@ -181,6 +181,10 @@ module _ {P : Type 0} (meld : P → P → P) (limits : Limits) (alone : Bool) (b
           left
 
       module _ (mask : CtxMask) (body : all.body ≡ OfIds mask) (some : 0 < mask.bits) (out : IsFalse (has (take reach seen) old.number)) where
+        -- the round is decided for the rank
+        pub shrink_decided : IsDecidedFor meld limits ending old.number c k
+        shrink_decided = record { decided = decided_then.0; mask = mask; body = body_then ∙ body; some = some; stays = stays_in out }
+
         -- no communicator is left
         pub shrink_no_room : (new : Record) → length (spawns ending) + 1 ≡ limits.comms → IsFalse (is_made ending c k) → new ≡ closed (record mid { seen = seen }) c → IsEndRun meld limits alone before ending old poll (Refused NoRoom) new
         shrink_no_room new full unmade left = ends_so (Refused NoRoom) new (inr (replied_then (Refused NoRoom) (inl (mask, body_then ∙ body, inr (some, stays_in out, inr (full, unmade, refl)))))) left

@@ -63,6 +63,7 @@ module _ {P : Type 0} (meld : P → P → P) (alone : Bool) (name : Name) (rank 
             not_refused = answered.passed;
             own = run.answer.own;
             makes_none = none_made (failures span.look) old rank c span.own run.answer.own;
+            had_come = tt;
             sees = run.answer.leaves.seen;
             record_is = is;
           };

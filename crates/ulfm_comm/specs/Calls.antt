@@ -1,12 +1,14 @@
 -- What a call of a rank promises.
-use Rattle.std.specs.Prelude.{◌≡◌, ◌⊎◌, ℕ, ◌≤◌, Bool, ◌==◌, true, false, [], None, IsTrue, IsFalse, Result, Ok, Err}
+use Rattle.std.specs.Prelude.{◌≡◌, ◌⊎◌, ℕ, ◌<◌, ◌≤◌, Bool, ◌==◌, true, false, [], Option, Some, None, IsTrue, IsFalse, Result, Ok, Err, ⊤}
 use Rattle.std.specs.List.{AllByRecursion}
+use Rattle.ulfm_laws.specs.declared.{body.Body.TheVariants.{Ctx as OfIds}, ctx_mask.CtxMask.{CtxMask}}
+use Rattle.ulfm_model.specs.declared.{call.Request.{Request}, call.Request.TheVariants.{Agree, Shrink, Barrier}}
 use Rattle.ulfm_model.specs.declared.{call.Call.{Call}, event.Caller.TheVariants.{Rank}, limits.Limits.{Limits}, refusal.Refusal.{Refusal}, reply.Reply.{Reply}}
 use Rattle.ulfm_model.specs.declared.reply.Reply.TheVariants.{Started, Pending, Agreed, Shrunk, Done, FailedGroup, Acked, Declared, AlreadyFailed}
 use Rattle.ulfm_model.specs.declared.reply.Reply.TheVariants.{Revoked, AlreadyRevoked, Standing, Freed, Refused}
-use Rattle.ulfm_model.specs.{Answers.{MayOwn, Sees, polled_by, printed, refusal_of}, History.{History, entries_by, failures, has, spawns}}
+use Rattle.ulfm_model.specs.{Answers.{MayOwn, Sees, polled_by, printed, refusal_of}, History.{History, decision, entries_by, failures, has, is_decided, spawns}}
 use Rattle.ulfm_model.specs.{Records.{Fits, Record, is_shrink}, Runs.{IsSpan}}
-use Rattle.ulfm_model.specs.Terms.{view_of}
+use Rattle.ulfm_model.specs.Terms.{comm_of, view_of}
 use Rattle.ulfm_words.specs.Steps.{IsOf, Name, Sight}
 use Rattle.ulfm_comm.specs.Ends.{IsEarlyRun, IsEndRun, IsRefusedAgain}
 
@@ -27,15 +29,33 @@ pub record Calls {P : Type 0} (meld : P → P → P) (alone : Bool) (name : Name
       ⊎ (IsEndRun meld name.limits alone before.seen after.seen old asked reply new
       ⊎ IsEarlyRun meld name.limits alone before.seen after.seen old asked reply new)
 
+-- a shrink's round is decided for rank r: on free context ids, and the rank isn't in its failed group
+pub record IsDecidedFor {P : Type 0} (meld : P → P → P) (limits : Limits) (h : History P) (r c k : ℕ) : Type 0 where
+  pub decided : IsTrue (is_decided limits.ranks h c k)
+  pub mask : CtxMask
+  pub body : (decision meld limits.ranks h c k).body ≡ OfIds mask
+  pub some : 0 < mask.bits
+  pub stays : IsFalse (has (decision meld limits.ranks h c k).failed r)
+
+-- how far a call had come that ran out of memory: the poll of a shrink as far as a round that is decided for its rank; no other poll
+-- runs out of memory
+abbrev pub HadCome : {P : Type 0} → (P → P → P) → Limits → History P → ℕ → ℕ → Option Request → Type 0
+HadCome meld limits h r c None = ⊤
+HadCome meld limits h r c (Some (Agree k)) = ⊥
+HadCome meld limits h r c (Some (Shrink k)) = IsDecidedFor meld limits h r c k
+HadCome meld limits h r c (Some (Barrier k)) = ⊥
+
 -- A call that ran out of memory is a run but for its reply: its rank isn't declared at the look, its record doesn't refuse it,
 -- it has made no communicator, and of the record only what was seen is new.
-pub record IsRunOut {P : Type 0} (meld : P → P → P) (limits : Limits) (alone : Bool) (before after : History P) (old : Record) (asked : Call P) (new : Record) : Type 0 where
+pub record IsRunOut {P : Type 0} (meld : P → P → P) (limits : Limits) (alone : Bool) (before after : History P)
+    (old : Record) (asked : Call P) (new : Record) : Type 0 where
   pub in_use : IsFalse old.refused
   pub span : IsSpan meld limits alone before after (Rank old.number)
   pub not_declared : IsFalse (has (failures span.look) old.number)
   pub not_refused : refusal_of old asked ≡ None
   pub own : AllByRecursion (MayOwn (failures span.look) old asked) span.own
   pub makes_none : spawns (entries_by (Rank old.number) span.own) ≡ []
+  pub had_come : HadCome meld limits span.point old.number (comm_of asked) (polled_by old asked)
   pub sees : Sees (is_shrink (polled_by old asked)) (failures span.look) after new.seen
   pub record_is : new ≡ record old { seen = new.seen }
 

@@ -7,7 +7,7 @@ use Rattle.ulfm_model.specs.Terms.{contexts_of, new_held, settled_by}
 use Rattle.ulfm_words.specs.Steps.{IsOf, Name, Sight}
 use Rattle.ulfm_steps.specs.Appends.{MayAppend, Passed}
 use Rattle.ulfm_steps.specs.declared.{append.Append.{Append}, item.Item.TheVariants.{Comm as OfComm}}
-use Rattle.ulfm_comm.specs.declared.spawned.{Spawned.{Spawned}, Spawned.TheVariants.{Unknown, Made, Full, NoMemory}}
+use Rattle.ulfm_comm.specs.declared.spawned.{Spawned.{Spawned}, Spawned.TheVariants.{Unknown, Made, Full}}
 
 -- a step may be made in the list of communicators, on the way to that of a round
 pub record MaySpawn {P : Type 0} (meld : P → P → P) (limits : Limits) (seen : History P) (c k : ℕ) (append : Append) : Type 0 where
@@ -17,11 +17,12 @@ pub record MaySpawn {P : Type 0} (meld : P → P → P) (limits : Limits) (seen 
   pub passed : Passed seen (OfComm c k) append.index
   pub more : append.index < limits.comms - 1
 
--- the rank may hold a communicator more, with this context id, which it doesn't hold yet, and so many members
+-- the rank may hold a communicator more, with this context id, of 0 to 31, which it doesn't hold yet, and so many members
 pub record MayHold (own : Record) (c context size : ℕ) : Type 0 where
   pub x : Held
   pub held : held_at own c ≡ Some x
   pub few : size < 2 ^ 16
+  pub id : context < 32
   pub fresh : AllByRecursion (λ i. nat_eq i context ≡ false) (contexts_of own.held)
 
 -- communicator j was made of the round, by this call or before
@@ -59,9 +60,8 @@ pub record Holds (c context : ℕ) (group : List ℕ) (old : Record) (j size : �
   pub size_is : size ≡ length group
   pub record_is : new ≡ (let rest = closed old c in record rest { held = rest.held ++ new_held j context group ∷ [] })
 
--- the round's communicator isn't found yet; or it is made and held; or there is no room for it; or memory was refused, before any step
+-- the round's communicator isn't found yet; or it is made and held; or there is no room for it
 abbrev pub SpawnIs : {P : Type 0} → (P → P → P) → Bool → Name → ℕ → ℕ → ℕ → Append → Append → List ℕ → Record → Sight P → Spawned → Record → Sight P → Type 0
 SpawnIs meld alone name c k context append next group old before Unknown new after = IsSoughtBy meld alone name c k append before next after × (new ≡ old)
 SpawnIs meld alone name c k context append next group old before (Made j size) new after = IsMadeBy meld alone name append.by c k before j after × Holds c context group old j size new
 SpawnIs meld alone name c k context append next group old before Full new after = IsFullBy meld alone name c k before after × (new ≡ old)
-SpawnIs meld alone name c k context append next group old before NoMemory new after = (after ≡ before) × (new ≡ old)

@@ -66,7 +66,7 @@ impl<P: Packed, A: Allocator + Copy> Rank<P, A> {
         requires of { IsOf P.meld (W.name world.now.words) (W.sight pass.old) }
         requires stands { StillStands P.meld (W.name world.now.words) asked.now phase group.old.items self.old (W.sight pass.old) }
         ensures walks { Walks P.meld W.alone (W.name world.now.words) self.old.number (W.sight pass.old) (W.sight pass.new) }
-        ensures one { whole ≡ false → phase ≢ AtOver → result ≢ NextEnds (Refused OutOfMemory) → (W.sight pass.new).steps ≡ (W.sight pass.old).steps + 1 }
+        ensures one { whole ≡ false → phase ≢ AtOver → (W.sight pass.new).steps ≡ (W.sight pass.old).steps + 1 }
         ensures over { phase ≡ AtOver → (result ≡ NextEnds (Refused SelfFailed)) × (self.new ≡ self.old) × (W.sight pass.new ≡ W.sight pass.old) }
         ensures further { whole ≡ true → IsFurther phase result }
         ensures adds { whole ≡ false → StepAdds W.alone self.old asked.now phase (reply_in result) (W.sight pass.old).seen (W.sight pass.new).seen }
@@ -116,7 +116,7 @@ impl<P: Packed, A: Allocator + Copy> Rank<P, A> {
     ) -> Option<Reply<P>>
         requires of { IsOf P.meld (W.name world.now.words) (W.sight pass.old) }
         requires stood { (old : Record) × (before : Sight P) × (stood : Sight P) × Stands P.meld false (W.name world.now.words) old before doing.old self.old stood × Waits false stood (W.sight pass.old) }
-        ensures one { doing.old.phase ≢ AtOver → result ≢ Some (Refused OutOfMemory) → (W.sight pass.new).steps ≡ (W.sight pass.old).steps + 1 }
+        ensures one { doing.old.phase ≢ AtOver → (W.sight pass.new).steps ≡ (W.sight pass.old).steps + 1 }
         ensures asked { doing.new.asked ≡ doing.old.asked }
         ensures stepped { Stepped P.meld W.alone (W.name world.now.words) doing.old self.old (W.sight pass.old) (next_of result doing.new.phase) self.new (W.sight pass.new) }
         ensures stands { (alone : Bool) → (IsTrue alone → IsTrue W.alone) → (old : Record) → (before : Sight P) → (stood : Sight P)

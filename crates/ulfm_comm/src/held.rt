@@ -1,4 +1,4 @@
-ghost use Rattle.std.specs.Prelude.{◌≡◌, ◌==◌, ◌<◌, ◌++◌, ◌∷◌, [], Some, None, filter, not, position, vec_capacity, vec_len};
+ghost use Rattle.std.specs.Prelude.{◌≡◌, ◌==◌, ◌<◌, ◌≤◌, ◌++◌, ◌∷◌, [], Some, None, filter, not, position, vec_capacity, vec_len};
 ghost use Rattle.std.specs.List.{list_any};
 ghost use Rattle.ulfm_model.specs.Records.{change_at, is_shrink};
 ghost use Rattle.ulfm_model.specs.Answers.{opened};
@@ -59,7 +59,8 @@ pub(crate) fn place_of<A: Allocator>(held: &[HeldComm<A>], comm: u16) -> Option<
 
 // So many failures of a communicator are acknowledged now.
 pub(crate) fn acknowledge<A: Allocator>(held: &mut Vec<HeldComm<A>, A>, comm: u16, count: u16)
-    ensures { held.new.items ≡ change_at comm (λ y. record y { acked = count }) held.old.items }
+    ensures items { held.new.items ≡ change_at comm (λ y. record y { acked = count }) held.old.items }
+    ensures room { vec_capacity held.new ≡ vec_capacity held.old }
 {
     if let Some(i) = place_of(held, comm) {
         let x = &mut held[i];
@@ -82,7 +83,8 @@ fn open_on<A: Allocator>(x: &mut HeldComm<A>, request: Request)
 // A request is open, and its round is used up.
 pub(crate) fn open<A: Allocator>(held: &mut Vec<HeldComm<A>, A>, comm: u16, request: Request)
     requires { HasNext request }
-    ensures { held.new.items ≡ change_at comm (λ y. opened y (Some request)) held.old.items }
+    ensures items { held.new.items ≡ change_at comm (λ y. opened y (Some request)) held.old.items }
+    ensures room { vec_capacity held.new ≡ vec_capacity held.old }
 {
     if let Some(i) = place_of(held, comm) {
         let x = &mut held[i];
@@ -92,7 +94,8 @@ pub(crate) fn open<A: Allocator>(held: &mut Vec<HeldComm<A>, A>, comm: u16, requ
 
 // No request is open.
 pub(crate) fn close<A: Allocator>(held: &mut Vec<HeldComm<A>, A>, comm: u16)
-    ensures { held.new.items ≡ change_at comm (λ y. record y { request = None }) held.old.items }
+    ensures items { held.new.items ≡ change_at comm (λ y. record y { request = None }) held.old.items }
+    ensures room { vec_capacity held.new ≡ vec_capacity held.old }
 {
     if let Some(i) = place_of(held, comm) {
         let x = &mut held[i];
@@ -119,15 +122,19 @@ pub(crate) fn is_shrinking<A: Allocator>(held: &[HeldComm<A>]) -> bool
 
 // The communicator of this number isn't held any more.
 pub(crate) fn release<A: Allocator>(held: &mut Vec<HeldComm<A>, A>, comm: u16)
-    ensures { held.new.items ≡ filter (λ x. not (x.comm == comm)) held.old.items }
+    ensures items { held.new.items ≡ filter (λ x. not (x.comm == comm)) held.old.items }
+    ensures room { vec_capacity held.new ≡ vec_capacity held.old }
 {
-    held.retain(|x| x.comm != comm);
+    while let Some(i) = place_of(held, comm) {
+        let _ = held.remove(i);
+    }
 }
 
 // No request is open, and one communicator more is held, for which there is room.
 pub(crate) fn take_in<A: Allocator>(held: &mut Vec<HeldComm<A>, A>, comm: u16, made: HeldComm<A>)
     requires { vec_len held.old < vec_capacity held.old }
-    ensures { held.new.items ≡ change_at comm (λ y. record y { request = None }) held.old.items ++ made ∷ [] }
+    ensures items { held.new.items ≡ change_at comm (λ y. record y { request = None }) held.old.items ++ made ∷ [] }
+    ensures room { vec_capacity held.old ≤ vec_capacity held.new }
 {
     let place = place_of(held, comm);
     let _ = held.push(made);

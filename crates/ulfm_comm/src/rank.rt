@@ -11,7 +11,7 @@ ghost use Rattle.ulfm_steps.specs.ReadsOn.{AtFailure, MayReadOn};
 ghost use Rattle.ulfm_steps.specs.declared.item.Item.TheVariants.{Comm as OfComm};
 ghost use Rattle.ulfm_comm.specs.Shrinks.{MayHold, MaySpawn, SpawnIs};
 ghost use Rattle.ulfm_comm.specs.Starts.{HasNext};
-ghost use Rattle.ulfm_comm.specs.declared.spawned.Spawned.TheVariants.{NoMemory, Unknown};
+ghost use Rattle.ulfm_comm.specs.declared.spawned.Spawned.TheVariants.{Unknown};
 
 use crate::groups::without;
 use crate::held::{self, HeldComm, place_of, take_in};
@@ -27,9 +27,9 @@ use ulfm_model::limits::Limits;
 use ulfm_steps::{Append, Look, ReadOn};
 use ulfm_words::Words;
 
-// The communicators that a rank has room for from the start. With room for one, what its calls write would share a cache line
-// with what another rank, on another thread, reads.
-const ROOM: usize = 4;
+// The communicators that a rank has room for: as many as there are context ids, of which no two that it holds have the same. So it
+// never takes memory to hold one more.
+const ROOM: usize = 32;
 
 /// A rank of a world. Contracts see it as its record.
 #[derive(Drop)]
@@ -52,7 +52,7 @@ impl<P: Packed, A: Allocator> Model for Rank<P, A> {
 
     ghost view = { λ a. record { number = a.number; limits = a.limits; held = a.held.items; seen = a.seen.items; refused = a.refused } };
 
-    ghost invariant = { λ a. HasRoom a.limits (vec_capacity a.seen) a.held.items };
+    ghost invariant = { λ a. HasRoom a.limits (vec_capacity a.seen) (vec_capacity a.held) a.held.items };
 }
 
 impl<P: Packed, A: Allocator + Copy> Rank<P, A> {
@@ -261,29 +261,28 @@ impl<P: Packed, A: Allocator + Copy> Rank<P, A> {
         *self.seen.allocator()
     }
 
-    // Takes the memory for a communicator that is made of one that it holds, and puts its members into a vector: the
+    // Puts the members of a communicator that is made of one that it holds into a vector, for which it takes the memory: the
     // parent's without the first so many failures that were seen.
     pub(crate) fn make_room(
-        &mut self,
+        &self,
         comm: u16,
         reach: usize,
         group: &mut Vec<u16, A>,
     ) -> Result<(), AllocError>
-        requires held { (x : Held) × (held_at self.old comm ≡ Some x) }
-        requires within { reach ≤ length self.old.seen }
-        ensures kept { self.new ≡ self.old }
-        ensures left { IfOk result (λ _. (x : Held) → held_at self.old comm ≡ Some x → group.new.items ≡ without x.group (take reach self.old.seen)) }
+        requires held { (x : Held) × (held_at self.now comm ≡ Some x) }
+        requires within { reach ≤ length self.now.seen }
+        ensures { IfOk result (λ _. (x : Held) → held_at self.now comm ≡ Some x → group.new.items ≡ without x.group (take reach self.now.seen)) }
     {
         let Some(i) = place_of(&self.held, comm) else {
             unreachable!()
         };
         *group = without(self.allocator(), &self.held[i].group, &self.seen[..reach])?;
-        self.held.reserve(1)
+        Ok(())
     }
 
     // One step in the list of communicators, or all that are left, until it has that of a decided round. Then the rank holds it,
-    // with these members, in place of the open request on its parent. The room for it comes first; it is there already, but for
-    // the first time.
+    // with these members, in place of the open request on its parent. It takes no memory: there is room for one more, since no
+    // communicator that it holds has this context id.
     pub(crate) fn spawn<W: Words<P, A>>(
         &mut self,
         words: &W,
@@ -298,13 +297,10 @@ impl<P: Packed, A: Allocator + Copy> Rank<P, A> {
         requires may { (k : ℕ) × MaySpawn P.meld (W.name words.now).limits (W.sight pass.old).seen comm k append.old }
         requires holds { MayHold self.old comm context (length group.old.items) }
         ensures spawns { (k : ℕ) → append.old.item ≡ OfComm comm k → SpawnIs P.meld W.alone (W.name words.now) comm k context append.old append.new group.old.items self.old (W.sight pass.old) result self.new (W.sight pass.new) }
-        ensures one { whole ≡ false → result ≢ NoMemory → (W.sight pass.new).steps ≡ (W.sight pass.old).steps + 1 }
+        ensures one { whole ≡ false → (W.sight pass.new).steps ≡ (W.sight pass.old).steps + 1 }
         ensures kept { result ≡ Unknown → group.new.items ≡ group.old.items }
         ensures done { whole ≡ true → result ≢ Unknown }
     {
-        if self.held.reserve(1).is_err() {
-            return Spawned::NoMemory;
-        }
         let Some(end) = append.advance(words, pass, whole) else {
             return Spawned::Unknown;
         };

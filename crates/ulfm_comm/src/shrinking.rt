@@ -156,7 +156,7 @@ impl<P: Packed, A: Allocator + Copy> Rank<P, A> {
         requires of { IsOf P.meld (W.name world.now.words) (W.sight pass.old) }
         requires stands { StillStands P.meld (W.name world.now.words) asked.now (AtSpawning append context reach) group.old.items self.old (W.sight pass.old) }
         ensures walks { Walks P.meld W.alone (W.name world.now.words) self.old.number (W.sight pass.old) (W.sight pass.new) }
-        ensures one { whole ≡ false → result ≢ NextEnds (Refused OutOfMemory) → (W.sight pass.new).steps ≡ (W.sight pass.old).steps + 1 }
+        ensures one { whole ≡ false → (W.sight pass.new).steps ≡ (W.sight pass.old).steps + 1 }
         ensures further { whole ≡ true → IsFurther (AtSpawning append context reach) result }
         ensures sees { self.new.seen ≡ self.old.seen }
         ensures past { IsPast result }
@@ -180,7 +180,6 @@ impl<P: Packed, A: Allocator + Copy> Rank<P, A> {
                 self.close(comm);
                 Next::Ends(Reply::Refused(Refusal::NoRoom))
             }
-            Spawned::NoMemory => Next::Ends(Reply::Refused(Refusal::OutOfMemory)),
         }
     }
 }

@@ -13,8 +13,6 @@ pub(crate) enum Spawned {
     Made { comm: u16, size: u16 },
     // can't be made: all that there may be were made of other rounds.
     Full,
-    // can't be held: memory was refused. Nothing was done.
-    NoMemory,
 }
 
 // The place in the list where an appended item stands, by this appending or before.

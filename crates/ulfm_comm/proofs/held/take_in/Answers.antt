@@ -10,14 +10,14 @@ use Rattle.ulfm_comm.proofs.held.take_in.Goals.{After-push}
 pushed : (g : _) (c : After-push g) → c.push.new.self.items ≡ c.args.held.now.items ++ c.args.made ∷ []
 pushed g c = grind (arith, common_steps)
 
-pub returns-in-Some : goal.returns-in-Some
-returns-in-Some g c =
+pub returns-in-Some-clause-items : goal.returns-in-Some-clause-items
+returns-in-Some-clause-items g c =
     let items = c.args.held.now.items in
     let at : position (is_of c.args.comm) items ≡ Some c.in-Some.i = ap (position (is_of c.args.comm)) (sym c.deref.ensures.value) ∙ (sym c.place_of-place.ensures ∙ c.in-Some.is) in
     let f : Held → Held = (λ y. record y { request = None }) in
-    change_pushed items c.push.new.self.items c.args.made c.args.comm c.in-Some.i c.index_mut-parent.result.now _ f at (pushed g (goal.at.returns-in-Some g c).After-push) (ap f (c.parent.view_is ∙ c.index_mut-parent.ensures.value))
+    change_pushed items c.push.new.self.items c.args.made c.args.comm c.in-Some.i c.index_mut-parent.result.now _ f at (pushed g (goal.at.returns-in-Some-clause-items g c).After-push) (ap f (c.parent.view_is ∙ c.index_mut-parent.ensures.value))
 
-pub returns-in_default : goal.returns-in_default
-returns-in_default g c =
+pub returns-in_default-clause-items : goal.returns-in_default-clause-items
+returns-in_default-clause-items g c =
     push_missing c.args.held.now.items c.push.new.self.items c.args.made c.args.comm _ (ap (position (is_of c.args.comm)) (sym c.deref.ensures.value) ∙ (sym c.place_of-place.ensures ∙ c.in_default.is))
-    (pushed g (goal.at.returns-in_default g c).After-push)
+    (pushed g (goal.at.returns-in_default-clause-items g c).After-push)

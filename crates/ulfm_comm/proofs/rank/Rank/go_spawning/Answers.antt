@@ -1,6 +1,6 @@
 use Rattle.std.proofs.Common.{false, ap, ◌∙◌}
 use Rattle.ulfm_model.specs.Records.{Record}
-use Rattle.ulfm_comm.proofs.Ending.{item_is, may_step, may_take, spawn_adds, spawn_full, spawn_goes_on, spawn_makes, spawn_out, spawn_walks}
+use Rattle.ulfm_comm.proofs.Ending.{item_is, may_step, may_take, spawn_adds, spawn_full, spawn_goes_on, spawn_makes, spawn_walks}
 use Rattle.ulfm_comm.specs.declared.spawned.Spawned.TheVariants as spawned
 use Rattle.ulfm_comm.proofs.rank.Rank.go_spawning.Goals as goal
 
@@ -75,25 +75,6 @@ returns-in-Full-clause-turns g c = λ alone only old before s.
     c.requires.of s c.comm_of-comm.result c.comm_of-comm.ensures
     c.spawn.new.append c.spawn.new.self (g.W.Words.sight c.spawn.new.pass) c.close.new.self (c.in-Full.ensures.spawns s.at.1.round here) c.close.ensures
 
-pub returns-in-NoMemory-clause-walks : goal.returns-in-NoMemory-clause-walks
-returns-in-NoMemory-clause-walks g c =
-    let stands = c.requires.stands in
-    let here =
-    item_is g.P.Meld.meld false g.W.Words.alone (λ here. absurd (cc here)) (g.W.Words.name c.args.world.now.words) c.args.asked.now c.args.append c.args.context c.args.reach c.args.group.now.items stands.0 stands.1 c.args.self.now (g.W.Words.sight c.args.pass.now)
-    c.requires.of stands.2 c.comm_of-comm.result c.comm_of-comm.ensures in
-    spawn_walks g.P.Meld.meld false g.W.Words.alone (λ here. absurd (cc here)) (g.W.Words.name c.args.world.now.words) c.args.asked.now c.args.append c.args.context c.args.reach c.args.group.now.items stands.0 stands.1 c.args.self.now (g.W.Words.sight c.args.pass.now)
-    c.requires.of stands.2 c.comm_of-comm.result c.comm_of-comm.ensures
-    c.spawn.new.append c.spawn.new.self (g.W.Words.sight c.spawn.new.pass) spawned.NoMemory (c.in-NoMemory.ensures.spawns stands.2.at.1.round here)
-
-pub returns-in-NoMemory-clause-turns : goal.returns-in-NoMemory-clause-turns
-returns-in-NoMemory-clause-turns g c = λ alone only old before s.
-    let here =
-    item_is g.P.Meld.meld alone g.W.Words.alone only (g.W.Words.name c.args.world.now.words) c.args.asked.now c.args.append c.args.context c.args.reach c.args.group.now.items old before c.args.self.now (g.W.Words.sight c.args.pass.now)
-    c.requires.of s c.comm_of-comm.result c.comm_of-comm.ensures in
-    spawn_out g.P.Meld.meld alone g.W.Words.alone only (g.W.Words.name c.args.world.now.words) c.args.asked.now c.args.append c.args.context c.args.reach c.args.group.now.items old before c.args.self.now (g.W.Words.sight c.args.pass.now)
-    c.requires.of s c.comm_of-comm.result c.comm_of-comm.ensures
-    c.spawn.new.append c.spawn.new.self (g.W.Words.sight c.spawn.new.pass) (c.in-NoMemory.ensures.spawns s.at.1.round here)
-
 pub returns-in-Made-clause-sees : goal.returns-in-Made-clause-sees
 returns-in-Made-clause-sees g c =
     let stands = c.requires.stands in
@@ -139,13 +120,3 @@ returns-in-Full-clause-adds g c =
     spawn_adds g.P.Meld.meld false g.W.Words.alone (λ here. absurd (cc here)) (g.W.Words.name c.args.world.now.words) c.args.asked.now c.args.append c.args.context c.args.reach c.args.group.now.items stands.0 stands.1 c.args.self.now (g.W.Words.sight c.args.pass.now)
     c.requires.of stands.2 c.comm_of-comm.result c.comm_of-comm.ensures
     c.spawn.new.append c.spawn.new.self (g.W.Words.sight c.spawn.new.pass) _ spawned.Full (c.in-Full.ensures.spawns stands.2.at.1.round here)
-
-pub returns-in-NoMemory-clause-adds : goal.returns-in-NoMemory-clause-adds
-returns-in-NoMemory-clause-adds g c =
-    let stands = c.requires.stands in
-    let here =
-    item_is g.P.Meld.meld false g.W.Words.alone (λ here. absurd (cc here)) (g.W.Words.name c.args.world.now.words) c.args.asked.now c.args.append c.args.context c.args.reach c.args.group.now.items stands.0 stands.1 c.args.self.now (g.W.Words.sight c.args.pass.now)
-    c.requires.of stands.2 c.comm_of-comm.result c.comm_of-comm.ensures in
-    spawn_adds g.P.Meld.meld false g.W.Words.alone (λ here. absurd (cc here)) (g.W.Words.name c.args.world.now.words) c.args.asked.now c.args.append c.args.context c.args.reach c.args.group.now.items stands.0 stands.1 c.args.self.now (g.W.Words.sight c.args.pass.now)
-    c.requires.of stands.2 c.comm_of-comm.result c.comm_of-comm.ensures
-    c.spawn.new.append c.spawn.new.self (g.W.Words.sight c.spawn.new.pass) _ spawned.NoMemory (c.in-NoMemory.ensures.spawns stands.2.at.1.round here)

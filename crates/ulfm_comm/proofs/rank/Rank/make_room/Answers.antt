@@ -16,33 +16,15 @@ unreachable-requires g c =
     ap (λ (own : Record). held_at own c.args.comm) (sym c.self.view_is) ∙ find_missing items c.args.comm (ap (position (is_of c.args.comm)) (sym c.deref.ensures.value) ∙ (sym c.place_of.ensures ∙ c.in_default.is)) in
     absurd (cc (missing, c.requires.held.1))
 
--- what holds anyway holds of a result
-whatever : {T E : Type 0} (result : Result T E) (Q : Type 0) → Q → IfOk result (λ _. Q)
-whatever (Ok x) Q q = q
-whatever (Err e) Q q = tt
-
-pub returns-clause-left : goal.returns-clause-left
-returns-clause-left g c =
-    whatever c.reserve.result ((x : Held) → held_at c.args.self.now c.args.comm ≡ Some x → c.in_ok-group.field-0.items ≡ without x.group (take c.args.reach c.args.self.now.seen))
-    (λ x held.
+pub returns : goal.returns
+returns g c = λ x held.
     let items = c.self.inside.held.items in
     let at : position (is_of c.args.comm) items ≡ Some c.in-Some.i = ap (position (is_of c.args.comm)) (sym c.deref.ensures.value) ∙ (sym c.place_of.ensures ∙ c.in-Some.is) in
     let found = ap (λ (own : Record). held_at own c.args.comm) (sym c.self.view_is) ∙ (find_is items c.args.comm c.in-Some.i c.index.result.now at ∙ ap Some (sym c.index.ensures)) in
     let same : c.index.result.now ≡ x = cc (found, held) in
     let group = c.deref-2.ensures.value ∙ ap (λ (y : Held). y.group) (c.behind-self.view_is ∙ same) in
     let seen = c.deref-3.ensures.value ∙ ap (λ (own : Record). own.seen) c.self.view_is in
-    c.in_ok-group.ensures ∙ ap₂ (λ ms s. without ms (take c.args.reach s)) group seen)
-
-pub same-self-in_err-group : goal.same-self-in_err-group
-same-self-in_err-group g c = refl
-
-pub invariant_of-self : goal.invariant_of-self
-invariant_of-self g c = subst (HasRoom c.self.inside.limits (vec_capacity c.self.inside.seen)) (sym c.reserve.ensures.items) c.self.invariant
-
-pub returns-clause-kept : goal.returns-clause-kept
-returns-clause-kept g c =
-    let as_record : List Held → Record = λ hs. record { number = c.self.inside.number; limits = c.self.inside.limits; held = hs; seen = c.self.inside.seen.items; refused = c.self.inside.refused } in
-    ap as_record c.reserve.ensures.items ∙ c.self.view_is
+    c.in_ok-group.ensures ∙ ap₂ (λ ms s. without ms (take c.args.reach s)) group seen
 
 pub index-requires : goal.index-requires
 index-requires g c = subst (λ n. c.in-Some.i < n) c.deref.ensures.len (position_below (is_of c.args.comm) c.deref.result.now c.in-Some.i (sym c.place_of.ensures ∙ c.in-Some.is))

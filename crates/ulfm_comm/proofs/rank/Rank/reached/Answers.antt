@@ -33,8 +33,8 @@ pub returns-then-is_err-clause-turns : goal.returns-then-is_err-clause-turns
 returns-then-is_err-clause-turns g c = λ alone old before r.
     let now = g.W.Words.sight c.args.pass.now in
     let name = g.W.Words.name c.args.world.now.words in
-    subst (λ (own : Record). Answered g.P.Meld.meld alone name c.args.asked.now old before (Refused OutOfMemory) own now) (sym c.make_room.ensures.kept)
-    (ends_out g.P.Meld.meld alone name c.args.asked.now c.args.made.round c.args.made.mask r.x c.args.made.count c.args.reach old before c.args.self.now now c.requires.of r.onward r.fits r.polls r.decided r.reads)
+    ends_out g.P.Meld.meld alone name c.args.asked.now c.args.made.round c.args.made.mask r.x c.args.made.count c.args.reach old before c.args.self.now now c.requires.of r.onward r.fits r.polls r.decided r.reads
+    (sym (among g (goal.at.returns-then-is_err-clause-turns g c).After-has_rank) ∙ c.if-has_rank.false)
 
 pub returns-then-limits-eq1-clause-turns : goal.returns-then-limits-eq1-clause-turns
 returns-then-limits-eq1-clause-turns g c = λ alone old before r.
@@ -44,7 +44,7 @@ returns-then-limits-eq1-clause-turns g c = λ alone old before r.
     let there = among g (goal.at.returns-then-limits-eq1-clause-turns g c).After-has_rank in
     ends_full g.P.Meld.meld alone name c.args.asked.now c.args.made.round c.args.made.mask r.x c.args.made.count c.args.reach old before c.args.self.now now c.requires.of r.onward r.fits r.polls r.decided r.reads c.close.new.self now
     (full_alone g.P.Meld.meld alone name (comm_of c.args.asked.now) c.args.made.round now c.requires.of one) (sym there ∙ c.if-has_rank.false)
-    (c.close.ensures ∙ ap₂ closed c.make_room.ensures.kept c.comm_of-comm.ensures)
+    (c.close.ensures ∙ ap (closed c.args.self.now) c.comm_of-comm.ensures)
 
 -- what holds of a result that isn't an error
 ok_of : {T E : Type 0} (result : Result T E) (Q : Type 0) → IfOk result (λ _. Q) → is_err result ≡ false → Q
@@ -63,8 +63,8 @@ returns-clause-turns g c = λ alone old before r.
     let some = c.requires.of.may_open.in_range.some_comms in
     let limits = ap (λ (l : Limits). l.comms) c.limits.ensures.limits in
     let several = c.if-limits-eq1.false in
-    let left = ok_of c.make_room.result ((x : Held) → held_at c.args.self.now c.comm_of-comm.result ≡ Some x → c.make_room.new.group.items ≡ without x.group (take c.args.reach c.args.self.now.seen)) c.make_room.ensures.left (sym c.is_err.ensures.value ∙ c.if-is_err.false) in
-    subst (λ (own : Record). Stands g.P.Meld.meld alone name old before (record { asked = c.args.asked.now; phase = AtSpawning c.new.result c.lowest_id.result c.args.reach; group = c.make_room.new.group.items }) own now) (sym c.make_room.ensures.kept) (record {
+    let left = ok_of c.make_room.result ((x : Held) → held_at c.args.self.now c.comm_of-comm.result ≡ Some x → c.make_room.new.group.items ≡ without x.group (take c.args.reach c.args.self.now.seen)) c.make_room.ensures (sym c.is_err.ensures.value ∙ c.if-is_err.false) in
+    record {
       fits = r.fits;
       mine = ap (λ (a : Call _). (traits_of a).by) r.polls;
       onward = r.onward;
@@ -86,4 +86,4 @@ returns-clause-turns g c = λ alone old before r.
           more = subst (λ (i : Item). c.new.result.index < room i name.limits) (sym item) (omega (arith, index, some, limits, several));
         },
       );
-    })
+    }

@@ -7,21 +7,15 @@ use Rattle.ulfm_steps.specs.Appends.{Passed, room}
 use Rattle.ulfm_steps.specs.declared.item.Item.{Item}
 use Rattle.ulfm_steps.specs.declared.item.Item.TheVariants.{Comm as OfComm}
 use Rattle.ulfm_comm.specs.Shrinks.{IsMadeBy}
-use Rattle.ulfm_comm.proofs.Helds.{room_pushed}
+use Rattle.ulfm_comm.proofs.Helds.{room_left, room_pushed}
 use Rattle.ulfm_comm.proofs.Spawning.{full_of, makes, number_fits}
 use Rattle.ulfm_comm.proofs.rank.Rank.spawn.Goals as goal
-use Rattle.ulfm_comm.proofs.rank.Rank.spawn.Goals.{After-reserve, In-Some-place_in, After-take_in}
+use Rattle.ulfm_comm.proofs.rank.Rank.spawn.Goals.{In-Some-place_in, After-take_in}
 
 pub advance-requires-clause-passed : goal.advance-requires-clause-passed
 advance-requires-clause-passed g c =
     let may = c.requires.may.1 in
     subst (λ (item : Item). Passed (g.W.Words.sight c.args.pass.now).seen item c.args.append.now.index) (sym may.item) may.passed
-
--- only room for communicators was made
-kept : (g : _) (c : After-reserve g) → record { number = c.self.inside.number; limits = c.self.inside.limits; held = c.reserve.new.self.items; seen = c.self.inside.seen.items; refused = c.self.inside.refused } ≡ c.args.self.now
-kept g c =
-    let as_record : List Held → Record = λ hs. record { number = c.self.inside.number; limits = c.self.inside.limits; held = hs; seen = c.self.inside.seen.items; refused = c.self.inside.refused } in
-    ap as_record c.reserve.ensures.items ∙ c.self.view_is
 
 pub returns-in_default-clause-spawns : goal.returns-in_default-clause-spawns
 returns-in_default-clause-spawns g c = λ k is.
@@ -35,7 +29,7 @@ returns-in_default-clause-spawns g c = λ k is.
         more = subst (λ (item : Item). c.advance.new.self.index < room item (g.W.Words.name c.args.words.now).limits) is ensures.within;
         onward = ensures.goes.onward;
       },
-      kept g (goal.at.returns-in_default-clause-spawns g c).After-reserve,
+      refl,
     )
 
 pub returns-in_default-place_in-clause-spawns : goal.returns-in_default-place_in-clause-spawns
@@ -45,7 +39,7 @@ returns-in_default-place_in-clause-spawns g c = λ k is.
     let after = g.W.Words.sight c.advance.new.pass in (
       full_of g.P.Meld.meld g.W.Words.alone name c.args.append.now.by c.args.comm k at after _
           (rw (is, c.in_default-place_in.ensures) at c.in-Some.ensures.goes),
-      kept g (goal.at.returns-in_default-place_in-clause-spawns g c).After-reserve,
+      refl,
     )
 
 -- the round's communicator is there
@@ -62,17 +56,20 @@ overflow_add-number g c =
     omega (arith, below)
 
 pub take_in-requires : goal.take_in-requires
-take_in-requires g c = grind (arith, common_steps)
+take_in-requires g c =
+    let fresh = subst (λ (own : Record). AllByRecursion (λ i. nat_eq i c.args.context ≡ false) (contexts_of own.held)) (sym c.self.view_is) c.requires.holds.fresh in
+    let left = room_left _ _ _ c.args.context c.self.inside.held.items c.self.invariant c.requires.holds.id fresh in
+    omega (arith, left, c.self.inside.held.ok.0)
 
 -- what is held afterwards
 items_are : (g : _) (c : After-take_in g) → c.take_in.new.held.items ≡ change_at c.args.comm (λ y. record y { request = None }) c.self.inside.held.items ++ new_held (c.in-Some-place_in.index + 1) c.args.context c.args.group.now.items ∷ []
-items_are g c = c.take_in.ensures ∙ (ap (λ hs. change_at c.args.comm (λ y. record y { request = None }) hs ++ c.new-made.result ∷ []) c.reserve.ensures.items ∙ ap (λ made. change_at c.args.comm (λ y. record y { request = None }) c.self.inside.held.items ++ made ∷ []) (c.new-made.ensures ∙ ap (λ (v : _). new_held (c.in-Some-place_in.index + 1) c.args.context v.items) c.replace-members.ensures.value))
+items_are g c = c.take_in.ensures.items ∙ (ap (λ made. change_at c.args.comm (λ y. record y { request = None }) c.self.inside.held.items ++ made ∷ []) (c.new-made.ensures ∙ ap (λ (v : _). new_held (c.in-Some-place_in.index + 1) c.args.context v.items) c.replace-members.ensures.value))
 
-pub invariant_of-self-3 : goal.invariant_of-self-3
-invariant_of-self-3 g c =
+pub invariant_of-self : goal.invariant_of-self
+invariant_of-self g c =
     let fresh = subst (λ (own : Record). AllByRecursion (λ i. nat_eq i c.args.context ≡ false) (contexts_of own.held)) (sym c.self.view_is) c.requires.holds.fresh in
-    room_pushed _ _ c.args.comm (λ y. record y { request = None }) (new_held (c.in-Some-place_in.index + 1) c.args.context c.args.group.now.items) c.self.inside.held.items c.take_in.new.held.items c.self.invariant (λ y. refl) fresh
-    (items_are g (goal.at.invariant_of-self-3 g c).After-take_in)
+    room_pushed _ _ _ _ c.args.comm (λ y. record y { request = None }) (new_held (c.in-Some-place_in.index + 1) c.args.context c.args.group.now.items) c.self.inside.held.items c.take_in.new.held.items c.self.invariant (λ y. refl)
+    c.requires.holds.id fresh (items_are g (goal.at.invariant_of-self g c).After-take_in) c.take_in.ensures.room
 
 pub returns-clause-spawns : goal.returns-clause-spawns
 returns-clause-spawns g c = λ k is.
