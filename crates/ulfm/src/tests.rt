@@ -526,7 +526,8 @@ fn run_in(alloc: Global, size: usize, script: &[u8]) -> Result<(Vec<u8>, u8), Fa
     Ok((output, status))
 }
 
-/// Each want of memory ends the run, behind exactly the output of the lines before the one that it came at.
+/// Each want of memory ends the run, behind exactly the output of the lines before the one that it came at: the lines up to there run in the
+/// same memory, and with the next line they don't.
 #[test]
 fn each_growth_is_refused(rt: HostRuntime) -> Result<(), Fail> {
     let mut furthest = 0;
@@ -542,14 +543,15 @@ fn each_growth_is_refused(rt: HostRuntime) -> Result<(), Fail> {
         let calls = count_lines(&output);
         assert!(rt; output.as_slice() == first_lines(OUTPUT.as_bytes(), calls));
         furthest = furthest.max(calls);
+        let with = first_lines(SCRIPT.as_bytes(), calls.wrapping_add(2));
+        let (same, status) = run_in(rt.alloc(), size, with)?;
+        assert_eq!(rt; status, 3);
+        assert_eq!(rt; same.as_slice(), output.as_slice());
         if calls > 0 {
             let before = first_lines(SCRIPT.as_bytes(), calls.wrapping_add(1));
             let (same, status) = run_in(rt.alloc(), size, before)?;
             assert_eq!(rt; status, 0);
             assert_eq!(rt; same.as_slice(), output.as_slice());
-            let with = first_lines(SCRIPT.as_bytes(), calls.wrapping_add(2));
-            let (_, status) = run_in(rt.alloc(), size, with)?;
-            assert_eq!(rt; status, 3);
         }
     }
     Err(Fail::from("memory was refused at each size"))

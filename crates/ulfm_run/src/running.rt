@@ -12,10 +12,11 @@ use ulfm_script::{RunFault, run_script};
 ///
 /// At `Ok` the whole text was read, and exactly its output was written. At `Line` the fault is the first of the text, in the order
 /// of `LineKind` within a line, and exactly the output of the lines before was written. At `Read` exactly the output of
-/// the lines that the reader gave whole was written. At `Memory`, which is no reply, exactly the output of the first lines was
-/// written, those before the one under work. At `Write` a beginning of the output was written: the writer failed, took nothing, or
-/// couldn't be flushed, also where it had to take what waited at another fault. Every error of the reader or the writer is a fault,
-/// of whatever kind; none is tried again. Reader and writer have buffers of 8 KB here and need none of their own.
+/// the lines that the reader gave whole was written, and they have no fault. At `Memory`, which is no reply, exactly the output of
+/// the lines before the one under work was written, and they have no fault; the reader gave at most 8 KB behind what was taken of
+/// that line. At `Write` a beginning of the output was written: the writer failed, took nothing, or couldn't be flushed, also where
+/// it had to take what waited at another fault. Every error of the reader or the writer is a fault, of whatever kind; none is tried
+/// again. Reader and writer have buffers of 8 KB here and need none of their own.
 pub fn run_calls<A: Allocator + Copy + Drop, R: Read, W: Write>(
     alloc: A,
     reader: &mut R,

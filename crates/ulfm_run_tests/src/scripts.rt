@@ -1,11 +1,12 @@
 //! Scripts with what they print, over words and over the sequential object.
 ghost use Rattle.std.specs.Prelude.{◌<◌};
 
+use linked_list_allocator::LocalHeap;
 use std::alloc::Global;
 use std::io::{self, Write};
 use std::test::Fail;
-use ulfm_run::{ObjectMachine, run_calls};
-use ulfm_script::{LineKind, RunFault, run_script};
+use ulfm_run::{ObjectMachine, WordsMachine, run_calls};
+use ulfm_script::{Input, LineKind, RunFault, run_script, run_script_through};
 
 fn line(number: u32, kind: LineKind) -> Result<(), RunFault> {
     Err(RunFault::Line { number, kind })
@@ -384,4 +385,44 @@ fn last_line(rt: HostRuntime) -> Result<(), Fail> {
     assert_eq!(rt; end, line(100_001, LineKind::Lines));
     assert_eq!(rt; out.len(), 99_999 * b"refused 13 no-such-rank\n".len());
     Ok(())
+}
+
+fn count_lines(text: &[u8]) -> usize {
+    text.iter().filter(|byte| **byte == b'\n').count()
+}
+
+/// Where memory is refused, a run has taken of its input the lines that it ran, the header first, and the line under work.
+#[test]
+fn memory_is_refused_in_a_line(rt: HostRuntime) -> Result<(), Fail> {
+    let script: &[u8] =
+        b"ulfm 1 2 2 2\nfail 1\nget 0 0\nagree 0 0 0000000f\npoll 0 0\nshrink 0 0\npoll 0 0\nget 0 1\n";
+    let (all, _) = run(&rt, script)?;
+    let mut furthest = 0;
+    for step in 1..4000usize {
+        let heap = LocalHeap::new(rt.alloc(), step.wrapping_mul(16))?;
+        let Ok(mut input) = Input::new(&heap) else {
+            continue;
+        };
+        let mut reader = script;
+        let mut out = Vec::new(rt.alloc());
+        let end = run_script_through::<WordsMachine<_>, _, _, _>(
+            &heap,
+            &mut input,
+            &mut reader,
+            &mut out,
+        );
+        let left = reader.len().saturating_add(input.pending().len());
+        let taken = count_lines(&script[..script.len().saturating_sub(left)]);
+        if end.is_ok() {
+            assert_eq!(rt; out.as_slice(), all.as_slice());
+            assert_eq!(rt; left, 0);
+            assert!(rt; furthest > 3);
+            return Ok(());
+        }
+        assert_eq!(rt; end, Err(RunFault::Memory));
+        assert!(rt; all.starts_with(&out));
+        assert_eq!(rt; count_lines(&out), taken.saturating_sub(2));
+        furthest = furthest.max(taken);
+    }
+    Err(Fail::from("memory was refused at each size"))
 }

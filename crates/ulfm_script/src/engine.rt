@@ -33,8 +33,8 @@ const LAST_LINE: u32 = 100_000;
 /// At `Ok` the whole text was read, and exactly its output was written. At `Line` the fault is the first of the text, in the order
 /// of [`crate::LineKind`] within a line, and exactly the output of the lines before was written. At `Read` exactly the output of
 /// the lines that the reader gave whole was written, and they have no fault. At `Memory`, which is no reply, exactly the output of
-/// the lines before the one under work was written, and they have no fault; the reader gave at most 8 KB behind the line under
-/// work, and [`run_script_through`] shows which line that is. At `Write` a beginning of the output was written: the writer failed,
+/// the lines before the one under work was written, and they have no fault; the reader gave at most 8 KB behind what was taken of
+/// that line, and [`run_script_through`] shows which line it is. At `Write` a beginning of the output was written: the writer failed,
 /// took nothing, or couldn't be flushed, also where it had to take what waited at another fault. Every error of the reader or the
 /// writer is a fault, of whatever kind; none is tried again. Reader and writer have buffers of 8 KB here and need none of their own.
 pub fn run_script<M: Machine<A>, A: Allocator + Copy, R: Read, W: Write>(
@@ -48,11 +48,11 @@ pub fn run_script<M: Machine<A>, A: Allocator + Copy, R: Read, W: Write>(
     run_script_through::<M, A, R, W>(alloc, &mut input, reader, writer)
 }
 
-/// Runs a script as [`run_script`] does, through a buffer of the caller's. What it holds of the reader's bytes is read first; what it
-/// holds afterwards was read and not taken.
+/// Runs a script as [`run_script`] does, through a buffer of the caller's. What it holds of the reader's bytes is read first.
 ///
-/// At `Memory` exactly the lines that were taken from the buffer were run and their output written, but for the last: it is the line
-/// under work, was taken in part or whole, and nothing of its output is written.
+/// At `Memory` the buffer holds what was read and not taken. What was taken are exactly the lines that were run and whose output was
+/// written, and then a part of the line under work or all of it, of whose output nothing was written. At `Read` the buffer is empty;
+/// after another end nothing is said of what it holds.
 pub fn run_script_through<M: Machine<A>, A: Allocator + Copy, R: Read, W: Write>(
     alloc: A,
     input: &mut Input<A>,

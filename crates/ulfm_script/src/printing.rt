@@ -14,7 +14,7 @@ use ulfm_model::{Refusal, Reply, refusal_number};
 ///
 /// `group` is the group that the reply is about, in order: a communicator's failed group for `FailedGroup`, the new
 /// communicator's members for `Shrunk`. Other replies don't look at it. Where it is the group that was printed last, its text is
-/// taken from there. After an error the text has a beginning of what it should have got.
+/// taken from there. After an error nothing is said of the text.
 pub fn print_reply<A: Allocator>(
     text: &mut Vec<u8, A>,
     reply: &Reply<FlagAnd>,
