@@ -2,8 +2,8 @@
 use Rattle.std.proofs.Common.{◌≡◌, ℕ, zero, suc, ◌<◌, true, false, List, [], ◌∷◌, get_or, replicate, slice_get, Some, refl, ap, sym, ◌∙◌, arith}
 use Rattle.std.proofs.lemmas.List.{get_or-replicate, length-replicate}
 use Rattle.logbook.specs.Pages.{Book, Cell, Named}
-use Rattle.ulfm_model.specs.declared.{limits.Limits.{Limits}, place.Place.{Place}, place.Place.TheVariants.{List as ListAt, Comm as CommAt, Revoked as RevokedAt, Slot as SlotAt, Arrival as ArrivalAt}}
-use Rattle.ulfm_model.specs.Words.{size_of, word_at}
+use Rattle.ulfm_model.specs.declared.{limits.Limits.{Limits}}
+use Rattle.ulfm_model.specs.Words.{size_of}
 use Rattle.ulfm_words.proofs.Tied.{zero_at}
 use Rattle.ulfm_book.specs.{Logs.{log_of}, Rules.{IsKept, word_named}, Seats.{seat_in}}
 use Rattle.ulfm_book.proofs.Seating.{seat_lt}

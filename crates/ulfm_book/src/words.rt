@@ -14,7 +14,7 @@ use std::marker::Model;
 use ulfm_laws::meld::Packed;
 use ulfm_model::limits::{Limits, OpenFault};
 use ulfm_model::place::Place;
-use ulfm_words::{Step, Words};
+use ulfm_words::{OpenWords, Step, Words};
 
 /// The words of a world, shared by threads: eight bytes each. All passes have seen beginnings of one history. Contracts see
 /// the words as their name.
@@ -90,24 +90,14 @@ impl<P: Packed, A: Allocator> BookWords<P, A> {
 impl<P: Packed, A: Allocator + Copy + Drop> Words<P, A> for BookWords<P, A> {
     type Pass = BookPass<P>;
 
-    type Told = BookTold<P>;
-
     ghost name = { λ w. w };
 
     ghost alone = { false };
 
-    ghost tells_all = { true };
-
     ghost sight = { λ p. p };
-
-    ghost heard = { λ t. t };
 
     fn limits(&self) -> Limits {
         self.limits
-    }
-
-    fn pass(&self, _alloc: A) -> Result<BookPass<P>, AllocError> {
-        Ok(BookPass::new(&self.start))
     }
 
     fn load(&self, pass: &mut BookPass<P>, place: Place) -> u64 {
@@ -118,16 +108,28 @@ impl<P: Packed, A: Allocator + Copy + Drop> Words<P, A> for BookWords<P, A> {
         pass.set_once(self.word(step.place), step)
     }
 
+    fn known_legal(&self, pass: &BookPass<P>) {
+        let _ = &self.start;
+        pass.known_legal();
+    }
+}
+
+impl<P: Packed, A: Allocator + Copy + Drop> OpenWords<P, A> for BookWords<P, A> {
+    type Told = BookTold<P>;
+
+    ghost tells_all = { true };
+
+    ghost heard = { λ t. t };
+
+    fn pass(&self, _alloc: A) -> Result<BookPass<P>, AllocError> {
+        Ok(BookPass::new(&self.start))
+    }
+
     fn told(&self, pass: &BookPass<P>) -> BookTold<P> {
         pass.told()
     }
 
     fn learn(&self, pass: &mut BookPass<P>, told: &BookTold<P>) {
         pass.learn(told);
-    }
-
-    fn known_legal(&self, pass: &BookPass<P>) {
-        let _ = &self.start;
-        pass.known_legal();
     }
 }

@@ -10,7 +10,6 @@ use ulfm_book::{BookPass, BookTold, BookWords};
 use ulfm_comm::{Polled, Rank, World};
 use ulfm_laws::Packed;
 use ulfm_model::{Limits, OpenFault, Refusal};
-use ulfm_words::Words;
 
 /// A world whose words threads share.
 pub(crate) type Shared<P> = World<BookWords<P>, P, Global>;
@@ -102,7 +101,7 @@ impl<'a, P: Packed> Member<'a, P> {
     /// Declares each rank failed, from the first: how many of them this call declared.
     pub(crate) fn declare_all(&mut self) -> u16 {
         let mut wins: u16 = 0;
-        for rank in 0..self.world.words.limits().ranks {
+        for rank in 0..self.world.limits().ranks {
             if self.declare(rank) == Ok(true) {
                 wins = wins.saturating_add(1);
             }

@@ -8,7 +8,7 @@ use std::test::Fail;
 use std::thread::{self, Threads};
 use ulfm_book::{BookPass, BookWords};
 use ulfm_laws::{FlagAnd, Packed};
-use ulfm_words::Words;
+use ulfm_words::OpenWords;
 
 /// Words, and a pass of theirs.
 #[derive(Drop)]

@@ -12,7 +12,7 @@ use std::thread::{Threads, join};
 use ulfm_book::{BookPass, BookTold, BookWords};
 use ulfm_laws::{FlagAnd, Packed};
 use ulfm_model::{Caller, Limits, OpenFault, Place};
-use ulfm_words::{Step, Words};
+use ulfm_words::{OpenWords, Step, Words};
 
 const FIRST: Place = Place::List { index: 0 };
 

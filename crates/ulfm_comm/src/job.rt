@@ -6,6 +6,7 @@ ghost use Rattle.ulfm_model.specs.declared.call.Call.TheVariants.{GetFailed as G
 ghost use Rattle.ulfm_model.specs.declared.limits.OpenFault.TheVariants.{OutOfMemory};
 ghost use Rattle.ulfm_model.specs.Terms.{comm_of};
 ghost use Rattle.ulfm_comm.specs.Jobs.{IsAbout};
+ghost use Rattle.ulfm_words.specs.Steps.{IsOf};
 
 use crate::answers::{call_by, fail_by, get_by};
 use crate::rank::Rank;
@@ -16,7 +17,7 @@ use ulfm_laws::meld::Packed;
 use ulfm_model::call::Call;
 use ulfm_model::limits::OpenFault;
 use ulfm_model::reply::Reply;
-use ulfm_words::Words;
+use ulfm_words::{OpenWords, Words};
 
 /// A world, all its ranks and one pass, in one hand: it answers one call after another. Contracts see it as the state of
 /// the sequential object.
@@ -26,8 +27,8 @@ where
     W: Words<P, A>,
 {
     world: World<W, P, A>,
-    /// The pass that all calls are made over. What it has seen is the state's history.
-    pub pass: W::Pass,
+    // All calls are made over it. What it has seen is the state's history.
+    pass: W::Pass,
     // In the order of their numbers.
     ranks: Vec<Rank<P, A>, A>,
 }
@@ -53,7 +54,7 @@ where
     /// A world over new words, its ranks, and a pass that has seen nothing. Memory is the only thing that it may lack.
     pub fn open(alloc: A, words: W) -> Result<Job<W, P, A>, OpenFault>
     where
-        W: Drop,
+        W: OpenWords<P, A> + Drop,
         ensures { MatchResult result (λ job. job ≡ new_state (W.name words).limits) (λ fault. fault ≡ OutOfMemory) }
     {
         let (world, ranks) = World::open(alloc, words)?;
@@ -61,6 +62,14 @@ where
             return Err(OpenFault::OutOfMemory);
         };
         Ok(Job { world, pass, ranks })
+    }
+
+    /// The pass that all calls are made over, to be read.
+    pub fn pass(&self) -> &W::Pass
+        ensures of { IsOf P.meld (W.sight result.now).name (W.sight result.now) }
+        ensures seen { (W.sight result.now).seen ≡ self.now.history }
+    {
+        &self.pass
     }
 
     /// A rank of the world, if there is one of this number.

@@ -12,13 +12,13 @@ use std::marker::PhantomData;
 use ulfm_laws::meld::Packed;
 use ulfm_model::limits::{Limits, OpenFault};
 use ulfm_steps::group::first_ranks;
-use ulfm_words::Words;
+use ulfm_words::{OpenWords, Words};
 
 /// A world over words. Its ranks are given out once, when it is opened.
 #[derive(Drop)]
 pub struct World<W, P, A> {
-    /// The words. Each atomic step of a call is one of theirs.
-    pub words: W,
+    // Each atomic step of a call is one of theirs. Nobody outside gets at them: nobody opens a second world over the same words.
+    pub(crate) words: W,
     flags: PhantomData<P>,
     memory: PhantomData<A>,
 }
@@ -49,6 +49,18 @@ where
         }
     }
 
+    /// The limits that it was opened with.
+    pub fn limits(&self) -> Limits
+        ensures { result ≡ (W.name self.now.words).limits }
+    {
+        self.words.limits()
+    }
+}
+
+impl<W, P: Packed, A: Allocator> World<W, P, A>
+where
+    W: OpenWords<P, A>,
+{
     /// A pass that has seen nothing.
     pub fn pass(&self, alloc: A) -> Result<W::Pass, AllocError>
         ensures { IfOk result (λ p. IsNew P.meld (W.name self.now.words) (W.sight p)) }

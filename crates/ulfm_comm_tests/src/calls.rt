@@ -13,10 +13,11 @@ use ulfm_model::call::Call;
 use ulfm_model::contribution::{Contribution, Offer};
 use ulfm_model::event::{Caller, Entry, Event};
 use ulfm_model::limits::Limits;
+use ulfm_model::place::Place;
 use ulfm_model::refusal::Refusal;
 use ulfm_model::reply::Reply;
 use ulfm_steps::Intruder;
-use ulfm_words::PlainWords;
+use ulfm_words::{PlainWords, Step};
 
 pub(crate) fn agreed(bits: u32, failed: u16, raised: bool) -> Reply<FlagAnd> {
     let value = FlagAnd { bits };
@@ -74,7 +75,14 @@ fn lost_fail_is_not_claimed(rt: HostRuntime) -> Result<(), Fail> {
         by: Caller::Outside,
         event: Event::Fail { rank: 1 },
     };
-    let (world, _) = World::open(rt.alloc(), Intruder { plain, guest })?;
+    let (world, _) = World::open(
+        rt.alloc(),
+        Intruder {
+            plain,
+            guest,
+            wait: None,
+        },
+    )?;
     let mut pass = world.pass(rt.alloc())?;
     // Just before the exchange, which is the second step.
     pass.wait(1);
@@ -99,7 +107,16 @@ fn own_place_is_taken(rt: HostRuntime) -> Result<(), Fail> {
             given,
         },
     };
-    let mut lone = Lone::open(&rt, rt.alloc(), Intruder { plain, guest }, 3)?;
+    let mut lone = Lone::open(
+        &rt,
+        rt.alloc(),
+        Intruder {
+            plain,
+            guest,
+            wait: None,
+        },
+        3,
+    )?;
     // Just before the exchange: the look makes one load.
     lone.wait(1);
     let refused = lone.iagree(0, FlagAnd { bits: 0x3 });
@@ -115,7 +132,16 @@ fn shrink_offers_free_ids(rt: HostRuntime) -> Result<(), Fail> {
     assert!(rt; lone.ishrink(1) == Err(Refusal::NoSuchComm));
     assert!(rt; lone.ishrink(0) == Ok(()));
     // All ids but 0, one failure that is known, and none that is acknowledged.
-    assert!(rt; lone.slot(0, 0, 0) == Some(0x01ff_ffff_fc00_000d));
+    let offered = Step {
+        place: Place::Slot {
+            comm: 0,
+            round: 0,
+            rank: 0,
+        },
+        word: 0x01ff_ffff_fc00_000d,
+        by: Caller::Rank(0),
+    };
+    assert!(rt; lone.nth(1) == Some(offered));
     assert!(rt; lone.ishrink(0) == Err(Refusal::Busy));
     assert!(rt; lone.free(1) == Err(Refusal::NoSuchComm));
     assert!(rt; lone.free(0) == Err(Refusal::WorldKept));
@@ -242,7 +268,16 @@ fn agree_meets_a_shrink(rt: HostRuntime) -> Result<(), Fail> {
             given,
         },
     };
-    let mut lone = Lone::open(&rt, rt.alloc(), Intruder { plain, guest }, 3)?;
+    let mut lone = Lone::open(
+        &rt,
+        rt.alloc(),
+        Intruder {
+            plain,
+            guest,
+            wait: None,
+        },
+        3,
+    )?;
     assert!(rt; lone.declare(2) == Ok(true));
     assert!(rt; lone.ishrink(0) == Ok(()));
     // Just before the place of rank 1 is read: the look makes two loads, one mark is made, and the first place is read.

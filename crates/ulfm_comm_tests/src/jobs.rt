@@ -1,5 +1,4 @@
 // Shrinks of a world in one hand: another's communicator that comes in between, and memory that is refused.
-ghost use Rattle.std.specs.Prelude.{◌≡◌};
 
 use linked_list_allocator::LocalHeap;
 use std::alloc::{AllocError, Allocator, Global};
@@ -63,20 +62,13 @@ const SECOND: Reply<FlagAnd> = Reply::Shrunk {
 /// A job over words into which another's event comes.
 type Disturbed = Job<Intruder<FlagAnd>, FlagAnd, Global>;
 
-// The other's event comes after so many further steps.
-fn wait(job: &mut Disturbed, steps: u32)
-    ensures { job.new ≡ job.old }
-{
-    job.pass.wait(steps);
-}
-
 // The step that was set as the `i`-th.
 fn nth(job: &Disturbed, i: usize) -> Option<Step> {
-    job.pass.plain.nth(i)
+    job.pass().plain.nth(i)
 }
 
-/// A new job, in which rank 2 is to make the communicator of the first round of the world, as soon as it may.
-fn disturbed(alloc: Global) -> Result<Disturbed, Fail> {
+/// A new job, in which rank 2 is to make the communicator of the first round of the world after so many steps, if it may then.
+fn disturbed(alloc: Global, steps: u32) -> Result<Disturbed, Fail> {
     let plain = PlainWords::open(FOUR)?;
     let guest = Entry {
         by: Caller::Rank(2),
@@ -86,12 +78,18 @@ fn disturbed(alloc: Global) -> Result<Disturbed, Fail> {
             round: 0,
         },
     };
-    Ok(Job::open(alloc, Intruder { plain, guest })?)
+    let words = Intruder {
+        plain,
+        guest,
+        wait: Some(steps),
+    };
+    Ok(Job::open(alloc, words)?)
 }
 
-/// Such a job, in which rank 1 was declared, and then the others started a shrink of the world: four events.
-fn shrinking(rt: &impl Abort, alloc: Global) -> Result<Disturbed, Fail> {
-    let mut job = disturbed(alloc)?;
+/// Such a job, in which rank 1 was declared, in two steps, and then the others started a shrink of the world, each in two steps to
+/// look and one to contribute: four events. The other comes after so many further steps.
+fn shrinking(rt: &impl Abort, alloc: Global, steps: u32) -> Result<Disturbed, Fail> {
+    let mut job = disturbed(alloc, steps.saturating_add(11))?;
     let mut group = Vec::new(alloc);
     assert!(rt; apply(&mut job, Asked::Fail(1), &mut group)? == Reply::Declared);
     for rank in [3, 0, 2] {
@@ -105,9 +103,8 @@ fn shrinking(rt: &impl Abort, alloc: Global) -> Result<Disturbed, Fail> {
 /// the first place in the list of communicators. The other comes after so many of them: the communicator is made in this
 /// name, and all ranks have it.
 fn spawn_after(rt: &impl Abort, alloc: Global, steps: u32, by: Caller) -> Result<(), Fail> {
-    let mut job = shrinking(rt, alloc)?;
+    let mut job = shrinking(rt, alloc, steps)?;
     let mut group = Vec::new(alloc);
-    wait(&mut job, steps);
     for rank in [3, 0, 2] {
         let reply = apply(&mut job, Asked::Poll(rank, 0), &mut group)?;
         assert_eq!(rt; reply, FIRST);
@@ -164,7 +161,7 @@ fn communicators(job: &Heaped) -> u16 {
                 place: Place::Comm { .. },
                 ..
             },
-        ) = job.pass.nth(i)
+        ) = job.pass().nth(i)
         {
             made = made.saturating_add(1);
         }

@@ -7,10 +7,9 @@ use std::test::Fail;
 use ulfm_comm::{Polled, Rank, World};
 use ulfm_laws::flag_and::FlagAnd;
 use ulfm_laws::meld::Packed;
-use ulfm_model::place::Place;
 use ulfm_model::refusal::Refusal;
 use ulfm_steps::Intruder;
-use ulfm_words::Words;
+use ulfm_words::{OpenWords, PlainWords, Step, Words};
 
 /// A world, its rank 0 and a pass.
 #[derive(Drop)]
@@ -49,7 +48,7 @@ where
         count: usize,
     ) -> Result<Lone<W, P, A>, Fail>
     where
-        W: Drop,
+        W: OpenWords<P, A> + Drop,
     {
         let (world, mut ranks) = World::open(alloc, words)?;
         let pass = world.pass(alloc)?;
@@ -97,15 +96,12 @@ where
     pub(crate) fn free(&mut self, comm: u16) -> Result<(), Refusal> {
         self.own.free(&self.world, &mut self.pass, comm)
     }
+}
 
-    /// The word at a rank's place in an agreement round, if there is such a place.
-    pub(crate) fn slot(&mut self, comm: u16, round: u16, rank: u16) -> Option<u64> {
-        let limits = self.world.words.limits();
-        if comm >= limits.comms || round >= limits.rounds || rank >= limits.ranks {
-            return None;
-        }
-        let place = Place::Slot { comm, round, rank };
-        Some(self.world.words.load(&mut self.pass, place))
+impl Lone<PlainWords<FlagAnd>, FlagAnd, Global> {
+    /// The step that was set as the `i`-th.
+    pub(crate) fn nth(&self, i: usize) -> Option<Step> {
+        self.pass.nth(i)
     }
 }
 

@@ -18,7 +18,7 @@ use ulfm_model::call::Call;
 use ulfm_model::refusal::Refusal;
 use ulfm_model::reply::Reply;
 use ulfm_steps::Intruder;
-use ulfm_words::{Step, Words};
+use ulfm_words::{OpenWords, Step, Words};
 
 /// What a rank is asked, on a communicator.
 #[derive(Clone, Copy, Debug)]
@@ -169,7 +169,7 @@ where
     /// A world over new words, and no call.
     pub(crate) fn open(alloc: A, words: W) -> Result<Play<W, P, A>, Fail>
     where
-        W: Drop,
+        W: OpenWords<P, A> + Drop,
     {
         let (world, ranks) = World::open(alloc, words)?;
         let pass = world.pass(alloc)?;

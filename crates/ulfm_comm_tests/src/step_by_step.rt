@@ -446,7 +446,14 @@ fn refused_for_good_without_a_step(rt: HostRuntime) -> Result<(), Fail> {
         event: Event::Fail { rank: 0 },
     };
     let plain = PlainWords::<FlagAnd>::open(limits(2, 1, 2))?;
-    let mut play = Play::open(alloc, Intruder { plain, guest })?;
+    let mut play = Play::open(
+        alloc,
+        Intruder {
+            plain,
+            guest,
+            wait: None,
+        },
+    )?;
     let fails = [
         Move::Fail(1),
         Move::Begin(1, 0, Verb::Get),

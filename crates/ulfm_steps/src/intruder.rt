@@ -18,11 +18,11 @@ use ulfm_model::event::{Caller, Entry, Event};
 use ulfm_model::limits::Limits;
 use ulfm_model::place::Place;
 use ulfm_words::{
-    Last, PlainPass, PlainTold, PlainWords, Step, Words, set_arrival, set_revocation, set_slot,
+    Last, OpenWords, PlainPass, PlainTold, PlainWords, Step, Words, set_arrival, set_revocation,
+    set_slot,
 };
 
-/// Plain words that aren't alone: just before a step of a pass, which `IntruderPass::wait` chooses, another's event
-/// comes, if it hasn't come before.
+/// Plain words that aren't alone: just before a chosen step of a pass another's event comes, if it hasn't come before.
 #[derive(Drop)]
 pub struct Intruder<P: Packed> {
     pub plain: PlainWords<P>,
@@ -30,6 +30,8 @@ pub struct Intruder<P: Packed> {
     /// communicator a revocation, an arrival or a contribution that knows of no failure. Or it is a communicator that is made
     /// of a round of the world's own: that comes only where the round is decided on free ids, and gets the next number.
     pub guest: Entry<P>,
+    /// After how many steps of each pass it comes, unless `IntruderPass::wait` says otherwise.
+    pub wait: Option<u32>,
     ghost welcome: { IsTrue (is_welcome plain.limits guest.event) },
 }
 
@@ -142,30 +144,14 @@ impl<P: Packed, A: Allocator + Copy + Drop> Words<P, A> for Intruder<P> {
 
     type Pass = IntruderPass<P, A>;
 
-    type Told = PlainTold;
-
     ghost name = { λ w. plain_name w.plain.limits };
 
     ghost alone = { false };
 
-    ghost tells_all = { false };
-
     ghost sight = { λ p. record { name = p.plain.name; seen = p.plain.seen; steps = length p.trail.items; last = last_of p.trail.items } };
-
-    ghost heard = { λ t. record { name = plain_name t.limits; seen = [] } };
 
     fn limits(&self) -> Limits {
         self.plain.limits
-    }
-
-    fn pass(&self, alloc: A) -> Result<IntruderPass<P, A>, AllocError> {
-        let plain = PlainPass::new(alloc, self.plain.limits)?;
-        Ok(IntruderPass {
-            plain,
-            left: None,
-            trail: Log::new(),
-            alloc,
-        })
     }
 
     fn load(&self, pass: &mut IntruderPass<P, A>, place: Place) -> u64 {
@@ -189,6 +175,28 @@ impl<P: Packed, A: Allocator + Copy + Drop> Words<P, A> for Intruder<P> {
         }
     }
 
+    fn known_legal(&self, pass: &IntruderPass<P, A>) {
+        pass.plain.known_legal();
+    }
+}
+
+impl<P: Packed, A: Allocator + Copy + Drop> OpenWords<P, A> for Intruder<P> {
+    type Told = PlainTold;
+
+    ghost tells_all = { false };
+
+    ghost heard = { λ t. record { name = plain_name t.limits; seen = [] } };
+
+    fn pass(&self, alloc: A) -> Result<IntruderPass<P, A>, AllocError> {
+        let plain = PlainPass::new(alloc, self.plain.limits)?;
+        Ok(IntruderPass {
+            plain,
+            left: self.wait,
+            trail: Log::new(),
+            alloc,
+        })
+    }
+
     fn told(&self, _pass: &IntruderPass<P, A>) -> PlainTold {
         PlainTold {
             limits: self.plain.limits,
@@ -196,8 +204,4 @@ impl<P: Packed, A: Allocator + Copy + Drop> Words<P, A> for Intruder<P> {
     }
 
     fn learn(&self, _pass: &mut IntruderPass<P, A>, _told: &PlainTold) {}
-
-    fn known_legal(&self, pass: &IntruderPass<P, A>) {
-        pass.plain.known_legal();
-    }
 }

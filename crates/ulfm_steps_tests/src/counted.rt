@@ -6,7 +6,7 @@ use std::alloc::{AllocError, Allocator, Global};
 use ulfm_laws::meld::Packed;
 use ulfm_model::limits::Limits;
 use ulfm_model::place::Place;
-use ulfm_words::{PlainPass, PlainTold, PlainWords, Step, Words};
+use ulfm_words::{OpenWords, PlainPass, PlainTold, PlainWords, Step, Words};
 
 #[derive(Drop)]
 pub(crate) struct Counted<P: Packed> {
@@ -23,29 +23,14 @@ pub(crate) struct CountedPass<P: Packed, A: Allocator = Global> {
 impl<P: Packed, A: Allocator + Copy + Drop> Words<P, A> for Counted<P> {
     type Pass = CountedPass<P, A>;
 
-    type Told = PlainTold;
-
     ghost name = { λ w. plain_name w.plain.limits };
 
     ghost alone = { true };
 
-    ghost tells_all = { false };
-
     ghost sight = { λ p. p.plain };
-
-    ghost heard = { λ t. record { name = plain_name t.limits; seen = [] } };
 
     fn limits(&self) -> Limits {
         self.plain.limits
-    }
-
-    fn pass(&self, alloc: A) -> Result<CountedPass<P, A>, AllocError> {
-        let plain = PlainPass::new(alloc, self.plain.limits)?;
-        Ok(CountedPass {
-            plain,
-            loads: 0,
-            exchanges: 0,
-        })
     }
 
     fn load(&self, pass: &mut CountedPass<P, A>, place: Place) -> u64 {
@@ -58,6 +43,27 @@ impl<P: Packed, A: Allocator + Copy + Drop> Words<P, A> for Counted<P> {
         pass.plain.set_once(step)
     }
 
+    fn known_legal(&self, pass: &CountedPass<P, A>) {
+        pass.plain.known_legal();
+    }
+}
+
+impl<P: Packed, A: Allocator + Copy + Drop> OpenWords<P, A> for Counted<P> {
+    type Told = PlainTold;
+
+    ghost tells_all = { false };
+
+    ghost heard = { λ t. record { name = plain_name t.limits; seen = [] } };
+
+    fn pass(&self, alloc: A) -> Result<CountedPass<P, A>, AllocError> {
+        let plain = PlainPass::new(alloc, self.plain.limits)?;
+        Ok(CountedPass {
+            plain,
+            loads: 0,
+            exchanges: 0,
+        })
+    }
+
     fn told(&self, _pass: &CountedPass<P, A>) -> PlainTold {
         PlainTold {
             limits: self.plain.limits,
@@ -65,8 +71,4 @@ impl<P: Packed, A: Allocator + Copy + Drop> Words<P, A> for Counted<P> {
     }
 
     fn learn(&self, _pass: &mut CountedPass<P, A>, _told: &PlainTold) {}
-
-    fn known_legal(&self, pass: &CountedPass<P, A>) {
-        pass.plain.known_legal();
-    }
 }

@@ -16,7 +16,7 @@ use ulfm_model::contribution::{Contribution, Offer};
 use ulfm_model::event::{Caller, Entry, Event};
 use ulfm_model::limits::Limits;
 use ulfm_steps::{Append, Appended, Intruder, Item, Look, MarkAll, ReadRound, Settle};
-use ulfm_words::{PlainWords, Words};
+use ulfm_words::{OpenWords, PlainWords, Words};
 
 const LIMITS: Limits = Limits {
     ranks: 3,
@@ -100,7 +100,11 @@ fn anothers_failure_comes_first(rt: HostRuntime) -> Result<(), Fail> {
         by: Caller::Outside,
         event: Event::Fail { rank: 1 },
     };
-    let words = Intruder { plain, guest };
+    let words = Intruder {
+        plain,
+        guest,
+        wait: None,
+    };
     let mut pass = words.pass(rt.alloc())?;
     // Just before the exchange, which is the second step.
     pass.wait(1);
@@ -115,7 +119,11 @@ fn look_finds_what_came(rt: HostRuntime) -> Result<(), Fail> {
         by: Caller::Outside,
         event: Event::Fail { rank: 2 },
     };
-    let words = Intruder { plain, guest };
+    let words = Intruder {
+        plain,
+        guest,
+        wait: None,
+    };
     let mut pass = words.pass(rt.alloc())?;
     let mut found = Vec::with_capacity(rt.alloc(), 3)?;
     pass.wait(0);

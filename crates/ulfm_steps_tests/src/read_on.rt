@@ -14,7 +14,7 @@ use ulfm_model::event::Caller;
 use ulfm_model::limits::Limits;
 use ulfm_steps::group::is_member;
 use ulfm_steps::{Append, Item, Look, ReadOn};
-use ulfm_words::{PlainWords, Words};
+use ulfm_words::{OpenWords, PlainWords, Words};
 
 const SIX: Limits = Limits {
     ranks: 6,

@@ -13,7 +13,7 @@ use ulfm_laws::summary::Summary;
 use ulfm_model::event::Caller;
 use ulfm_model::limits::Limits;
 use ulfm_steps::{Append, Appended, Item, Look, MarkAll, ReadRound};
-use ulfm_words::{PlainWords, Words};
+use ulfm_words::{OpenWords, PlainWords, Words};
 
 const LIMITS: Limits = Limits {
     ranks: 3,

@@ -8,7 +8,7 @@ use ulfm_laws::known::Known;
 use ulfm_model::contribution::{Contribution, MarkCount, Offer, Slot};
 use ulfm_model::limits::Limits;
 use ulfm_model::place::Place;
-use ulfm_words::{PlainWords, Words, read_slot, slot_word};
+use ulfm_words::{OpenWords, PlainWords, read_slot, slot_word};
 
 fn given(offer: Offer<FlagAnd>, known: u16, acked: u16) -> Slot<FlagAnd>
     requires known { known ≤ 1024 }

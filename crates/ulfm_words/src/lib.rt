@@ -19,4 +19,4 @@ pub use plain::{PlainTold, PlainWords};
 pub use sets::{put_slot, set_arrival, set_comm, set_failure, set_revocation, set_slot};
 pub use slots::{read_slot, read_written, slot_word};
 pub use step::{Last, Step};
-pub use words::Words;
+pub use words::{OpenWords, Words};

@@ -4,7 +4,7 @@ ghost use Rattle.ulfm_words.specs.Pass.{plain_name};
 
 use crate::pass::PlainPass;
 use crate::step::Step;
-use crate::words::Words;
+use crate::words::{OpenWords, Words};
 use std::alloc::{AllocError, Allocator};
 use std::marker::PhantomData;
 use ulfm_laws::meld::Packed;
@@ -43,24 +43,14 @@ impl<P: Packed> PlainWords<P> {
 impl<P: Packed, A: Allocator + Copy + Drop> Words<P, A> for PlainWords<P> {
     type Pass = PlainPass<P, A>;
 
-    type Told = PlainTold;
-
     ghost name = { λ w. plain_name w.limits };
 
     ghost alone = { true };
 
-    ghost tells_all = { false };
-
     ghost sight = { λ p. p };
-
-    ghost heard = { λ t. record { name = plain_name t.limits; seen = [] } };
 
     fn limits(&self) -> Limits {
         self.limits
-    }
-
-    fn pass(&self, alloc: A) -> Result<PlainPass<P, A>, AllocError> {
-        PlainPass::new(alloc, self.limits)
     }
 
     #[inline(always)]
@@ -73,6 +63,22 @@ impl<P: Packed, A: Allocator + Copy + Drop> Words<P, A> for PlainWords<P> {
         pass.set_once(step)
     }
 
+    fn known_legal(&self, pass: &PlainPass<P, A>) {
+        pass.known_legal();
+    }
+}
+
+impl<P: Packed, A: Allocator + Copy + Drop> OpenWords<P, A> for PlainWords<P> {
+    type Told = PlainTold;
+
+    ghost tells_all = { false };
+
+    ghost heard = { λ t. record { name = plain_name t.limits; seen = [] } };
+
+    fn pass(&self, alloc: A) -> Result<PlainPass<P, A>, AllocError> {
+        PlainPass::new(alloc, self.limits)
+    }
+
     fn told(&self, _pass: &PlainPass<P, A>) -> PlainTold {
         PlainTold {
             limits: self.limits,
@@ -80,8 +86,4 @@ impl<P: Packed, A: Allocator + Copy + Drop> Words<P, A> for PlainWords<P> {
     }
 
     fn learn(&self, _pass: &mut PlainPass<P, A>, _told: &PlainTold) {}
-
-    fn known_legal(&self, pass: &PlainPass<P, A>) {
-        pass.known_legal();
-    }
 }

@@ -10,12 +10,10 @@ use ulfm_laws::meld::Packed;
 use ulfm_model::limits::Limits;
 use ulfm_model::place::Place;
 
-/// Words that start as 0 and are set at most once. A pass is one caller's view of them: it has seen a legal history, which
-/// only grows. What one pass has seen is told by it and learned by another.
+/// Words that start as 0 and are set at most once, as calls and machines know them: they take atomic steps over a pass that
+/// they are given. A pass is one caller's view of the words: it has seen a legal history, which only grows.
 pub trait Words<P: Packed, A: Allocator> {
     type Pass: Drop;
-
-    type Told: Drop;
 
     /// Which words these are, and the limits that they were opened with.
     ghost name: { Self → Name };
@@ -23,23 +21,13 @@ pub trait Words<P: Packed, A: Allocator> {
     /// Whether nothing comes in between the steps of one pass. No code can ask for it.
     ghost alone: { Bool };
 
-    /// Whether a told value has all that its pass had seen.
-    ghost tells_all: { Bool };
-
     /// What contracts see of a pass. Steps are counted, and the last one is kept, for contracts alone.
     ghost sight: { Self.Pass → Sight P };
-
-    /// What contracts see of a told value.
-    ghost heard: { Self.Told → Heard P };
 
     /// The limits that they were opened with.
     fn limits(&self) -> Limits
         ensures limits { result ≡ (name self.now).limits }
         ensures may_open { MayOpen result };
-
-    /// A pass that has seen nothing.
-    fn pass(&self, alloc: A) -> Result<Self::Pass, AllocError>
-        ensures { IfOk result (λ p. IsNew P.meld (name self.now) (sight p)) };
 
     /// One atomic load: the word that stands in what is then seen, 0 where no event of it sets the place.
     fn load(&self, pass: &mut Self::Pass, place: Place) -> u64
@@ -55,19 +43,35 @@ pub trait Words<P: Packed, A: Allocator> {
         requires may { MaySet P.meld P.pack P.unpack (name self.now).limits (sight pass.old).seen step }
         ensures { Sets P.meld P.pack P.unpack alone (name self.now) step (sight pass.old) result (sight pass.new) };
 
-    /// What this pass has seen, to be handed to another.
-    fn told(&self, pass: &Self::Pass) -> Self::Told
-        requires of { IsOf P.meld (name self.now) (sight pass.now) }
-        ensures { Tells tells_all (name self.now) (sight pass.now) (heard result) };
-
-    /// From now on the pass has seen what was told, too.
-    fn learn(&self, pass: &mut Self::Pass, told: &Self::Told)
-        requires of { IsOf P.meld (name self.now) (sight pass.old) }
-        requires told { (heard told.now).name ≡ name self.now }
-        ensures { Learns P.meld alone (name self.now) (heard told.now) (sight pass.old) (sight pass.new) };
-
     /// What a pass of these words has seen is legal. It does nothing.
     fn known_legal(&self, pass: &Self::Pass)
         requires { (sight pass.now).name ≡ name self.now }
         ensures { IsOf P.meld (name self.now) (sight pass.now) };
+}
+
+/// Words as those know them who open worlds: passes are made of them, and what one pass has seen is told by it and learned by
+/// another. No call and no machine asks for this trait, so none has a pass but the one that it is given.
+pub trait OpenWords<P: Packed, A: Allocator>: Words<P, A> {
+    type Told: Drop;
+
+    /// Whether a told value has all that its pass had seen.
+    ghost tells_all: { Bool };
+
+    /// What contracts see of a told value.
+    ghost heard: { Self.Told → Heard P };
+
+    /// A pass that has seen nothing.
+    fn pass(&self, alloc: A) -> Result<Self::Pass, AllocError>
+        ensures { IfOk result (λ p. IsNew P.meld (Self.name self.now) (Self.sight p)) };
+
+    /// What this pass has seen, to be handed to another.
+    fn told(&self, pass: &Self::Pass) -> Self::Told
+        requires of { IsOf P.meld (Self.name self.now) (Self.sight pass.now) }
+        ensures { Tells tells_all (Self.name self.now) (Self.sight pass.now) (heard result) };
+
+    /// From now on the pass has seen what was told, too.
+    fn learn(&self, pass: &mut Self::Pass, told: &Self::Told)
+        requires of { IsOf P.meld (Self.name self.now) (Self.sight pass.old) }
+        requires told { (heard told.now).name ≡ Self.name self.now }
+        ensures { Learns P.meld Self.alone (Self.name self.now) (heard told.now) (Self.sight pass.old) (Self.sight pass.new) };
 }
