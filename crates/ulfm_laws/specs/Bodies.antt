@@ -24,7 +24,8 @@ body_meld meld (Ctx x) Clash = Clash
 body_meld meld Clash y = Clash
 
 module _ {P : Type 0} (meld : P → P → P) where
-  body_assoc : ((x y z : P) → meld (meld x y) z ≡ meld x (meld y z)) → (x y z : Body P) → body_meld meld (body_meld meld x y) z ≡ body_meld meld x (body_meld meld y z)
+  body_assoc : ((x y z : P) → meld (meld x y) z ≡ meld x (meld y z)) → (x y z : Body P)
+      → body_meld meld (body_meld meld x y) z ≡ body_meld meld x (body_meld meld y z)
   body_assoc law Unit y z = refl
   body_assoc law Clash y z = refl
   body_assoc law x Unit z = refl

@@ -3,7 +3,8 @@ use Rattle.std.specs.Prelude.{◌≡◌, ℕ, ◌≤◌, min, max, IsTrue, ◌==
 use Rattle.std.specs.Coded.{le_prop}
 use mathlib.Core.Bool.{Bool-set}
 use Rattle.std.proofs.Common.{sym, subst, inl, inr, lit≤, zero-le, le_refl, le_trans, le_of_lt, le_of_eq, le_antisymm, leb-true, eqb-true}
-use Rattle.std.proofs.Math.Nat.{max-le, le-max_left, le-max_right, max_comm, max-eq_left, max-eq_right, le-min, min-le_left, min-le_right, min_comm, min-eq_left, min-eq_right}
+use Rattle.std.proofs.Math.Nat.{max-le, le-max_left, le-max_right, max_comm, max-eq_left, max-eq_right}
+use Rattle.std.proofs.Math.Nat.{le-min, min-le_left, min-le_right, min_comm, min-eq_left, min-eq_right}
 use Rattle.std.proofs.lemmas.Bool.{cases_lt, or_cases}
 use Rattle.ulfm_laws.specs.Lawful.{IsLawful}
 use Rattle.ulfm_laws.specs.Ranges.{is_acked_count, same_by_number}
@@ -64,7 +65,9 @@ acked_meld x y = record {
 
 -- equal counts of acknowledged failures are the same
 pub same_acked : (x y : Acked) → x.count ≡ y.count → x ≡ y
-same_acked x y = same_by_number (λ n. IsTrue (is_acked_count n)) (λ n. Bool-set _ _) (λ n in_range. record { count = n; in_range = in_range }) x.count y.count x.in_range y.in_range
+same_acked x y =
+    same_by_number (λ n. IsTrue (is_acked_count n)) (λ n. Bool-set _ _) (λ n in_range. record { count = n; in_range = in_range })
+    x.count y.count x.in_range y.in_range
 
 -- everyone is the most that can be acknowledged
 pub acked_le : (n : ℕ) → IsTrue (is_acked_count n) → n ≤ 2047

@@ -23,8 +23,11 @@ same_summary x y body known acked = λ i. record { body = body i; known = known 
 pub summary_lawful : {P : Type 0} {unit : P} {meld : P → P → P} → IsLawful unit meld → IsLawful summary_unit (summary_meld meld)
 summary_lawful laws =
     let body = body_lawful laws in record {
-      associative = λ x y z. same_summary _ _ (body.associative x.body y.body z.body) (known_lawful.associative x.known y.known z.known) (acked_lawful.associative x.acked y.acked z.acked);
-      commutative = λ x y. same_summary _ _ (body.commutative x.body y.body) (known_lawful.commutative x.known y.known) (acked_lawful.commutative x.acked y.acked);
+      associative = λ x y z.
+          same_summary _ _ (body.associative x.body y.body z.body) (known_lawful.associative x.known y.known z.known)
+          (acked_lawful.associative x.acked y.acked z.acked);
+      commutative = λ x y.
+          same_summary _ _ (body.commutative x.body y.body) (known_lawful.commutative x.known y.known) (acked_lawful.commutative x.acked y.acked);
       idempotent = λ x. same_summary _ _ (body.idempotent x.body) (known_lawful.idempotent x.known) (acked_lawful.idempotent x.acked);
       unit_left = λ x. same_summary _ _ (body.unit_left x.body) (known_lawful.unit_left x.known) (acked_lawful.unit_left x.acked);
     }

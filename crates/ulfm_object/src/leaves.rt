@@ -2,7 +2,7 @@
 ghost use Rattle.std.specs.Prelude.{◌≡◌, OnErr, OnOk, Some};
 ghost use Rattle.ulfm_model.specs.Terms.{comm_of};
 ghost use Rattle.ulfm_model.specs.Answers.{left_by, traits_of};
-ghost use Rattle.ulfm_model.specs.Records.{Held, held_at};
+ghost use Rattle.ulfm_model.specs.Records.{Held, Record, held_at};
 ghost use Rattle.ulfm_model.specs.declared.reply.Reply.TheVariants.{Started};
 ghost use Rattle.ulfm_record.specs.Kept.{FitsNext, record_of};
 
@@ -27,7 +27,8 @@ pub fn leave<P: Copy, A: Allocator + Copy + Drop>(
     reply: Reply<P>,
 ) -> Result<(), AllocError>
     requires { (x : Held) → reply ≡ Started → held_at (record_of limits own.old) (comm_of asked.now) ≡ Some x → FitsNext ((traits_of asked.now).starts x) }
-    ensures ok { OnOk result (record_of limits own.new ≡ left_by limits.ranks after.now (record (record_of limits own.old) { seen = seen.items }) asked.now reply) }
+    ensures ok { let now : Record = record (record_of limits own.old) { seen = seen.items } in
+        OnOk result (record_of limits own.new ≡ left_by limits.ranks after.now now asked.now reply) }
     ensures err { OnErr result (record_of limits own.new ≡ record_of limits own.old) }
 {
     match reply {

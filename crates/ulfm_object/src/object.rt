@@ -86,7 +86,8 @@ fn declare<P: Meld, A: Allocator + Drop>(
     log: &mut Vec<Entry<P>, A>,
     rank: u16,
 ) -> Result<Reply<P>, AllocError>
-    ensures ok { (records : List Record) → let old : State P = record { limits = limits; history = log.old.items; records = records } in IfOk result (λ reply. (reply ≡ (next_of_fail old rank).reply) × (record old { history = log.new.items } ≡ (next_of_fail old rank).state)) }
+    ensures ok { (records : List Record) → let old : State P = record { limits = limits; history = log.old.items; records = records } in
+        IfOk result (λ reply. (reply ≡ (next_of_fail old rank).reply) × (record old { history = log.new.items } ≡ (next_of_fail old rank).state)) }
     ensures err { OnErr result (log.new.items ≡ log.old.items) }
 {
     if rank >= limits.ranks {
@@ -120,8 +121,10 @@ fn answer_in_use<P: Meld, A: Allocator + Copy + Drop>(
     requires may { MayOpen limits }
     requires few { IsFew log.old.items }
     ensures reply { IfOk result (λ reply. reply ≡ (outcome_of P.meld limits log.old.items (record_of limits own.old) asked.now).reply) }
-    ensures log { OnOk result (log.new.items ≡ log.old.items ++ entries_by (Rank own.old.number) (outcome_of P.meld limits log.old.items (record_of limits own.old) asked.now).own) }
-    ensures own { IfOk result (λ reply. record_of limits own.new ≡ left_by limits.ranks log.new.items (record (record_of limits own.old) { seen = failures log.old.items }) asked.now reply) }
+    ensures log { let outcome = outcome_of P.meld limits log.old.items (record_of limits own.old) asked.now in
+        OnOk result (log.new.items ≡ log.old.items ++ entries_by (Rank own.old.number) outcome.own) }
+    ensures own { let now : Record = record (record_of limits own.old) { seen = failures log.old.items } in
+        IfOk result (λ reply. record_of limits own.new ≡ left_by limits.ranks log.new.items now asked.now reply) }
     ensures err { OnErr result ((log.new.items ≡ log.old.items) × (record_of limits own.new ≡ record_of limits own.old)) }
 {
     let seen = failures(alloc, log)?;
@@ -143,7 +146,9 @@ fn answer<P: Meld, A: Allocator + Copy + Drop>(
     requires may { MayOpen limits }
     requires few { IsFew log.old.items }
     requires numbers { map (λ own. own.number) records.old ≡ first_ranks limits.ranks }
-    ensures ok { let old = state_of limits log.old.items records.old in let next = next_of_rank P.meld old (rank_of asked.now) (record_at old (rank_of asked.now)) asked.now in IfOk result (λ reply. (reply ≡ next.reply) × (state_of limits log.new.items records.new ≡ next.state)) }
+    ensures ok { let old = state_of limits log.old.items records.old in
+        let next = next_of_rank P.meld old (rank_of asked.now) (record_at old (rank_of asked.now)) asked.now in
+        IfOk result (λ reply. (reply ≡ next.reply) × (state_of limits log.new.items records.new ≡ next.state)) }
     ensures err { OnErr result (state_of limits log.new.items records.new ≡ state_of limits log.old.items records.old) }
 {
     let rank = rank_of(asked);

@@ -42,7 +42,8 @@ fn held_outcome<P: Meld, A: Allocator + Copy + Drop>(
 ) -> Result<Outcome<P, A>, AllocError>
     requires may { MayOpen limits }
     requires few { IsFew history.now }
-    ensures after { IfOk result (λ out. out.after.items ≡ history.now ++ entries_by (Rank own.now.number) (held_outcome P.meld limits history.now (record_of limits own.now) (held_of x.now) asked.now).own) }
+    ensures after { let outcome = held_outcome P.meld limits history.now (record_of limits own.now) (held_of x.now) asked.now in
+        IfOk result (λ out. out.after.items ≡ history.now ++ entries_by (Rank own.now.number) outcome.own) }
     ensures reply { IfOk result (λ out. out.reply ≡ (held_outcome P.meld limits history.now (record_of limits own.now) (held_of x.now) asked.now).reply) }
 {
     let events = added(alloc, limits, history, own, x, asked)?;
@@ -75,8 +76,12 @@ fn used_outcome<P: Meld, A: Allocator + Copy + Drop>(
 ) -> Result<Outcome<P, A>, AllocError>
     requires may { MayOpen limits }
     requires few { IsFew history.now }
-    ensures after { let record_is = record_of limits own.now in IfOk result (λ out. out.after.items ≡ history.now ++ entries_by (Rank own.now.number) (used_outcome P.meld limits history.now record_is (held_at record_is (comm_of asked.now)) (refusal_of record_is asked.now) asked.now).own) }
-    ensures reply { let record_is = record_of limits own.now in IfOk result (λ out. out.reply ≡ (used_outcome P.meld limits history.now record_is (held_at record_is (comm_of asked.now)) (refusal_of record_is asked.now) asked.now).reply) }
+    ensures after { let now = record_of limits own.now in
+        let outcome = used_outcome P.meld limits history.now now (held_at now (comm_of asked.now)) (refusal_of now asked.now) asked.now in
+        IfOk result (λ out. out.after.items ≡ history.now ++ entries_by (Rank own.now.number) outcome.own) }
+    ensures reply { let now = record_of limits own.now in
+        let outcome = used_outcome P.meld limits history.now now (held_at now (comm_of asked.now)) (refusal_of now asked.now) asked.now in
+        IfOk result (λ out. out.reply ≡ outcome.reply) }
 {
     if let Some(refusal) = refusal_of(limits, own, asked) {
         return refused(alloc, history, refusal);
@@ -97,7 +102,8 @@ pub fn outcome_of<P: Meld, A: Allocator + Copy + Drop>(
 ) -> Result<Outcome<P, A>, AllocError>
     requires may { MayOpen limits }
     requires few { IsFew history.now }
-    ensures after { IfOk result (λ out. out.after.items ≡ history.now ++ entries_by (Rank own.now.number) (outcome_of P.meld limits history.now (record_of limits own.now) asked.now).own) }
+    ensures after { let outcome = outcome_of P.meld limits history.now (record_of limits own.now) asked.now in
+        IfOk result (λ out. out.after.items ≡ history.now ++ entries_by (Rank own.now.number) outcome.own) }
     ensures reply { IfOk result (λ out. out.reply ≡ (outcome_of P.meld limits history.now (record_of limits own.now) asked.now).reply) }
 {
     if is_declared(history, own.number) {

@@ -5,7 +5,7 @@ ghost use Rattle.ulfm_model.specs.Computed.{agree_reply, poll_reply, replied, sh
 ghost use Rattle.ulfm_model.specs.Answers.{barrier_reply};
 ghost use Rattle.ulfm_model.specs.History.{decision, failed, failures, has_arrived, is_decided, spawns};
 ghost use Rattle.ulfm_history.specs.Walked.{decision_of};
-ghost use Rattle.ulfm_object.specs.Objects.{IsFew};
+ghost use Rattle.ulfm_object.specs.Objects.{IsFew, view_after};
 ghost use Rattle.ulfm_record.specs.Kept.{held_of, record_of};
 ghost use Rattle.ulfm_model.specs.declared.event.Event.{Event};
 ghost use Rattle.ulfm_model.specs.declared.reply.Reply.TheVariants.{Pending};
@@ -62,7 +62,8 @@ fn shrunk_reply<P: Copy, A: Allocator + Copy + Drop>(
 ) -> Result<Reply<P>, AllocError>
     requires few { IsFew history.now }
     requires ids { 0 < mask.bits }
-    ensures { IfOk result (λ reply. reply ≡ shrunk_reply ranks history.now mask.bits (position_from (λ of. (of.0 == comm) && (of.1 == round)) 0 (spawns history.now))) }
+    ensures { let place = position_from (λ of. (of.0 == comm) && (of.1 == round)) 0 (spawns history.now) in
+        IfOk result (λ reply. reply ≡ shrunk_reply ranks history.now mask.bits place) }
 {
     let Some(place) = place_made(history, comm, round) else {
         return Ok(Reply::Refused(Refusal::NoRoom));
@@ -114,7 +115,7 @@ fn barrier_poll<P: Copy, A: Allocator + Copy + Drop>(
     x: &HeldComm<A>,
     round: u16,
 ) -> Result<Reply<P>, AllocError>
-    ensures { (events : List (Event P)) → IfOk result (λ reply. reply ≡ barrier_reply (record { look = failures before.now; history = after.now; own = events }) (held_of x.now) round) }
+    ensures { (events : List (Event P)) → IfOk result (λ reply. reply ≡ barrier_reply (view_after before.now after.now events) (held_of x.now) round) }
 {
     if is_revoked(after, x.comm) {
         return Ok(Reply::Refused(Refusal::IsRevoked));
@@ -138,7 +139,8 @@ fn agree_poll<P: Meld, A: Allocator + Copy + Drop>(
     round: u16,
 ) -> Result<Reply<P>, AllocError>
     requires { IsFew history.now }
-    ensures { IfOk result (λ reply. reply ≡ (let made = decision P.meld ranks history.now comm round in if is_decided ranks history.now comm round then agree_reply made made.body else Pending)) }
+    ensures { let made = decision P.meld ranks history.now comm round in
+        IfOk result (λ reply. reply ≡ (if is_decided ranks history.now comm round then agree_reply made made.body else Pending)) }
 {
     if !is_decided(alloc, ranks, history, comm, round)? {
         return Ok(Reply::Pending);
@@ -157,7 +159,9 @@ fn shrink_poll<P: Meld, A: Allocator + Copy + Drop>(
     round: u16,
 ) -> Result<Reply<P>, AllocError>
     requires { IsFew history.now }
-    ensures { IfOk result (λ reply. reply ≡ (let made = decision P.meld ranks history.now comm round in if is_decided ranks history.now comm round then shrink_reply ranks history.now rank comm round made made.body else Pending)) }
+    ensures { let made = decision P.meld ranks history.now comm round in
+        IfOk result (λ reply. reply ≡ (if is_decided ranks history.now comm round then shrink_reply ranks history.now rank comm round made made.body
+        else Pending)) }
 {
     if !is_decided(alloc, ranks, history, comm, round)? {
         return Ok(Reply::Pending);
@@ -177,7 +181,8 @@ fn open_reply<P: Meld, A: Allocator + Copy + Drop>(
     request: Request,
 ) -> Result<Reply<P>, AllocError>
     requires { IsFew after.now }
-    ensures { (events : List (Event P)) → IfOk result (λ reply. reply ≡ poll_reply P.meld limits (record { look = failures before.now; history = after.now; own = events }) rank (held_of x.now) (Some request)) }
+    ensures { (events : List (Event P)) → let view = view_after before.now after.now events in
+        IfOk result (λ reply. reply ≡ poll_reply P.meld limits view rank (held_of x.now) (Some request)) }
 {
     let ranks = limits.ranks;
     match request {
@@ -197,7 +202,8 @@ fn poll_reply<P: Meld, A: Allocator + Copy + Drop>(
     x: &HeldComm<A>,
 ) -> Result<Reply<P>, AllocError>
     requires { IsFew after.now }
-    ensures { (events : List (Event P)) → IfOk result (λ reply. reply ≡ poll_reply P.meld limits (record { look = failures before.now; history = after.now; own = events }) rank (held_of x.now) x.now.request) }
+    ensures { (events : List (Event P)) → let view = view_after before.now after.now events in
+        IfOk result (λ reply. reply ≡ poll_reply P.meld limits view rank (held_of x.now) x.now.request) }
 {
     match x.request {
         None => Ok(Reply::Pending),
@@ -230,7 +236,8 @@ pub fn replied<P: Meld, A: Allocator + Copy + Drop>(
     asked: &Call<P>,
 ) -> Result<Reply<P>, AllocError>
     requires { IsFew after.now }
-    ensures { (events : List (Event P)) → IfOk result (λ reply. reply ≡ replied P.meld limits before.now (record { look = failures before.now; history = after.now; own = events }) (record_of limits own.now) (held_of x.now) asked.now) }
+    ensures { (events : List (Event P)) → let view = view_after before.now after.now events in
+        IfOk result (λ reply. reply ≡ replied P.meld limits before.now view (record_of limits own.now) (held_of x.now) asked.now) }
 {
     let ranks = limits.ranks;
     match *asked {

@@ -6,7 +6,15 @@ use Rattle.ulfm_model.specs.Records.{Held, Record}
 
 -- a communicator that a rank holds
 abbrev pub held_of : {A : Type 0} → HeldComm A → Held
-held_of x = record { comm = x.comm; group = x.group.items; context = x.context; acked = x.acked; next_agreement = x.next_agreement; next_barrier = x.next_barrier; request = x.request }
+held_of x = record {
+  comm = x.comm;
+  group = x.group.items;
+  context = x.context;
+  acked = x.acked;
+  next_agreement = x.next_agreement;
+  next_barrier = x.next_barrier;
+  request = x.request;
+}
 
 -- a rank's record, under the object's limits
 abbrev pub record_of : {A : Type 0} → Limits → RankRecord A → Record

@@ -68,7 +68,8 @@ pub fn take_in<A: Allocator + Copy + Drop>(
     comm: u16,
     made: HeldComm<A>,
 ) -> Result<(), AllocError>
-    ensures ok { OnOk result (map held_of held.new.items ≡ change_at comm (λ y. record y { request = None }) (map held_of held.old.items) ++ held_of made ∷ []) }
+    ensures ok { let rest = change_at comm (λ y. record y { request = None }) (map held_of held.old.items) in
+        OnOk result (map held_of held.new.items ≡ rest ++ held_of made ∷ []) }
     ensures err { OnErr result (map held_of held.new.items ≡ map held_of held.old.items) }
 {
     let place = place_of(held, comm);
@@ -108,7 +109,8 @@ pub fn settle<P: Copy, A: Allocator + Copy + Drop>(
     reply: Reply<P>,
 )
     requires none { (j context size : ℕ) → reply ≡ Shrunk j context size → ⊥ }
-    requires fits { (x : Held) → reply ≡ Started → find (λ y. y.comm == (traits_of asked.now).comm) (map held_of own.old.held.items) ≡ Some x → FitsNext ((traits_of asked.now).starts x) }
+    requires fits { (x : Held) → reply ≡ Started → find (λ y. y.comm == (traits_of asked.now).comm) (map held_of own.old.held.items) ≡ Some x
+        → FitsNext ((traits_of asked.now).starts x) }
     ensures { (ranks : ℕ) (h : History P) (limits : Limits) → record_of limits own.new ≡ left_by ranks h (record_of limits own.old) asked.now reply }
 {
     let comm = comm_of(asked);

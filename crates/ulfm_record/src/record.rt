@@ -1,7 +1,7 @@
 //! What one rank holds.
 ghost use Rattle.std.specs.Prelude.{◌≡◌, ◌<◌, ◌==◌, IfOk, None, map};
 ghost use Rattle.std.specs.List.{list_any, position};
-ghost use Rattle.ulfm_model.specs.Records.{IsLowestId, all_but, free_ids, is_shrink};
+ghost use Rattle.ulfm_model.specs.Records.{IsLowestId, all_but, free_ids, is_shrink, new_held};
 ghost use Rattle.ulfm_record.specs.Kept.{held_of};
 
 use std::alloc::{AllocError, Allocator};
@@ -30,7 +30,7 @@ pub struct HeldComm<A: Allocator> {
 impl<A: Allocator> HeldComm<A> {
     /// A communicator as a rank first holds it: nobody is acknowledged, no round is used, and no request is open.
     pub fn new(comm: u16, context: u8, group: Vec<u16, A>) -> HeldComm<A>
-        ensures { held_of result ≡ record { comm = comm; group = group.items; context = context; acked = 0; next_agreement = 0; next_barrier = 0; request = None } }
+        ensures { held_of result ≡ new_held comm context group.items }
     {
         HeldComm {
             comm,
