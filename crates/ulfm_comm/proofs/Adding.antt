@@ -1,8 +1,8 @@
 -- What one step of a call adds.
 use Rattle.std.specs.List.{slice_index}
-use Rattle.std.proofs.Common.{◌≡◌, ◌⊎◌, ℕ, ◌<◌, length, Bool, true, false, List, [], ◌∷◌, Option, Some, Result, Ok, Err, refl, ap, sym, ◌∙◌, subst, inl, inr, IsTrue, MatchBool}
+use Rattle.std.proofs.Common.{◌≡◌, ℕ, ◌<◌, length, Bool, true, false, List, [], ◌∷◌, Option, Some, Result, Ok, Err, refl, ap, sym, ◌∙◌, subst, inl, inr, IsTrue}
 use Rattle.ulfm_model.specs.declared.call.Call.TheVariants as call
-use Rattle.ulfm_model.specs.declared.{call.Call.{Call}, call.Request.{Request}, contribution.Contribution.{Contribution}, contribution.MarkCount.{MarkCount}, contribution.Offer.{Offer}, contribution.Slot.{Slot}, contribution.Slot.TheVariants.{Given, Mark as Marked}, event.Caller.TheVariants.{Rank}, event.Event.{Event}, event.Event.TheVariants.{Arrive, Mark, Revoke, Settle}, limits.Limits.{Limits}, refusal.Refusal.TheVariants.{Twice}, reply.Reply.{Reply}, reply.Reply.TheVariants.{AlreadyRevoked, Refused, Revoked, Started}}
+use Rattle.ulfm_model.specs.declared.{call.Call.{Call}, call.Request.{Request}, contribution.Contribution.{Contribution}, contribution.MarkCount.{MarkCount}, contribution.Offer.{Offer}, contribution.Slot.{Slot}, contribution.Slot.TheVariants.{Given, Mark as Marked}, event.Caller.TheVariants.{Rank}, event.Event.{Event}, event.Event.TheVariants.{Arrive, Mark, Revoke, Settle}, limits.Limits.{Limits}, reply.Reply.{Reply}, reply.Reply.TheVariants.{Revoked, Started}}
 use Rattle.ulfm_model.specs.{Answers.{CallAdds, MarksDeclared, PollAdds, traits_of}, History.{History, IsLegal, entries_by, failures, has}, Records.{Fits, Held, Record, held_at}, Runs.{Did}}
 use Rattle.ulfm_model.specs.Terms.{comm_of}
 use Rattle.ulfm_words.specs.Steps.{IsAdded, IsOf, Name, Sight}
@@ -11,7 +11,7 @@ use Rattle.ulfm_words.proofs.Trails.{did_added, did_prefix, did_wait}
 use Rattle.ulfm_steps.proofs.Reading.{has_at}
 use Rattle.ulfm_steps.specs.Marks.{MarksOnce}
 use Rattle.ulfm_steps.specs.declared.mark_all.MarkAll.{MarkAll}
-use Rattle.ulfm_comm.specs.{Calls.{reply_of}, Polls.{agreement}, Stages.{Adds, HasLooked, IsMarking, Makes, Stands, StartsWith, StepAdds}, Starts.{Settles, start_leaves, start_result}}
+use Rattle.ulfm_comm.specs.{Calls.{reply_of}, Polls.{agreement}, Stages.{Adds, HasLooked, IsMarking, Makes, Stands, StepAdds}, Starts.{Settles, start_leaves, start_result}}
 use Rattle.ulfm_comm.specs.declared.doing.Phase.{Phase}
 use Rattle.ulfm_comm.specs.declared.doing.Phase.TheVariants.{Over, Begun, Looking, Settling, Arriving, Revoking, Asking, Marking, Reading, ReadingOn, Spawning, Waiting, Checking}
 use Rattle.ulfm_comm.proofs.{Exchanging.{fits_now, found_same, is_starting, number_is, passes_tests}, Holding.{comm_is}}

@@ -1,6 +1,7 @@
 pub mod Adding
 pub mod Acks
 pub mod Barriers
+pub mod Bounding
 pub mod Calling
 pub mod Contexts
 pub mod Ending

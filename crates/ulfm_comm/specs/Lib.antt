@@ -11,4 +11,5 @@ pub mod Shrinks
 pub mod Fails
 pub mod Jobs
 pub mod Replies
+pub mod StepsLeft
 pub mod Stages

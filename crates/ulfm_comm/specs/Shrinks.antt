@@ -1,11 +1,12 @@
 -- How a shrink's poll comes by its communicator.
-use Rattle.std.specs.Prelude.{◌≡◌, ◌⊎◌, ℕ, ◌+◌, ◌-◌, ◌<◌, ◌≤◌, ◌^◌, Bool, false, List, [], ◌∷◌, ◌++◌, length, nat_eq, IsFalse, Some, slice_get}
+use Rattle.std.specs.Prelude.{◌≡◌, ◌⊎◌, ℕ, ◌+◌, ◌-◌, ◌<◌, ◌≤◌, ◌^◌, Bool, false, not, List, [], ◌∷◌, ◌++◌, length, nat_eq, IsFalse, Some, slice_get}
 use Rattle.std.specs.List.{AllByRecursion}
 use Rattle.ulfm_model.specs.declared.{event.Caller.{Caller}, event.Event.{Event}, event.Event.TheVariants.{Spawn}, limits.Limits.{Limits}}
 use Rattle.ulfm_model.specs.{Answers.{closed}, History.{History, entries_by, is_made, spawns}, Records.{Held, Record, held_at}, Runs.{Did}}
 use Rattle.ulfm_model.specs.Terms.{contexts_of, new_held, settled_by}
 use Rattle.ulfm_words.specs.Steps.{IsOf, Name, Sight}
-use Rattle.ulfm_steps.specs.Appends.{MayAppend, Passed}
+use Rattle.ulfm_steps.specs.{Appends.{MayAppend, Passed, turns_left}, Turns.{Takes}}
+use Rattle.ulfm_model.specs.declared.place.Place.TheVariants.{Comm as CommAt}
 use Rattle.ulfm_steps.specs.declared.{append.Append.{Append}, item.Item.TheVariants.{Comm as OfComm}}
 use Rattle.ulfm_comm.specs.declared.spawned.{Spawned.{Spawned}, Spawned.TheVariants.{Unknown, Made, Full}}
 
@@ -59,6 +60,18 @@ pub record IsSoughtBy {P : Type 0} (meld : P → P → P) (alone : Bool) (name :
 pub record Holds (c context : ℕ) (group : List ℕ) (old : Record) (j size : ℕ) (new : Record) : Type 0 where
   pub size_is : size ≡ length group
   pub record_is : new ≡ (let rest = closed old c in record rest { held = rest.held ++ new_held j context group ∷ [] })
+
+-- how many steps are left on the way to a round's communicator
+abbrev pub spawn_left : Limits → Append → Spawned → ℕ
+spawn_left limits next Unknown = turns_left (limits.comms - 1) next
+spawn_left limits next (Made j size) = 0
+spawn_left limits next Full = 0
+
+-- the steps in the list of communicators, the first of them at the place that is tried: an exchange after a load that found nothing, or
+-- else a load
+abbrev pub SpawnTakes : {P : Type 0} → Bool → Limits → Append → Spawned → Append → Sight P → Sight P → Type 0
+SpawnTakes whole limits old result new =
+    Takes whole (CommAt (old.index + 1)) (not old.empty) (turns_left (limits.comms - 1) old) (spawn_left limits new result)
 
 -- the round's communicator isn't found yet; or it is made and held; or there is no room for it
 abbrev pub SpawnIs : {P : Type 0} → (P → P → P) → Bool → Name → ℕ → ℕ → ℕ → Append → Append → List ℕ → Record → Sight P → Spawned → Record → Sight P → Type 0

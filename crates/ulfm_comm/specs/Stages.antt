@@ -11,7 +11,7 @@ use Rattle.ulfm_steps.specs.declared.{append.Append.{Append}, item.Item.TheVaria
 use Rattle.ulfm_steps.specs.{Appends.{Passed, room}, Arriving.{AtArrival, MissingAre}, Looks.{LookIs}, Marks.{IsAt, Marks, members_in}, Rounds.{IsSummed}}
 use Rattle.ulfm_steps.specs.ReadsOn.{AtFailure, ReadsOn}
 use Rattle.ulfm_steps.specs.declared.arrivals.{Arrivals.{Arrivals}, Missing.{Missing}, Missing.TheVariants.{Nobody}}
-use Rattle.ulfm_comm.specs.{Calls.{EndsReply}, Ends.{IsEndRun, IsRefusedAgain}, Looked.{Looked}, Polls.{EndsInMissing, HasMarked, IsAgreement, agreement}}
+use Rattle.ulfm_comm.specs.{Calls.{EndsReply}, Ends.{IsEndRun, IsRefusedAgain}, Looked.{Looked}, Polls.{EndsInMissing, HasMarked, IsAgreement, agreement}, StepsLeft.{FewerLeft, MakesStep, steps_left}}
 use Rattle.ulfm_comm.specs.declared.doing.{Made.{Made}, Next.{Next}, Next.TheVariants.{Goes, Ends}, Phase.{Phase}, StepName.{StepName}}
 use Rattle.ulfm_comm.specs.declared.doing.Phase.TheVariants.{Over, Begun, Looking, Settling, Arriving, Revoking, Asking, Marking, Reading, ReadingOn, Spawning, Waiting, Checking}
 use Rattle.ulfm_comm.specs.declared.doing.StepName.TheVariants as step
@@ -342,14 +342,17 @@ abbrev pub next_of : {P : Type 0} → Option (Reply P) → Phase P → Next P
 next_of None phase = Goes phase
 next_of (Some reply) phase = Ends reply
 
--- One step of a call that stood so. Of a rank that was refused for good before there is none, and it is refused again. Any other
--- has added one event at most, and has seen more only by a load of the list of failures. A call doesn't come back to its look. The
--- poll of a barrier that found somebody missing is answered, after its last load, as it was when that was found.
+-- One step of a call that stood so: the one that was named. Of a rank that was refused for good before there is none, and it is
+-- refused again. Any other has added one event at most, and has seen more only by a load of the list of failures. If the call goes
+-- on, fewer steps are left, and it doesn't come back to its look. The poll of a barrier that found somebody missing is answered, after
+-- its last load, as it was when that was found.
 pub record Stepped {P : Type 0} (meld : P → P → P) (quiet : Bool) (name : Name) (was : UnderWay P) (own : Record) (now : Sight P)
     (next : Next P) (new : Record) (after : Sight P) : Type 0 where
   pub of : IsOf meld name after
   pub onward : now.steps ≤ after.steps
-  pub over : was.phase ≡ Over → (next ≡ Ends (Refused SelfFailed)) × (new ≡ own) × (after ≡ now)
+  pub named : MakesStep (next_step was.phase) own.number (comm_of was.asked) now after
+  pub nearer : FewerLeft (steps_left name.limits own was.asked was.phase) name.limits new was.asked next
+  pub over : was.phase ≡ Over → (next ≡ Ends (Refused SelfFailed)) × (new ≡ own)
   pub adds : StepAdds quiet own was.asked was.phase (reply_in next) now.seen after.seen
   pub sees : StepSees was.phase own.seen new.seen
   pub past : is_looking was.phase ≡ false → IsPast next

@@ -4,6 +4,9 @@ ghost use Rattle.ulfm_model.specs.Runs.{Did};
 ghost use Rattle.ulfm_model.specs.Answers.{closed};
 ghost use Rattle.ulfm_comm.specs.Stages.{Adds, IsFurther, IsPast, reply_in, agreed_reply, StillStands, Turns, Walks};
 ghost use Rattle.ulfm_comm.specs.declared.doing.Phase.TheVariants.{Marking as AtMarking, Reading as AtReading};
+ghost use Rattle.ulfm_model.specs.Terms.{comm_of};
+ghost use Rattle.ulfm_comm.specs.StepsLeft.{FewerLeft, IsStepOf, steps_left};
+ghost use Rattle.ulfm_comm.specs.declared.doing.StepName.TheVariants.{Mark as AtMark, Slot as AtSlot};
 ghost use Rattle.ulfm_words.specs.Steps.{IsOf};
 
 use crate::doing::{Next, Phase};
@@ -34,7 +37,8 @@ impl<P: Packed, A: Allocator> Rank<P, A> {
         requires of { IsOf P.meld (W.name world.now.words) (W.sight pass.old) }
         requires stands { (group : List ℕ) × StillStands P.meld (W.name world.now.words) asked.now (AtMarking marks shrinks) group self.now (W.sight pass.old) }
         ensures walks { Walks P.meld W.alone (W.name world.now.words) self.now.number (W.sight pass.old) (W.sight pass.new) }
-        ensures one { whole ≡ false → (W.sight pass.new).steps ≡ (W.sight pass.old).steps + 1 }
+        ensures named { whole ≡ false → IsStepOf AtMark self.now.number (comm_of asked.now) (W.sight pass.old) (W.sight pass.new) }
+        ensures nearer { whole ≡ false → FewerLeft (steps_left (W.name world.now.words).limits self.now asked.now (AtMarking marks shrinks)) (W.name world.now.words).limits self.now asked.now result }
         ensures further { whole ≡ true → IsFurther (AtMarking marks shrinks) result }
         ensures past { IsPast result }
         ensures adds { whole ≡ false → Adds W.alone self.now.seen self.now asked.now (reply_in result) (W.sight pass.old).seen (W.sight pass.new).seen }
@@ -72,7 +76,8 @@ impl<P: Packed, A: Allocator + Copy> Rank<P, A> {
         requires of { IsOf P.meld (W.name world.now.words) (W.sight pass.old) }
         requires stands { StillStands P.meld (W.name world.now.words) asked.now (AtReading reading shrinks) group.old.items self.old (W.sight pass.old) }
         ensures walks { Walks P.meld W.alone (W.name world.now.words) self.old.number (W.sight pass.old) (W.sight pass.new) }
-        ensures one { whole ≡ false → (W.sight pass.new).steps ≡ (W.sight pass.old).steps + 1 }
+        ensures named { whole ≡ false → IsStepOf AtSlot self.old.number (comm_of asked.now) (W.sight pass.old) (W.sight pass.new) }
+        ensures nearer { whole ≡ false → FewerLeft (steps_left (W.name world.now.words).limits self.old asked.now (AtReading reading shrinks)) (W.name world.now.words).limits self.new asked.now result }
         ensures further { whole ≡ true → IsFurther (AtReading reading shrinks) result }
         ensures loads { Did W.alone [] (W.sight pass.old).seen (W.sight pass.new).seen }
         ensures sees { self.new.seen ≡ self.old.seen }

@@ -11,8 +11,9 @@ ghost use Rattle.ulfm_model.specs.Answers.{polled_by};
 ghost use Rattle.ulfm_model.specs.declared.{refusal.Refusal.TheVariants.{OutOfMemory, SelfFailed}, reply.Reply.TheVariants.{Pending as StillPending, Refused}};
 ghost use Rattle.ulfm_model.specs.Terms.{comm_of};
 ghost use Rattle.ulfm_comm.specs.Calls.{EndsReply};
+ghost use Rattle.ulfm_comm.specs.StepsLeft.{FewerLeft, MakesStep, steps_left};
 ghost use Rattle.ulfm_comm.specs.Polls.{EndsInMissing, IsAgreement};
-ghost use Rattle.ulfm_comm.specs.Stages.{Answered, AnswersEarly, IsChecking, IsFurther, IsPast, StepAdds, StepSees, Stepped, is_looking, next_of, reply_in, Stands, StillStands, Turns, Waits, Walks};
+ghost use Rattle.ulfm_comm.specs.Stages.{Answered, AnswersEarly, IsChecking, IsFurther, IsPast, StepAdds, StepSees, Stepped, is_looking, next_of, next_step, reply_in, Stands, StillStands, Turns, Waits, Walks};
 ghost use Rattle.ulfm_comm.specs.declared.doing.Next.TheVariants.{Ends as NextEnds, Goes as NextGoes};
 ghost use Rattle.ulfm_comm.specs.declared.doing.Phase.TheVariants.{Begun as AtBegun, Checking as AtChecking, Over as AtOver, Waiting as AtWaiting};
 
@@ -66,8 +67,9 @@ impl<P: Packed, A: Allocator + Copy> Rank<P, A> {
         requires of { IsOf P.meld (W.name world.now.words) (W.sight pass.old) }
         requires stands { StillStands P.meld (W.name world.now.words) asked.now phase group.old.items self.old (W.sight pass.old) }
         ensures walks { Walks P.meld W.alone (W.name world.now.words) self.old.number (W.sight pass.old) (W.sight pass.new) }
-        ensures one { whole ≡ false → phase ≢ AtOver → (W.sight pass.new).steps ≡ (W.sight pass.old).steps + 1 }
-        ensures over { phase ≡ AtOver → (result ≡ NextEnds (Refused SelfFailed)) × (self.new ≡ self.old) × (W.sight pass.new ≡ W.sight pass.old) }
+        ensures named { whole ≡ false → MakesStep (next_step phase) self.old.number (comm_of asked.now) (W.sight pass.old) (W.sight pass.new) }
+        ensures nearer { whole ≡ false → FewerLeft (steps_left (W.name world.now.words).limits self.old asked.now phase) (W.name world.now.words).limits self.new asked.now result }
+        ensures over { phase ≡ AtOver → (result ≡ NextEnds (Refused SelfFailed)) × (self.new ≡ self.old) }
         ensures further { whole ≡ true → IsFurther phase result }
         ensures adds { whole ≡ false → StepAdds W.alone self.old asked.now phase (reply_in result) (W.sight pass.old).seen (W.sight pass.new).seen }
         ensures sees { StepSees phase self.old.seen self.new.seen }
@@ -116,7 +118,6 @@ impl<P: Packed, A: Allocator + Copy> Rank<P, A> {
     ) -> Option<Reply<P>>
         requires of { IsOf P.meld (W.name world.now.words) (W.sight pass.old) }
         requires stood { (old : Record) × (before : Sight P) × (stood : Sight P) × Stands P.meld false (W.name world.now.words) old before doing.old self.old stood × Waits false stood (W.sight pass.old) }
-        ensures one { doing.old.phase ≢ AtOver → (W.sight pass.new).steps ≡ (W.sight pass.old).steps + 1 }
         ensures asked { doing.new.asked ≡ doing.old.asked }
         ensures stepped { Stepped P.meld W.alone (W.name world.now.words) doing.old self.old (W.sight pass.old) (next_of result doing.new.phase) self.new (W.sight pass.new) }
         ensures stands { (alone : Bool) → (IsTrue alone → IsTrue W.alone) → (old : Record) → (before : Sight P) → (stood : Sight P)

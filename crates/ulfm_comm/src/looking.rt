@@ -1,12 +1,15 @@
 // The look of a call, and what comes after it.
-ghost use Rattle.std.specs.Prelude.{ℕ, Bool, List, [], ◌≡◌, ◌+◌, ◌<◌, false, true, max, min, None, Some, MatchOption};
+ghost use Rattle.std.specs.Prelude.{ℕ, Bool, List, [], ◌≡◌, ◌+◌, ◌-◌, ◌<◌, false, true, length, max, min, None, Some, MatchOption};
 ghost use Rattle.ulfm_model.specs.Records.{Record};
 ghost use Rattle.ulfm_model.specs.Runs.{Did};
 ghost use Rattle.ulfm_model.specs.declared.call.Call.TheVariants.{Poll as PollAsked};
 ghost use Rattle.ulfm_model.specs.declared.call.Request.TheVariants.{Barrier as OfBarrier};
 ghost use Rattle.ulfm_comm.specs.Polls.{IsAgreement, agreement};
 ghost use Rattle.ulfm_comm.specs.Stages.{IsFurther, JustLooked, NextIs, Passes, Stands, StillStands, Turns, Walks, left};
+ghost use Rattle.ulfm_comm.specs.StepsLeft.{FewerLeft, IsStepOf, after_look, steps_left};
+ghost use Rattle.ulfm_model.specs.Terms.{comm_of};
 ghost use Rattle.ulfm_comm.specs.declared.doing.Phase.TheVariants.{Begun as AtBegun, Looking as AtLooking};
+ghost use Rattle.ulfm_comm.specs.declared.doing.StepName.TheVariants.{List as AtList};
 ghost use Rattle.ulfm_words.specs.Steps.{IsOf, Sight};
 
 use crate::doing::{Next, Phase};
@@ -71,7 +74,8 @@ impl<P: Packed, A: Allocator> Rank<P, A> {
         requires of { IsOf P.meld (W.name world.now.words) (W.sight pass.old) }
         requires stands { (group : List ℕ) × StillStands P.meld (W.name world.now.words) asked.now AtBegun group self.old (W.sight pass.old) }
         ensures walks { Walks P.meld W.alone (W.name world.now.words) self.old.number (W.sight pass.old) (W.sight pass.new) }
-        ensures one { whole ≡ false → (W.sight pass.new).steps ≡ (W.sight pass.old).steps + 1 }
+        ensures named { whole ≡ false → IsStepOf AtList self.old.number (comm_of asked.now) (W.sight pass.old) (W.sight pass.new) }
+        ensures nearer { whole ≡ false → FewerLeft (steps_left (W.name world.now.words).limits self.old asked.now AtBegun) (W.name world.now.words).limits self.new asked.now result }
         ensures further { whole ≡ true → IsFurther AtBegun result }
         ensures loads { Did W.alone [] (W.sight pass.old).seen (W.sight pass.new).seen }
         ensures turns { (group : List ℕ) → Turns P.meld W.alone (W.name world.now.words) asked.now AtBegun group self.old (W.sight pass.old) result group self.new (W.sight pass.new) }
@@ -92,7 +96,8 @@ impl<P: Packed, A: Allocator> Rank<P, A> {
         requires of { IsOf P.meld (W.name world.now.words) (W.sight pass.old) }
         requires stands { (group : List ℕ) × StillStands P.meld (W.name world.now.words) asked.now AtLooking group self.old (W.sight pass.old) }
         ensures walks { Walks P.meld W.alone (W.name world.now.words) self.old.number (W.sight pass.old) (W.sight pass.new) }
-        ensures one { whole ≡ false → (W.sight pass.new).steps ≡ (W.sight pass.old).steps + 1 }
+        ensures named { whole ≡ false → IsStepOf AtList self.old.number (comm_of asked.now) (W.sight pass.old) (W.sight pass.new) }
+        ensures nearer { whole ≡ false → FewerLeft (steps_left (W.name world.now.words).limits self.old asked.now AtLooking) (W.name world.now.words).limits self.new asked.now result }
         ensures further { whole ≡ true → IsFurther AtLooking result }
         ensures loads { Did W.alone [] (W.sight pass.old).seen (W.sight pass.new).seen }
         ensures turns { (group : List ℕ) → Turns P.meld W.alone (W.name world.now.words) asked.now AtLooking group self.old (W.sight pass.old) result group self.new (W.sight pass.new) }
@@ -117,6 +122,7 @@ impl<P: Packed, A: Allocator> Rank<P, A> {
         requires of { IsOf P.meld (W.name world.now.words) (W.sight pass.now) }
         requires just { (old : Record) × (before : Sight P) × JustLooked P.meld false (W.name world.now.words) asked.now old before self.old (W.sight pass.now) }
         ensures further { IsFurther AtLooking result }
+        ensures nearer { FewerLeft (after_look (W.name world.now.words).limits self.old asked.now + max 1 ((W.name world.now.words).limits.ranks - length self.old.seen)) (W.name world.now.words).limits self.new asked.now result }
         ensures turns { (group : List ℕ) (alone : Bool) (old : Record) (before : Sight P) → JustLooked P.meld alone (W.name world.now.words) asked.now old before self.old (W.sight pass.now) → NextIs P.meld alone (W.name world.now.words) asked.now old before result group self.new (W.sight pass.now) }
     {
         let Some(x) = self.held(comm_of(asked)) else {
@@ -139,6 +145,7 @@ impl<P: Packed, A: Allocator> Rank<P, A> {
         requires just { (old : Record) × (before : Sight P) × JustLooked P.meld false (W.name world.now.words) asked.now old before self.old (W.sight pass.now) }
         requires passes { Passes self.old asked.now }
         ensures further { IsFurther AtLooking result }
+        ensures nearer { FewerLeft (after_look (W.name world.now.words).limits self.old asked.now + max 1 ((W.name world.now.words).limits.ranks - length self.old.seen)) (W.name world.now.words).limits self.new asked.now result }
         ensures turns { (group : List ℕ) (alone : Bool) (old : Record) (before : Sight P) → JustLooked P.meld alone (W.name world.now.words) asked.now old before self.old (W.sight pass.now) → NextIs P.meld alone (W.name world.now.words) asked.now old before result group self.new (W.sight pass.now) }
     {
         let Some(x) = self.held(comm_of(asked)) else {
@@ -194,6 +201,8 @@ impl<P: Packed, A: Allocator> Rank<P, A> {
         requires passes { Passes self.now asked.now }
         requires polls { (rank : ℕ) × (comm : ℕ) × (asked.now ≡ PollAsked rank comm) }
         ensures further { left result < 7 }
+        ensures nearer { steps_left (W.name world.now.words).limits self.now asked.now result
+            < after_look (W.name world.now.words).limits self.now asked.now + max 1 ((W.name world.now.words).limits.ranks - length self.now.seen) }
         ensures turns { (group : List ℕ) (alone : Bool) (old : Record) (before : Sight P) → JustLooked P.meld alone (W.name world.now.words) asked.now old before self.now (W.sight pass.now) → Stands P.meld alone (W.name world.now.words) old before (record { asked = asked.now; phase = result; group = group }) self.now (W.sight pass.now) }
     {
         let comm = comm_of(asked);

@@ -6,10 +6,10 @@ ghost use Rattle.ulfm_model.specs.History.{failures, first_ranks, without};
 ghost use Rattle.ulfm_model.specs.Words.{MayOpen};
 ghost use Rattle.ulfm_model.specs.Answers.{closed, opened};
 ghost use Rattle.ulfm_words.specs.Steps.{IsOf, Goes};
-ghost use Rattle.ulfm_steps.specs.Looks.{LookIs};
-ghost use Rattle.ulfm_steps.specs.ReadsOn.{AtFailure, MayReadOn};
+ghost use Rattle.ulfm_steps.specs.Looks.{LookIs, LookTakes};
+ghost use Rattle.ulfm_steps.specs.ReadsOn.{AtFailure, MayReadOn, ReadOnTakes};
 ghost use Rattle.ulfm_steps.specs.declared.item.Item.TheVariants.{Comm as OfComm};
-ghost use Rattle.ulfm_comm.specs.Shrinks.{MayHold, MaySpawn, SpawnIs};
+ghost use Rattle.ulfm_comm.specs.Shrinks.{MayHold, MaySpawn, SpawnIs, SpawnTakes};
 ghost use Rattle.ulfm_comm.specs.Starts.{HasNext};
 ghost use Rattle.ulfm_comm.specs.declared.spawned.Spawned.TheVariants.{Unknown};
 
@@ -158,7 +158,7 @@ impl<P: Packed, A: Allocator> Rank<P, A> {
         requires limits { self.old.limits ≡ (W.name words.now).limits }
         requires look { LookIs (W.name words.now).limits false self.old.seen (W.sight pass.old).seen }
         ensures goes { Goes P.meld W.alone (W.name words.now) (W.name words.now).limits.ranks (W.sight pass.old) (W.sight pass.new) }
-        ensures one { whole ≡ false → (W.sight pass.new).steps ≡ (W.sight pass.old).steps + 1 }
+        ensures takes { LookTakes whole (W.name words.now).limits self.old.seen result self.new.seen (W.sight pass.old) (W.sight pass.new) }
         ensures kept { self.new ≡ record self.old { seen = self.new.seen } }
         ensures look { LookIs (W.name words.now).limits result self.new.seen (W.sight pass.new).seen }
         ensures done { whole ≡ true → result ≡ true }
@@ -184,7 +184,7 @@ impl<P: Packed, A: Allocator> Rank<P, A> {
         requires may { (x : Held) × (held_at self.old comm ≡ Some x) × MayReadOn x.group count self.old.seen (failures (W.sight pass.old).seen) × AtFailure x.group count on.old self.old.seen }
         requires more { on.old.found < count }
         ensures goes { Goes P.meld W.alone (W.name words.now) (W.name words.now).limits.ranks (W.sight pass.old) (W.sight pass.new) }
-        ensures one { whole ≡ false → (W.sight pass.new).steps ≡ (W.sight pass.old).steps + 1 }
+        ensures takes { ReadOnTakes whole (W.name words.now).limits self.old.seen self.new.seen (W.sight pass.old) (W.sight pass.new) }
         ensures kept { self.new ≡ record self.old { seen = self.new.seen } }
         ensures goes_on { IsPrefix self.old.seen self.new.seen }
         ensures begins { IsPrefix self.new.seen (failures (W.sight pass.new).seen) }
@@ -297,7 +297,7 @@ impl<P: Packed, A: Allocator + Copy> Rank<P, A> {
         requires may { (k : ℕ) × MaySpawn P.meld (W.name words.now).limits (W.sight pass.old).seen comm k append.old }
         requires holds { MayHold self.old comm context (length group.old.items) }
         ensures spawns { (k : ℕ) → append.old.item ≡ OfComm comm k → SpawnIs P.meld W.alone (W.name words.now) comm k context append.old append.new group.old.items self.old (W.sight pass.old) result self.new (W.sight pass.new) }
-        ensures one { whole ≡ false → (W.sight pass.new).steps ≡ (W.sight pass.old).steps + 1 }
+        ensures takes { SpawnTakes whole (W.name words.now).limits append.old result append.new (W.sight pass.old) (W.sight pass.new) }
         ensures kept { result ≡ Unknown → group.new.items ≡ group.old.items }
         ensures done { whole ≡ true → result ≢ Unknown }
     {

@@ -1,11 +1,12 @@
 // The further steps of a shrink's poll, once its round is decided.
-ghost use Rattle.std.specs.Prelude.{Bool, [], ◌≡◌, ◌≢◌, ◌+◌, false, true};
+ghost use Rattle.std.specs.Prelude.{Bool, [], ◌≡◌, ◌+◌, ◌-◌, ◌*◌, false, true, if◌then◌else◌};
 ghost use Rattle.ulfm_model.specs.Records.{Record};
 ghost use Rattle.ulfm_model.specs.Runs.{Did};
 ghost use Rattle.ulfm_comm.specs.Stages.{Adds, HasReached, HasReadAll, IsFurther, IsPast, NextBelow, NextIs, StillStands, reply_in, Turns, Walks};
-ghost use Rattle.ulfm_model.specs.declared.{refusal.Refusal.TheVariants.{OutOfMemory}, reply.Reply.TheVariants.{Refused}};
-ghost use Rattle.ulfm_comm.specs.declared.doing.Next.TheVariants.{Ends as NextEnds};
 ghost use Rattle.ulfm_comm.specs.declared.doing.Phase.TheVariants.{ReadingOn as AtReadingOn, Spawning as AtSpawning};
+ghost use Rattle.ulfm_comm.specs.StepsLeft.{FewerLeft, IsStepOf, after_round, steps_left};
+ghost use Rattle.ulfm_model.specs.Terms.{comm_of};
+ghost use Rattle.ulfm_comm.specs.declared.doing.StepName.TheVariants.{List as AtList, Comm as AtComm, Spawn as AtSpawn};
 ghost use Rattle.ulfm_words.specs.Steps.{IsOf, Sight};
 
 use crate::doing::{Made, Next, Phase};
@@ -41,6 +42,7 @@ impl<P: Packed, A: Allocator + Copy> Rank<P, A> {
         ensures further { NextBelow 5 result }
         ensures sees { self.new.seen ≡ self.old.seen }
         ensures past { IsPast result }
+        ensures nearer { FewerLeft (after_round (W.name world.now.words).limits self.old true + 1) (W.name world.now.words).limits self.new asked.now result }
         ensures turns { (alone : Bool) (old : Record) (before : Sight P) → HasReadAll P.meld alone (W.name world.now.words) asked.now true round all old before self.old (W.sight pass.now) → NextIs P.meld alone (W.name world.now.words) asked.now old before result group.new.items self.new (W.sight pass.now) }
     {
         let comm = comm_of(asked);
@@ -79,7 +81,8 @@ impl<P: Packed, A: Allocator + Copy> Rank<P, A> {
         requires of { IsOf P.meld (W.name world.now.words) (W.sight pass.old) }
         requires stands { StillStands P.meld (W.name world.now.words) asked.now (AtReadingOn on made) group.old.items self.old (W.sight pass.old) }
         ensures walks { Walks P.meld W.alone (W.name world.now.words) self.old.number (W.sight pass.old) (W.sight pass.new) }
-        ensures one { whole ≡ false → (W.sight pass.new).steps ≡ (W.sight pass.old).steps + 1 }
+        ensures named { whole ≡ false → IsStepOf AtList self.old.number (comm_of asked.now) (W.sight pass.old) (W.sight pass.new) }
+        ensures nearer { whole ≡ false → FewerLeft (steps_left (W.name world.now.words).limits self.old asked.now (AtReadingOn on made)) (W.name world.now.words).limits self.new asked.now result }
         ensures further { whole ≡ true → IsFurther (AtReadingOn on made) result }
         ensures loads { Did W.alone [] (W.sight pass.old).seen (W.sight pass.new).seen }
         ensures past { IsPast result }
@@ -115,6 +118,7 @@ impl<P: Packed, A: Allocator + Copy> Rank<P, A> {
         ensures further { NextBelow 4 result }
         ensures sees { self.new.seen ≡ self.old.seen }
         ensures past { IsPast result }
+        ensures nearer { FewerLeft (2 * ((W.name world.now.words).limits.comms - 1) + 1) (W.name world.now.words).limits self.new asked.now result }
         ensures turns { (alone : Bool) (old : Record) (before : Sight P) → HasReached P.meld alone (W.name world.now.words) asked.now made reach old before self.old (W.sight pass.now) → NextIs P.meld alone (W.name world.now.words) asked.now old before result group.new.items self.new (W.sight pass.now) }
     {
         let number = self.number();
@@ -156,7 +160,8 @@ impl<P: Packed, A: Allocator + Copy> Rank<P, A> {
         requires of { IsOf P.meld (W.name world.now.words) (W.sight pass.old) }
         requires stands { StillStands P.meld (W.name world.now.words) asked.now (AtSpawning append context reach) group.old.items self.old (W.sight pass.old) }
         ensures walks { Walks P.meld W.alone (W.name world.now.words) self.old.number (W.sight pass.old) (W.sight pass.new) }
-        ensures one { whole ≡ false → (W.sight pass.new).steps ≡ (W.sight pass.old).steps + 1 }
+        ensures named { whole ≡ false → IsStepOf (if append.empty then AtSpawn else AtComm) self.old.number (comm_of asked.now) (W.sight pass.old) (W.sight pass.new) }
+        ensures nearer { whole ≡ false → FewerLeft (steps_left (W.name world.now.words).limits self.old asked.now (AtSpawning append context reach)) (W.name world.now.words).limits self.new asked.now result }
         ensures further { whole ≡ true → IsFurther (AtSpawning append context reach) result }
         ensures sees { self.new.seen ≡ self.old.seen }
         ensures past { IsPast result }

@@ -1,8 +1,10 @@
 // How an agree or a shrink starts, once its record doesn't refuse it.
-ghost use Rattle.std.specs.Prelude.{◌≡◌, ◌+◌, ◌≤◌, ◌<◌, Some, filter, length};
+ghost use Rattle.std.specs.Prelude.{◌≡◌, ◌+◌, ◌≤◌, ◌<◌, Some, false, filter, length};
 ghost use Rattle.ulfm_model.specs.History.{has};
 ghost use Rattle.ulfm_model.specs.Records.{Fits, held_at};
 ghost use Rattle.ulfm_words.specs.Steps.{IsOf};
+ghost use Rattle.ulfm_model.specs.declared.place.Place.TheVariants.{Slot as SlotAt};
+ghost use Rattle.ulfm_steps.specs.Turns.{IsOneStep};
 ghost use Rattle.ulfm_comm.specs.Starts.{HasNext, Settles, start_leaves, start_result};
 
 use crate::groups::count_in;
@@ -51,7 +53,7 @@ impl<P: Packed, A: Allocator> Rank<P, A> {
         requires acked { x.now.acked ≤ length (filter (has x.now.group) self.now.seen) }
         requires room { x.now.next_agreement < (W.name world.now.words).limits.rounds }
         ensures of { IsOf P.meld (W.name world.now.words) (W.sight pass.new) }
-        ensures one { (W.sight pass.new).steps ≡ (W.sight pass.old).steps + 1 }
+        ensures one { IsOneStep (SlotAt x.now.comm x.now.next_agreement self.now.number) false (W.sight pass.old) (W.sight pass.new) }
         ensures settles { Settles W.alone (W.sight pass.old).seen (W.sight pass.new).seen self.now x.now offer result }
     {
         let known = count_in(&x.group, self.failures());

@@ -4,6 +4,9 @@ ghost use Rattle.ulfm_model.specs.Runs.{Did};
 ghost use Rattle.ulfm_comm.specs.Stages.{Adds, StillStands, Turns, Walks};
 ghost use Rattle.ulfm_comm.specs.declared.doing.Next.TheVariants.{Ends as NextEnds};
 ghost use Rattle.ulfm_comm.specs.declared.doing.Phase.TheVariants.{Settling as AtSettling, Arriving as AtArriving, Revoking as AtRevoking, Asking as AtAsking};
+ghost use Rattle.ulfm_model.specs.Terms.{comm_of};
+ghost use Rattle.ulfm_comm.specs.StepsLeft.{IsStepOf};
+ghost use Rattle.ulfm_comm.specs.declared.doing.StepName.TheVariants.{Settle as AtSettle, Arrive as AtArrive, Revoke as AtRevoke, Revocation as AtRevocation};
 ghost use Rattle.ulfm_words.specs.Steps.{IsOf};
 
 use crate::rank::Rank;
@@ -31,7 +34,7 @@ impl<P: Packed, A: Allocator> Rank<P, A> {
         requires of { IsOf P.meld (W.name world.now.words) (W.sight pass.old) }
         requires stands { (group : List ℕ) × StillStands P.meld (W.name world.now.words) asked.now (AtSettling request offer) group self.old (W.sight pass.old) }
         ensures walks { Walks P.meld W.alone (W.name world.now.words) self.old.number (W.sight pass.old) (W.sight pass.new) }
-        ensures one { (W.sight pass.new).steps ≡ (W.sight pass.old).steps + 1 }
+        ensures named { IsStepOf AtSettle self.old.number (comm_of asked.now) (W.sight pass.old) (W.sight pass.new) }
         ensures adds { Adds W.alone self.old.seen self.old asked.now (Some result) (W.sight pass.old).seen (W.sight pass.new).seen }
         ensures sees { self.new.seen ≡ self.old.seen }
         ensures turns { (group : List ℕ) → Turns P.meld W.alone (W.name world.now.words) asked.now (AtSettling request offer) group self.old (W.sight pass.old) (NextEnds result) group self.new (W.sight pass.new) }
@@ -58,7 +61,7 @@ impl<P: Packed, A: Allocator> Rank<P, A> {
         requires of { IsOf P.meld (W.name world.now.words) (W.sight pass.old) }
         requires stands { (group : List ℕ) × StillStands P.meld (W.name world.now.words) asked.now (AtArriving round) group self.old (W.sight pass.old) }
         ensures walks { Walks P.meld W.alone (W.name world.now.words) self.old.number (W.sight pass.old) (W.sight pass.new) }
-        ensures one { (W.sight pass.new).steps ≡ (W.sight pass.old).steps + 1 }
+        ensures named { IsStepOf AtArrive self.old.number (comm_of asked.now) (W.sight pass.old) (W.sight pass.new) }
         ensures adds { Adds W.alone self.old.seen self.old asked.now (Some result) (W.sight pass.old).seen (W.sight pass.new).seen }
         ensures sees { self.new.seen ≡ self.old.seen }
         ensures turns { (group : List ℕ) → Turns P.meld W.alone (W.name world.now.words) asked.now (AtArriving round) group self.old (W.sight pass.old) (NextEnds result) group self.new (W.sight pass.new) }
@@ -84,7 +87,7 @@ impl<P: Packed, A: Allocator> Rank<P, A> {
         requires of { IsOf P.meld (W.name world.now.words) (W.sight pass.old) }
         requires stands { (group : List ℕ) × StillStands P.meld (W.name world.now.words) asked.now AtRevoking group self.now (W.sight pass.old) }
         ensures walks { Walks P.meld W.alone (W.name world.now.words) self.now.number (W.sight pass.old) (W.sight pass.new) }
-        ensures one { (W.sight pass.new).steps ≡ (W.sight pass.old).steps + 1 }
+        ensures named { IsStepOf AtRevoke self.now.number (comm_of asked.now) (W.sight pass.old) (W.sight pass.new) }
         ensures adds { Adds W.alone self.now.seen self.now asked.now (Some result) (W.sight pass.old).seen (W.sight pass.new).seen }
         ensures turns { (group : List ℕ) → Turns P.meld W.alone (W.name world.now.words) asked.now AtRevoking group self.now (W.sight pass.old) (NextEnds result) group self.now (W.sight pass.new) }
     {
@@ -107,7 +110,7 @@ impl<P: Packed, A: Allocator> Rank<P, A> {
         requires of { IsOf P.meld (W.name world.now.words) (W.sight pass.old) }
         requires stands { (group : List ℕ) × StillStands P.meld (W.name world.now.words) asked.now AtAsking group self.now (W.sight pass.old) }
         ensures walks { Walks P.meld W.alone (W.name world.now.words) self.now.number (W.sight pass.old) (W.sight pass.new) }
-        ensures one { (W.sight pass.new).steps ≡ (W.sight pass.old).steps + 1 }
+        ensures named { IsStepOf AtRevocation self.now.number (comm_of asked.now) (W.sight pass.old) (W.sight pass.new) }
         ensures loads { Did W.alone [] (W.sight pass.old).seen (W.sight pass.new).seen }
         ensures turns { (group : List ℕ) → Turns P.meld W.alone (W.name world.now.words) asked.now AtAsking group self.now (W.sight pass.old) (NextEnds result) group self.now (W.sight pass.new) }
     {

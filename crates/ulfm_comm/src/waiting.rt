@@ -7,6 +7,8 @@ ghost use Rattle.ulfm_steps.specs.declared.arrivals.Missing.{Missing};
 ghost use Rattle.ulfm_comm.specs.Stages.{AnswersEarly, IsChecking, IsFurther, IsPast, Stands, StillStands, Turns, Walks};
 ghost use Rattle.ulfm_comm.specs.declared.doing.Next.TheVariants.{Ends as NextEnds, Goes as NextGoes};
 ghost use Rattle.ulfm_comm.specs.declared.doing.Phase.TheVariants.{Waiting as AtWaiting, Checking as AtChecking};
+ghost use Rattle.ulfm_comm.specs.StepsLeft.{FewerLeft, IsStepOf, steps_left};
+ghost use Rattle.ulfm_comm.specs.declared.doing.StepName.TheVariants.{Arrival as AtArrival, Revocation as AtRevocation};
 ghost use Rattle.ulfm_words.specs.Steps.{IsOf, Sight};
 
 use crate::doing::{Next, Phase};
@@ -34,7 +36,8 @@ impl<P: Packed, A: Allocator> Rank<P, A> {
         requires of { IsOf P.meld (W.name world.now.words) (W.sight pass.old) }
         requires stands { (group : List ℕ) × StillStands P.meld (W.name world.now.words) asked.now (AtWaiting arrivals) group self.now (W.sight pass.old) }
         ensures walks { Walks P.meld W.alone (W.name world.now.words) self.now.number (W.sight pass.old) (W.sight pass.new) }
-        ensures one { whole ≡ false → (W.sight pass.new).steps ≡ (W.sight pass.old).steps + 1 }
+        ensures named { whole ≡ false → IsStepOf AtArrival self.now.number (comm_of asked.now) (W.sight pass.old) (W.sight pass.new) }
+        ensures nearer { whole ≡ false → FewerLeft (steps_left (W.name world.now.words).limits self.now asked.now (AtWaiting arrivals)) (W.name world.now.words).limits self.now asked.now result }
         ensures further { whole ≡ true → IsFurther (AtWaiting arrivals) result }
         ensures loads { Did W.alone [] (W.sight pass.old).seen (W.sight pass.new).seen }
         ensures past { IsPast result }
@@ -63,7 +66,7 @@ impl<P: Packed, A: Allocator> Rank<P, A> {
         requires of { IsOf P.meld (W.name world.now.words) (W.sight pass.old) }
         requires stands { (group : List ℕ) × StillStands P.meld (W.name world.now.words) asked.now (AtChecking missing) group self.old (W.sight pass.old) }
         ensures walks { Walks P.meld W.alone (W.name world.now.words) self.old.number (W.sight pass.old) (W.sight pass.new) }
-        ensures one { (W.sight pass.new).steps ≡ (W.sight pass.old).steps + 1 }
+        ensures named { IsStepOf AtRevocation self.old.number (comm_of asked.now) (W.sight pass.old) (W.sight pass.new) }
         ensures loads { Did W.alone [] (W.sight pass.old).seen (W.sight pass.new).seen }
         ensures sees { self.new.seen ≡ self.old.seen }
         ensures early { (alone : Bool) → (IsTrue alone → IsTrue W.alone) → (old : Record) → (before : Sight P) → Fits P.meld (W.name world.now.words).limits before.seen old → asked.now ≡ AskedPoll old.number (comm_of asked.now) → (earlier : History P) → IsChecking P.meld (W.name world.now.words).limits alone (comm_of asked.now) missing earlier old before.seen self.old (W.sight pass.old).seen → AnswersEarly P.meld (W.name world.now.words).limits alone asked.now missing earlier old before.seen result self.new }

@@ -1,9 +1,6 @@
 use Rattle.std.proofs.Common.{◌≡◌, false, ap, ◌∙◌, arith}
 use Rattle.ulfm_model.specs.Records.{Held}
 use Rattle.ulfm_comm.proofs.Polling.{marking_goes, marking_may_on, marking_reads}
-use Rattle.std.proofs.Common.{refl}
-use Rattle.std.specs.List.{slice_index}
-use Rattle.ulfm_steps.specs.Marks.{MarksOnce}
 use Rattle.ulfm_comm.proofs.Adding.{adds_marked}
 use Rattle.ulfm_comm.specs.Stages.{Adds}
 use Rattle.std.proofs.Common.{Option}

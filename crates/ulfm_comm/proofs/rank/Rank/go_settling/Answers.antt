@@ -1,10 +1,15 @@
-use Rattle.std.proofs.Common.{ℕ, arith, List, Some, ap, refl, sym, subst, ◌∙◌}
+use Rattle.std.proofs.Common.{ℕ, arith, false, List, Some, ap, refl, sym, subst, ◌∙◌}
 use Rattle.ulfm_model.specs.Records.{Record}
 use Rattle.ulfm_comm.proofs.Adding.{adds_settled, start_keeps}
 use Rattle.ulfm_model.specs.declared.reply.Reply.TheVariants.{Started}
 use Rattle.ulfm_comm.specs.{Calls.{reply_of}, Stages.{Adds, Answered, Turns}}
 use Rattle.ulfm_comm.specs.declared.doing.{Next.TheVariants.{Ends}, Phase.TheVariants.{Settling}}
-use Rattle.ulfm_comm.proofs.{Holding.{found_there}, Exchanging.{fits_now, seen_is, start_answered, walks_settled}, Starts.{acked_known}}
+use Rattle.ulfm_model.specs.declared.place.Place.TheVariants.{Slot as SlotAt}
+use Rattle.ulfm_model.specs.Terms.{comm_of}
+use Rattle.ulfm_steps.specs.Turns.{IsOneStep}
+use Rattle.ulfm_comm.specs.StepsLeft.{IsStepOf}
+use Rattle.ulfm_comm.specs.declared.doing.StepName.TheVariants.{Settle as AtSettle}
+use Rattle.ulfm_comm.proofs.{Holding.{comm_is, found_there}, Exchanging.{fits_now, seen_is, start_answered, walks_settled}, Starts.{acked_known}}
 use Rattle.ulfm_comm.proofs.rank.Rank.go_settling.Goals as goal
 use Rattle.ulfm_comm.proofs.rank.Rank.go_settling.Goals.{After-end_start}
 
@@ -29,7 +34,7 @@ contribute-settled-requires-clause-acked g c =
 pub returns-in-Ok-clause-walks : goal.returns-in-Ok-clause-walks
 returns-in-Ok-clause-walks g c =
     walks_settled g.P.Meld.meld g.W.Words.alone (g.W.Words.name c.args.world.now.words) c.args.self.now.number (g.W.Words.sight c.args.pass.now) (g.W.Words.sight c.contribute-settled.new.pass)
-    c.contribute-settled.ensures.of c.contribute-settled.ensures.one c.args.self.now c.in-Some.x.now c.args.offer c.contribute-settled.result refl c.contribute-settled.ensures.settles
+    c.contribute-settled.ensures.of c.contribute-settled.ensures.one.steps c.args.self.now c.in-Some.x.now c.args.offer c.contribute-settled.result refl c.contribute-settled.ensures.settles
 
 -- the start is answered as its exchange says
 answered : (g : _) (c : After-end_start g) (group : List ℕ)
@@ -41,7 +46,7 @@ answered g c =
     let name = g.W.Words.name c.args.world.now.words in
     subst (λ r. Answered g.P.Meld.meld alone name c.args.asked.now old before (reply_of (λ _. Started) r) c.end_start.new.self (g.W.Words.sight c.contribute-settled.new.pass)) (sym c.end_start.ensures.result)
     (start_answered g.P.Meld.meld alone g.W.Words.alone only name c.args.asked.now c.args.request c.args.offer group old before c.args.self.now (g.W.Words.sight c.args.pass.now) (g.W.Words.sight c.contribute-settled.new.pass)
-    (omega (arith, c.contribute-settled.ensures.one)) stands c.in-Some.x.now (rw (← c.comm_of.ensures) held) c.contribute-settled.result c.end_start.new.self c.contribute-settled.ensures.of c.contribute-settled.ensures.settles (rw (← c.comm_of-2.ensures) c.end_start.ensures.leaves))
+    (omega (arith, c.contribute-settled.ensures.one.steps)) stands c.in-Some.x.now (rw (← c.comm_of.ensures) held) c.contribute-settled.result c.end_start.new.self c.contribute-settled.ensures.of c.contribute-settled.ensures.settles (rw (← c.comm_of-2.ensures) c.end_start.ensures.leaves))
 
 pub returns-in-Ok-clause-turns : goal.returns-in-Ok-clause-turns
 returns-in-Ok-clause-turns g c =
@@ -81,3 +86,23 @@ returns-in-Err-clause-adds g c =
 
 pub returns-in-Err-clause-sees : goal.returns-in-Err-clause-sees
 returns-in-Err-clause-sees g c = ap (λ (w : Record). w.seen) c.end_start.ensures.leaves ∙ start_keeps c.args.self.now _ c.args.request c.contribute-settled.result
+
+-- the exchange is at the rank's own place, in a round of the call's communicator
+named : (g : _) (c : After-end_start g) → IsStepOf AtSettle c.args.self.now.number (comm_of c.args.asked.now) (g.W.Words.sight c.args.pass.now) (g.W.Words.sight c.contribute-settled.new.pass)
+named g c =
+    let limits = (g.W.Words.name c.args.world.now.words).limits in
+    let now = g.W.Words.sight c.args.pass.now in
+    let after = g.W.Words.sight c.contribute-settled.new.pass in
+    let own = c.args.self.now in
+    let x = c.in-Some.x.now in
+    let s = c.requires.stands.1.2 in
+    let p = s.at.0 in
+    let held = c.in-Some.ensures.held in
+    let there = comm_is g.P.Meld.meld limits now.seen own (comm_of c.args.asked.now) x (fits_now _ _ _ _ _ _ _ _ p c.requires.of.legal) (rw (← c.comm_of.ensures) held) in
+    (x.next_agreement, subst (λ n. IsOneStep (SlotAt n x.next_agreement own.number) false now after) there c.contribute-settled.ensures.one)
+
+pub returns-in-Ok-clause-named : goal.returns-in-Ok-clause-named
+returns-in-Ok-clause-named g c = named g (goal.at.returns-in-Ok-clause-named g c).After-end_start
+
+pub returns-in-Err-clause-named : goal.returns-in-Err-clause-named
+returns-in-Err-clause-named g c = named g (goal.at.returns-in-Err-clause-named g c).After-end_start

@@ -1,7 +1,6 @@
 use Rattle.std.proofs.Common.{◌≡◌, false, ap, ◌∙◌, subst}
 use Rattle.ulfm_comm.specs.Stages.{IsChecking}
 use Rattle.ulfm_model.specs.Terms.{comm_of}
-use Rattle.ulfm_steps.specs.declared.arrivals.Missing.{Missing}
 use Rattle.ulfm_model.specs.Records.{Held}
 use Rattle.ulfm_comm.proofs.Polling.{waiting_checks, waiting_ends, waiting_goes, waiting_may}
 use Rattle.ulfm_comm.proofs.rank.Rank.go_waiting.Goals as goal

@@ -1,11 +1,8 @@
-use Rattle.std.proofs.Common.{◌≡◌, ◌<◌, ◌≤◌, List, None, Some, length, take, refl, ap, ap₂, sym, ◌∙◌, subst}
-use Rattle.std.specs.Prelude.{IfOk, Result, Ok, Err}
+use Rattle.std.proofs.Common.{◌≡◌, ◌<◌, ◌≤◌, None, Some, length, take, ap, ap₂, sym, ◌∙◌, subst}
 use Rattle.std.specs.List.{position}
-use Rattle.std.specs.Vec.{vec_capacity}
 use Rattle.std.proofs.lemmas.List.{length-take-le}
 use Rattle.ulfm_model.specs.History.{without}
 use Rattle.ulfm_model.specs.Records.{Held, Record, held_at}
-use Rattle.ulfm_comm.specs.Ranks.{HasRoom}
 use Rattle.ulfm_comm.proofs.Helds.{find_is, find_missing, is_of, position_below}
 use Rattle.ulfm_comm.proofs.rank.Rank.make_room.Goals as goal
 

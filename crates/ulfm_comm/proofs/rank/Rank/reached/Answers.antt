@@ -3,17 +3,14 @@ use Rattle.std.specs.Prelude.{IfOk, Result, Ok, Err}
 use Rattle.std.specs.Result.{is_err}
 use Rattle.ulfm_model.specs.Answers.{closed, traits_of}
 use Rattle.ulfm_model.specs.History.{has, without}
-use Rattle.ulfm_model.specs.Records.{Held, Record, held_at}
+use Rattle.ulfm_model.specs.Records.{Held, held_at}
 use Rattle.ulfm_model.specs.declared.call.Call.{Call}
 use Rattle.ulfm_model.specs.declared.event.Caller.TheVariants.{Rank as ByRank}
 use Rattle.ulfm_steps.specs.Appends.{room}
 use Rattle.ulfm_steps.specs.declared.append.Append.{Append}
 use Rattle.ulfm_steps.specs.declared.item.Item.{Item}
 use Rattle.ulfm_steps.specs.declared.item.Item.TheVariants.{Comm as OfComm}
-use Rattle.ulfm_comm.specs.Stages.{Answered, Stands}
-use Rattle.ulfm_comm.specs.declared.doing.Phase.TheVariants.{Spawning as AtSpawning}
 use Rattle.ulfm_model.specs.declared.limits.Limits.{Limits}
-use Rattle.ulfm_model.specs.declared.{refusal.Refusal.TheVariants.{OutOfMemory}, reply.Reply.TheVariants.{Refused}}
 use Rattle.ulfm_model.specs.Terms.{comm_of}
 use Rattle.ulfm_comm.proofs.Ending.{ends_full, ends_out, ends_self_failed, full_alone, held_is, number_is}
 use Rattle.ulfm_comm.proofs.rank.Rank.reached.Goals as goal

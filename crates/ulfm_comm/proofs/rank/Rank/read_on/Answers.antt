@@ -3,7 +3,7 @@ use Rattle.std.specs.List.{position}
 use mathlib.Core.List.{IsPrefix}
 use Rattle.ulfm_model.specs.History.{failures}
 use Rattle.ulfm_model.specs.Records.{Held, Record, held_at}
-use Rattle.ulfm_steps.specs.ReadsOn.{AtFailure, MayReadOn}
+use Rattle.ulfm_steps.specs.ReadsOn.{AtFailure, MayReadOn, ReadOnTakes}
 use Rattle.ulfm_comm.proofs.Helds.{find_is, find_missing, is_of, position_below}
 use Rattle.ulfm_comm.proofs.rank.Rank.read_on.Goals as goal
 use Rattle.ulfm_comm.proofs.rank.Rank.read_on.Goals.{After-deref-2}
@@ -52,8 +52,9 @@ invariant_of-self g c =
 pub returns-clause-goes : goal.returns-clause-goes
 returns-clause-goes g c = c.advance.ensures.goes
 
-pub returns-clause-one : goal.returns-clause-one
-returns-clause-one g c = λ single. (c.advance.ensures.takes.one single).steps
+pub returns-clause-takes : goal.returns-clause-takes
+returns-clause-takes g c =
+    subst (λ (own : Record). ReadOnTakes c.args.whole (g.W.Words.name c.args.words.now).limits own.seen c.advance.new.seen.items (g.W.Words.sight c.args.pass.now) (g.W.Words.sight c.advance.new.pass)) c.self.view_is c.advance.ensures.takes
 
 pub returns-clause-kept : goal.returns-clause-kept
 returns-clause-kept g c = ap (λ (own : Record). record own { seen = c.advance.new.seen.items }) c.self.view_is

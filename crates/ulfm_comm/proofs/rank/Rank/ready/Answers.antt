@@ -1,6 +1,7 @@
 use Rattle.std.proofs.Common.{◌≡◌, ◌<◌, false, length, ap, sym, ◌∙◌, subst, arith}
 use Rattle.std.specs.List.Sorted.{IsStrictlyIncreasing}
-use Rattle.ulfm_model.specs.Records.{Fits, Held}
+use Rattle.ulfm_model.specs.Records.{Fits, Held, held_at}
+use Rattle.ulfm_comm.proofs.Bounding.{marking_after, reading_after, waiting_after}
 use Rattle.ulfm_comm.proofs.{Holding.{group_rises, holds}, Polling.{just_fits, ready_marking, ready_reading, ready_waiting, some_member}}
 use Rattle.ulfm_comm.proofs.rank.Rank.ready.Goals as goal
 use Rattle.ulfm_comm.proofs.rank.Rank.ready.Goals.{After-held, After-deref, After-deref-2}
@@ -58,3 +59,27 @@ returns-clause-turns g c = λ here alone old before just.
     ready_reading g.P.Meld.meld alone (g.W.Words.name c.args.world.now.words) c.args.asked.now old before c.args.self.now (g.W.Words.sight c.args.pass.now) just c.requires.of here c.in-Some.x.now c.comm_of-comm.result c.in-Some.ensures.held c.comm_of-comm.ensures polls.0 polls.1 polls.2
     c.deref-2.result.now c.failures-seen.result.now (group-2 g (goal.at.returns-clause-turns g c).After-deref-2) c.failures-seen.ensures c.new-marks.result c.in-Some-agreement.shrinks c.in-Some-agreement.round
     (sym (ap (λ (y : Held). y.request) c.x.view_is) ∙ c.in-Some-agreement.ensures) c.new-marks.ensures.at c.new-marks.ensures.first c.new.result c.new.ensures (omega (arith, c.if-marks-seen.false))
+
+pub returns-in-Some-barrier-clause-nearer : goal.returns-in-Some-barrier-clause-nearer
+returns-in-Some-barrier-clause-nearer g c =
+    let name = g.W.Words.name c.args.world.now.words in
+    let polls = c.requires.polls in
+    let held = ap (held_at c.args.self.now) (sym c.comm_of-comm.ensures) ∙ c.in-Some.ensures.held in
+    waiting_after name.limits c.args.self.now c.args.asked.now g.P.Meld.meld (g.W.Words.sight c.args.pass.now).seen c.requires.of.legal (fits g (goal.at.returns-in-Some-barrier-clause-nearer g c).After-held).seen c.requires.of.may_open.in_range.some_comms
+    polls.0 polls.1 c.in-Some.x.now polls.2 held c.in-Some-barrier.round c.new-arrivals.result (sym (ap (λ (y : Held). y.request) c.x.view_is) ∙ c.in-Some-barrier.ensures)
+
+pub returns-then-marks-seen-clause-nearer : goal.returns-then-marks-seen-clause-nearer
+returns-then-marks-seen-clause-nearer g c =
+    let name = g.W.Words.name c.args.world.now.words in
+    let polls = c.requires.polls in
+    let held = ap (held_at c.args.self.now) (sym c.comm_of-comm.ensures) ∙ c.in-Some.ensures.held in
+    marking_after name.limits c.args.self.now c.args.asked.now g.P.Meld.meld (g.W.Words.sight c.args.pass.now).seen c.requires.of.legal (fits g (goal.at.returns-then-marks-seen-clause-nearer g c).After-held).seen c.requires.of.may_open.in_range.some_comms
+    polls.0 polls.1 c.in-Some.x.now polls.2 held c.in-Some-agreement.round c.in-Some-agreement.shrinks c.new-marks.result (sym (ap (λ (y : Held). y.request) c.x.view_is) ∙ c.in-Some-agreement.ensures)
+
+pub returns-clause-nearer : goal.returns-clause-nearer
+returns-clause-nearer g c =
+    let name = g.W.Words.name c.args.world.now.words in
+    let polls = c.requires.polls in
+    let held = ap (held_at c.args.self.now) (sym c.comm_of-comm.ensures) ∙ c.in-Some.ensures.held in
+    reading_after name.limits c.args.self.now c.args.asked.now g.P.Meld.meld (g.W.Words.sight c.args.pass.now).seen c.requires.of.legal (fits g (goal.at.returns-clause-nearer g c).After-held).seen c.requires.of.may_open.in_range.some_comms
+    polls.0 polls.1 c.in-Some.x.now polls.2 held c.in-Some-agreement.round c.in-Some-agreement.shrinks c.new.result (sym (ap (λ (y : Held). y.request) c.x.view_is) ∙ c.in-Some-agreement.ensures)

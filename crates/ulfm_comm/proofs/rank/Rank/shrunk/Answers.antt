@@ -13,6 +13,7 @@ pub returns-in_default : goal.returns-in_default
 returns-in_default g c =
     record {
       further = tt;
+      nearer = tt;
       sees = ap (λ (w : Record). w.seen) c.close.ensures;
       past = tt;
       turns = λ alone old before r.

@@ -57,6 +57,8 @@ stepped g c =
     (sym (same g at)) (record {
       of = c.go.ensures.walks.of;
       onward = c.go.ensures.walks.onward;
+      named = c.go.ensures.named refl;
+      nearer = c.go.ensures.nearer refl;
       over = c.go.ensures.over;
       adds = c.go.ensures.adds refl;
       sees = c.go.ensures.sees;

@@ -1,0 +1,85 @@
+-- Which atomic step a call makes next, and how many it makes at most.
+use Rattle.std.specs.Prelude.{◌≡◌, ℕ, ◌+◌, ◌-◌, ◌*◌, ◌<◌, Bool, true, false, List, [], length, Option, Some, None, ⊤}
+use Rattle.ulfm_model.specs.declared.call.Call.TheVariants as call
+use Rattle.ulfm_model.specs.declared.{call.Call.{Call}, call.Request.{Request}, call.Request.TheVariants.{Agree, Shrink, Barrier}, limits.Limits.{Limits}}
+use Rattle.ulfm_model.specs.declared.place.Place.TheVariants.{List as ListAt, Comm as CommAt, Revoked as RevokedAt, Slot as SlotAt, Arrival as ArrivalAt}
+use Rattle.ulfm_model.specs.Records.{Held, Record, held_at}
+use Rattle.ulfm_model.specs.Terms.{comm_of, request_of}
+use Rattle.ulfm_words.specs.Steps.{Sight}
+use Rattle.ulfm_steps.specs.{Appends.{turns_left}, Arriving.{arrivals_left}, Marks.{marks_left}, Rounds.{reads_left}, Turns.{IsOneStep}}
+use Rattle.ulfm_comm.specs.declared.doing.{Next.{Next}, Next.TheVariants.{Goes, Ends}, Phase.{Phase}, StepName.{StepName}}
+use Rattle.ulfm_comm.specs.declared.doing.Phase.TheVariants.{Over, Begun, Looking, Settling, Arriving, Revoking, Asking, Marking}
+use Rattle.ulfm_comm.specs.declared.doing.Phase.TheVariants.{Reading, ReadingOn, Spawning, Waiting, Checking}
+use Rattle.ulfm_comm.specs.declared.doing.StepName.TheVariants as step
+
+-- one atomic step of this name, of rank r on communicator c: its place, and whether it is a load
+abbrev pub IsStepOf : {P : Type 0} → StepName → ℕ → ℕ → Sight P → Sight P → Type 0
+IsStepOf step.List r c old new = (i : ℕ) × IsOneStep (ListAt i) true old new
+IsStepOf step.Settle r c old new = (k : ℕ) × IsOneStep (SlotAt c k r) false old new
+IsStepOf step.Mark r c old new = (k member : ℕ) × IsOneStep (SlotAt c k member) false old new
+IsStepOf step.Slot r c old new = (k member : ℕ) × IsOneStep (SlotAt c k member) true old new
+IsStepOf step.Comm r c old new = (j : ℕ) × IsOneStep (CommAt j) true old new
+IsStepOf step.Spawn r c old new = (j : ℕ) × IsOneStep (CommAt j) false old new
+IsStepOf step.Arrive r c old new = (k : ℕ) × IsOneStep (ArrivalAt c k r) false old new
+IsStepOf step.Arrival r c old new = (k member : ℕ) × IsOneStep (ArrivalAt c k member) true old new
+IsStepOf step.Revoke r c old new = IsOneStep (RevokedAt c) false old new
+IsStepOf step.Revocation r c old new = IsOneStep (RevokedAt c) true old new
+
+-- the step that is named; none where none is
+abbrev pub MakesStep : {P : Type 0} → Option StepName → ℕ → ℕ → Sight P → Sight P → Type 0
+MakesStep None r c old new = new ≡ old
+MakesStep (Some name) r c old new = IsStepOf name r c old new
+
+-- the members of a communicator that is held
+abbrev pub group_of : Option Held → List ℕ
+group_of None = []
+group_of (Some x) = x.group
+
+-- how many steps the poll of a request makes after its look, at most, where the communicator has n members
+abbrev pub polling : Limits → ℕ → Option Request → ℕ
+polling limits n None = 0
+polling limits n (Some (Agree k)) = 2 * n
+polling limits n (Some (Shrink k)) = 2 * n + 2 * limits.comms
+polling limits n (Some (Barrier k)) = n + 1
+
+-- how many a call makes after its look
+abbrev pub after_look : {P : Type 0} → Limits → Record → Call P → ℕ
+after_look limits own (call.Fail rank) = 0
+after_look limits own (call.GetFailed rank c) = 0
+after_look limits own (call.Ack rank c count) = 0
+after_look limits own (call.Agree rank c value) = 1
+after_look limits own (call.Shrink rank c) = 1
+after_look limits own (call.Barrier rank c) = 1
+after_look limits own (call.Poll rank c) = polling limits (length (group_of (held_at own c))) (request_of (held_at own c))
+after_look limits own (call.Revoke rank c) = 1
+after_look limits own (call.IsRevoked rank c) = 1
+after_look limits own (call.Free rank c) = 0
+
+-- how many the poll of an agreement makes once its round is read through: a shrink may read on in the list of failures, and looks for
+-- its communicator
+abbrev pub after_round : Limits → Record → Bool → ℕ
+after_round limits own false = 0
+after_round limits own true = limits.ranks - length own.seen + 2 * (limits.comms - 1)
+
+-- how many steps a call makes from here on, at most, by what it does next
+abbrev pub steps_left : {P : Type 0} → Limits → Record → Call P → Phase P → ℕ
+steps_left limits own asked Over = 0
+steps_left limits own asked Begun = limits.ranks + after_look limits own asked
+steps_left limits own asked Looking = limits.ranks - length own.seen + after_look limits own asked
+steps_left limits own asked (Settling request offer) = 1
+steps_left limits own asked (Arriving round) = 1
+steps_left limits own asked Revoking = 1
+steps_left limits own asked Asking = 1
+steps_left limits own asked (Marking marks shrinks) =
+    let group = group_of (held_at own (comm_of asked)) in
+    marks_left group own.seen marks.next + length group + after_round limits own shrinks
+steps_left limits own asked (Reading reading shrinks) = reads_left (group_of (held_at own (comm_of asked))) reading + after_round limits own shrinks
+steps_left limits own asked (ReadingOn on made) = after_round limits own true
+steps_left limits own asked (Spawning append context reach) = turns_left (limits.comms - 1) append
+steps_left limits own asked (Waiting arrivals) = arrivals_left (group_of (held_at own (comm_of asked))) own.seen arrivals + 1
+steps_left limits own asked (Checking missing) = 1
+
+-- fewer than so many are left, if the call goes on
+abbrev pub FewerLeft : {P : Type 0} → ℕ → Limits → Record → Call P → Next P → Type 0
+FewerLeft most limits own asked (Goes phase) = steps_left limits own asked phase < most
+FewerLeft most limits own asked (Ends reply) = ⊤
