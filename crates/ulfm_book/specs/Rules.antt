@@ -2,7 +2,8 @@
 use Rattle.std.specs.Prelude.{◌≡◌, ℕ, ◌==◌, Bool, true, List, ◌∷◌, [], ◌++◌, length, MatchBool}
 use mathlib.Core.List.{IsPrefix}
 use Rattle.logbook.specs.Pages.{Book, Cell, Named, Step as Ask, View, cell}
-use Rattle.ulfm_model.specs.declared.{limits.Limits.{Limits}, limits.OpenFault.{OpenFault}, limits.OpenFault.TheVariants.{OutOfRange, TooLarge, OutOfMemory}, place.Place.{Place}}
+use Rattle.ulfm_model.specs.declared.{limits.Limits.{Limits}, limits.OpenFault.{OpenFault}, limits.OpenFault.TheVariants.{OutOfRange, TooLarge, OutOfMemory}}
+use Rattle.ulfm_model.specs.declared.{place.Place.{Place}}
 use Rattle.ulfm_model.specs.Words.{IsUnfit, MayOpen, size_of, word_at}
 use Rattle.ulfm_words.specs.declared.step.Last.{Last}
 use Rattle.ulfm_words.specs.{Pass.{last_of}, Places.{IsWithin}, Steps.{Heard, Name, Sight}}

@@ -1,6 +1,7 @@
 -- Where each place's word stands in the row of shared words.
 use Rattle.std.specs.Prelude.{ℕ, ◌+◌, ◌*◌}
-use Rattle.ulfm_model.specs.declared.{limits.Limits.{Limits}, place.Place.{Place}, place.Place.TheVariants.{List as ListAt, Comm as CommAt, Revoked as RevokedAt, Slot as SlotAt, Arrival as ArrivalAt}}
+use Rattle.ulfm_model.specs.declared.{limits.Limits.{Limits}, place.Place.{Place}}
+use Rattle.ulfm_model.specs.declared.{place.Place.TheVariants.{List as ListAt, Comm as CommAt, Revoked as RevokedAt, Slot as SlotAt, Arrival as ArrivalAt}}
 
 -- a rank's number among the ranks of all rounds of all communicators
 abbrev pub cell_in : Limits → ℕ → ℕ → ℕ → ℕ

@@ -40,7 +40,9 @@ impl<P: Packed, A: Allocator> Model for BookWords<P, A> {
 
     ghost view = { λ w. name_of w.start.book w.limits };
 
-    ghost invariant = { λ w. MayOpen w.limits × (w.start.log ≡ log_of w.limits []) × (vec_len w.words ≡ size_of w.limits) × ((key : ℕ) → key < size_of w.limits → slice_get w.words.items key ≡ Some (word_named w.start.book key)) × (w.starts.slots ≡ slots_from w.limits) × (w.starts.arrivals ≡ arrivals_from w.limits) };
+    ghost invariant = { λ w. MayOpen w.limits × (w.start.log ≡ log_of w.limits []) × (vec_len w.words ≡ size_of w.limits)
+        × ((key : ℕ) → key < size_of w.limits → slice_get w.words.items key ≡ Some (word_named w.start.book key))
+        × (w.starts.slots ≡ slots_from w.limits) × (w.starts.arrivals ≡ arrivals_from w.limits) };
 }
 
 impl<P: Packed, A: Allocator> BookWords<P, A> {

@@ -1,6 +1,7 @@
 -- Who has arrived in a barrier round, and what its poll answers.
 use Rattle.std.specs.Prelude.{◌≡◌, ℕ, Some}
-use Rattle.ulfm_model.specs.declared.{call.Request.TheVariants.{Barrier}, limits.Limits.{Limits}, refusal.Refusal.TheVariants.{ProcFailed}, reply.Reply.{Reply}, reply.Reply.TheVariants.{Done, Pending, Refused}}
+use Rattle.ulfm_model.specs.declared.{call.Request.TheVariants.{Barrier}, limits.Limits.{Limits}, refusal.Refusal.TheVariants.{ProcFailed}, reply.Reply.{Reply}}
+use Rattle.ulfm_model.specs.declared.{reply.Reply.TheVariants.{Done, Pending, Refused}}
 use Rattle.ulfm_model.specs.{Answers.{closed}, History.{History}, Records.{Fits, Held, Record, held_at}}
 use Rattle.ulfm_steps.specs.declared.arrivals.{Missing.{Missing}, Missing.TheVariants.{Nobody, Others, Declared}}
 

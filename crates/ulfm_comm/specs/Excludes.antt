@@ -2,7 +2,8 @@
 use Rattle.std.specs.Prelude.{◌≡◌, ℕ, Some, IsTrue, take}
 use Rattle.std.specs.List.{AllByRecursion}
 use mathlib.Core.List.{IsPrefix}
-use Rattle.ulfm_model.specs.declared.{contribution.Contribution.{Contribution}, contribution.Offer.TheVariants.{Ctx}, contribution.Slot.TheVariants.{Given}, limits.Limits.{Limits}}
+use Rattle.ulfm_model.specs.declared.{contribution.Contribution.{Contribution}, contribution.Offer.TheVariants.{Ctx}, contribution.Slot.TheVariants.{Given}}
+use Rattle.ulfm_model.specs.declared.{limits.Limits.{Limits}}
 use Rattle.ulfm_model.specs.{History.{History, IsLegal, decision, failed, has, is_decided, slot}, Records.{Held, Record, free_ids, held_at}}
 
 -- In its round of communicator c the rank has offered the context ids that it doesn't hold, and contributed all of the communicator's

@@ -3,7 +3,8 @@ use Rattle.std.specs.Prelude.{◌≡◌, ℕ, ⊤, Bool, List, IsTrue}
 use mathlib.Core.List.{IsPrefix}
 use Rattle.ulfm_model.specs.declared.{call.Call.{Call}, reply.Reply.{Reply}}
 use Rattle.ulfm_model.specs.declared.call.Call.TheVariants.{Fail, GetFailed, Ack, Agree, Shrink, Barrier, Poll, Revoke, IsRevoked, Free}
-use Rattle.ulfm_model.specs.declared.reply.Reply.TheVariants.{Started, Pending, Agreed, Shrunk, Done, FailedGroup, Acked, Declared, AlreadyFailed, Revoked, AlreadyRevoked, Standing, Freed, Refused}
+use Rattle.ulfm_model.specs.declared.reply.Reply.TheVariants.{Started, Pending, Agreed, Shrunk, Done, FailedGroup, Acked, Declared, AlreadyFailed, Revoked}
+use Rattle.ulfm_model.specs.declared.reply.Reply.TheVariants.{AlreadyRevoked, Standing, Freed, Refused}
 use Rattle.ulfm_model.specs.{Answers.{traits_of}, History.{failed, members}, Records.{Record}, Runs.{IsSound, IsStep, State}}
 use Rattle.ulfm_words.specs.Steps.{IsOf, Name, Sight}
 
@@ -18,7 +19,8 @@ pub record IsJob {P : Type 0} (meld : P → P → P) (name : Name) (pass : Sight
 
 -- One call of a rank, or a declaration: what was seen has grown, and where nobody else steps it is one step of the sequential
 -- object.
-pub record StepsBy {P : Type 0} (meld : P → P → P) (alone : Bool) (name : Name) (asked : Call P) (before : Sight P) (old : List Record) (reply : Reply P) (after : Sight P) (new : List Record) : Type 0 where
+pub record StepsBy {P : Type 0} (meld : P → P → P) (alone : Bool) (name : Name) (asked : Call P) (before : Sight P) (old : List Record) (reply : Reply P)
+    (after : Sight P) (new : List Record) : Type 0 where
   pub job : IsJob meld name after new
   pub begins : IsPrefix before.seen after.seen
   pub step : IsTrue alone → IsStep meld (state_of name before old) (traits_of asked).by asked reply (state_of name after new)

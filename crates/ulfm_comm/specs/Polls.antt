@@ -1,8 +1,12 @@
 -- What a poll answers, and in what a pending one ends.
 use Rattle.std.specs.Prelude.{◌≡◌, ℕ, ◌<◌, Bool, true, false, [], Option, Some, None, IsTrue, IsFalse, Result, Ok, Err, filter, ⊤}
 use Rattle.ulfm_laws.specs.declared.summary.Summary.{Summary}
-use Rattle.ulfm_model.specs.declared.{call.Call.{Call}, call.Call.TheVariants.{Poll}, call.Request.{Request}, call.Request.TheVariants.{Agree, Shrink, Barrier}, limits.Limits.{Limits}, place.Place.TheVariants.{Slot as SlotAt}, refusal.Refusal.{Refusal}, refusal.Refusal.TheVariants.{OutOfMemory}, reply.Reply.{Reply}, reply.Reply.TheVariants.{Agreed as AgreedOn, Done as AllCame, Pending as StillPending, Shrunk as ShrunkTo}}
-use Rattle.ulfm_model.specs.{Answers.{polled_by}, History.{History, IsLegal, failures, has, slot}, Records.{Fits, Held, Record, held_at, is_shrink}, Runs.{Did, IsRun}}
+use Rattle.ulfm_model.specs.declared.{call.Call.{Call}, call.Call.TheVariants.{Poll}, call.Request.{Request}, call.Request.TheVariants.{Agree, Shrink, Barrier}}
+use Rattle.ulfm_model.specs.declared.{limits.Limits.{Limits}, place.Place.TheVariants.{Slot as SlotAt}, refusal.Refusal.{Refusal}}
+use Rattle.ulfm_model.specs.declared.{refusal.Refusal.TheVariants.{OutOfMemory}, reply.Reply.{Reply}}
+use Rattle.ulfm_model.specs.declared.{reply.Reply.TheVariants.{Agreed as AgreedOn, Done as AllCame, Pending as StillPending, Shrunk as ShrunkTo}}
+use Rattle.ulfm_model.specs.{Answers.{polled_by}, History.{History, IsLegal, failures, has, slot}, Records.{Fits, Held, Record, held_at, is_shrink}}
+use Rattle.ulfm_model.specs.{Runs.{Did, IsRun}}
 use Rattle.ulfm_words.specs.Steps.{IsOf, Name, Sight}
 use Rattle.ulfm_steps.specs.{Marks.{Marks}, Rounds.{IsSummed}}
 use Rattle.ulfm_comm.specs.{Calls.{Calls, EndsBy, is_out_of_memory}, Looked.{Looked}}
@@ -34,7 +38,8 @@ PollIs meld alone name asked old before (Err refusal) new after = EndsBy meld al
 
 -- A poll: whatever it answers, the pass is of these words still, and the record fits what it has seen. Only that of a shrink may
 -- run out of memory.
-pub record Polls {P : Type 0} (meld : P → P → P) (alone : Bool) (name : Name) (asked : Call P) (old : Record) (before : Sight P) (result : Result (Polled P) Refusal) (new : Record) (after : Sight P) : Type 0 where
+pub record Polls {P : Type 0} (meld : P → P → P) (alone : Bool) (name : Name) (asked : Call P) (old : Record) (before : Sight P)
+    (result : Result (Polled P) Refusal) (new : Record) (after : Sight P) : Type 0 where
   pub of : IsOf meld name after
   pub fits : Fits meld name.limits after.seen new
   pub run : PollIs meld alone name asked old before result new after
@@ -42,7 +47,8 @@ pub record Polls {P : Type 0} (meld : P → P → P) (alone : Bool) (name : Name
 
 -- A poll under way: it has looked, and has marked each declared member in the round of its open request; since then there were
 -- others' events alone.
-pub record HasMarked {P : Type 0} (meld : P → P → P) (limits : Limits) (alone : Bool) (c : ℕ) (shrinks : Bool) (k : ℕ) (x : Held) (old : Record) (before : History P) (mid : Record) (after : History P) : Type 0 where
+pub record HasMarked {P : Type 0} (meld : P → P → P) (limits : Limits) (alone : Bool) (c : ℕ) (shrinks : Bool) (k : ℕ) (x : Held) (old : Record)
+    (before : History P) (mid : Record) (after : History P) : Type 0 where
   pub look : History P
   pub looked : Looked alone before look old mid
   pub fits : Fits meld limits look mid
@@ -54,7 +60,8 @@ pub record HasMarked {P : Type 0} (meld : P → P → P) (limits : Limits) (alon
   pub legal : IsLegal meld limits after
 
 -- the rank's open request is read through: all that its members say together
-pub record HasRead {P : Type 0} (meld : P → P → P) (limits : Limits) (h : History P) (c : ℕ) (shrinks : Bool) (k : ℕ) (all : Summary P) (own : Record) : Type 0 where
+pub record HasRead {P : Type 0} (meld : P → P → P) (limits : Limits) (h : History P) (c : ℕ) (shrinks : Bool) (k : ℕ) (all : Summary P) (own : Record)
+    : Type 0 where
   pub fits : Fits meld limits h own
   pub x : Held
   pub held : held_at own c ≡ Some x
@@ -63,7 +70,8 @@ pub record HasRead {P : Type 0} (meld : P → P → P) (limits : Limits) (h : Hi
 
 -- A run that answers pending has its point at its end, and its last step was a load of its own, made there: of the place of a
 -- member that its look didn't find declared, in the round of the open request; and it gave 0.
-pub record EndsInMissing {P : Type 0} (meld : P → P → P) (alone : Bool) (name : Name) (c : ℕ) (old : Record) (before : Sight P) (new : Record) (after : Sight P) : Type 0 where
+pub record EndsInMissing {P : Type 0} (meld : P → P → P) (alone : Bool) (name : Name) (c : ℕ) (old : Record) (before : Sight P) (new : Record) (after : Sight P)
+    : Type 0 where
   pub run : IsRun meld name.limits alone before.seen after.seen old (Poll old.number c) StillPending new
   pub at_end : run.span.point ≡ after.seen
   pub x : Held
@@ -80,7 +88,8 @@ pub record EndsInMissing {P : Type 0} (meld : P → P → P) (alone : Bool) (nam
 
 -- a pending poll of an agreement ends so
 abbrev pub EndsIn : {P : Type 0} → (P → P → P) → Bool → Name → ℕ → Record → Sight P → Record → Sight P → Polled P → Type 0
-EndsIn {P} meld alone name c old before new after Pending = IsAgreement (polled_by {P = P} old (Poll old.number c)) → EndsInMissing meld alone name c old before new after
+EndsIn {P} meld alone name c old before new after Pending =
+    IsAgreement (polled_by {P = P} old (Poll old.number c)) → EndsInMissing meld alone name c old before new after
 EndsIn meld alone name c old before new after (Agreed value failed raised) = ⊤
 EndsIn meld alone name c old before new after (Shrunk j context size) = ⊤
 EndsIn meld alone name c old before new after Done = ⊤

@@ -1,6 +1,8 @@
 -- Which replies each call may have; a refusal is one of each.
 use Rattle.std.specs.Prelude.{⊤}
-use Rattle.ulfm_model.specs.declared.{reply.Reply.{Reply}, reply.Reply.TheVariants.{Started, Pending, Agreed, Shrunk, Done, FailedGroup, Acked, Declared, AlreadyFailed, Revoked, AlreadyRevoked, Standing, Freed, Refused}}
+use Rattle.ulfm_model.specs.declared.{reply.Reply.{Reply}}
+use Rattle.ulfm_model.specs.declared.reply.Reply.TheVariants.{Started, Pending, Agreed, Shrunk, Done, FailedGroup, Acked, Declared, AlreadyFailed, Revoked}
+use Rattle.ulfm_model.specs.declared.reply.Reply.TheVariants.{AlreadyRevoked, Standing, Freed, Refused}
 
 -- a start
 abbrev pub IsStart : {P : Type 0} → Reply P → Type 0

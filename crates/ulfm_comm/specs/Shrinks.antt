@@ -27,7 +27,8 @@ pub record MayHold (own : Record) (c context size : ℕ) : Type 0 where
   pub fresh : AllByRecursion (λ i. nat_eq i context ≡ false) (contexts_of own.held)
 
 -- communicator j was made of the round, by this call or before
-pub record IsMadeBy {P : Type 0} (meld : P → P → P) (alone : Bool) (name : Name) (by : Caller) (c k : ℕ) (before : Sight P) (j : ℕ) (after : Sight P) : Type 0 where
+pub record IsMadeBy {P : Type 0} (meld : P → P → P) (alone : Bool) (name : Name) (by : Caller) (c k : ℕ) (before : Sight P) (j : ℕ) (after : Sight P)
+    : Type 0 where
   pub of : IsOf meld name after
   pub own : List (Event P)
   pub makes : AllByRecursion (λ event. (i : ℕ) × (event ≡ Spawn i c k)) own
@@ -47,7 +48,8 @@ pub record IsFullBy {P : Type 0} (meld : P → P → P) (alone : Bool) (name : N
   pub onward : before.steps ≤ after.steps
 
 -- it isn't found yet, and the next step may be made
-pub record IsSoughtBy {P : Type 0} (meld : P → P → P) (alone : Bool) (name : Name) (c k : ℕ) (old : Append) (before : Sight P) (new : Append) (after : Sight P) : Type 0 where
+pub record IsSoughtBy {P : Type 0} (meld : P → P → P) (alone : Bool) (name : Name) (c k : ℕ) (old : Append) (before : Sight P) (new : Append) (after : Sight P)
+    : Type 0 where
   pub of : IsOf meld name after
   pub did : Did alone [] before.seen after.seen
   pub item : new.item ≡ old.item
@@ -76,5 +78,6 @@ SpawnTakes whole limits old result new =
 -- the round's communicator isn't found yet; or it is made and held; or there is no room for it
 abbrev pub SpawnIs : {P : Type 0} → (P → P → P) → Bool → Name → ℕ → ℕ → ℕ → Append → Append → List ℕ → Record → Sight P → Spawned → Record → Sight P → Type 0
 SpawnIs meld alone name c k context append next group old before Unknown new after = IsSoughtBy meld alone name c k append before next after × (new ≡ old)
-SpawnIs meld alone name c k context append next group old before (Made j size) new after = IsMadeBy meld alone name append.by c k before j after × Holds c context group old j size new
+SpawnIs meld alone name c k context append next group old before (Made j size) new after =
+    IsMadeBy meld alone name append.by c k before j after × Holds c context group old j size new
 SpawnIs meld alone name c k context append next group old before Full new after = IsFullBy meld alone name c k before after × (new ≡ old)

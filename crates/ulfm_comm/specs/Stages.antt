@@ -1,19 +1,29 @@
 -- Where a call of a rank stands between two steps.
-use Rattle.std.specs.Prelude.{◌≡◌, ◌⊎◌, ℕ, ◌<◌, ◌≤◌, Bool, true, false, List, [], ◌∷◌, Some, None, Option, length, nat_lt, take, IsTrue, IsFalse, if◌then◌else◌, ⊤}
+use Rattle.std.specs.Prelude.{◌≡◌, ◌⊎◌, ℕ, ◌<◌, ◌≤◌, Bool, true, false, List, [], ◌∷◌, Some, None, Option, length, nat_lt, take, IsTrue, IsFalse, if◌then◌else◌}
+use Rattle.std.specs.Prelude.{⊤}
 use mathlib.Core.List.{IsPrefix}
-use Rattle.ulfm_laws.specs.declared.{body.Body.{Body}, body.Body.TheVariants.{Unit as Nothing, Flag as OfFlag, Ctx as OfIds, Clash}, ctx_mask.CtxMask.{CtxMask}, summary.Summary.{Summary}}
+use Rattle.ulfm_laws.specs.declared.{body.Body.{Body}, body.Body.TheVariants.{Unit as Nothing, Flag as OfFlag, Ctx as OfIds, Clash}, ctx_mask.CtxMask.{CtxMask}}
+use Rattle.ulfm_laws.specs.declared.{summary.Summary.{Summary}}
 use Rattle.ulfm_model.specs.declared.call.Call.TheVariants as call
-use Rattle.ulfm_model.specs.declared.{call.Call.{Call}, call.Request.{Request}, call.Request.TheVariants.{Agree, Shrink, Barrier}, contribution.Offer.{Offer}, contribution.Offer.TheVariants.{Flag, Ctx}, event.Caller.TheVariants.{Rank}, event.Event.{Event}, limits.Limits.{Limits}, refusal.Refusal.TheVariants.{IsRevoked, Mismatch, SelfFailed}, reply.Reply.{Reply}, reply.Reply.TheVariants.{Agreed, Pending, Refused, Revoked, Started}}
-use Rattle.ulfm_model.specs.{Answers.{CallAdds, first_refusal, polled_by, refusal_of, traits_of}, History.{History, IsLegal, entries_by, failures, has, without}, Records.{Fits, Held, IsLowestId, Record, free_ids, held_at}, Runs.{Did}}
+use Rattle.ulfm_model.specs.declared.{call.Call.{Call}, call.Request.{Request}, call.Request.TheVariants.{Agree, Shrink, Barrier}, contribution.Offer.{Offer}}
+use Rattle.ulfm_model.specs.declared.{contribution.Offer.TheVariants.{Flag, Ctx}, event.Caller.TheVariants.{Rank}, event.Event.{Event}, limits.Limits.{Limits}}
+use Rattle.ulfm_model.specs.declared.{refusal.Refusal.TheVariants.{IsRevoked, Mismatch, SelfFailed}, reply.Reply.{Reply}}
+use Rattle.ulfm_model.specs.declared.{reply.Reply.TheVariants.{Agreed, Pending, Refused, Revoked, Started}}
+use Rattle.ulfm_model.specs.{Answers.{CallAdds, first_refusal, polled_by, refusal_of, traits_of}}
+use Rattle.ulfm_model.specs.{History.{History, IsLegal, entries_by, failures, has, without}, Records.{Fits, Held, IsLowestId, Record, free_ids, held_at}}
+use Rattle.ulfm_model.specs.{Runs.{Did}}
 use Rattle.ulfm_model.specs.Terms.{comm_of, tests_of}
 use Rattle.ulfm_words.specs.Steps.{IsOf, Name, Sight}
-use Rattle.ulfm_steps.specs.declared.{append.Append.{Append}, item.Item.TheVariants.{Comm as OfComm}, mark_all.MarkAll.{MarkAll}, read_round.ReadRound.{ReadRound}}
+use Rattle.ulfm_steps.specs.declared.{append.Append.{Append}, item.Item.TheVariants.{Comm as OfComm}, mark_all.MarkAll.{MarkAll}}
+use Rattle.ulfm_steps.specs.declared.{read_round.ReadRound.{ReadRound}}
 use Rattle.ulfm_steps.specs.{Appends.{Passed, room}, Arriving.{AtArrival, MissingAre}, Looks.{LookIs}, Marks.{IsAt, Marks, members_in}, Rounds.{IsSummed}}
 use Rattle.ulfm_steps.specs.ReadsOn.{AtFailure, ReadsOn}
 use Rattle.ulfm_steps.specs.declared.arrivals.{Arrivals.{Arrivals}, Missing.{Missing}, Missing.TheVariants.{Nobody}}
-use Rattle.ulfm_comm.specs.{Calls.{EndsReply}, Ends.{IsEndRun, IsRefusedAgain}, Looked.{Looked}, Polls.{EndsInMissing, HasMarked, IsAgreement, agreement}, StepsLeft.{FewerLeft, MakesStep, steps_left}}
+use Rattle.ulfm_comm.specs.{Calls.{EndsReply}, Ends.{IsEndRun, IsRefusedAgain}, Looked.{Looked}, Polls.{EndsInMissing, HasMarked, IsAgreement, agreement}}
+use Rattle.ulfm_comm.specs.{StepsLeft.{FewerLeft, MakesStep, steps_left}}
 use Rattle.ulfm_comm.specs.declared.doing.{Made.{Made}, Next.{Next}, Next.TheVariants.{Goes, Ends}, Phase.{Phase}, StepName.{StepName}}
-use Rattle.ulfm_comm.specs.declared.doing.Phase.TheVariants.{Over, Begun, Looking, Settling, Arriving, Revoking, Asking, Marking, Reading, ReadingOn, Spawning, Waiting, Checking}
+use Rattle.ulfm_comm.specs.declared.doing.Phase.TheVariants.{Over, Begun, Looking, Settling, Arriving, Revoking, Asking, Marking, Reading, ReadingOn, Spawning}
+use Rattle.ulfm_comm.specs.declared.doing.Phase.TheVariants.{Waiting, Checking}
 use Rattle.ulfm_comm.specs.declared.doing.StepName.TheVariants as step
 
 -- a call under way: what is asked, what it does next, and the members of a communicator that it makes
@@ -40,7 +50,8 @@ next_step (Checking missing) = Some step.Revocation
 
 -- The call goes on after its look, on a communicator that its rank holds and by a record that doesn't refuse it; since the look
 -- there were others' events alone.
-pub record HasLooked {P : Type 0} (meld : P → P → P) (limits : Limits) (alone : Bool) (asked : Call P) (old : Record) (before : History P) (mid : Record) (now : History P) : Type 0 where
+pub record HasLooked {P : Type 0} (meld : P → P → P) (limits : Limits) (alone : Bool) (asked : Call P) (old : Record) (before : History P) (mid : Record)
+    (now : History P) : Type 0 where
   pub look : History P
   pub looked : Looked alone before look old mid
   pub legal : IsLegal meld limits look
@@ -65,7 +76,8 @@ StartsWith (call.Free rank c) own x request offer = ⊥
 
 -- The poll of an agreement has marked the declared members up to the machine's next one; since then there were others' events
 -- alone.
-pub record IsMarking {P : Type 0} (meld : P → P → P) (limits : Limits) (alone : Bool) (c : ℕ) (shrinks : Bool) (marks : MarkAll) (old : Record) (before : History P) (mid : Record) (now : History P) : Type 0 where
+pub record IsMarking {P : Type 0} (meld : P → P → P) (limits : Limits) (alone : Bool) (c : ℕ) (shrinks : Bool) (marks : MarkAll) (old : Record)
+    (before : History P) (mid : Record) (now : History P) : Type 0 where
   pub look : History P
   pub looked : Looked alone before look old mid
   pub legal : IsLegal meld limits look
@@ -81,7 +93,8 @@ pub record IsMarking {P : Type 0} (meld : P → P → P) (limits : Limits) (alon
   pub waited : Did alone [] marked now
 
 -- It has marked them all, and has read the first of the round's members.
-pub record IsReading {P : Type 0} (meld : P → P → P) (limits : Limits) (alone : Bool) (c : ℕ) (shrinks : Bool) (reading : ReadRound P) (old : Record) (before : History P) (mid : Record) (now : History P) : Type 0 where
+pub record IsReading {P : Type 0} (meld : P → P → P) (limits : Limits) (alone : Bool) (c : ℕ) (shrinks : Bool) (reading : ReadRound P) (old : Record)
+    (before : History P) (mid : Record) (now : History P) : Type 0 where
   pub x : Held
   pub marked : HasMarked meld limits alone c shrinks reading.round x old before mid now
   pub there : reading.comm ≡ c
@@ -89,7 +102,8 @@ pub record IsReading {P : Type 0} (meld : P → P → P) (limits : Limits) (alon
   pub read : IsSummed meld now c reading.round (take reading.read x.group) reading.all
 
 -- The poll of a shrink has read the round through, which is decided on this mask, and has read on in the list of failures.
-pub record IsDecided {P : Type 0} (meld : P → P → P) (limits : Limits) (alone : Bool) (c k : ℕ) (mask : CtxMask) (x : Held) (count : ℕ) (old : Record) (before : History P) (own : Record) (now : History P) : Type 0 where
+pub record IsDecided {P : Type 0} (meld : P → P → P) (limits : Limits) (alone : Bool) (c k : ℕ) (mask : CtxMask) (x : Held) (count : ℕ) (old : Record)
+    (before : History P) (own : Record) (now : History P) : Type 0 where
   pub mid : Record
   pub decided : History P
   pub marked : HasMarked meld limits alone c true k x old before mid decided
@@ -104,7 +118,8 @@ pub record IsDecided {P : Type 0} (meld : P → P → P) (limits : Limits) (alon
   pub begins : IsPrefix own.seen (failures now)
 
 -- The whole failed group of the decision is read, the rank isn't in it, and the communicator is looked for.
-pub record IsSpawning {P : Type 0} (meld : P → P → P) (limits : Limits) (alone : Bool) (c : ℕ) (append : Append) (context reach : ℕ) (group : List ℕ) (old : Record) (before : History P) (own : Record) (now : History P) : Type 0 where
+pub record IsSpawning {P : Type 0} (meld : P → P → P) (limits : Limits) (alone : Bool) (c : ℕ) (append : Append) (context reach : ℕ) (group : List ℕ)
+    (old : Record) (before : History P) (own : Record) (now : History P) : Type 0 where
   pub x : Held
   pub round : ℕ
   pub mask : CtxMask
@@ -120,7 +135,8 @@ pub record IsSpawning {P : Type 0} (meld : P → P → P) (limits : Limits) (alo
   pub more : append.index < room append.item limits
 
 -- The poll of a barrier has looked; since then there were others' events alone.
-pub record IsWaiting {P : Type 0} (meld : P → P → P) (limits : Limits) (alone : Bool) (c k : ℕ) (x : Held) (old : Record) (before : History P) (mid : Record) (now : History P) : Type 0 where
+pub record IsWaiting {P : Type 0} (meld : P → P → P) (limits : Limits) (alone : Bool) (c k : ℕ) (x : Held) (old : Record) (before : History P) (mid : Record)
+    (now : History P) : Type 0 where
   pub look : History P
   pub looked : Looked alone before look old mid
   pub legal : IsLegal meld limits look
@@ -130,7 +146,8 @@ pub record IsWaiting {P : Type 0} (meld : P → P → P) (limits : Limits) (alon
   pub waited : Did alone [] look now
 
 -- The poll of a barrier is about to load the revocation: who was missing was found when this had been seen.
-pub record IsChecking {P : Type 0} (meld : P → P → P) (limits : Limits) (alone : Bool) (c : ℕ) (missing : Missing) (earlier : History P) (old : Record) (before : History P) (own : Record) (now : History P) : Type 0 where
+pub record IsChecking {P : Type 0} (meld : P → P → P) (limits : Limits) (alone : Bool) (c : ℕ) (missing : Missing) (earlier : History P) (old : Record)
+    (before : History P) (own : Record) (now : History P) : Type 0 where
   pub x : Held
   pub k : ℕ
   pub waits : IsWaiting meld limits alone c k x old before own earlier
@@ -142,23 +159,37 @@ pub record IsChecking {P : Type 0} (meld : P → P → P) (limits : Limits) (alo
 abbrev pub StandsAt : {P : Type 0} → (P → P → P) → Bool → Name → Call P → Record → Sight P → Phase P → List ℕ → Record → Sight P → Type 0
 StandsAt meld alone name asked old before Over group own now = IsTrue old.refused × (own ≡ old) × Did alone [] before.seen now.seen
 StandsAt meld alone name asked old before Begun group own now = IsFalse old.refused × (own ≡ old) × Did alone [] before.seen now.seen
-StandsAt meld alone name asked old before Looking group own now = IsFalse old.refused × (own ≡ record old { seen = own.seen }) × Did alone [] before.seen now.seen × LookIs name.limits false own.seen now.seen
-StandsAt meld alone name asked old before (Settling request offer) group own now = (p : HasLooked meld name.limits alone asked old before.seen own now.seen) × StartsWith asked old p.x request offer
-StandsAt meld alone name asked old before (Arriving round) group own now = (p : HasLooked meld name.limits alone asked old before.seen own now.seen) × (asked ≡ call.Barrier old.number (comm_of asked)) × (round ≡ p.x.next_barrier)
-StandsAt meld alone name asked old before Revoking group own now = HasLooked meld name.limits alone asked old before.seen own now.seen × (asked ≡ call.Revoke old.number (comm_of asked))
-StandsAt meld alone name asked old before Asking group own now = HasLooked meld name.limits alone asked old before.seen own now.seen × (asked ≡ call.IsRevoked old.number (comm_of asked))
-StandsAt meld alone name asked old before (Marking marks shrinks) group own now = (asked ≡ call.Poll old.number (comm_of asked)) × (p : IsMarking meld name.limits alone (comm_of asked) shrinks marks old before.seen own now.seen) × (marks.next < length (failures p.look))
-StandsAt meld alone name asked old before (Reading reading shrinks) group own now = (asked ≡ call.Poll old.number (comm_of asked)) × IsReading meld name.limits alone (comm_of asked) shrinks reading old before.seen own now.seen
+StandsAt meld alone name asked old before Looking group own now =
+    IsFalse old.refused × (own ≡ record old { seen = own.seen }) × Did alone [] before.seen now.seen × LookIs name.limits false own.seen now.seen
+StandsAt meld alone name asked old before (Settling request offer) group own now =
+    (p : HasLooked meld name.limits alone asked old before.seen own now.seen) × StartsWith asked old p.x request offer
+StandsAt meld alone name asked old before (Arriving round) group own now =
+    (p : HasLooked meld name.limits alone asked old before.seen own now.seen) × (asked ≡ call.Barrier old.number (comm_of asked)) × (round ≡ p.x.next_barrier)
+StandsAt meld alone name asked old before Revoking group own now =
+    HasLooked meld name.limits alone asked old before.seen own now.seen × (asked ≡ call.Revoke old.number (comm_of asked))
+StandsAt meld alone name asked old before Asking group own now =
+    HasLooked meld name.limits alone asked old before.seen own now.seen × (asked ≡ call.IsRevoked old.number (comm_of asked))
+StandsAt meld alone name asked old before (Marking marks shrinks) group own now =
+    (asked ≡ call.Poll old.number (comm_of asked)) × (p : IsMarking meld name.limits alone (comm_of asked) shrinks marks old before.seen own now.seen)
+    × (marks.next < length (failures p.look))
+StandsAt meld alone name asked old before (Reading reading shrinks) group own now =
+    (asked ≡ call.Poll old.number (comm_of asked)) × IsReading meld name.limits alone (comm_of asked) shrinks reading old before.seen own now.seen
 StandsAt meld alone name asked old before (ReadingOn on made) group own now =
-    (asked ≡ call.Poll old.number (comm_of asked)) × (x : Held) × IsDecided meld name.limits alone (comm_of asked) made.round made.mask x made.count old before.seen own now.seen × AtFailure x.group made.count on own.seen × (on.found < made.count)
-StandsAt meld alone name asked old before (Spawning append context reach) group own now = (asked ≡ call.Poll old.number (comm_of asked)) × IsSpawning meld name.limits alone (comm_of asked) append context reach group old before.seen own now.seen
+    (asked ≡ call.Poll old.number (comm_of asked)) × (x : Held)
+    × IsDecided meld name.limits alone (comm_of asked) made.round made.mask x made.count old before.seen own now.seen
+    × AtFailure x.group made.count on own.seen × (on.found < made.count)
+StandsAt meld alone name asked old before (Spawning append context reach) group own now =
+    (asked ≡ call.Poll old.number (comm_of asked)) × IsSpawning meld name.limits alone (comm_of asked) append context reach group old before.seen own now.seen
 StandsAt meld alone name asked old before (Waiting arrivals) group own now =
-    (asked ≡ call.Poll old.number (comm_of asked)) × (arrivals.comm ≡ comm_of asked) × (x : Held) × (p : IsWaiting meld name.limits alone (comm_of asked) arrivals.round x old before.seen own now.seen) × AtArrival x.group own.seen arrivals now.seen
+    (asked ≡ call.Poll old.number (comm_of asked)) × (arrivals.comm ≡ comm_of asked) × (x : Held)
+    × (p : IsWaiting meld name.limits alone (comm_of asked) arrivals.round x old before.seen own now.seen) × AtArrival x.group own.seen arrivals now.seen
 StandsAt {P} meld alone name asked old before (Checking missing) group own now =
-    (asked ≡ call.Poll old.number (comm_of asked)) × (earlier : History P) × IsChecking meld name.limits alone (comm_of asked) missing earlier old before.seen own now.seen
+    (asked ≡ call.Poll old.number (comm_of asked)) × (earlier : History P)
+    × IsChecking meld name.limits alone (comm_of asked) missing earlier old before.seen own now.seen
 
 -- A call that began with this record, and when this was seen, stands here now.
-pub record Stands {P : Type 0} (meld : P → P → P) (alone : Bool) (name : Name) (old : Record) (before : Sight P) (doing : UnderWay P) (own : Record) (now : Sight P) : Type 0 where
+pub record Stands {P : Type 0} (meld : P → P → P) (alone : Bool) (name : Name) (old : Record) (before : Sight P) (doing : UnderWay P) (own : Record)
+    (now : Sight P) : Type 0 where
   pub fits : Fits meld name.limits before.seen old
   pub mine : (traits_of doing.asked).by ≡ Rank old.number
   pub onward : before.steps ≤ now.steps
@@ -171,24 +202,28 @@ pub record Waits {P : Type 0} (alone : Bool) (old new : Sight P) : Type 0 where
 
 -- A call's reply: of a rank that was refused for good before; or as the sequential object answers, or for want of memory. A
 -- pending agreement ends in a load that found a member missing.
-pub record Answered {P : Type 0} (meld : P → P → P) (alone : Bool) (name : Name) (asked : Call P) (old : Record) (before : Sight P) (reply : Reply P) (new : Record) (after : Sight P) : Type 0 where
+pub record Answered {P : Type 0} (meld : P → P → P) (alone : Bool) (name : Name) (asked : Call P) (old : Record) (before : Sight P) (reply : Reply P)
+    (new : Record) (after : Sight P) : Type 0 where
   pub ends : (IsRefusedAgain old reply new × Waits alone before after) ⊎ EndsReply meld alone name asked old before reply new after
   pub pending : reply ≡ Pending → IsAgreement (polled_by old asked) → EndsInMissing meld alone name (comm_of asked) old before new after
 
 -- what comes next: further steps, or the reply
 abbrev pub NextIs : {P : Type 0} → (P → P → P) → Bool → Name → Call P → Record → Sight P → Next P → List ℕ → Record → Sight P → Type 0
-NextIs meld alone name asked old before (Goes phase) group own now = Stands meld alone name old before (record { asked = asked; phase = phase; group = group }) own now
+NextIs meld alone name asked old before (Goes phase) group own now =
+    Stands meld alone name old before (record { asked = asked; phase = phase; group = group }) own now
 NextIs meld alone name asked old before (Ends reply) group own now = Answered meld alone name asked old before reply own now
 
 -- one step leads on from where a call stood, also where nobody else steps
 abbrev pub Turns : {P : Type 0} → (P → P → P) → Bool → Name → Call P → Phase P → List ℕ → Record → Sight P → Next P → List ℕ → Record → Sight P → Type 0
 Turns {P} meld quiet name asked phase group own now next left new after =
     (alone : Bool) → (IsTrue alone → IsTrue quiet) → (old : Record) → (before : Sight P)
-    → Stands meld alone name old before (record { asked = asked; phase = phase; group = group }) own now → NextIs meld alone name asked old before next left new after
+    → Stands meld alone name old before (record { asked = asked; phase = phase; group = group }) own now
+    → NextIs meld alone name asked old before next left new after
 
 -- a call stands so, whenever it began
 abbrev pub StillStands : {P : Type 0} → (P → P → P) → Name → Call P → Phase P → List ℕ → Record → Sight P → Type 0
-StillStands {P} meld name asked phase group own now = (old : Record) × (before : Sight P) × Stands meld false name old before (record { asked = asked; phase = phase; group = group }) own now
+StillStands {P} meld name asked phase group own now =
+    (old : Record) × (before : Sight P) × Stands meld false name old before (record { asked = asked; phase = phase; group = group }) own now
 
 -- steps of one rank, with own events alone where nobody else steps
 pub record Walks {P : Type 0} (meld : P → P → P) (quiet : Bool) (name : Name) (rank : ℕ) (old new : Sight P) : Type 0 where
@@ -198,7 +233,8 @@ pub record Walks {P : Type 0} (meld : P → P → P) (quiet : Bool) (name : Name
   pub onward : old.steps ≤ new.steps
 
 -- the look of a call has just ended, and didn't find its rank declared
-pub record JustLooked {P : Type 0} (meld : P → P → P) (alone : Bool) (name : Name) (asked : Call P) (old : Record) (before : Sight P) (mid : Record) (now : Sight P) : Type 0 where
+pub record JustLooked {P : Type 0} (meld : P → P → P) (alone : Bool) (name : Name) (asked : Call P) (old : Record) (before : Sight P) (mid : Record)
+    (now : Sight P) : Type 0 where
   pub fits : Fits meld name.limits before.seen old
   pub mine : (traits_of asked).by ≡ Rank old.number
   pub onward : before.steps ≤ now.steps
@@ -211,7 +247,8 @@ pub record Passes {P : Type 0} (own : Record) (asked : Call P) : Type 0 where
   pub passed : first_refusal (tests_of own x asked) ≡ None
 
 -- the poll of an agreement has just read its round through: this is all that its members say together
-pub record HasReadAll {P : Type 0} (meld : P → P → P) (alone : Bool) (name : Name) (asked : Call P) (shrinks : Bool) (k : ℕ) (all : Summary P) (old : Record) (before : Sight P) (mid : Record) (now : Sight P) : Type 0 where
+pub record HasReadAll {P : Type 0} (meld : P → P → P) (alone : Bool) (name : Name) (asked : Call P) (shrinks : Bool) (k : ℕ) (all : Summary P) (old : Record)
+    (before : Sight P) (mid : Record) (now : Sight P) : Type 0 where
   pub fits : Fits meld name.limits before.seen old
   pub polls : asked ≡ call.Poll old.number (comm_of asked)
   pub onward : before.steps ≤ now.steps
@@ -220,7 +257,8 @@ pub record HasReadAll {P : Type 0} (meld : P → P → P) (alone : Bool) (name :
   pub read : IsSummed meld now.seen (comm_of asked) k x.group all
 
 -- the poll of a shrink has just read the list of failures as far as the decision's failed group reaches
-pub record HasReached {P : Type 0} (meld : P → P → P) (alone : Bool) (name : Name) (asked : Call P) (made : Made) (reach : ℕ) (old : Record) (before : Sight P) (own : Record) (now : Sight P) : Type 0 where
+pub record HasReached {P : Type 0} (meld : P → P → P) (alone : Bool) (name : Name) (asked : Call P) (made : Made) (reach : ℕ) (old : Record) (before : Sight P)
+    (own : Record) (now : Sight P) : Type 0 where
   pub fits : Fits meld name.limits before.seen old
   pub polls : asked ≡ call.Poll old.number (comm_of asked)
   pub onward : before.steps ≤ now.steps

@@ -1,6 +1,9 @@
 -- The start of an agree or of a shrink.
 use Rattle.std.specs.Prelude.{◌≡◌, ℕ, ◌+◌, ◌<◌, ◌^◌, Bool, true, [], ◌∷◌, length, filter, Some, Result, Ok, Err}
-use Rattle.ulfm_model.specs.declared.{call.Request.{Request}, call.Request.TheVariants.{Agree, Shrink, Barrier}, contribution.Contribution.{Contribution}, contribution.Offer.{Offer}, contribution.Slot.{Slot}, contribution.Slot.TheVariants.{Given, Mark}, event.Caller.TheVariants.{Rank}, event.Event.TheVariants.{Settle}, refusal.Refusal.{Refusal}, refusal.Refusal.TheVariants.{SelfFailed, Twice}}
+use Rattle.ulfm_model.specs.declared.{call.Request.{Request}, call.Request.TheVariants.{Agree, Shrink, Barrier}, contribution.Contribution.{Contribution}}
+use Rattle.ulfm_model.specs.declared.{contribution.Offer.{Offer}, contribution.Slot.{Slot}, contribution.Slot.TheVariants.{Given, Mark}}
+use Rattle.ulfm_model.specs.declared.{event.Caller.TheVariants.{Rank}, event.Event.TheVariants.{Settle}, refusal.Refusal.{Refusal}}
+use Rattle.ulfm_model.specs.declared.{refusal.Refusal.TheVariants.{SelfFailed, Twice}}
 use Rattle.ulfm_model.specs.{Answers.{opened}, History.{History, has, slot}, Records.{Held, Record, with_held}, Runs.{Did}}
 
 -- the round after a request's own has a number of 16 bits

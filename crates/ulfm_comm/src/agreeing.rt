@@ -38,11 +38,15 @@ impl<P: Packed, A: Allocator> Rank<P, A> {
         requires stands { (group : List ℕ) × StillStands P.meld (W.name world.now.words) asked.now (AtMarking marks shrinks) group self.now (W.sight pass.old) }
         ensures walks { Walks P.meld W.alone (W.name world.now.words) self.now.number (W.sight pass.old) (W.sight pass.new) }
         ensures named { whole ≡ false → IsStepOf AtMark self.now.number (comm_of asked.now) (W.sight pass.old) (W.sight pass.new) }
-        ensures nearer { whole ≡ false → FewerLeft (steps_left (W.name world.now.words).limits self.now asked.now (AtMarking marks shrinks)) (W.name world.now.words).limits self.now asked.now result }
+        ensures nearer { whole ≡ false
+            → FewerLeft (steps_left (W.name world.now.words).limits self.now asked.now (AtMarking marks shrinks)) (W.name world.now.words).limits self.now
+            asked.now result }
         ensures further { whole ≡ true → IsFurther (AtMarking marks shrinks) result }
         ensures past { IsPast result }
         ensures adds { whole ≡ false → Adds W.alone self.now.seen self.now asked.now (reply_in result) (W.sight pass.old).seen (W.sight pass.new).seen }
-        ensures turns { (group : List ℕ) → Turns P.meld W.alone (W.name world.now.words) asked.now (AtMarking marks shrinks) group self.now (W.sight pass.old) result group self.now (W.sight pass.new) }
+        ensures turns { (group : List ℕ)
+            → Turns P.meld W.alone (W.name world.now.words) asked.now (AtMarking marks shrinks) group self.now (W.sight pass.old) result group self.now
+            (W.sight pass.new) }
     {
         let Some(x) = self.held(comm_of(asked)) else {
             unreachable!()
@@ -77,12 +81,15 @@ impl<P: Packed, A: Allocator + Copy> Rank<P, A> {
         requires stands { StillStands P.meld (W.name world.now.words) asked.now (AtReading reading shrinks) group.old.items self.old (W.sight pass.old) }
         ensures walks { Walks P.meld W.alone (W.name world.now.words) self.old.number (W.sight pass.old) (W.sight pass.new) }
         ensures named { whole ≡ false → IsStepOf AtSlot self.old.number (comm_of asked.now) (W.sight pass.old) (W.sight pass.new) }
-        ensures nearer { whole ≡ false → FewerLeft (steps_left (W.name world.now.words).limits self.old asked.now (AtReading reading shrinks)) (W.name world.now.words).limits self.new asked.now result }
+        ensures nearer { whole ≡ false
+            → FewerLeft (steps_left (W.name world.now.words).limits self.old asked.now (AtReading reading shrinks)) (W.name world.now.words).limits self.new
+            asked.now result }
         ensures further { whole ≡ true → IsFurther (AtReading reading shrinks) result }
         ensures loads { Did W.alone [] (W.sight pass.old).seen (W.sight pass.new).seen }
         ensures sees { self.new.seen ≡ self.old.seen }
         ensures past { IsPast result }
-        ensures turns { Turns P.meld W.alone (W.name world.now.words) asked.now (AtReading reading shrinks) group.old.items self.old (W.sight pass.old) result group.new.items self.new (W.sight pass.new) }
+        ensures turns { Turns P.meld W.alone (W.name world.now.words) asked.now (AtReading reading shrinks) group.old.items self.old (W.sight pass.old) result
+            group.new.items self.new (W.sight pass.new) }
     {
         let comm = comm_of(asked);
         let Some(x) = self.held(comm) else {

@@ -45,7 +45,8 @@ pub(crate) fn get_by<P: Packed, A: Allocator + Copy, W: Words<P, A>>(
     found: &mut Vec<u16, A>,
 ) -> Result<Reply<P>, AllocError>
     requires { IsJob P.meld (W.name world.now.words) (W.sight pass.old) ranks.old }
-    ensures step { IfOk result (λ reply. StepsBy P.meld W.alone (W.name world.now.words) (GetAsked rank comm) (W.sight pass.old) ranks.old reply (W.sight pass.new) ranks.new) }
+    ensures step { IfOk result (λ reply. StepsBy P.meld W.alone (W.name world.now.words) (GetAsked rank comm) (W.sight pass.old) ranks.old reply
+        (W.sight pass.new) ranks.new) }
     ensures job { IsJob P.meld (W.name world.now.words) (W.sight pass.new) ranks.new }
     ensures begins { IsPrefix (W.sight pass.old).seen (W.sight pass.new).seen }
     ensures about { IfOk result (IsAbout (state_of (W.name world.now.words) (W.sight pass.new) ranks.new) comm found.new.items) }
@@ -88,7 +89,8 @@ fn make_room_for<P: Packed, A: Allocator>(
 ) -> Result<(), AllocError>
     ensures kept { found.new.items ≡ found.old.items }
     ensures memory { OnErr result (IsTrue (traits_of asked.now).polls) }
-    ensures room { OnOk result (IsTrue (traits_of asked.now).polls → (x : Held) → held_at own.now (traits_of asked.now).comm ≡ Some x → IsTrue (is_shrink x.request) → length x.group ≤ vec_capacity found.new) }
+    ensures room { OnOk result (IsTrue (traits_of asked.now).polls → (x : Held) → held_at own.now (traits_of asked.now).comm ≡ Some x
+        → IsTrue (is_shrink x.request) → length x.group ≤ vec_capacity found.new) }
 {
     let Call::Poll { comm, .. } = *asked else {
         return Ok(());
@@ -112,7 +114,8 @@ pub(crate) fn call_by<P: Packed, A: Allocator + Copy, W: Words<P, A>>(
 ) -> Result<Reply<P>, AllocError>
     requires job { IsJob P.meld (W.name world.now.words) (W.sight pass.old) ranks.old }
     requires other { IsOther asked }
-    ensures step { IfOk result (λ reply. StepsBy P.meld W.alone (W.name world.now.words) asked (W.sight pass.old) ranks.old reply (W.sight pass.new) ranks.new) }
+    ensures step { IfOk result (λ reply. StepsBy P.meld W.alone (W.name world.now.words) asked (W.sight pass.old) ranks.old reply
+        (W.sight pass.new) ranks.new) }
     ensures job { IsJob P.meld (W.name world.now.words) (W.sight pass.new) ranks.new }
     ensures begins { IsPrefix (W.sight pass.old).seen (W.sight pass.new).seen }
     ensures about { IfOk result (IsAbout (state_of (W.name world.now.words) (W.sight pass.new) ranks.new) (traits_of asked).comm found.new.items) }

@@ -32,7 +32,8 @@ impl<P: Packed, A: Allocator + Copy> Rank<P, A> {
     ) -> Result<(), Refusal>
         requires of { IsOf P.meld (W.name world.now.words) (W.sight pass.old) }
         requires fits { Fits P.meld (W.name world.now.words).limits (W.sight pass.old).seen self.old }
-        ensures gets { Gets P.meld W.alone (W.name world.now.words) (Asked self.old.number comm) self.old (W.sight pass.old) (length found.new.items) result self.new (W.sight pass.new) }
+        ensures gets { Gets P.meld W.alone (W.name world.now.words) (Asked self.old.number comm) self.old (W.sight pass.old) (length found.new.items) result
+            self.new (W.sight pass.new) }
         ensures group { IfOk result (λ _. found.new.items ≡ failed (W.name world.now.words).limits.ranks (W.sight pass.new).seen comm) }
         ensures kept { OnErr result (found.new.items ≡ found.old.items) }
     {

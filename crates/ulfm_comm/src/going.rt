@@ -13,7 +13,8 @@ ghost use Rattle.ulfm_model.specs.Terms.{comm_of};
 ghost use Rattle.ulfm_comm.specs.Calls.{EndsReply};
 ghost use Rattle.ulfm_comm.specs.StepsLeft.{FewerLeft, MakesStep, steps_left};
 ghost use Rattle.ulfm_comm.specs.Polls.{EndsInMissing, IsAgreement};
-ghost use Rattle.ulfm_comm.specs.Stages.{Answered, AnswersEarly, IsChecking, IsFurther, IsPast, StepAdds, StepSees, Stepped, is_looking, next_of, next_step, reply_in, Stands, StillStands, Turns, Waits, Walks};
+ghost use Rattle.ulfm_comm.specs.Stages.{Answered, AnswersEarly, IsChecking, IsFurther, IsPast, StepAdds, StepSees, Stepped, is_looking, next_of, next_step};
+ghost use Rattle.ulfm_comm.specs.Stages.{reply_in, Stands, StillStands, Turns, Waits, Walks};
 ghost use Rattle.ulfm_comm.specs.declared.doing.Next.TheVariants.{Ends as NextEnds, Goes as NextGoes};
 ghost use Rattle.ulfm_comm.specs.declared.doing.Phase.TheVariants.{Begun as AtBegun, Checking as AtChecking, Over as AtOver, Waiting as AtWaiting};
 
@@ -44,7 +45,8 @@ impl<P: Packed, A: Allocator + Copy> Rank<P, A> {
         requires { (traits_of asked).by ≡ OfRank self.now.number }
         ensures asked { result.asked ≡ asked }
         ensures first { result.phase ≡ (if self.now.refused then AtOver else AtBegun) }
-        ensures stands { (alone : Bool) (name : Name) (before : Sight P) → IsOf P.meld name before → Fits P.meld name.limits before.seen self.now → Stands P.meld alone name self.now before result self.now before }
+        ensures stands { (alone : Bool) (name : Name) (before : Sight P) → IsOf P.meld name before → Fits P.meld name.limits before.seen self.now
+            → Stands P.meld alone name self.now before result self.now before }
     {
         Doing {
             asked,
@@ -68,15 +70,25 @@ impl<P: Packed, A: Allocator + Copy> Rank<P, A> {
         requires stands { StillStands P.meld (W.name world.now.words) asked.now phase group.old.items self.old (W.sight pass.old) }
         ensures walks { Walks P.meld W.alone (W.name world.now.words) self.old.number (W.sight pass.old) (W.sight pass.new) }
         ensures named { whole ≡ false → MakesStep (next_step phase) self.old.number (comm_of asked.now) (W.sight pass.old) (W.sight pass.new) }
-        ensures nearer { whole ≡ false → FewerLeft (steps_left (W.name world.now.words).limits self.old asked.now phase) (W.name world.now.words).limits self.new asked.now result }
+        ensures nearer { whole ≡ false
+            → FewerLeft (steps_left (W.name world.now.words).limits self.old asked.now phase) (W.name world.now.words).limits self.new asked.now result }
         ensures over { phase ≡ AtOver → (result ≡ NextEnds (Refused SelfFailed)) × (self.new ≡ self.old) }
         ensures further { whole ≡ true → IsFurther phase result }
         ensures adds { whole ≡ false → StepAdds W.alone self.old asked.now phase (reply_in result) (W.sight pass.old).seen (W.sight pass.new).seen }
         ensures sees { StepSees phase self.old.seen self.new.seen }
         ensures past { is_looking phase ≡ false → IsPast result }
-        ensures checks { (arrivals : Arrivals) → phase ≡ AtWaiting arrivals → (missing : Missing) → result ≡ NextGoes (AtChecking missing) → (alone : Bool) → (IsTrue alone → IsTrue W.alone) → (old : Record) → (before : Sight P) → Stands P.meld alone (W.name world.now.words) old before (record { asked = asked.now; phase = phase; group = group.old.items }) self.old (W.sight pass.old) → IsChecking P.meld (W.name world.now.words).limits alone (comm_of asked.now) missing (W.sight pass.new).seen old before.seen self.new (W.sight pass.new).seen }
-        ensures early { (missing : Missing) → phase ≡ AtChecking missing → (reply : Reply P) → result ≡ NextEnds reply → (alone : Bool) → (IsTrue alone → IsTrue W.alone) → (old : Record) → (before : Sight P) → Fits P.meld (W.name world.now.words).limits before.seen old → asked.now ≡ AskedPoll old.number (comm_of asked.now) → (earlier : History P) → IsChecking P.meld (W.name world.now.words).limits alone (comm_of asked.now) missing earlier old before.seen self.old (W.sight pass.old).seen → AnswersEarly P.meld (W.name world.now.words).limits alone asked.now missing earlier old before.seen reply self.new }
-        ensures turns { Turns P.meld W.alone (W.name world.now.words) asked.now phase group.old.items self.old (W.sight pass.old) result group.new.items self.new (W.sight pass.new) }
+        ensures checks { (arrivals : Arrivals) → phase ≡ AtWaiting arrivals → (missing : Missing) → result ≡ NextGoes (AtChecking missing) → (alone : Bool)
+            → (IsTrue alone → IsTrue W.alone) → (old : Record) → (before : Sight P)
+            → Stands P.meld alone (W.name world.now.words) old before (record { asked = asked.now; phase = phase; group = group.old.items }) self.old
+            (W.sight pass.old) → IsChecking P.meld (W.name world.now.words).limits alone (comm_of asked.now) missing (W.sight pass.new).seen old before.seen
+            self.new (W.sight pass.new).seen }
+        ensures early { (missing : Missing) → phase ≡ AtChecking missing → (reply : Reply P) → result ≡ NextEnds reply → (alone : Bool)
+            → (IsTrue alone → IsTrue W.alone) → (old : Record) → (before : Sight P) → Fits P.meld (W.name world.now.words).limits before.seen old
+            → asked.now ≡ AskedPoll old.number (comm_of asked.now) → (earlier : History P)
+            → IsChecking P.meld (W.name world.now.words).limits alone (comm_of asked.now) missing earlier old before.seen self.old (W.sight pass.old).seen
+            → AnswersEarly P.meld (W.name world.now.words).limits alone asked.now missing earlier old before.seen reply self.new }
+        ensures turns { Turns P.meld W.alone (W.name world.now.words) asked.now phase group.old.items self.old (W.sight pass.old) result group.new.items
+            self.new (W.sight pass.new) }
     {
         match phase {
             Phase::Over => Next::Ends(Reply::Refused(Refusal::SelfFailed)),
@@ -117,9 +129,11 @@ impl<P: Packed, A: Allocator + Copy> Rank<P, A> {
         doing: &mut Doing<P, A>,
     ) -> Option<Reply<P>>
         requires of { IsOf P.meld (W.name world.now.words) (W.sight pass.old) }
-        requires stood { (old : Record) × (before : Sight P) × (stood : Sight P) × Stands P.meld false (W.name world.now.words) old before doing.old self.old stood × Waits false stood (W.sight pass.old) }
+        requires stood { (old : Record) × (before : Sight P) × (stood : Sight P)
+            × Stands P.meld false (W.name world.now.words) old before doing.old self.old stood × Waits false stood (W.sight pass.old) }
         ensures asked { doing.new.asked ≡ doing.old.asked }
-        ensures stepped { Stepped P.meld W.alone (W.name world.now.words) doing.old self.old (W.sight pass.old) (next_of result doing.new.phase) self.new (W.sight pass.new) }
+        ensures stepped { Stepped P.meld W.alone (W.name world.now.words) doing.old self.old (W.sight pass.old) (next_of result doing.new.phase) self.new
+            (W.sight pass.new) }
         ensures stands { (alone : Bool) → (IsTrue alone → IsTrue W.alone) → (old : Record) → (before : Sight P) → (stood : Sight P)
             → Stands P.meld alone (W.name world.now.words) old before doing.old self.old stood → Waits alone stood (W.sight pass.old)
             → MatchOption result (Stands P.meld alone (W.name world.now.words) old before doing.new self.new (W.sight pass.new))
@@ -147,7 +161,8 @@ impl<P: Packed, A: Allocator + Copy> Rank<P, A> {
         requires fits { Fits P.meld (W.name world.now.words).limits (W.sight pass.old).seen self.old }
         requires mine { (traits_of asked).by ≡ OfRank self.old.number }
         ensures ends { EndsReply P.meld W.alone (W.name world.now.words) asked self.old (W.sight pass.old) result self.new (W.sight pass.new) }
-        ensures pending { result ≡ StillPending → IsAgreement (polled_by self.old asked) → EndsInMissing P.meld W.alone (W.name world.now.words) (comm_of asked) self.old (W.sight pass.old) self.new (W.sight pass.new) }
+        ensures pending { result ≡ StillPending → IsAgreement (polled_by self.old asked)
+            → EndsInMissing P.meld W.alone (W.name world.now.words) (comm_of asked) self.old (W.sight pass.old) self.new (W.sight pass.new) }
     {
         if self.is_refused() {
             return Reply::Refused(Refusal::SelfFailed);

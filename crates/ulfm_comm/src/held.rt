@@ -30,7 +30,15 @@ impl<A: Allocator> Model for HeldComm<A> {
 
     ghost Value = { Held };
 
-    ghost view = { λ a. record { comm = a.comm; group = a.group.items; context = a.context; acked = a.acked; next_agreement = a.next_agreement; next_barrier = a.next_barrier; request = a.request } };
+    ghost view = { λ a. record {
+      comm = a.comm;
+      group = a.group.items;
+      context = a.context;
+      acked = a.acked;
+      next_agreement = a.next_agreement;
+      next_barrier = a.next_barrier;
+      request = a.request;
+    } };
 }
 
 impl<A: Allocator> HeldComm<A> {

@@ -75,10 +75,12 @@ impl<P: Packed, A: Allocator> Rank<P, A> {
         requires stands { (group : List ℕ) × StillStands P.meld (W.name world.now.words) asked.now AtBegun group self.old (W.sight pass.old) }
         ensures walks { Walks P.meld W.alone (W.name world.now.words) self.old.number (W.sight pass.old) (W.sight pass.new) }
         ensures named { whole ≡ false → IsStepOf AtList self.old.number (comm_of asked.now) (W.sight pass.old) (W.sight pass.new) }
-        ensures nearer { whole ≡ false → FewerLeft (steps_left (W.name world.now.words).limits self.old asked.now AtBegun) (W.name world.now.words).limits self.new asked.now result }
+        ensures nearer { whole ≡ false
+            → FewerLeft (steps_left (W.name world.now.words).limits self.old asked.now AtBegun) (W.name world.now.words).limits self.new asked.now result }
         ensures further { whole ≡ true → IsFurther AtBegun result }
         ensures loads { Did W.alone [] (W.sight pass.old).seen (W.sight pass.new).seen }
-        ensures turns { (group : List ℕ) → Turns P.meld W.alone (W.name world.now.words) asked.now AtBegun group self.old (W.sight pass.old) result group self.new (W.sight pass.new) }
+        ensures turns { (group : List ℕ)
+            → Turns P.meld W.alone (W.name world.now.words) asked.now AtBegun group self.old (W.sight pass.old) result group self.new (W.sight pass.new) }
     {
         self.forget();
         self.go_looking(world, pass, asked, whole)
@@ -97,10 +99,12 @@ impl<P: Packed, A: Allocator> Rank<P, A> {
         requires stands { (group : List ℕ) × StillStands P.meld (W.name world.now.words) asked.now AtLooking group self.old (W.sight pass.old) }
         ensures walks { Walks P.meld W.alone (W.name world.now.words) self.old.number (W.sight pass.old) (W.sight pass.new) }
         ensures named { whole ≡ false → IsStepOf AtList self.old.number (comm_of asked.now) (W.sight pass.old) (W.sight pass.new) }
-        ensures nearer { whole ≡ false → FewerLeft (steps_left (W.name world.now.words).limits self.old asked.now AtLooking) (W.name world.now.words).limits self.new asked.now result }
+        ensures nearer { whole ≡ false
+            → FewerLeft (steps_left (W.name world.now.words).limits self.old asked.now AtLooking) (W.name world.now.words).limits self.new asked.now result }
         ensures further { whole ≡ true → IsFurther AtLooking result }
         ensures loads { Did W.alone [] (W.sight pass.old).seen (W.sight pass.new).seen }
-        ensures turns { (group : List ℕ) → Turns P.meld W.alone (W.name world.now.words) asked.now AtLooking group self.old (W.sight pass.old) result group self.new (W.sight pass.new) }
+        ensures turns { (group : List ℕ)
+            → Turns P.meld W.alone (W.name world.now.words) asked.now AtLooking group self.old (W.sight pass.old) result group self.new (W.sight pass.new) }
     {
         if !self.look_on(&world.words, pass, whole) {
             return Next::Goes(Phase::Looking);
@@ -120,10 +124,14 @@ impl<P: Packed, A: Allocator> Rank<P, A> {
         asked: &Call<P>,
     ) -> Next<P>
         requires of { IsOf P.meld (W.name world.now.words) (W.sight pass.now) }
-        requires just { (old : Record) × (before : Sight P) × JustLooked P.meld false (W.name world.now.words) asked.now old before self.old (W.sight pass.now) }
+        requires just { (old : Record) × (before : Sight P)
+            × JustLooked P.meld false (W.name world.now.words) asked.now old before self.old (W.sight pass.now) }
         ensures further { IsFurther AtLooking result }
-        ensures nearer { FewerLeft (after_look (W.name world.now.words).limits self.old asked.now + max 1 ((W.name world.now.words).limits.ranks - length self.old.seen)) (W.name world.now.words).limits self.new asked.now result }
-        ensures turns { (group : List ℕ) (alone : Bool) (old : Record) (before : Sight P) → JustLooked P.meld alone (W.name world.now.words) asked.now old before self.old (W.sight pass.now) → NextIs P.meld alone (W.name world.now.words) asked.now old before result group self.new (W.sight pass.now) }
+        ensures nearer { FewerLeft (after_look (W.name world.now.words).limits self.old asked.now + max 1
+            ((W.name world.now.words).limits.ranks - length self.old.seen)) (W.name world.now.words).limits self.new asked.now result }
+        ensures turns { (group : List ℕ) (alone : Bool) (old : Record) (before : Sight P)
+            → JustLooked P.meld alone (W.name world.now.words) asked.now old before self.old (W.sight pass.now)
+            → NextIs P.meld alone (W.name world.now.words) asked.now old before result group self.new (W.sight pass.now) }
     {
         let Some(x) = self.held(comm_of(asked)) else {
             return Next::Ends(Reply::Refused(Refusal::NoSuchComm));
@@ -142,11 +150,15 @@ impl<P: Packed, A: Allocator> Rank<P, A> {
         asked: &Call<P>,
     ) -> Next<P>
         requires of { IsOf P.meld (W.name world.now.words) (W.sight pass.now) }
-        requires just { (old : Record) × (before : Sight P) × JustLooked P.meld false (W.name world.now.words) asked.now old before self.old (W.sight pass.now) }
+        requires just { (old : Record) × (before : Sight P)
+            × JustLooked P.meld false (W.name world.now.words) asked.now old before self.old (W.sight pass.now) }
         requires passes { Passes self.old asked.now }
         ensures further { IsFurther AtLooking result }
-        ensures nearer { FewerLeft (after_look (W.name world.now.words).limits self.old asked.now + max 1 ((W.name world.now.words).limits.ranks - length self.old.seen)) (W.name world.now.words).limits self.new asked.now result }
-        ensures turns { (group : List ℕ) (alone : Bool) (old : Record) (before : Sight P) → JustLooked P.meld alone (W.name world.now.words) asked.now old before self.old (W.sight pass.now) → NextIs P.meld alone (W.name world.now.words) asked.now old before result group self.new (W.sight pass.now) }
+        ensures nearer { FewerLeft (after_look (W.name world.now.words).limits self.old asked.now + max 1
+            ((W.name world.now.words).limits.ranks - length self.old.seen)) (W.name world.now.words).limits self.new asked.now result }
+        ensures turns { (group : List ℕ) (alone : Bool) (old : Record) (before : Sight P)
+            → JustLooked P.meld alone (W.name world.now.words) asked.now old before self.old (W.sight pass.now)
+            → NextIs P.meld alone (W.name world.now.words) asked.now old before result group self.new (W.sight pass.now) }
     {
         let Some(x) = self.held(comm_of(asked)) else {
             unreachable!()
@@ -197,13 +209,17 @@ impl<P: Packed, A: Allocator> Rank<P, A> {
         asked: &Call<P>,
     ) -> Phase<P>
         requires of { IsOf P.meld (W.name world.now.words) (W.sight pass.now) }
-        requires just { (old : Record) × (before : Sight P) × JustLooked P.meld false (W.name world.now.words) asked.now old before self.now (W.sight pass.now) }
+        requires just { (old : Record) × (before : Sight P)
+            × JustLooked P.meld false (W.name world.now.words) asked.now old before self.now (W.sight pass.now) }
         requires passes { Passes self.now asked.now }
         requires polls { (rank : ℕ) × (comm : ℕ) × (asked.now ≡ PollAsked rank comm) }
         ensures further { left result < 7 }
         ensures nearer { steps_left (W.name world.now.words).limits self.now asked.now result
             < after_look (W.name world.now.words).limits self.now asked.now + max 1 ((W.name world.now.words).limits.ranks - length self.now.seen) }
-        ensures turns { (group : List ℕ) (alone : Bool) (old : Record) (before : Sight P) → JustLooked P.meld alone (W.name world.now.words) asked.now old before self.now (W.sight pass.now) → Stands P.meld alone (W.name world.now.words) old before (record { asked = asked.now; phase = result; group = group }) self.now (W.sight pass.now) }
+        ensures turns { (group : List ℕ) (alone : Bool) (old : Record) (before : Sight P)
+            → JustLooked P.meld alone (W.name world.now.words) asked.now old before self.now (W.sight pass.now)
+            → Stands P.meld alone (W.name world.now.words) old before (record { asked = asked.now; phase = result; group = group }) self.now
+            (W.sight pass.now) }
     {
         let comm = comm_of(asked);
         let Some(x) = self.held(comm) else {

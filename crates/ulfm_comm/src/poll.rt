@@ -51,7 +51,8 @@ impl<P: Packed, A: Allocator + Copy> Rank<P, A> {
     ) -> Result<Polled<P>, Refusal>
         requires of { IsOf P.meld (W.name world.now.words) (W.sight pass.old) }
         requires fits { Fits P.meld (W.name world.now.words).limits (W.sight pass.old).seen self.old }
-        ensures calls { Polls P.meld W.alone (W.name world.now.words) (Asked self.old.number comm) self.old (W.sight pass.old) result self.new (W.sight pass.new) }
+        ensures calls { Polls P.meld W.alone (W.name world.now.words) (Asked self.old.number comm) self.old (W.sight pass.old) result self.new
+            (W.sight pass.new) }
         ensures pending { IfOk result (EndsIn P.meld W.alone (W.name world.now.words) comm self.old (W.sight pass.old) self.new (W.sight pass.new)) }
     {
         let rank = self.number();

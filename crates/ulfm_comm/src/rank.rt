@@ -181,7 +181,8 @@ impl<P: Packed, A: Allocator> Rank<P, A> {
     )
         requires of { IsOf P.meld (W.name words.now) (W.sight pass.old) }
         requires limits { self.old.limits ≡ (W.name words.now).limits }
-        requires may { (x : Held) × (held_at self.old comm ≡ Some x) × MayReadOn x.group count self.old.seen (failures (W.sight pass.old).seen) × AtFailure x.group count on.old self.old.seen }
+        requires may { (x : Held) × (held_at self.old comm ≡ Some x) × MayReadOn x.group count self.old.seen (failures (W.sight pass.old).seen)
+            × AtFailure x.group count on.old self.old.seen }
         requires more { on.old.found < count }
         ensures goes { Goes P.meld W.alone (W.name words.now) (W.name words.now).limits.ranks (W.sight pass.old) (W.sight pass.new) }
         ensures takes { ReadOnTakes whole (W.name words.now).limits self.old.seen self.new.seen (W.sight pass.old) (W.sight pass.new) }
@@ -296,7 +297,9 @@ impl<P: Packed, A: Allocator + Copy> Rank<P, A> {
         requires of { IsOf P.meld (W.name words.now) (W.sight pass.old) }
         requires may { (k : ℕ) × MaySpawn P.meld (W.name words.now).limits (W.sight pass.old).seen comm k append.old }
         requires holds { MayHold self.old comm context (length group.old.items) }
-        ensures spawns { (k : ℕ) → append.old.item ≡ OfComm comm k → SpawnIs P.meld W.alone (W.name words.now) comm k context append.old append.new group.old.items self.old (W.sight pass.old) result self.new (W.sight pass.new) }
+        ensures spawns { (k : ℕ) → append.old.item ≡ OfComm comm k
+            → SpawnIs P.meld W.alone (W.name words.now) comm k context append.old append.new group.old.items self.old (W.sight pass.old) result self.new
+            (W.sight pass.new) }
         ensures takes { SpawnTakes whole (W.name words.now).limits append.old result append.new (W.sight pass.old) (W.sight pass.new) }
         ensures kept { result ≡ Unknown → group.new.items ≡ group.old.items }
         ensures done { whole ≡ true → result ≢ Unknown }

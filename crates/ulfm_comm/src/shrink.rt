@@ -35,7 +35,8 @@ impl<P: Packed, A: Allocator + Copy> Rank<P, A> {
     ) -> Result<(), Refusal>
         requires of { IsOf P.meld (W.name world.now.words) (W.sight pass.old) }
         requires fits { Fits P.meld (W.name world.now.words).limits (W.sight pass.old).seen self.old }
-        ensures calls { Calls P.meld W.alone (W.name world.now.words) (Asked self.old.number comm) self.old (W.sight pass.old) (reply_of (λ _. Started) result) self.new (W.sight pass.new) }
+        ensures calls { Calls P.meld W.alone (W.name world.now.words) (Asked self.old.number comm) self.old (W.sight pass.old) (reply_of (λ _. Started) result)
+            self.new (W.sight pass.new) }
         ensures excludes { IfOk result (λ _. Excludes P.meld (W.name world.now.words).limits (W.sight pass.old).seen (W.sight pass.new).seen self.old comm) }
     {
         let rank = self.number();

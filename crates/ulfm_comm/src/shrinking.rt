@@ -38,12 +38,15 @@ impl<P: Packed, A: Allocator + Copy> Rank<P, A> {
         group: &mut Vec<u16, A>,
     ) -> Next<P>
         requires of { IsOf P.meld (W.name world.now.words) (W.sight pass.now) }
-        requires read { (old : Record) × (before : Sight P) × HasReadAll P.meld false (W.name world.now.words) asked.now true round all old before self.old (W.sight pass.now) }
+        requires read { (old : Record) × (before : Sight P)
+            × HasReadAll P.meld false (W.name world.now.words) asked.now true round all old before self.old (W.sight pass.now) }
         ensures further { NextBelow 5 result }
         ensures sees { self.new.seen ≡ self.old.seen }
         ensures past { IsPast result }
         ensures nearer { FewerLeft (after_round (W.name world.now.words).limits self.old true + 1) (W.name world.now.words).limits self.new asked.now result }
-        ensures turns { (alone : Bool) (old : Record) (before : Sight P) → HasReadAll P.meld alone (W.name world.now.words) asked.now true round all old before self.old (W.sight pass.now) → NextIs P.meld alone (W.name world.now.words) asked.now old before result group.new.items self.new (W.sight pass.now) }
+        ensures turns { (alone : Bool) (old : Record) (before : Sight P)
+            → HasReadAll P.meld alone (W.name world.now.words) asked.now true round all old before self.old (W.sight pass.now)
+            → NextIs P.meld alone (W.name world.now.words) asked.now old before result group.new.items self.new (W.sight pass.now) }
     {
         let comm = comm_of(asked);
         let Body::Ctx(mask) = all.body else {
@@ -82,11 +85,14 @@ impl<P: Packed, A: Allocator + Copy> Rank<P, A> {
         requires stands { StillStands P.meld (W.name world.now.words) asked.now (AtReadingOn on made) group.old.items self.old (W.sight pass.old) }
         ensures walks { Walks P.meld W.alone (W.name world.now.words) self.old.number (W.sight pass.old) (W.sight pass.new) }
         ensures named { whole ≡ false → IsStepOf AtList self.old.number (comm_of asked.now) (W.sight pass.old) (W.sight pass.new) }
-        ensures nearer { whole ≡ false → FewerLeft (steps_left (W.name world.now.words).limits self.old asked.now (AtReadingOn on made)) (W.name world.now.words).limits self.new asked.now result }
+        ensures nearer { whole ≡ false
+            → FewerLeft (steps_left (W.name world.now.words).limits self.old asked.now (AtReadingOn on made)) (W.name world.now.words).limits self.new asked.now
+            result }
         ensures further { whole ≡ true → IsFurther (AtReadingOn on made) result }
         ensures loads { Did W.alone [] (W.sight pass.old).seen (W.sight pass.new).seen }
         ensures past { IsPast result }
-        ensures turns { Turns P.meld W.alone (W.name world.now.words) asked.now (AtReadingOn on made) group.old.items self.old (W.sight pass.old) result group.new.items self.new (W.sight pass.new) }
+        ensures turns { Turns P.meld W.alone (W.name world.now.words) asked.now (AtReadingOn on made) group.old.items self.old (W.sight pass.old) result
+            group.new.items self.new (W.sight pass.new) }
     {
         let mut on = on;
         self.read_on(
@@ -114,12 +120,15 @@ impl<P: Packed, A: Allocator + Copy> Rank<P, A> {
         group: &mut Vec<u16, A>,
     ) -> Next<P>
         requires of { IsOf P.meld (W.name world.now.words) (W.sight pass.now) }
-        requires reached { (old : Record) × (before : Sight P) × HasReached P.meld false (W.name world.now.words) asked.now made reach old before self.old (W.sight pass.now) }
+        requires reached { (old : Record) × (before : Sight P)
+            × HasReached P.meld false (W.name world.now.words) asked.now made reach old before self.old (W.sight pass.now) }
         ensures further { NextBelow 4 result }
         ensures sees { self.new.seen ≡ self.old.seen }
         ensures past { IsPast result }
         ensures nearer { FewerLeft (2 * ((W.name world.now.words).limits.comms - 1) + 1) (W.name world.now.words).limits self.new asked.now result }
-        ensures turns { (alone : Bool) (old : Record) (before : Sight P) → HasReached P.meld alone (W.name world.now.words) asked.now made reach old before self.old (W.sight pass.now) → NextIs P.meld alone (W.name world.now.words) asked.now old before result group.new.items self.new (W.sight pass.now) }
+        ensures turns { (alone : Bool) (old : Record) (before : Sight P)
+            → HasReached P.meld alone (W.name world.now.words) asked.now made reach old before self.old (W.sight pass.now)
+            → NextIs P.meld alone (W.name world.now.words) asked.now old before result group.new.items self.new (W.sight pass.now) }
     {
         let number = self.number();
         if has_rank(&self.failures()[..reach], number) {
@@ -160,13 +169,17 @@ impl<P: Packed, A: Allocator + Copy> Rank<P, A> {
         requires of { IsOf P.meld (W.name world.now.words) (W.sight pass.old) }
         requires stands { StillStands P.meld (W.name world.now.words) asked.now (AtSpawning append context reach) group.old.items self.old (W.sight pass.old) }
         ensures walks { Walks P.meld W.alone (W.name world.now.words) self.old.number (W.sight pass.old) (W.sight pass.new) }
-        ensures named { whole ≡ false → IsStepOf (if append.empty then AtSpawn else AtComm) self.old.number (comm_of asked.now) (W.sight pass.old) (W.sight pass.new) }
-        ensures nearer { whole ≡ false → FewerLeft (steps_left (W.name world.now.words).limits self.old asked.now (AtSpawning append context reach)) (W.name world.now.words).limits self.new asked.now result }
+        ensures named { whole ≡ false
+            → IsStepOf (if append.empty then AtSpawn else AtComm) self.old.number (comm_of asked.now) (W.sight pass.old) (W.sight pass.new) }
+        ensures nearer { whole ≡ false
+            → FewerLeft (steps_left (W.name world.now.words).limits self.old asked.now (AtSpawning append context reach)) (W.name world.now.words).limits
+            self.new asked.now result }
         ensures further { whole ≡ true → IsFurther (AtSpawning append context reach) result }
         ensures sees { self.new.seen ≡ self.old.seen }
         ensures past { IsPast result }
         ensures adds { Adds W.alone [] self.old asked.now (reply_in result) (W.sight pass.old).seen (W.sight pass.new).seen }
-        ensures turns { Turns P.meld W.alone (W.name world.now.words) asked.now (AtSpawning append context reach) group.old.items self.old (W.sight pass.old) result group.new.items self.new (W.sight pass.new) }
+        ensures turns { Turns P.meld W.alone (W.name world.now.words) asked.now (AtSpawning append context reach) group.old.items self.old (W.sight pass.old)
+            result group.new.items self.new (W.sight pass.new) }
     {
         let comm = comm_of(asked);
         let mut append = append;

@@ -32,12 +32,15 @@ impl<P: Packed, A: Allocator> Rank<P, A> {
         offer: Offer<P>,
     ) -> Reply<P>
         requires of { IsOf P.meld (W.name world.now.words) (W.sight pass.old) }
-        requires stands { (group : List ℕ) × StillStands P.meld (W.name world.now.words) asked.now (AtSettling request offer) group self.old (W.sight pass.old) }
+        requires stands { (group : List ℕ)
+            × StillStands P.meld (W.name world.now.words) asked.now (AtSettling request offer) group self.old (W.sight pass.old) }
         ensures walks { Walks P.meld W.alone (W.name world.now.words) self.old.number (W.sight pass.old) (W.sight pass.new) }
         ensures named { IsStepOf AtSettle self.old.number (comm_of asked.now) (W.sight pass.old) (W.sight pass.new) }
         ensures adds { Adds W.alone self.old.seen self.old asked.now (Some result) (W.sight pass.old).seen (W.sight pass.new).seen }
         ensures sees { self.new.seen ≡ self.old.seen }
-        ensures turns { (group : List ℕ) → Turns P.meld W.alone (W.name world.now.words) asked.now (AtSettling request offer) group self.old (W.sight pass.old) (NextEnds result) group self.new (W.sight pass.new) }
+        ensures turns { (group : List ℕ)
+            → Turns P.meld W.alone (W.name world.now.words) asked.now (AtSettling request offer) group self.old (W.sight pass.old) (NextEnds result) group
+            self.new (W.sight pass.new) }
     {
         let Some(x) = self.held(comm_of(asked)) else {
             unreachable!()
@@ -64,7 +67,9 @@ impl<P: Packed, A: Allocator> Rank<P, A> {
         ensures named { IsStepOf AtArrive self.old.number (comm_of asked.now) (W.sight pass.old) (W.sight pass.new) }
         ensures adds { Adds W.alone self.old.seen self.old asked.now (Some result) (W.sight pass.old).seen (W.sight pass.new).seen }
         ensures sees { self.new.seen ≡ self.old.seen }
-        ensures turns { (group : List ℕ) → Turns P.meld W.alone (W.name world.now.words) asked.now (AtArriving round) group self.old (W.sight pass.old) (NextEnds result) group self.new (W.sight pass.new) }
+        ensures turns { (group : List ℕ)
+            → Turns P.meld W.alone (W.name world.now.words) asked.now (AtArriving round) group self.old (W.sight pass.old) (NextEnds result) group self.new
+            (W.sight pass.new) }
     {
         let comm = comm_of(asked);
         let number = self.number();
@@ -89,7 +94,9 @@ impl<P: Packed, A: Allocator> Rank<P, A> {
         ensures walks { Walks P.meld W.alone (W.name world.now.words) self.now.number (W.sight pass.old) (W.sight pass.new) }
         ensures named { IsStepOf AtRevoke self.now.number (comm_of asked.now) (W.sight pass.old) (W.sight pass.new) }
         ensures adds { Adds W.alone self.now.seen self.now asked.now (Some result) (W.sight pass.old).seen (W.sight pass.new).seen }
-        ensures turns { (group : List ℕ) → Turns P.meld W.alone (W.name world.now.words) asked.now AtRevoking group self.now (W.sight pass.old) (NextEnds result) group self.now (W.sight pass.new) }
+        ensures turns { (group : List ℕ)
+            → Turns P.meld W.alone (W.name world.now.words) asked.now AtRevoking group self.now (W.sight pass.old) (NextEnds result) group self.now
+            (W.sight pass.new) }
     {
         let by = Caller::Rank(self.number());
         if set_revocation(&world.words, pass, by, comm_of(asked)) {
@@ -112,7 +119,9 @@ impl<P: Packed, A: Allocator> Rank<P, A> {
         ensures walks { Walks P.meld W.alone (W.name world.now.words) self.now.number (W.sight pass.old) (W.sight pass.new) }
         ensures named { IsStepOf AtRevocation self.now.number (comm_of asked.now) (W.sight pass.old) (W.sight pass.new) }
         ensures loads { Did W.alone [] (W.sight pass.old).seen (W.sight pass.new).seen }
-        ensures turns { (group : List ℕ) → Turns P.meld W.alone (W.name world.now.words) asked.now AtAsking group self.now (W.sight pass.old) (NextEnds result) group self.now (W.sight pass.new) }
+        ensures turns { (group : List ℕ)
+            → Turns P.meld W.alone (W.name world.now.words) asked.now AtAsking group self.now (W.sight pass.old) (NextEnds result) group self.now
+            (W.sight pass.new) }
     {
         Reply::Standing {
             revoked: load_revocation(&world.words, pass, comm_of(asked)),

@@ -37,12 +37,20 @@ impl<P: Packed, A: Allocator> Rank<P, A> {
         requires stands { (group : List ℕ) × StillStands P.meld (W.name world.now.words) asked.now (AtWaiting arrivals) group self.now (W.sight pass.old) }
         ensures walks { Walks P.meld W.alone (W.name world.now.words) self.now.number (W.sight pass.old) (W.sight pass.new) }
         ensures named { whole ≡ false → IsStepOf AtArrival self.now.number (comm_of asked.now) (W.sight pass.old) (W.sight pass.new) }
-        ensures nearer { whole ≡ false → FewerLeft (steps_left (W.name world.now.words).limits self.now asked.now (AtWaiting arrivals)) (W.name world.now.words).limits self.now asked.now result }
+        ensures nearer { whole ≡ false
+            → FewerLeft (steps_left (W.name world.now.words).limits self.now asked.now (AtWaiting arrivals)) (W.name world.now.words).limits self.now asked.now
+            result }
         ensures further { whole ≡ true → IsFurther (AtWaiting arrivals) result }
         ensures loads { Did W.alone [] (W.sight pass.old).seen (W.sight pass.new).seen }
         ensures past { IsPast result }
-        ensures checks { (missing : Missing) → result ≡ NextGoes (AtChecking missing) → (group : List ℕ) → (alone : Bool) → (IsTrue alone → IsTrue W.alone) → (old : Record) → (before : Sight P) → Stands P.meld alone (W.name world.now.words) old before (record { asked = asked.now; phase = AtWaiting arrivals; group = group }) self.now (W.sight pass.old) → IsChecking P.meld (W.name world.now.words).limits alone (comm_of asked.now) missing (W.sight pass.new).seen old before.seen self.now (W.sight pass.new).seen }
-        ensures turns { (group : List ℕ) → Turns P.meld W.alone (W.name world.now.words) asked.now (AtWaiting arrivals) group self.now (W.sight pass.old) result group self.now (W.sight pass.new) }
+        ensures checks { (missing : Missing) → result ≡ NextGoes (AtChecking missing) → (group : List ℕ) → (alone : Bool) → (IsTrue alone → IsTrue W.alone)
+            → (old : Record) → (before : Sight P)
+            → Stands P.meld alone (W.name world.now.words) old before (record { asked = asked.now; phase = AtWaiting arrivals; group = group }) self.now
+            (W.sight pass.old) → IsChecking P.meld (W.name world.now.words).limits alone (comm_of asked.now) missing (W.sight pass.new).seen old before.seen
+            self.now (W.sight pass.new).seen }
+        ensures turns { (group : List ℕ)
+            → Turns P.meld W.alone (W.name world.now.words) asked.now (AtWaiting arrivals) group self.now (W.sight pass.old) result group self.now
+            (W.sight pass.new) }
     {
         let Some(x) = self.held(comm_of(asked)) else {
             unreachable!()
@@ -69,8 +77,13 @@ impl<P: Packed, A: Allocator> Rank<P, A> {
         ensures named { IsStepOf AtRevocation self.old.number (comm_of asked.now) (W.sight pass.old) (W.sight pass.new) }
         ensures loads { Did W.alone [] (W.sight pass.old).seen (W.sight pass.new).seen }
         ensures sees { self.new.seen ≡ self.old.seen }
-        ensures early { (alone : Bool) → (IsTrue alone → IsTrue W.alone) → (old : Record) → (before : Sight P) → Fits P.meld (W.name world.now.words).limits before.seen old → asked.now ≡ AskedPoll old.number (comm_of asked.now) → (earlier : History P) → IsChecking P.meld (W.name world.now.words).limits alone (comm_of asked.now) missing earlier old before.seen self.old (W.sight pass.old).seen → AnswersEarly P.meld (W.name world.now.words).limits alone asked.now missing earlier old before.seen result self.new }
-        ensures turns { (group : List ℕ) → Turns P.meld W.alone (W.name world.now.words) asked.now (AtChecking missing) group self.old (W.sight pass.old) (NextEnds result) group self.new (W.sight pass.new) }
+        ensures early { (alone : Bool) → (IsTrue alone → IsTrue W.alone) → (old : Record) → (before : Sight P)
+            → Fits P.meld (W.name world.now.words).limits before.seen old → asked.now ≡ AskedPoll old.number (comm_of asked.now) → (earlier : History P)
+            → IsChecking P.meld (W.name world.now.words).limits alone (comm_of asked.now) missing earlier old before.seen self.old (W.sight pass.old).seen
+            → AnswersEarly P.meld (W.name world.now.words).limits alone asked.now missing earlier old before.seen result self.new }
+        ensures turns { (group : List ℕ)
+            → Turns P.meld W.alone (W.name world.now.words) asked.now (AtChecking missing) group self.old (W.sight pass.old) (NextEnds result) group self.new
+            (W.sight pass.new) }
     {
         let comm = comm_of(asked);
         if load_revocation(&world.words, pass, comm) {

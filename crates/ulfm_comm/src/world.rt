@@ -32,7 +32,8 @@ where
     where
         W: Drop,
         ensures world { IfOk result (λ o. o.0.words ≡ words) }
-        ensures ranks { MatchResult result (λ o. o.1.items ≡ map (new_record (W.name words).limits) (all_below (W.name words).limits.ranks)) (λ fault. fault ≡ OutOfMemory) }
+        ensures ranks { MatchResult result (λ o. o.1.items ≡ map (new_record (W.name words).limits) (all_below (W.name words).limits.ranks))
+            (λ fault. fault ≡ OutOfMemory) }
         ensures fits { IfOk result (λ o. AllByRecursion (Fits P.meld (W.name words).limits []) o.1.items) }
     {
         let limits = words.limits();

@@ -1,11 +1,13 @@
 -- Appending to one of the two lists that fill from the front.
 use Rattle.std.specs.Prelude.{◌≡◌, ◌≢◌, ℕ, ◌+◌, ◌-◌, ◌*◌, ◌<◌, ◌≤◌, Bool, not, true, List, [], length, map, Option, Some, None, slice_get, if◌then◌else◌}
 use mathlib.Core.List.{IsPrefix}
-use Rattle.ulfm_model.specs.declared.{event.Caller.{Caller}, event.Event.{Event}, event.Event.TheVariants.{Fail, Spawn}, limits.Limits.{Limits}, place.Place.{Place}, place.Place.TheVariants.{List as ListAt, Comm as CommAt}}
+use Rattle.ulfm_model.specs.declared.{event.Caller.{Caller}, event.Event.{Event}, event.Event.TheVariants.{Fail, Spawn}, limits.Limits.{Limits}}
+use Rattle.ulfm_model.specs.declared.{place.Place.{Place}, place.Place.TheVariants.{List as ListAt, Comm as CommAt}}
 use Rattle.ulfm_model.specs.{History.{History, IsLegal, MayFollow, failures, spawns}, Runs.{Did}}
 use Rattle.ulfm_words.specs.{Steps.{IsAdded, IsOf, Name, Sight}, Tries.{entry}}
 use Rattle.ulfm_steps.specs.Turns.{Takes, left_without}
-use Rattle.ulfm_steps.specs.declared.{append.Append.{Append}, append.Appended.{Appended}, append.Appended.TheVariants.{Won, Found, Full}, item.Item.{Item}, item.Item.TheVariants.{Failure, Comm}}
+use Rattle.ulfm_steps.specs.declared.{append.Append.{Append}, append.Appended.{Appended}, append.Appended.TheVariants.{Won, Found, Full}, item.Item.{Item}}
+use Rattle.ulfm_steps.specs.declared.{item.Item.TheVariants.{Failure, Comm}}
 
 -- the list in which an item stands, in order
 abbrev pub items : {P : Type 0} → Item → History P → List Item
@@ -48,7 +50,8 @@ AppendIs alone limits item by old new (Found i) = Did alone [] old new × (slice
 AppendIs alone limits item by old new Full = Did alone [] old new × Passed new item (room item limits)
 
 -- so many atomic steps at most led to this end
-pub record Appends {P : Type 0} (meld : P → P → P) (alone : Bool) (name : Name) (item : Item) (by : Caller) (most : ℕ) (old : Sight P) (result : Appended) (new : Sight P) : Type 0 where
+pub record Appends {P : Type 0} (meld : P → P → P) (alone : Bool) (name : Name) (item : Item) (by : Caller) (most : ℕ) (old : Sight P) (result : Appended)
+    (new : Sight P) : Type 0 where
   pub of : IsOf meld name new
   pub outcome : AppendIs alone name.limits item by old.seen new.seen result
   pub onward : old.steps ≤ new.steps

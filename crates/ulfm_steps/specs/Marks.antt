@@ -2,7 +2,8 @@
 use Rattle.std.specs.Prelude.{◌≡◌, ◌⊎◌, ℕ, ◌+◌, ◌-◌, ◌<◌, ◌≤◌, Bool, false, not, List, [], ◌++◌, length, filter, take, slice_index, is_some, IsTrue}
 use Rattle.std.specs.List.{AllByRecursion}
 use mathlib.Core.List.{IsPrefix}
-use Rattle.ulfm_model.specs.declared.{contribution.MarkCount.{MarkCount}, event.Caller.TheVariants.{Rank as ByRank}, event.Event.{Event}, event.Event.TheVariants.{Mark}, limits.Limits.{Limits}, place.Place.TheVariants.{Slot as SlotAt}}
+use Rattle.ulfm_model.specs.declared.{contribution.MarkCount.{MarkCount}, event.Caller.TheVariants.{Rank as ByRank}, event.Event.{Event}}
+use Rattle.ulfm_model.specs.declared.{event.Event.TheVariants.{Mark}, limits.Limits.{Limits}, place.Place.TheVariants.{Slot as SlotAt}}
 use Rattle.ulfm_model.specs.{History.{History, entries_by, failures, has, slot}, Runs.{Did}}
 use Rattle.ulfm_model.specs.Terms.{settled_by}
 use Rattle.ulfm_words.specs.Steps.{IsAdded, IsOf, Name, Sight}
@@ -26,7 +27,8 @@ pub record Marks {P : Type 0} (alone : Bool) (number c k : ℕ) (ranks : List �
 
 -- one exchange: the rank was marked last, after events by others, or there were others' events alone
 abbrev pub MarksOnce : {P : Type 0} → Bool → ℕ → ℕ → ℕ → ℕ → History P → History P → Type 0
-MarksOnce alone number c k r old new = Did alone [] old new ⊎ ((mark : MarkCount) × IsAdded alone (record { by = ByRank number; event = Mark c k r mark }) old new)
+MarksOnce alone number c k r old new =
+    Did alone [] old new ⊎ ((mark : MarkCount) × IsAdded alone (record { by = ByRank number; event = Mark c k r mark }) old new)
 
 -- one exchange for each of these ranks, at most
 pub record MarkSteps {P : Type 0} (meld : P → P → P) (alone : Bool) (name : Name) (number c k : ℕ) (ranks : List ℕ) (old new : Sight P) : Type 0 where
@@ -58,7 +60,8 @@ pub record IsAt (group declared : List ℕ) (at known : ℕ) : Type 0 where
   pub counted : known ≡ length (members_in group declared at)
 
 -- a marking has come from its place to another: it has marked the members in between
-pub record HasMarked {P : Type 0} (meld : P → P → P) (alone : Bool) (name : Name) (start : MarkAll) (group declared : List ℕ) (at : ℕ) (old new : Sight P) : Type 0 where
+pub record HasMarked {P : Type 0} (meld : P → P → P) (alone : Bool) (name : Name) (start : MarkAll) (group declared : List ℕ) (at : ℕ) (old new : Sight P)
+    : Type 0 where
   pub between : List ℕ
   pub members_are : members_in group declared at ≡ members_in group declared start.next ++ between
   pub marks : MarkSteps meld alone name start.rank start.comm start.round between old new

@@ -58,8 +58,10 @@ pub(crate) fn set_item<P: Packed, A: Allocator, W: Words<P, A>>(
     requires within { index < room item (W.name words.now).limits }
     requires may { MayAdd P.meld (W.name words.now).limits (W.sight pass.old).seen item index }
     requires round { HasRound (W.name words.now).limits item }
-    ensures tries { Tries P.meld P.pack W.alone (W.name words.now) (place_at item index) (entry by (event_at item index)) (is_ok result) (W.sight pass.old) (W.sight pass.new) }
-    ensures stands { MatchResult result (λ _. slice_get (items item (W.sight pass.new).seen) index ≡ Some item) (λ x. slice_get (items item (W.sight pass.new).seen) index ≡ Some x) }
+    ensures tries { Tries P.meld P.pack W.alone (W.name words.now) (place_at item index) (entry by (event_at item index)) (is_ok result) (W.sight pass.old)
+        (W.sight pass.new) }
+    ensures stands { MatchResult result (λ _. slice_get (items item (W.sight pass.new).seen) index ≡ Some item)
+        (λ x. slice_get (items item (W.sight pass.new).seen) index ≡ Some x) }
 {
     match item {
         Item::Failure { rank } => match set_failure(words, pass, by, index, rank) {

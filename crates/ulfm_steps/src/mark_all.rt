@@ -78,9 +78,12 @@ impl MarkAll {
         ensures round { self.new.round ≡ self.old.round }
         ensures at { IsAt group.now declared.now self.new.next self.new.known }
         ensures onward { self.old.next < self.new.next }
-        ensures further { members_in group.now declared.now self.new.next ≡ members_in group.now declared.now self.old.next ++ slice_index declared.now self.old.next ∷ [] }
-        ensures once { MarksOnce W.alone self.old.rank self.old.comm self.old.round (slice_index declared.now self.old.next) (W.sight pass.old).seen (W.sight pass.new).seen }
-        ensures marks { MarkSteps P.meld W.alone (W.name words.now) self.old.rank self.old.comm self.old.round (slice_index declared.now self.old.next ∷ []) (W.sight pass.old) (W.sight pass.new) }
+        ensures further { members_in group.now declared.now self.new.next ≡ members_in group.now declared.now self.old.next ++ slice_index declared.now
+            self.old.next ∷ [] }
+        ensures once { MarksOnce W.alone self.old.rank self.old.comm self.old.round (slice_index declared.now self.old.next) (W.sight pass.old).seen
+            (W.sight pass.new).seen }
+        ensures marks { MarkSteps P.meld W.alone (W.name words.now) self.old.rank self.old.comm self.old.round (slice_index declared.now self.old.next ∷ [])
+            (W.sight pass.old) (W.sight pass.new) }
     {
         let rank = declared[self.next];
         self.known += 1;
@@ -113,7 +116,9 @@ impl MarkAll {
         ensures at { IsAt group.now declared.now self.new.next self.new.known }
         ensures onward { self.old.next < self.new.next }
         ensures done { whole ≡ true → self.new.next ≡ length declared.now }
-        ensures once { whole ≡ false → MarksOnce W.alone self.old.rank self.old.comm self.old.round (slice_index declared.now self.old.next) (W.sight pass.old).seen (W.sight pass.new).seen }
+        ensures once { whole ≡ false
+            → MarksOnce W.alone self.old.rank self.old.comm self.old.round (slice_index declared.now self.old.next) (W.sight pass.old).seen
+            (W.sight pass.new).seen }
         ensures marks { HasMarked P.meld W.alone (W.name words.now) self.old group.now declared.now self.new.next (W.sight pass.old) (W.sight pass.new) }
     {
         while self.next < declared.len() {

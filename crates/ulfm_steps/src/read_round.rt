@@ -115,7 +115,8 @@ impl<P: Packed> ReadRound<P> {
         requires read { IsSummed P.meld (W.sight pass.old).seen self.comm self.round (take self.read group.now) self.all }
         ensures goes { Goes P.meld W.alone (W.name words.now) (length group.now - self.read) (W.sight pass.old) (W.sight pass.new) }
         ensures loaded { MatchOption result ((W.sight pass.old).steps < (W.sight pass.new).steps) (λ _. Unit {0}) }
-        ensures read { MatchOption result (IsMissing (W.sight pass.new).last (W.sight pass.new).seen self.comm self.round group.now) (IsSummed P.meld (W.sight pass.new).seen self.comm self.round group.now) }
+        ensures read { MatchOption result (IsMissing (W.sight pass.new).last (W.sight pass.new).seen self.comm self.round group.now)
+            (IsSummed P.meld (W.sight pass.new).seen self.comm self.round group.now) }
     {
         if self.read < group.len() && !self.advance(words, pass, group, true) {
             return None;

@@ -33,8 +33,11 @@ impl<P: Packed> Settle<P> {
     ) -> Result<(), Slot<P>>
         requires of { IsOf P.meld (W.name words.now) (W.sight pass.old) }
         requires may { MayGive (W.name words.now).limits (W.sight pass.old).seen self.now.comm self.now.round self.now.rank self.now.given }
-        ensures tries { Tries P.meld P.pack W.alone (W.name words.now) (SlotAt self.now.comm self.now.round self.now.rank) (entry (ByRank self.now.rank) (Settled self.now.comm self.now.round self.now.rank self.now.given)) (is_ok result) (W.sight pass.old) (W.sight pass.new) }
-        ensures stands { MatchResult result (λ _. slot (W.sight pass.new).seen self.now.comm self.now.round self.now.rank ≡ Some (Given self.now.given)) (λ s. slot (W.sight pass.new).seen self.now.comm self.now.round self.now.rank ≡ Some s) }
+        ensures tries { Tries P.meld P.pack W.alone (W.name words.now) (SlotAt self.now.comm self.now.round self.now.rank)
+            (entry (ByRank self.now.rank) (Settled self.now.comm self.now.round self.now.rank self.now.given)) (is_ok result) (W.sight pass.old)
+            (W.sight pass.new) }
+        ensures stands { MatchResult result (λ _. slot (W.sight pass.new).seen self.now.comm self.now.round self.now.rank ≡ Some (Given self.now.given))
+            (λ s. slot (W.sight pass.new).seen self.now.comm self.now.round self.now.rank ≡ Some s) }
     {
         let put = Slot::Given(self.given);
         let by = Caller::Rank(self.rank);
@@ -49,8 +52,10 @@ impl<P: Packed> Settle<P> {
     ) -> Result<(), Slot<P>>
         requires of { IsOf P.meld (W.name words.now) (W.sight pass.old) }
         requires may { MayGive (W.name words.now).limits (W.sight pass.old).seen self.comm self.round self.rank self.given }
-        ensures tries { Tries P.meld P.pack W.alone (W.name words.now) (SlotAt self.comm self.round self.rank) (entry (ByRank self.rank) (Settled self.comm self.round self.rank self.given)) (is_ok result) (W.sight pass.old) (W.sight pass.new) }
-        ensures stands { MatchResult result (λ _. slot (W.sight pass.new).seen self.comm self.round self.rank ≡ Some (Given self.given)) (λ s. slot (W.sight pass.new).seen self.comm self.round self.rank ≡ Some s) }
+        ensures tries { Tries P.meld P.pack W.alone (W.name words.now) (SlotAt self.comm self.round self.rank)
+            (entry (ByRank self.rank) (Settled self.comm self.round self.rank self.given)) (is_ok result) (W.sight pass.old) (W.sight pass.new) }
+        ensures stands { MatchResult result (λ _. slot (W.sight pass.new).seen self.comm self.round self.rank ≡ Some (Given self.given))
+            (λ s. slot (W.sight pass.new).seen self.comm self.round self.rank ≡ Some s) }
     {
         self.step(words, pass)
     }

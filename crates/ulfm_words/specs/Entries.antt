@@ -1,6 +1,9 @@
 -- The event of a step, read off its place and its word.
 use Rattle.std.specs.Prelude.{ℕ, ◌-◌, ◌/◌, ◌%◌, Option, Some, None}
-use Rattle.ulfm_model.specs.declared.{contribution.Slot.{Slot}, contribution.Slot.TheVariants.{Given, Mark as Marked}, event.Caller.{Caller}, event.Entry.{Entry}, event.Event.{Event}, event.Event.TheVariants.{Fail, Settle, Mark, Arrive, Revoke, Spawn}, place.Place.{Place}, place.Place.TheVariants.{List as ListAt, Comm as CommAt, Revoked as RevokedAt, Slot as SlotAt, Arrival as ArrivalAt}}
+use Rattle.ulfm_model.specs.declared.{contribution.Slot.{Slot}, contribution.Slot.TheVariants.{Given, Mark as Marked}, event.Caller.{Caller}}
+use Rattle.ulfm_model.specs.declared.{event.Entry.{Entry}, event.Event.{Event}, event.Event.TheVariants.{Fail, Settle, Mark, Arrive, Revoke, Spawn}}
+use Rattle.ulfm_model.specs.declared.{place.Place.{Place}}
+use Rattle.ulfm_model.specs.declared.{place.Place.TheVariants.{List as ListAt, Comm as CommAt, Revoked as RevokedAt, Slot as SlotAt, Arrival as ArrivalAt}}
 use Rattle.ulfm_words.specs.declared.step.Step.{Step}
 use Rattle.ulfm_words.specs.Slots.{slot_in}
 

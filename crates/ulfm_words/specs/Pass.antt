@@ -41,7 +41,8 @@ module _ {P : Type 0} (unpack : ℕ → Option P) (limits : Limits) where
   sight_of words journal trail = record { name = plain_name limits; seen = entries words journal; steps = length trail; last = last_of trail }
 
 -- the words are those of the journal's history, which is legal, and the journal has room for all that are not set
-pub record IsTied {P : Type 0} (meld : P → P → P) (pack : P → ℕ) (unpack : ℕ → Option P) (limits : Limits) (words : List ℕ) (journal : List Setting) (capacity : ℕ) : Type 0 where
+pub record IsTied {P : Type 0} (meld : P → P → P) (pack : P → ℕ) (unpack : ℕ → Option P) (limits : Limits) (words : List ℕ) (journal : List Setting)
+    (capacity : ℕ) : Type 0 where
   pub may_open : MayOpen limits
   pub size : size_of limits ≤ length words
   pub made : AllByRecursion (IsMade unpack limits words) journal

@@ -51,7 +51,8 @@ pub record IsRow (limits : Limits) (heads pages words : List ℕ) (capacity : �
 -- the seat of a place: among the words that come first by its key, or in a line by its rank
 abbrev pub HasSeat : Limits → Place → Seat → Type 0
 HasSeat limits place (Head index) = (index ≡ key_in limits place) × (index < heads_of limits)
-HasSeat limits place (Cell line rank) = (key_in limits place ≡ heads_of limits + (line * limits.ranks + rank)) × (line < lines_of limits) × (rank < limits.ranks)
+HasSeat limits place (Cell line rank) =
+    (key_in limits place ≡ heads_of limits + (line * limits.ranks + rank)) × (line < lines_of limits) × (rank < limits.ranks)
 
 -- what contracts see of a row: the words by their keys
 pub record Filled : Type 0 where

@@ -1,10 +1,12 @@
 -- Words of slots, read bit by bit: bit 0 is 1; bits 1 and 2 are the tag; bits 3 to 13 known; bits 14 to 24 acknowledged;
 -- bits 25 to 56 the payload; bits 57 to 63 are 0.
-use Rattle.std.specs.Prelude.{◌≡◌, ◌⊎◌, ◌≤◌, ◌<◌, ◌^◌, ℕ, ◌/◌, ◌%◌, ◌==◌, ◌&&◌, Bool, true, false, Option, Some, None, if◌then◌else◌, nat_le, nat_lt, IsTrue, IsSome, refl}
+use Rattle.std.specs.Prelude.{◌≡◌, ◌⊎◌, ◌≤◌, ◌<◌, ◌^◌, ℕ, ◌/◌, ◌%◌, ◌==◌, ◌&&◌, Bool, true, false, Option, Some, None, if◌then◌else◌, nat_le, nat_lt, IsTrue}
+use Rattle.std.specs.Prelude.{IsSome, refl}
 use Rattle.std.proofs.Common.{mod-lt, lit<, arith}
 use Rattle.std.proofs.lemmas.Bool.Decides.{nat_tests}
 use Rattle.ulfm_laws.specs.{Ranges.{is_acked_count}, declared.ctx_mask.CtxMask.{CtxMask}}
-use Rattle.ulfm_model.specs.declared.{contribution.Offer.{Offer}, contribution.Offer.TheVariants.{Flag, Ctx}, contribution.Slot.{Slot}, contribution.Slot.TheVariants.{Given, Mark as Marked}}
+use Rattle.ulfm_model.specs.declared.{contribution.Offer.{Offer}, contribution.Offer.TheVariants.{Flag, Ctx}, contribution.Slot.{Slot}}
+use Rattle.ulfm_model.specs.declared.{contribution.Slot.TheVariants.{Given, Mark as Marked}}
 use Rattle.ulfm_model.specs.Words.{slot_word}
 
 abbrev pub tag_in : ℕ → ℕ

@@ -86,7 +86,8 @@ found (Ok _) = 0
 found (Err w) = w
 
 -- one compare-exchange from 0
-pub record Sets {P : Type 0} (meld : P → P → P) (pack : P → ℕ) (unpack : ℕ → Option P) (alone : Bool) (name : Name) (s : Step) (old : Sight P) (result : Result (Unit {0}) ℕ) (new : Sight P) : Type 0 where
+pub record Sets {P : Type 0} (meld : P → P → P) (pack : P → ℕ) (unpack : ℕ → Option P) (alone : Bool) (name : Name) (s : Step) (old : Sight P)
+    (result : Result (Unit {0}) ℕ) (new : Sight P) : Type 0 where
   pub of : IsOf meld name new
   pub outcome : MatchResult result (λ _. Wins pack unpack alone s old.seen new.seen) (λ w. Loses pack alone s.place w old.seen new.seen)
   pub steps : new.steps ≡ old.steps + 1

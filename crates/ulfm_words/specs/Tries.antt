@@ -1,13 +1,15 @@
 -- Exchanges, each for one event.
 use Rattle.std.specs.Prelude.{◌≡◌, ℕ, ◌+◌, Bool, false, [], length, Some, None, slice_get, if◌then◌else◌, MatchBool}
 use mathlib.Core.List.{IsPrefix}
-use Rattle.ulfm_model.specs.declared.{contribution.Slot.{Slot}, event.Caller.{Caller}, event.Entry.{Entry}, event.Event.{Event}, event.Event.TheVariants.{Fail, Arrive, Revoke}, limits.Limits.{Limits}, place.Place.{Place}}
+use Rattle.ulfm_model.specs.declared.{contribution.Slot.{Slot}, event.Caller.{Caller}, event.Entry.{Entry}, event.Event.{Event}}
+use Rattle.ulfm_model.specs.declared.{event.Event.TheVariants.{Fail, Arrive, Revoke}, limits.Limits.{Limits}, place.Place.{Place}}
 use Rattle.ulfm_model.specs.{History.{History, IsLegal, MayFollow, MaySpawn, failures, has_arrived, is_revoked, slot}, Runs.{Did}, Words.{word_at}}
 use Rattle.ulfm_model.specs.Terms.{made_at}
 use Rattle.ulfm_words.specs.{Entries.{put_of}, Steps.{IsAdded, IsOf, Name, Sight}}
 
 -- one exchange: the event came, or others' events alone
-pub record Tries {P : Type 0} (meld : P → P → P) (pack : P → ℕ) (alone : Bool) (name : Name) (place : Place) (entry : Entry P) (won : Bool) (old new : Sight P) : Type 0 where
+pub record Tries {P : Type 0} (meld : P → P → P) (pack : P → ℕ) (alone : Bool) (name : Name) (place : Place) (entry : Entry P) (won : Bool) (old new : Sight P)
+    : Type 0 where
   pub of : IsOf meld name new
   pub outcome : MatchBool won (IsAdded alone entry old.seen new.seen) (Did alone [] old.seen new.seen)
   pub steps : new.steps ≡ old.steps + 1
@@ -18,20 +20,26 @@ entry by event = record { by = by; event = event }
 
 -- in each legal history that goes on from what was seen, while the next place of the list is this one, the rank may fail
 abbrev pub MayDeclare : {P : Type 0} → (P → P → P) → Limits → History P → ℕ → ℕ → Type 0
-MayDeclare {P} meld limits seen i r = (more : History P) → IsPrefix seen more → IsLegal meld limits more → slice_get (failures more) i ≡ None → MayFollow meld limits more (Fail r) × (length (failures more) ≡ i)
+MayDeclare {P} meld limits seen i r =
+    (more : History P) → IsPrefix seen more → IsLegal meld limits more → slice_get (failures more) i ≡ None → MayFollow meld limits more (Fail r)
+    × (length (failures more) ≡ i)
 
 -- .. while the member isn't settled, this may settle it
 abbrev pub MayPut : {P : Type 0} → (P → P → P) → Limits → History P → ℕ → ℕ → ℕ → Slot P → Type 0
-MayPut {P} meld limits seen c k r put = (more : History P) → IsPrefix seen more → IsLegal meld limits more → slot more c k r ≡ None → MayFollow meld limits more (put_of c k r put)
+MayPut {P} meld limits seen c k r put =
+    (more : History P) → IsPrefix seen more → IsLegal meld limits more → slot more c k r ≡ None → MayFollow meld limits more (put_of c k r put)
 
 -- .. while the communicator isn't made, it may be made of this round
 abbrev pub MayMake : {P : Type 0} → (P → P → P) → Limits → History P → ℕ → ℕ → ℕ → Type 0
-MayMake {P} meld limits seen j c k = (more : History P) → IsPrefix seen more → IsLegal meld limits more → made_at more j ≡ None → MaySpawn meld limits more j c k
+MayMake {P} meld limits seen j c k =
+    (more : History P) → IsPrefix seen more → IsLegal meld limits more → made_at more j ≡ None → MaySpawn meld limits more j c k
 
 -- .. while the member hasn't arrived, it may
 abbrev pub MayCome : {P : Type 0} → (P → P → P) → Limits → History P → ℕ → ℕ → ℕ → Type 0
-MayCome {P} meld limits seen c k r = (more : History P) → IsPrefix seen more → IsLegal meld limits more → has_arrived more c k r ≡ false → MayFollow meld limits more (Arrive c k r)
+MayCome {P} meld limits seen c k r =
+    (more : History P) → IsPrefix seen more → IsLegal meld limits more → has_arrived more c k r ≡ false → MayFollow meld limits more (Arrive c k r)
 
 -- .. while the communicator isn't revoked, it may be
 abbrev pub MayEnd : {P : Type 0} → (P → P → P) → Limits → History P → ℕ → Type 0
-MayEnd {P} meld limits seen c = (more : History P) → IsPrefix seen more → IsLegal meld limits more → is_revoked more c ≡ false → MayFollow meld limits more (Revoke c)
+MayEnd {P} meld limits seen c =
+    (more : History P) → IsPrefix seen more → IsLegal meld limits more → is_revoked more c ≡ false → MayFollow meld limits more (Revoke c)

@@ -47,7 +47,8 @@ pub fn load_summary<P: Packed, A: Allocator, W: Words<P, A>>(
     requires of { IsOf P.meld (W.name words.now) (W.sight pass.old) }
     requires within { IsCell (W.name words.now).limits comm round rank }
     ensures loads { Loads P.meld P.pack W.alone (W.name words.now) (SlotAt comm round rank) (W.sight pass.old) (W.sight pass.new) }
-    ensures summary { MatchOption result (slot (W.sight pass.new).seen comm round rank ≡ None) (λ all. (s : Slot P) × (slot (W.sight pass.new).seen comm round rank ≡ Some s) × (all ≡ summary_of s)) }
+    ensures summary { MatchOption result (slot (W.sight pass.new).seen comm round rank ≡ None) (λ all. (s : Slot P)
+        × (slot (W.sight pass.new).seen comm round rank ≡ Some s) × (all ≡ summary_of s)) }
 {
     let word = words.load(pass, Place::Slot { comm, round, rank });
     if word == 0 {

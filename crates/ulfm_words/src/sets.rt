@@ -32,7 +32,8 @@ pub fn set_failure<P: Packed, A: Allocator, W: Words<P, A>>(
     requires within { index < (W.name words.now).limits.ranks }
     requires may { MayDeclare P.meld (W.name words.now).limits (W.sight pass.old).seen index rank }
     ensures tries { Tries P.meld P.pack W.alone (W.name words.now) (ListAt index) (entry by (Fail rank)) (is_ok result) (W.sight pass.old) (W.sight pass.new) }
-    ensures stands { MatchResult result (λ _. slice_get (failures (W.sight pass.new).seen) index ≡ Some rank) (λ r. slice_get (failures (W.sight pass.new).seen) index ≡ Some r) }
+    ensures stands { MatchResult result (λ _. slice_get (failures (W.sight pass.new).seen) index ≡ Some rank)
+        (λ r. slice_get (failures (W.sight pass.new).seen) index ≡ Some r) }
 {
     let step = Step {
         place: Place::List { index },
@@ -59,8 +60,10 @@ fn try_slot<P: Packed, A: Allocator, W: Words<P, A>>(
     requires of { IsOf P.meld (W.name words.now) (W.sight pass.old) }
     requires within { IsCell (W.name words.now).limits comm round rank }
     requires may { MayPut P.meld (W.name words.now).limits (W.sight pass.old).seen comm round rank put }
-    ensures tries { Tries P.meld P.pack W.alone (W.name words.now) (SlotAt comm round rank) (entry by (put_of comm round rank put)) (is_ok result) (W.sight pass.old) (W.sight pass.new) }
-    ensures stands { MatchResult result (λ _. slot (W.sight pass.new).seen comm round rank ≡ Some put) (λ word. (s : Slot P) × (slot_in P.unpack word ≡ Some s) × (slot (W.sight pass.new).seen comm round rank ≡ Some s)) }
+    ensures tries { Tries P.meld P.pack W.alone (W.name words.now) (SlotAt comm round rank) (entry by (put_of comm round rank put)) (is_ok result)
+        (W.sight pass.old) (W.sight pass.new) }
+    ensures stands { MatchResult result (λ _. slot (W.sight pass.new).seen comm round rank ≡ Some put) (λ word. (s : Slot P) × (slot_in P.unpack word ≡ Some s)
+        × (slot (W.sight pass.new).seen comm round rank ≡ Some s)) }
 {
     let step = Step {
         place: Place::Slot { comm, round, rank },
@@ -86,8 +89,10 @@ pub fn set_slot<P: Packed, A: Allocator, W: Words<P, A>>(
     requires of { IsOf P.meld (W.name words.now) (W.sight pass.old) }
     requires within { IsCell (W.name words.now).limits comm round rank }
     requires may { MayPut P.meld (W.name words.now).limits (W.sight pass.old).seen comm round rank put }
-    ensures tries { Tries P.meld P.pack W.alone (W.name words.now) (SlotAt comm round rank) (entry by (put_of comm round rank put)) (is_ok result) (W.sight pass.old) (W.sight pass.new) }
-    ensures stands { MatchResult result (λ _. slot (W.sight pass.new).seen comm round rank ≡ Some put) (λ s. slot (W.sight pass.new).seen comm round rank ≡ Some s) }
+    ensures tries { Tries P.meld P.pack W.alone (W.name words.now) (SlotAt comm round rank) (entry by (put_of comm round rank put)) (is_ok result)
+        (W.sight pass.old) (W.sight pass.new) }
+    ensures stands { MatchResult result (λ _. slot (W.sight pass.new).seen comm round rank ≡ Some put)
+        (λ s. slot (W.sight pass.new).seen comm round rank ≡ Some s) }
 {
     match try_slot(words, pass, by, comm, round, rank, put) {
         Ok(()) => Ok(()),
@@ -109,8 +114,10 @@ pub fn put_slot<P: Packed, A: Allocator, W: Words<P, A>>(
     requires of { IsOf P.meld (W.name words.now) (W.sight pass.old) }
     requires within { IsCell (W.name words.now).limits comm round rank }
     requires may { MayPut P.meld (W.name words.now).limits (W.sight pass.old).seen comm round rank put }
-    ensures tries { Tries P.meld P.pack W.alone (W.name words.now) (SlotAt comm round rank) (entry by (put_of comm round rank put)) result (W.sight pass.old) (W.sight pass.new) }
-    ensures stands { MatchBool result (slot (W.sight pass.new).seen comm round rank ≡ Some put) ((s : Slot P) × (slot (W.sight pass.new).seen comm round rank ≡ Some s)) }
+    ensures tries { Tries P.meld P.pack W.alone (W.name words.now) (SlotAt comm round rank) (entry by (put_of comm round rank put)) result (W.sight pass.old)
+        (W.sight pass.new) }
+    ensures stands { MatchBool result (slot (W.sight pass.new).seen comm round rank ≡ Some put) ((s : Slot P)
+        × (slot (W.sight pass.new).seen comm round rank ≡ Some s)) }
 {
     match try_slot(words, pass, by, comm, round, rank, put) {
         Ok(()) => true,
@@ -131,8 +138,10 @@ pub fn set_comm<P: Packed, A: Allocator, W: Words<P, A>>(
     requires within { IsWithin (W.name words.now).limits (CommAt comm) }
     requires round { round < (W.name words.now).limits.rounds }
     requires may { MayMake P.meld (W.name words.now).limits (W.sight pass.old).seen comm parent round }
-    ensures tries { Tries P.meld P.pack W.alone (W.name words.now) (CommAt comm) (entry by (Spawn comm parent round)) (is_ok result) (W.sight pass.old) (W.sight pass.new) }
-    ensures stands { MatchResult result (λ _. made_at (W.sight pass.new).seen comm ≡ Some (parent, round)) (λ m. made_at (W.sight pass.new).seen comm ≡ Some m) }
+    ensures tries { Tries P.meld P.pack W.alone (W.name words.now) (CommAt comm) (entry by (Spawn comm parent round)) (is_ok result) (W.sight pass.old)
+        (W.sight pass.new) }
+    ensures stands { MatchResult result (λ _. made_at (W.sight pass.new).seen comm ≡ Some (parent, round))
+        (λ m. made_at (W.sight pass.new).seen comm ≡ Some m) }
 {
     let step = Step {
         place: Place::Comm { comm },
@@ -157,7 +166,8 @@ pub fn set_arrival<P: Packed, A: Allocator, W: Words<P, A>>(
     requires of { IsOf P.meld (W.name words.now) (W.sight pass.old) }
     requires within { IsCell (W.name words.now).limits comm round rank }
     requires may { MayCome P.meld (W.name words.now).limits (W.sight pass.old).seen comm round rank }
-    ensures tries { Tries P.meld P.pack W.alone (W.name words.now) (ArrivalAt comm round rank) (entry by (Arrive comm round rank)) result (W.sight pass.old) (W.sight pass.new) }
+    ensures tries { Tries P.meld P.pack W.alone (W.name words.now) (ArrivalAt comm round rank) (entry by (Arrive comm round rank)) result (W.sight pass.old)
+        (W.sight pass.new) }
     ensures stands { IsTrue (has_arrived (W.sight pass.new).seen comm round rank) }
 {
     let arrival = Step {
