@@ -39,7 +39,7 @@ loop-on-smaller g c =
     let long = length_prefix c.advance.new.seen.items (failures h) e.begins in
     let all = failures_le g.P.Meld.meld (g.W.Words.name c.args.words.now).limits h e.goes.of.legal in
     let size : vec_len c.advance.new.seen ≡ length c.advance.new.seen.items = search rules in
-    omega (arith, long, all, size, e.more, e.further)
+    omega (arith, long, all, size, e.takes.some, e.further)
 
 pub loop-on-preserved : goal.loop-on-preserved
 loop-on-preserved g c =
