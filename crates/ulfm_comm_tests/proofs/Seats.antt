@@ -3,11 +3,11 @@ use Rattle.std.proofs.Common.{◌≡◌, ◌⊎◌, ℕ, zero, suc, ◌<◌, ◌
 use Rattle.std.specs.{List.{AllByRecursion}, Prelude.{MatchOption, Option}}
 use Rattle.ulfm_model.specs.declared.{call.Call.{Call}, event.Caller.TheVariants.{Rank}, reply.Reply.{Reply}}
 use Rattle.ulfm_model.specs.{History.{IsLegal, entries_by}, Records.{Fits, Record}}
-use Rattle.ulfm_model.proofs.{LeftRuns.{fail_legal}, Lists.{each_from, prefix_trans}, Stable.{fits_stays}}
+use Rattle.ulfm_model.proofs.{LeftRuns.{call_legal, fail_legal}, Lists.{each_from, prefix_trans}, Stable.{fits_stays}}
 use Rattle.ulfm_words.specs.Steps.{IsOf, Name, Sight}
 use Rattle.ulfm_words.proofs.Trails.{did_prefix, did_wait}
-use Rattle.ulfm_comm.specs.{Calls.{EndsAs, EndsReply, wants_memory}, Fails.{Fails}, Ends.{IsRefusedAgain}, Stages.{Answered, Stands, Stepped, UnderWay, Waits, next_of, reply_in}}
-use Rattle.ulfm_comm.proofs.{Adding.{step_did}, InOrder.{each_set}, Loosely.{did_among}}
+use Rattle.ulfm_comm.specs.{Calls.{Calls, EndsAs, EndsReply, wants_memory}, Fails.{Fails}, Ends.{IsRefusedAgain}, Stages.{Answered, Stands, Stepped, UnderWay, Waits, next_of, reply_in}}
+use Rattle.ulfm_comm.proofs.{Adding.{step_did}, Calling.{called_run}, InOrder.{each_set}, Loosely.{did_among}}
 use Rattle.ulfm_comm_tests.specs.Seats.{HasStood, IsPlay, Seated, Sits}
 use mathlib.Core.List.{IsPrefix}
 
@@ -35,6 +35,12 @@ module _ {P : Type 0} (meld : P → P → P) (name : Name) where
   step_waits quiet was own now reply is new after step =
       let did = step_did quiet own was.asked (reply_in (next_of reply is.phase)) now.seen after.seen was.phase step.adds in
       record { did = did_among now.seen after.seen (did_prefix quiet (entries_by (Rank own.number) did.0) now.seen after.seen did.1); onward = step.onward }
+
+  -- and so are those of a whole call
+  pub call_waits : (quiet : Bool) (asked : Call P) (own : Record) (now : Sight P) (reply : Reply P) (new : Record) (after : Sight P) → IsLegal meld name.limits now.seen → Calls meld quiet name asked own now reply new after → Waits false now after
+  call_waits quiet asked own now reply new after legal called =
+      let run = called_run meld quiet name asked own now reply new after called in
+      record { did = did_among now.seen after.seen (call_legal meld name.limits quiet now.seen after.seen own asked reply new legal run).0; onward = called.onward }
 
   -- a call that has just begun
   pub stood_first : (own : Record) (now : Sight P) (doing : UnderWay P) → Stands meld false name own now doing own now → HasStood meld name own now doing

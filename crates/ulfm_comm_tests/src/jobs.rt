@@ -248,7 +248,7 @@ fn opens(rt: &impl Abort, heap: &LocalHeap) -> Result<bool, Fail> {
 
 #[test]
 fn opening_is_refused_memory(rt: HostRuntime) -> Result<(), Fail> {
-    for count in 0..512usize {
+    for count in 0..1024usize {
         let heap = LocalHeap::new(rt.alloc(), count * 16)?;
         if opens(&rt, &heap)? {
             assert!(rt; count > 0);

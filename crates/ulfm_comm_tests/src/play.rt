@@ -116,6 +116,27 @@ impl<P: Packed, A: Allocator + Copy> Seat<P, A> {
     }
 }
 
+impl<P: Packed, A: Allocator + Copy> Seat<P, A> {
+    /// The rank revokes a communicator by a whole call, between the steps of others. None where it has a call under way.
+    fn revoke<W: Words<P, A>>(
+        &mut self,
+        world: &World<W, P, A>,
+        pass: &mut W::Pass,
+        comm: u16,
+    ) -> Option<Result<bool, Refusal>>
+        requires of { IsOf P.meld (W.name world.now.words) (W.sight pass.old) }
+        requires sits { Sits P.meld (W.name world.now.words) (W.sight pass.old) self.old }
+        ensures of { IsOf P.meld (W.name world.now.words) (W.sight pass.new) }
+        ensures waits { Waits false (W.sight pass.old) (W.sight pass.new) }
+        ensures sits { Sits P.meld (W.name world.now.words) (W.sight pass.new) self.new }
+    {
+        match self.doing {
+            Some(_) => None,
+            None => Some(self.own.revoke(world, pass, comm)),
+        }
+    }
+}
+
 /// A seat for each rank, in order.
 fn seats_of<P: Packed, A: Allocator + Copy, W: Words<P, A>>(
     alloc: A,
@@ -191,6 +212,14 @@ where
             return None;
         }
         self.seats[rank as usize].step(&self.world, &mut self.pass)
+    }
+
+    /// A rank revokes a communicator by a whole call, between the steps of others.
+    pub(crate) fn revoke(&mut self, rank: u16, comm: u16) -> Option<Result<bool, Refusal>> {
+        if rank as usize >= self.seats.len() {
+            return None;
+        }
+        self.seats[rank as usize].revoke(&self.world, &mut self.pass, comm)
     }
 
     /// The outside declares a rank.

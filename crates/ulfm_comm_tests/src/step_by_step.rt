@@ -90,6 +90,8 @@ enum Move<'a> {
     FinishBy(u16, &'a [StepName], Reply<FlagAnd>),
     /// A rank's call on a communicator, with nobody in between: its reply, and the names of its steps.
     Call(u16, u16, Verb<FlagAnd>, &'a [StepName], Reply<FlagAnd>),
+    /// A rank revokes a communicator by a whole call, which hasn't been revoked.
+    Revokes(u16, u16),
     /// The first so many of the failures that a rank has seen among the members of a communicator that it holds.
     Group(u16, u16, u16, &'a [u16]),
 }
@@ -118,6 +120,7 @@ fn comes<W: Words<FlagAnd, Global>>(
             takes(rt, alloc, play, (rank, comm, verb), names, reply)?;
             Ok(true)
         }
+        Move::Revokes(rank, comm) => Ok(play.revoke(rank, comm) == Some(Ok(true))),
         Move::Group(rank, comm, count, group) => {
             match first_of(alloc, play, rank, comm, count)? {
                 Some(found) => Ok(found.as_slice() == group),
@@ -153,6 +156,23 @@ fn revoked_between_loads(rt: HostRuntime) -> Result<(), Fail> {
         Move::Next(0, Some(Revocation)),
         Move::Step(0, Some(Reply::Refused(Refusal::IsRevoked))),
         Move::Next(0, None),
+    ];
+    let mut play = open(rt.alloc(), limits(2, 1, 2))?;
+    goes(&rt, rt.alloc(), &mut play, &moves)
+}
+
+#[test]
+fn whole_calls_between_steps(rt: HostRuntime) -> Result<(), Fail> {
+    let moves = [
+        Move::Call(0, 0, Verb::Barrier, &[List, Arrive], Reply::Started),
+        Move::Begin(0, 0, Verb::Poll),
+        Move::Before(0, Arrival, 1),
+        Move::Revokes(1, 0),
+        Move::FinishBy(
+            0,
+            &[Arrival, Arrival, Revocation],
+            Reply::Refused(Refusal::IsRevoked),
+        ),
     ];
     let mut play = open(rt.alloc(), limits(2, 1, 2))?;
     goes(&rt, rt.alloc(), &mut play, &moves)

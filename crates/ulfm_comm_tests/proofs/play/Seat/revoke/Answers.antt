@@ -1,0 +1,16 @@
+use Rattle.std.proofs.Common.{sym}
+use Rattle.ulfm_comm_tests.proofs.Seats.{call_waits, waits_none}
+use Rattle.ulfm_comm_tests.proofs.play.Seat.revoke.Goals as goal
+
+pub returns-in-Some-clause-waits : goal.returns-in-Some-clause-waits
+returns-in-Some-clause-waits g c = waits_none g.P.Meld.meld (g.W.Words.name c.args.world.now.words) (g.W.Words.sight c.args.pass.now)
+
+pub revoke-requires-clause-fits : goal.revoke-requires-clause-fits
+revoke-requires-clause-fits g c = rw c.in-None.is at (rw (sym c.self.view_is) at c.requires.sits)
+
+pub returns-in-None-clause-waits : goal.returns-in-None-clause-waits
+returns-in-None-clause-waits g c =
+    call_waits g.P.Meld.meld (g.W.Words.name c.args.world.now.words) g.W.Words.alone _ c.self.inside.own (g.W.Words.sight c.args.pass.now) _ c.revoke.new.self (g.W.Words.sight c.revoke.new.pass) c.requires.of.legal c.revoke.ensures
+
+pub returns-in-None-clause-sits : goal.returns-in-None-clause-sits
+returns-in-None-clause-sits g c = rw c.in-None.is c.revoke.ensures.fits
