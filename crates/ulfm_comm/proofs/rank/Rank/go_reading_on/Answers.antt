@@ -73,3 +73,8 @@ returns-clause-walks g c =
 pub returns-clause-turns : goal.returns-clause-turns
 returns-clause-turns g c = λ alone only old before s.
     c.reached.ensures.turns alone old before (reached g (goal.at.returns-clause-turns g c).After-read_on alone only old before s c.if-on-made.false)
+
+pub returns-then-on-made-clause-walks : goal.returns-then-on-made-clause-walks
+returns-then-on-made-clause-walks g c =
+    let goes = c.read_on.ensures.goes in
+    record { of = goes.of; own = []; did = goes.did; onward = goes.onward }
