@@ -10,8 +10,8 @@ use Rattle.ulfm_script.specs.declared.line_kind.LineKind.{LineKind}
 use Rattle.ulfm_script.specs.declared.line_kind.LineKind.TheVariants.{Cut, Header, Long}
 use Rattle.ulfm_script.specs.declared.fault.RunFault.{RunFault}
 use Rattle.ulfm_script.specs.declared.fault.RunFault.TheVariants.{Line, Memory, Read, Write}
-use Rattle.ulfm_script.specs.{Buffers.{Drains, HasNoNewline, IsOfLine, Puts, TakesLine}, Calls.{ScriptCall}, Headers.{header_of}, Runs.{Answered, ArePrinted, Claim, HasNoFault, IsOpened, IsTextOf, Known, Opens, Prints, PrintsAll, PrintsFrom, PrintsSome, RunEnd, Runs, RunsAll, RunsLine, RunsThrough, RunsUpTo, ScriptState, StopsInLine, StopsInOutput, group_of}, Scripts.{Asked, Script, asked_last, call_at, header_at, script_of, stopped, without_header}, Written.{Holds, WritesPart}}
-use Rattle.ulfm_script.proofs.{ByteLemmas.{appends_start, appends_then, consumes_keeps, consumes_start, consumes_then, end_behind, taken_of_reader}, ScriptLemmas.{BeginsWith, Comes, asked_from, before_last, comes_cut, comes_end, comes_fault, comes_first, comes_on, comes_unopened, ended_script, going, kept_header, long_header, no_header, script_begins, short_header, unfinished_header}}
+use Rattle.ulfm_script.specs.{Buffers.{Drains, HasNoNewline, IsOfLine, Puts, TakesLine}, Calls.{ScriptCall}, Headers.{header_of}, Runs.{Answered, ArePrinted, Claim, IsTextOf, Known, Opens, Prints, PrintsAll, PrintsFrom, PrintsSome, RunEnd, Runs, RunsAll, RunsLine, RunsThrough, RunsUpTo, ScriptState, StopsInLine, StopsInOutput, group_of}, Scripts.{Asked, Script, asked_last, call_at, header_at, script_of, stopped, without_header}, Written.{Holds, WritesPart}}
+use Rattle.ulfm_script.proofs.{ByteLemmas.{appends_start, appends_then, consumes_keeps, consumes_start, consumes_then, end_behind, taken_of_reader}, ScriptLemmas.{BeginsWith, Comes, asked_from, before_last, comes_cut, comes_end, comes_fault, comes_first, comes_on, comes_unopened, ended_script, going, kept_header, long_header, no_header, script_begins, short_header}}
 
 -- a text that begins with what was taken
 text_of : (a b : Option (List ℕ)) (done : List ℕ) → Consumes a b done → (rest : List ℕ) × IsTextOf a (done ++ rest)

@@ -152,11 +152,6 @@ pub header_cut : (line : List ℕ) → HasNoNewline line → 0 < length line →
 unfolding script_of
 header_cut line free some = rw (lines_none [] line free, rest_all [] line free) (first_cut line some)
 
--- a text whose first line isn't ended has no header
-pub unfinished_header : (part : List ℕ) → HasNoNewline part → (kind : LineKind) × (script_of part ≡ without_header kind)
-unfinished_header [] free = (Header, no_header)
-unfinished_header (x ∷ part) free = (Cut, header_cut (x ∷ part) free (omega arith))
-
 -- the lines of a text, by those of its beginning
 lines_at : (ends : Bool) (front xs rest : List ℕ) (x : ℕ) → lines_from [] (xs ++ rest) ≡ lines_from [] xs ++ lines_from (rest_from [] xs) rest → lines_from (front ++ x ∷ []) (xs ++ rest) ≡ lines_from (front ++ x ∷ []) xs ++ lines_from (rest_from (front ++ x ∷ []) xs) rest
     → (if ends then front ∷ lines_from [] (xs ++ rest) else lines_from (front ++ x ∷ []) (xs ++ rest))

@@ -1,4 +1,3 @@
-use Rattle.std.proofs.Common.{[]}
 use Rattle.ulfm_script.specs.declared.fault.RunFault.TheVariants.{Memory}
 use Rattle.ulfm_script.specs.Buffers.{pending}
 use Rattle.ulfm_script.proofs.ByteLemmas.{few_pending}
