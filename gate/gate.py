@@ -85,8 +85,8 @@ def bare(text):
 
 
 def code_at(text, at, path, crate):
-    """The function whose body holds the place, by module, type and name, as `laws::body::BodyMeld::meld`; None outside a function, and
-    nothing in a contract."""
+    """The function whose body holds the place, by crate, module and name, or by crate, type and name, as `laws::BodyMeld::meld`; None outside a
+    function, and nothing in a contract."""
     heads = [it for it in FUNCTION.finditer(text) if it.start() < at]
     if not heads:
         return {None}
@@ -100,7 +100,7 @@ def code_at(text, at, path, crate):
     owner = [it for it in IMPL.finditer(text) if it.start() <= head.start()] if indent else []
     module = path.removeprefix("src/").removesuffix(".rt").split("/")
     module = [] if module in (["lib"], ["main"]) else [it for it in module if it != "mod"]
-    return {"::".join([crate, *module, *([type_of(owner[-1][1])] if owner else []), head[1]])}
+    return {"::".join([crate, *([type_of(owner[-1][1])] if owner else module), head[1]])}
 
 
 def type_of(head):
@@ -113,10 +113,11 @@ def type_of(head):
 
 
 def said_of(function, told):
-    """What the prover says of a function and of the closures in it, or nothing where it tells of none or of two such functions."""
-    if [it for it, _ in told].count(function) != 1:
-        return []
-    return [said for name, said in told if name == function or name.startswith(f"{function}::")]
+    """What the prover says of a function and of the closures in it, or nothing where it tells of none or of two such functions. It names a
+    method by the module of its type, wherever the method stands."""
+    crate, _, name = function.partition("::")
+    named = [it for it, _ in told if it.startswith(f"{crate}::") and it.endswith(f"::{name}")]
+    return [said for it, said in told if it == named[0] or it.startswith(f"{named[0]}::")] if len(named) == 1 else []
 
 
 def judged(group, output):
@@ -153,17 +154,19 @@ def checked(crate, texts, flags, kept):
 
 def in_groups(crate, edits, flags, kept):
     """The edits that are refused in some group, each with what was said, and how many runs of the prover that took."""
-    left, refused, runs = [it for it in edits if it.function], {}, 0
-    while len(left) > 1:
+    pools, refused, runs = [[it for it in edits if it.function]], {}, 0
+    while pools:
+        left = pools.pop()
         group, texts = chosen(left, crate)
         if len(group) < 2:
-            break
+            continue
         now, passed = judged(group, checked(crate, texts, flags, kept))
         runs += 1
         refused.update(now)
-        # (where nothing was learned, each of the group is tried alone)
-        done = [*now, *passed] or group
-        left = [it for it in left if it not in done]
+        done = [*now, *passed]
+        pools.append([it for it in left if it not in (done or group)])
+        # (where nothing was learned, one edit may hide what the others do)
+        pools += [] if done else [group[::2], group[1::2]]
     return refused, runs
 
 
