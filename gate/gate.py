@@ -170,8 +170,9 @@ def in_groups(crate, edits, flags, kept):
     return refused, runs
 
 
-# (how many edits of each crate were tried, in how many groups, and how many alone; and the folder of this run)
-tried, room = {}, None
+# (how many edits of each crate were tried, in how many groups, and how many alone; the folder of this run; and whether this run has
+# proved each crate into it, so that it needn't be asked again before a crate's edits)
+tried, room, is_proved_here = {}, None, False
 
 
 def must_fail_all(crate, files, flags):
@@ -179,7 +180,7 @@ def must_fail_all(crate, files, flags):
     edits = [Edit(crate, it) for it in files if not rt.read_edit(it, crate.folder)[1]]
     idle = {it.file for it in edits if not it.changes_code}
     kept = folder_of(crate)
-    is_sound = not rt.checked(crate, {}, flags, kept).returncode
+    is_sound = is_proved_here or not rt.checked(crate, {}, flags, kept).returncode
     refused, runs = in_groups(crate, edits, flags, kept) if is_sound else ({}, 0)
     by_file = {edit.file: said for edit, said in refused.items()}
     given, alone = [], 0
@@ -229,7 +230,9 @@ def say(text, out=None, say=rt.say):
 
 
 def main(names):
+    global is_proved_here
     rt.must_fail_all, rt.say = must_fail_all, say
+    is_proved_here = not names
     if names:
         for name in names:
             shutil.copytree(f"crates/{name}/out/incremental", f"{room}/{name}", dirs_exist_ok=True)

@@ -5,20 +5,19 @@
 //! but never between those who get a reply; and only rank 3 may be refused.
 #![tactic(auto)]
 
-ghost use Rattle.std.specs.Prelude.{◌≡◌};
-ghost use Rattle.ulfm_words.specs.Steps.{IsOf};
+ghost use Rattle.std.specs.Prelude.{IfOk};
+ghost use Rattle.ulfm_comm.specs.Polls.{IsAnswer};
 
-mod member;
-
-use member::{Member, Shared, members};
-use std::alloc::AllocError;
+use std::alloc::{AllocError, Global};
 use std::sync::Wait;
 use std::thread::{self, Threads, join};
-use ulfm_book::{BookPass, BookWords};
-use ulfm_comm::{Polled, World};
-use ulfm_laws::{FlagAnd, Meld};
+use ulfm_book::BookWords;
+use ulfm_comm::Polled;
+use ulfm_laws::FlagAnd;
+use ulfm_member::{Member, Outside};
 use ulfm_model::{Limits, Refusal};
 
+type Shared = BookWords<FlagAnd>;
 type Reply = Result<Polled<FlagAnd>, Refusal>;
 
 const LIMITS: Limits = Limits {
@@ -38,42 +37,33 @@ fn flag(rank: u16) -> FlagAnd {
     FlagAnd { bits }
 }
 
+/// Contributes a flag, and polls until there is a reply or a refusal. It is never pending.
+fn agree<R: Wait>(rt: &R, member: &mut Member<Shared, FlagAnd, Global>, value: FlagAnd) -> Reply
+    ensures { IfOk result IsAnswer }
+{
+    member.iagree(0, value)?;
+    for _ in rt.forever() {
+        match member.poll(0)? {
+            Polled::Pending => thread::yield_now(),
+            answer => return Ok(answer),
+        }
+    }
+    unreachable!()
+}
+
 /// Each member agrees, in a thread of its own: the replies, in order.
-fn agree_all<'a, R: Threads + Wait + Sync>(
+fn agree_all<R: Threads + Wait + Sync>(
     rt: &R,
-    all: Vec<Member<'a, FlagAnd>>,
+    all: Vec<Member<Shared, FlagAnd, Global>>,
 ) -> Result<Vec<Reply>, AllocError> {
     thread::map_vec(
         rt,
         all,
         &|mut member| {
             let value = flag(member.number());
-            member.agree(rt, value)
+            agree(rt, &mut member, value)
         },
     )
-}
-
-/// All members agree while the outside declares rank 3: the replies, and whether the declaration was the first.
-fn agree_and_declare<'a, R: Threads + Wait + Sync>(
-    rt: &R,
-    world: &'a Shared<FlagAnd>,
-    all: Vec<Member<'a, FlagAnd>>,
-    outside: BookPass<FlagAnd>,
-) -> (Result<Vec<Reply>, AllocError>, Result<bool, Refusal>)
-    requires { IsOf ⟦<FlagAnd as Meld>⟧.meld world.now.words outside }
-{
-    join(
-        rt,
-        move || agree_all(rt, all),
-        move || declare(world, outside, 3),
-    )
-}
-
-/// Declares a rank failed, in the name of the outside: whether this call did it.
-fn declare(world: &Shared<FlagAnd>, mut pass: BookPass<FlagAnd>, rank: u16) -> Result<bool, Refusal>
-    requires { IsOf ⟦<FlagAnd as Meld>⟧.meld world.now.words pass }
-{
-    world.fail(&mut pass, rank)
 }
 
 /// Whether all have the first one's reply, but that rank 3 may be refused in place of one.
@@ -87,12 +77,9 @@ fn is_one_reply(replies: &[Reply]) -> bool {
 
 fn main(rt: HostRuntime) -> anyhow::Result<()> {
     let alloc = rt.alloc();
-    let words: BookWords<FlagAnd> = BookWords::open(alloc, LIMITS)?;
-    let (shared, ranks) = World::open(alloc, words)?;
-    let world = shared;
-    let outside = world.pass(alloc)?;
-    let all = members(alloc, &world, ranks)?;
-    let (replies, declared) = agree_and_declare(&rt, &world, all, outside);
+    let words: Shared = BookWords::open(alloc, LIMITS)?;
+    let (mut outside, members) = ulfm_member::open(alloc, words)?;
+    let (replies, declared) = join(&rt, || agree_all(&rt, members), move || outside.fail(3));
     let replies = replies?;
     match replies.first() {
         Some(Ok(Polled::Agreed { value, .. })) if is_one_reply(&replies) && declared == Ok(true) =>

@@ -34,7 +34,7 @@ pub(crate) fn starts_in(limits: Limits) -> Starts
 /// arrivals. Two places have two positions, all below the world's size.
 ///
 /// The row of shared words has its full length from the start. So the slots of all rounds stand side by side, and several
-/// rounds share a cache line. Plain words are made line by line as rounds come, so `key_of` puts the arrivals of each round
+/// rounds share a cache line. Plain words are made line by line as rounds come, so their row has the arrivals of each round
 /// right after its slots.
 #[inline(always)]
 pub(crate) fn place_in_row(place: Place, limits: Limits, starts: Starts) -> usize

@@ -2,7 +2,7 @@
 ghost use Rattle.std.specs.Prelude.{◌≡◌, IfOk};
 ghost use Rattle.std.specs.List.{AllByRecursion};
 
-use crate::member::{Member, Shared, members, open};
+use crate::member::{Member, Outside, open};
 use std::alloc::{AllocError, Global};
 use std::cmp::Ordering;
 use std::process::Abort;
@@ -27,19 +27,19 @@ enum Replies {
 }
 
 /// All ranks but the one that revokes arrive in a barrier.
-fn arrive_others<'a, R: Abort>(
+fn arrive_others<R: Abort>(
     rt: &R,
     alloc: Global,
-    world: &'a Shared<FlagAnd>,
-    all: Vec<Member<'a, FlagAnd>>,
-) -> Result<Vec<Member<'a, FlagAnd>>, AllocError>
-    requires { AllByRecursion (λ m. m.name ≡ world.now.words) all.items }
-    ensures { IfOk result (λ ready. AllByRecursion (λ m. m.name ≡ world.now.words) ready.items) }
+    outside: &Outside<FlagAnd>,
+    all: Vec<Member<FlagAnd>>,
+) -> Result<Vec<Member<FlagAnd>>, AllocError>
+    requires { AllByRecursion (λ m. m.name ≡ outside.now.name) all.items }
+    ensures { IfOk result (λ ready. AllByRecursion (λ m. m.name ≡ outside.now.name) ready.items) }
 {
     let mut ready = Vec::with_capacity(alloc, all.len())?;
     for mut member in all {
         if member.number() != REVOKER {
-            assert_eq!(rt; member.arrive(), Ok(()));
+            assert_eq!(rt; member.ibarrier(0), Ok(()));
         }
         ready.push(member)?;
     }
@@ -47,25 +47,30 @@ fn arrive_others<'a, R: Abort>(
 }
 
 /// The rank that revokes does so, and each other polls four times in a row.
-fn revoke_or_poll<'a>(mut member: Member<'a, FlagAnd>) -> (Replies, Member<'a, FlagAnd>)
-    ensures { result.1.name ≡ member.entry.name }
+fn revoke_or_poll(mut member: Member<FlagAnd>) -> (Replies, Member<FlagAnd>)
+    ensures { result.1.name ≡ member.name }
 {
     let replies = if member.number() == REVOKER {
-        Replies::Revoke(member.revoke())
+        Replies::Revoke(member.revoke(0))
     } else {
-        Replies::Polls([member.poll(), member.poll(), member.poll(), member.poll()])
+        Replies::Polls([
+            member.poll(0),
+            member.poll(0),
+            member.poll(0),
+            member.poll(0),
+        ])
     };
     (replies, member)
 }
 
 /// Each does so on a thread of its own, and comes back with its replies.
-fn run_all<'a, R: Threads + Sync>(
+fn run_all<R: Threads + Sync>(
     rt: &R,
-    world: &'a Shared<FlagAnd>,
-    all: Vec<Member<'a, FlagAnd>>,
-) -> Result<Vec<(Replies, Member<'a, FlagAnd>)>, AllocError>
-    requires { AllByRecursion (λ m. m.name ≡ world.now.words) all.items }
-    ensures { IfOk result (λ done. AllByRecursion (λ d. d.1.name ≡ world.now.words) done.items) }
+    outside: &Outside<FlagAnd>,
+    all: Vec<Member<FlagAnd>>,
+) -> Result<Vec<(Replies, Member<FlagAnd>)>, AllocError>
+    requires { AllByRecursion (λ m. m.name ≡ outside.now.name) all.items }
+    ensures { IfOk result (λ done. AllByRecursion (λ d. d.1.name ≡ outside.now.name) done.items) }
 {
     thread::map_vec(rt, all, &|member| revoke_or_poll(member))
 }
@@ -90,31 +95,29 @@ fn stays_open<R: Abort>(rt: &R, polls: [Reply; 4]) -> bool {
 
 /// A rank learns what the one that revoked saw. It then agrees that the communicator is revoked, and a request that was
 /// open is refused.
-fn learn_then_poll<'a, R: Abort>(
+fn learn_then_poll<R: Abort>(
     rt: &R,
-    mut member: Member<'a, FlagAnd>,
+    mut member: Member<FlagAnd>,
     told: &BookTold<FlagAnd>,
     open: bool,
 )
     requires { told.now.name ≡ member.name }
 {
     member.learn(told);
-    assert_eq!(rt; member.is_revoked(), Ok(true));
+    assert_eq!(rt; member.is_revoked(0), Ok(true));
     let expected = if open {
         Refusal::IsRevoked
     } else {
         Refusal::Idle
     };
-    assert_eq!(rt; member.poll(), Err(expected));
+    assert_eq!(rt; member.poll(0), Err(expected));
 }
 
 /// Of four ranks one revokes, while the others poll the barrier in which they arrived.
 fn revoke_while_polled<R: Threads + Sync + Abort>(rt: &R, alloc: Global) -> Result<(), Fail> {
-    let (shared, ranks) = open(alloc, 4)?;
-    let world = shared;
-    let all = members(alloc, &world, ranks)?;
-    let ready = arrive_others(rt, alloc, &world, all)?;
-    let mut done = run_all(rt, &world, ready)?;
+    let (outside, all) = open(alloc, 4)?;
+    let ready = arrive_others(rt, alloc, &outside, all)?;
+    let mut done = run_all(rt, &outside, ready)?;
     assert_eq!(rt; done.len(), 4);
     let (reply, revoker) = done.remove(usize::from(REVOKER));
     assert!(rt; matches!(reply, Replies::Revoke(Ok(true))));

@@ -4,8 +4,8 @@ use Rattle.ulfm_model.specs.declared.call.Call.TheVariants as call
 use Rattle.ulfm_model.specs.declared.{limits.Limits.{Limits}, reply.Reply.TheVariants.{Acked, FailedGroup}}
 use Rattle.ulfm_model.specs.{Answers.{refusal_on}, History.{History, IsLegal, failures, has}, Records.{Fits, Held, Record, held_at, with_held}}
 use Rattle.ulfm_words.proofs.Trails.{did_none}
-use Rattle.ulfm_comm.specs.{Ends.{IsEndRun}, Looked.{Looked}}
-use Rattle.ulfm_comm.proofs.{Holding.{failed_is}, Replying.{held_before, replied}}
+use Rattle.ulfm_comm.specs.{Ends.{IsEndRun}, Look.{Looked}}
+use Rattle.ulfm_comm.proofs.{Holding.{failed_is}, WholeCall.{held_before, replied}}
 
 module _ {P : Type 0} (meld : P → P → P) (limits : Limits) (alone : Bool) (before look : History P) (old mid : Record) (looked : Looked alone before look old mid) (legal : IsLegal meld limits look) (fits : Fits meld limits look mid)
     (rank c : ℕ) (x : Held) (held : held_at mid c ≡ Some x) where

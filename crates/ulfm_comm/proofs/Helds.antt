@@ -1,10 +1,7 @@
--- The communicators that a rank holds, by their places.
+-- The communicators that a rank holds, with their context ids and the room for them.
 use Rattle.std.proofs.Common.{◌≡◌, ℕ, zero, suc, ◌<◌, ◌≤◌, ◌==◌, Bool, true, false, cond, List, [], ◌∷◌, ◌++◌, filter, length, nat_eq, Some, None, slice_get, slice_index_or, slice_set, not, ◌||◌, remove, length-append, refl, ap, sym, ◌∙◌, subst, arith}
-use Rattle.std.specs.List.{AllByRecursion, IsDistinct, find, list_any, position, position_or_len}
-use Rattle.std.proofs.lemmas.List.{get_or_append_left, length-map, set-append_left}
-use Rattle.std.proofs.lemmas.List.Quantifiers.{position-Some}
-use Rattle.std.proofs.lemmas.List.Folds.{find_at}
-use Rattle.std.proofs.lemmas.Grind.{common_steps}
+use Rattle.std.specs.List.{AllByRecursion, IsDistinct, find, list_any}
+use Rattle.std.proofs.lemmas.List.{length-map}
 use Rattle.std.proofs.lemmas.Map.Keys.{IsDistinct-cons}
 use Rattle.std.proofs.lemmas.Map.Steps.{length-le_from_distinct_below}
 use Rattle.std.proofs.lemmas.Bool.Decides.{nat_tests}
@@ -13,47 +10,7 @@ use Rattle.ulfm_model.specs.{Answers.{opened}, Records.{Held, change_at}, Words.
 use Rattle.ulfm_model.specs.Terms.{contexts_of}
 use Rattle.ulfm_model.proofs.{LeftHeld.{contexts_kept, contexts_push, distinct_kept}, Lists.{any_none, distinct_push, each_push}}
 use Rattle.ulfm_comm.specs.Ranks.{HasRoom}
-use Rattle.ulfm_comm.proofs.InOrder.{found_at}
-
--- whether a communicator has this number
-abbrev pub is_of : ℕ → Held → Bool
-is_of c x = x.comm == c
-
-changed_at : (xs : List Held) (c i : ℕ) (d y : Held) (f : Held → Held) → i < length xs → is_of c (slice_index_or xs i d) ≡ true → ((k : ℕ) → k < i → is_of c (slice_index_or xs k d) ≡ false) → y ≡ f (slice_index_or xs i d)
-    → slice_set xs i y ≡ change_at c f xs
-changed_at [] c i d y f below is before same = absurd (omega arith)
-changed_at (x ∷ xs) c zero d y f below is before same = ap (λ z. z ∷ xs) same ∙ sym (ap (λ b. cond b (f x ∷ xs) (x ∷ change_at c f xs)) is)
-changed_at (x ∷ xs) c (suc i) d y f below is before same =
-    ap (λ zs. x ∷ zs) (changed_at xs c i d y f (omega arith) is (λ k le. before (suc k) (omega arith)) same) ∙ sym (ap (λ b. cond b (f x ∷ xs) (x ∷ change_at c f xs)) (before 0 (omega arith)))
-
--- the first of a number is the one that is found
-pub find_is : (xs : List Held) (c i : ℕ) (d : Held) → position (is_of c) xs ≡ Some i → find (is_of c) xs ≡ Some (slice_index_or xs i d)
-find_is xs c i d at = let p = position-Some (is_of c) xs i d at in found_at (is_of c) xs i d p.0 p.1 p.2
-
--- and it is the one that is changed
-pub change_is : (xs : List Held) (c i : ℕ) (d y : Held) (f : Held → Held) → position (is_of c) xs ≡ Some i → y ≡ f (slice_index_or xs i d) → slice_set xs i y ≡ change_at c f xs
-change_is xs c i d y f at same = let p = position-Some (is_of c) xs i d at in changed_at xs c i d y f p.0 p.1 p.2 same
-
-past : (xs : List Held) (n : ℕ) → length xs ≤ n → slice_get xs n ≡ None
-past [] n le = refl
-past (x ∷ xs) zero le = absurd (omega arith)
-past (x ∷ xs) (suc n) le = past xs n (omega arith)
-
--- there is none of this number
-pub find_missing : (xs : List Held) (c : ℕ) → position (is_of c) xs ≡ None → find (is_of c) xs ≡ None
-find_missing xs c e = let far : length xs ≤ position_or_len (is_of c) xs = grind (arith, common_steps) in find_at (is_of c) xs ∙ past xs (position_or_len (is_of c) xs) far
-
-unchanged : (xs : List Held) (c : ℕ) (f : Held → Held) → find (is_of c) xs ≡ None → xs ≡ change_at c f xs
-unchanged [] c f e = refl
-unchanged (x ∷ xs) c f e = go (is_of c x) e (λ less. unchanged xs c f less)
-  where
-    go : (b : Bool) → cond b (Some x) (find (is_of c) xs) ≡ None → (find (is_of c) xs ≡ None → xs ≡ change_at c f xs) → x ∷ xs ≡ cond b (f x ∷ xs) (x ∷ change_at c f xs)
-    go true e rest = absurd (cc e)
-    go false e rest = ap (λ zs. x ∷ zs) (rest e)
-
--- so nothing is changed
-pub change_missing : (xs : List Held) (c : ℕ) (f : Held → Held) → position (is_of c) xs ≡ None → xs ≡ change_at c f xs
-change_missing xs c f e = unchanged xs c f (find_missing xs c e)
+use Rattle.ulfm_record.proofs.Places.{is_of}
 
 -- a change that keeps each context id keeps all of them
 contexts_changed : (c : ℕ) (f : Held → Held) → ((y : Held) → (f y).context ≡ y.context) → (xs : List Held) → contexts_of (change_at c f xs) ≡ contexts_of xs
@@ -107,18 +64,6 @@ room_kept limits capacity places now p xs new old is same =
       contexts = distinct_kept p xs old.contexts;
     })
 
--- one communicator is changed, and one more is held
-pub change_pushed : (xs pushed : List Held) (made : Held) (c i : ℕ) (d y : Held) (f : Held → Held) → position (is_of c) xs ≡ Some i → pushed ≡ xs ++ made ∷ [] → y ≡ f (slice_index_or pushed i d) → slice_set pushed i y ≡ change_at c f xs ++ made ∷ []
-change_pushed xs pushed made c i d y f at more same =
-    let p = position-Some (is_of c) xs i d in
-    let here = p at in
-    let old : y ≡ f (slice_index_or xs i d) = same ∙ (ap (λ zs. f (slice_index_or zs i d)) more ∙ ap f (get_or_append_left xs (made ∷ []) d i here.0)) in
-    ap (λ zs. slice_set zs i y) more ∙ (set-append_left xs (made ∷ []) i y here.0 ∙ ap (λ zs. zs ++ made ∷ []) (change_is xs c i d y f at old))
-
--- none is changed, and one more is held
-pub push_missing : (xs pushed : List Held) (made : Held) (c : ℕ) (f : Held → Held) → position (is_of c) xs ≡ None → pushed ≡ xs ++ made ∷ [] → pushed ≡ change_at c f xs ++ made ∷ []
-push_missing xs pushed made c f none more = more ∙ ap (λ zs. zs ++ made ∷ []) (change_missing xs c f none)
-
 -- one communicator more, with a context id that none has
 pub room_pushed : (limits : Limits) (capacity places now c : ℕ) (f : Held → Held) (made : Held) (xs new : List Held) → HasRoom limits capacity places xs → ((y : Held) → (f y).context ≡ y.context) → made.context < 32
     → AllByRecursion (λ i. nat_eq i made.context ≡ false) (contexts_of xs) → new ≡ change_at c f xs ++ made ∷ [] → places ≤ now → HasRoom limits capacity now new
@@ -153,29 +98,3 @@ room_left limits capacity places id xs old below fresh =
     let more = length-append (contexts_of xs) (id ∷ []) in
     let same = length-map xs (λ (x : Held). x.context) in
     omega (arith, few, more, same, old.enough)
-
-removed_at : (c : ℕ) (xs : List Held) (i : ℕ) (d : Held) → i < length xs → is_of c (slice_index_or xs i d) ≡ true → filter (λ x. not (is_of c x)) (remove xs i) ≡ filter (λ x. not (is_of c x)) xs
-removed_at c [] i d below is = absurd (omega arith)
-removed_at c (x ∷ xs) zero d below is = sym (ap (λ b. cond (not b) (x ∷ filter (λ y. not (is_of c y)) xs) (filter (λ y. not (is_of c y)) xs)) is)
-removed_at c (x ∷ xs) (suc i) d below is = ap (λ zs. cond (not (is_of c x)) (x ∷ zs) zs) (removed_at c xs i d (omega arith) is)
-
--- those of other numbers are kept where one of this number is taken away
-pub kept_removed : (c : ℕ) (xs : List Held) (i : ℕ) (d : Held) → position (is_of c) xs ≡ Some i → filter (λ x. not (is_of c x)) (remove xs i) ≡ filter (λ x. not (is_of c x)) xs
-kept_removed c xs i d at = let p = position-Some (is_of c) xs i d at in removed_at c xs i d p.0 p.1
-
-all_other : (c : ℕ) (xs : List Held) → find (is_of c) xs ≡ None → filter (λ x. not (is_of c x)) xs ≡ xs
-all_other c [] none = refl
-all_other c (x ∷ xs) none = go (is_of c x) none (λ more. all_other c xs more)
-  where
-    go : (b : Bool) → cond b (Some x) (find (is_of c) xs) ≡ None → (find (is_of c) xs ≡ None → filter (λ y. not (is_of c y)) xs ≡ xs) → cond (not b) (x ∷ filter (λ y. not (is_of c y)) xs) (filter (λ y. not (is_of c y)) xs) ≡ x ∷ xs
-    go true none rest = absurd (cc none)
-    go false none rest = ap (λ zs. x ∷ zs) (rest none)
-
--- and all are, where there is none of it
-pub kept_all : (c : ℕ) (xs : List Held) → position (is_of c) xs ≡ None → filter (λ x. not (is_of c x)) xs ≡ xs
-kept_all c xs none = all_other c xs (find_missing xs c none)
-
--- the place of what is found is within the list
-pub position_below : {X : Type 0} (p : X → Bool) (xs : List X) (i : ℕ) → position p xs ≡ Some i → i < length xs
-position_below p [] i is = absurd (cc is)
-position_below p (x ∷ xs) i is = (position-Some p (x ∷ xs) i x is).0

@@ -2,8 +2,7 @@
 use Rattle.std.proofs.Common.{◌≡◌, ℕ, filter, Some, ap, sym, ◌∙◌, subst}
 use Rattle.std.specs.List.Sorted.{IsStrictlyIncreasing}
 use Rattle.ulfm_model.specs.declared.limits.Limits.{Limits}
-use Rattle.ulfm_model.specs.{History.{Exists, History, failed, failures, has, members}, Records.{Fits, FitsHeld, Held, Record, held_at}}
-use Rattle.ulfm_model.specs.Terms.{contexts_of}
+use Rattle.ulfm_model.specs.{History.{Exists, History, failed, failures, has, members}, Records.{Fits, FitsHeld, Held, Record, held_at}, Terms.{contexts_of}}
 use Rattle.ulfm_model.proofs.LeftFits.{held_fits}
 use Rattle.ulfm_steps.proofs.Groups.{members_rise}
 
@@ -35,3 +34,8 @@ module _ {P : Type 0} (meld : P → P → P) (limits : Limits) (h : History P) (
   -- it is found by its own number
   pub found_there : held_at own x.comm ≡ Some x
   found_there = subst (λ w. held_at own w ≡ Some x) (sym comm_is) held
+
+-- what a communicator's number is found by is one thing
+pub same_held : (own : Record) (c w : ℕ) (x y : Held) → w ≡ c → held_at own w ≡ Some y → held_at own c ≡ Some x → y ≡ x
+same_held own c w x y is found held =
+    let both : Some y ≡ Some x = sym (sym (ap (held_at own) is) ∙ found) ∙ held in cc both

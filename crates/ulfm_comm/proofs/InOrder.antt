@@ -4,6 +4,7 @@ use Rattle.std.specs.List.{AllByRecursion, find}
 use Rattle.std.proofs.Math.Seq.{get_or-append_seam}
 use Rattle.std.proofs.lemmas.Bool.{eq-eqb, ne_eqb}
 use Rattle.std.proofs.lemmas.List.{get_or-map, get_or_append_left, length-map}
+use Rattle.ulfm_record.proofs.Places.{found_at}
 use Rattle.ulfm_model.specs.{History.{first_ranks}, Records.{Record}}
 
 first_length : (n : ℕ) → length (first_ranks n) ≡ n
@@ -25,12 +26,6 @@ first_at (suc n) k lt = go (first_at n k) (either k n)
         rw here (get_or-append_seam (first_ranks n) n [] 0 ∙ sym (first_length n))
 
 module _ {X : Type 0} (p : X → Bool) where
-  -- the first that passes is found
-  pub found_at : (xs : List X) (i : ℕ) (d : X) → i < length xs → p (get_or xs i d) ≡ true → ((k : ℕ) → k < i → p (get_or xs k d) ≡ false) → find p xs ≡ Some (get_or xs i d)
-  found_at [] i d below is before = absurd (omega arith)
-  found_at (x ∷ xs) zero d below is before = ap (λ b. cond b (Some x) (find p xs)) is
-  found_at (x ∷ xs) (suc i) d below is before = ap (λ b. cond b (Some x) (find p xs)) (before 0 (omega arith)) ∙ found_at xs i d (omega arith) is (λ k le. before (suc k) (omega arith))
-
   -- none passes
   none_at : (xs : List X) (d : X) → ((k : ℕ) → k < length xs → p (get_or xs k d) ≡ false) → find p xs ≡ None
   none_at [] d fails = refl

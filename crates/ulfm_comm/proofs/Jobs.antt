@@ -11,7 +11,7 @@ use Rattle.ulfm_model.specs.{Answers.{traits_of}, Records.{Fits, Record, new_rec
 use Rattle.ulfm_model.proofs.{LeftRuns.{call_legal, call_number, fail_fits, fail_legal, span_begins}, Lists.{each_from}, Stable.{fits_stays}}
 use Rattle.ulfm_words.specs.Steps.{IsOf, Name, Sight}
 use Rattle.ulfm_comm.specs.{Calls.{Calls, EndsBy, RunsOut, is_out_of_memory}, Fails.{Fails}, Jobs.{IsJob, StepsBy, state_of}}
-use Rattle.ulfm_comm.proofs.Calling.{IsAloneCall, called_alone, called_run}
+use Rattle.ulfm_comm.proofs.CallRuns.{IsAloneCall, called_alone, called_run}
 use Rattle.ulfm_comm.proofs.InOrder.{count_is, each_set, number_at, rank_changed, rank_found, rank_missing}
 
 -- what holds anyway holds of an error

@@ -9,7 +9,8 @@ use Rattle.ulfm_model.specs.{Answers.{rank_of, traits_of}, Records.{Held, Record
 use Rattle.ulfm_model.specs.Terms.{view_of}
 use Rattle.ulfm_words.specs.Steps.{Name, Sight}
 use Rattle.ulfm_comm.specs.{Calls.{Calls, EndsAs, EndsReply, wants_memory}, Jobs.{IsAbout, IsJob, IsOther, StepsBy, state_of}}
-use Rattle.ulfm_comm.proofs.{Calling.{called_run}, Handing.{has_members}, InOrder.{number_at}, Jobs.{calls_step, out_begins, out_job}, ReplyKinds.{IsKind, answered_on, replies_kind}}
+use Rattle.ulfm_comm.proofs.{CallRuns.{called_run}, ShrinkHolds.{has_members}, InOrder.{number_at}, Jobs.{calls_step, out_begins, out_job}}
+use Rattle.ulfm_comm.proofs.ReplyKinds.{IsKind, answered_on, replies_kind}
 
 -- a reply that doesn't say that memory ran out
 kept_memory : {P : Type 0} (reply : Reply P) → (reply ≡ Refused OutOfMemory → ⊥) → wants_memory reply ≡ false

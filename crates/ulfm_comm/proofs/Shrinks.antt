@@ -15,7 +15,9 @@ use Rattle.ulfm_steps.specs.{Marks.{IsMarkOf}, Rounds.{IsSummed}}
 use Rattle.ulfm_steps.specs.ReadsOn.{ReadsOn}
 use Rattle.ulfm_comm.specs.{Calls.{IsDecidedFor}, Ends.{IsEndRun}, Polls.{HasMarked}}
 use Rattle.ulfm_steps.proofs.ReadingOn.{take_begins}
-use Rattle.ulfm_comm.proofs.{LeftOut.{has_first, reached_first, without_among}, Holding.{comm_is, exists_is, failed_is, group_is}, Polls.{answered, body_read, declared, due, enough_read, group_read, held_first, later, not_refused, polls_it, read_decided, read_masked, whole}, Replying.{run_ends}}
+use Rattle.ulfm_comm.proofs.{LeftOut.{has_first, reached_first, without_among}, Holding.{comm_is, exists_is, failed_is, group_is}}
+use Rattle.ulfm_comm.proofs.Polls.{answered, body_read, declared, due, enough_read, group_read, held_first, later, not_refused, polls_it, read_decided, read_masked, whole}
+use Rattle.ulfm_comm.proofs.WholeCall.{run_ends}
 
 -- a body that is a mask or a clash, and no mask
 pub masked_clash : {P : Type 0} (body : Body P) → IsMasked body → ((mask : CtxMask) → body ≡ OfIds mask → ⊥) → body ≡ Clash

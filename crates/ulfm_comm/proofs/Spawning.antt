@@ -1,108 +1,425 @@
--- The communicator that is made of a round.
-use Rattle.std.proofs.Common.{◌≡◌, ◌⊎◌, inl, inr, ℕ, zero, suc, ◌+◌, ◌-◌, ◌<◌, ◌≤◌, ◌^◌, ◌==◌, ◌&&◌, ◌||◌, Bool, true, false, List, [], ◌∷◌, length, map, Some, slice_get, refl, ap, ap₂, sym, ◌∙◌, subst, arith}
-use Rattle.std.specs.List.{list_any}
-use Rattle.std.proofs.lemmas.Bool.{and_parts, eqb-true}
-use Rattle.std.proofs.lemmas.List.{length-map}
-use Rattle.ulfm_model.specs.declared.{event.Caller.{Caller}, event.Event.TheVariants.{Spawn}}
-use Rattle.std.specs.Int.{trailing_zeros}
-use Rattle.std.proofs.lemmas.Nat.Bits.{bit_at-trailing_zeros}
-use mir.Syntax.{w32}
-use Rattle.ulfm_model.specs.{History.{spawns}, Records.{IsLowestId}}
-use Rattle.ulfm_model.proofs.Lists.{in_list}
-use Rattle.ulfm_words.specs.Steps.{Name, Sight}
-use Rattle.ulfm_words.proofs.{Ranks.{spawns_below}, Trails.{did_added}}
-use Rattle.ulfm_steps.specs.Appends.{Appends}
-use Rattle.ulfm_steps.specs.declared.{append.Appended.{Appended}, append.Appended.TheVariants.{Won, Found, Full}, item.Item.{Item}, item.Item.TheVariants.{Comm}}
-use Rattle.ulfm_comm.specs.Shrinks.{IsFullBy, IsMadeBy}
+-- The end of a shrink's poll, step by step.
+use Rattle.std.proofs.Common.{◌≡◌, ℕ, ◌<◌, ◌≤◌, ◌==◌, ◌&&◌, Bool, true, false, not, List, [], ◌∷◌, ◌++◌, length, take, nat_eq, nat_lt, Some, refl, ap, ap₂, sym, ◌∙◌, subst, append-nil, arith, inl, inr, IsTrue, Option, ◌⊎◌}
+use Rattle.std.specs.List.{AllByRecursion, list_any}
+use Rattle.std.specs.List.Sorted.{IsStrictlyIncreasing}
+use Rattle.std.proofs.lemmas.Bool.Decides.{nat_tests}
+use Rattle.std.proofs.lemmas.Nat.Bits.{bit_at_above}
+use mathlib.Core.List.{IsPrefix}
+use Rattle.ulfm_laws.specs.declared.{body.Body.TheVariants.{Ctx as OfIds}, ctx_mask.CtxMask.{CtxMask}, summary.Summary.{Summary}}
+use Rattle.ulfm_model.specs.declared.call.Call.TheVariants as call
+use Rattle.ulfm_model.specs.declared.{call.Call.{Call}, event.Caller.TheVariants.{Rank}, event.Event.{Event}, event.Event.TheVariants.{Spawn}, limits.Limits.{Limits}, refusal.Refusal.TheVariants.{Mismatch, NoContext, NoRoom, OutOfMemory, SelfFailed}, reply.Reply.{Reply}, reply.Reply.TheVariants.{Pending, Refused, Shrunk}}
+use Rattle.ulfm_model.specs.{Answers.{CallAdds, PollAdds, closed, polled_by, traits_of}, History.{History, IsLegal, entries_by, failures, has, spawns, without}, Records.{Fits, Held, IsLowestId, Record, held_at, is_shrink}, Runs.{Did}}
+use Rattle.ulfm_model.specs.Terms.{comm_of, contexts_of, new_held}
+use Rattle.ulfm_model.proofs.{Histories.{failures_begin}, LeftFits.{fits_seen}, Lists.{length-filter-le, prefix_trans}, Stable.{fits_stays}}
+use Rattle.ulfm_words.specs.Steps.{IsOf, Name, Sight}
+use Rattle.ulfm_words.proofs.{Ranks.{spawns_below}, Trails.{did_none, did_prefix, did_wait}}
+use Rattle.ulfm_steps.proofs.{Appending.{append_stays}, Spawning.{may_spawn}}
+use Rattle.ulfm_steps.specs.Appends.{MayAppend, Passed, room}
+use Rattle.ulfm_steps.specs.declared.{append.Append.{Append}, item.Item.{Item}, item.Item.TheVariants.{Comm as OfComm}}
+use Rattle.ulfm_comm.specs.declared.{phases.phase.Made.{Made}, phases.phase.Phase.TheVariants.{ReadingOn, Spawning}, phases.spawning.Spawned.{Spawned}}
+use Rattle.ulfm_comm.specs.declared.phases.spawning.Spawned.TheVariants as spawned
+use Rattle.ulfm_steps.specs.declared.read_on.ReadOn.{ReadOn}
+use Rattle.ulfm_steps.specs.ReadsOn.{AtFailure, MayReadOn, ReadsOn}
+use Rattle.ulfm_comm.specs.{Calls.{EndsAs, HadCome, RunsOut, wants_memory}, Ends.{IsEndRun}}
+use Rattle.ulfm_comm.specs.{Spawning.{Holds, IsFullBy, IsMadeBy, MayHold, MaySpawn, SpawnIs, HasReached, IsDecided}, Step.{Adds, Makes, Walks}}
+use Rattle.ulfm_comm.specs.{Phase.{Answered, Stands}, Agreement.{HasReadAll}}
+use Rattle.ulfm_steps.proofs.ReadingOn.{passing_grow}
+use Rattle.ulfm_comm.proofs.StepAdds.{adds_none}
+use Rattle.ulfm_comm.proofs.{CallRuns.{calls_is, runs_out_after}, Holding.{comm_is, exists_is, failed_is, group_is, group_rises}, AmongOthers.{did_loosely}}
+use Rattle.ulfm_comm.proofs.{Members.{members_few}, Polls.{body_read, enough_read, later, not_refused, open_round, read_decided, read_fresh, polls_it}}
+use Rattle.ulfm_comm.proofs.Shrinks.{all_did, marks_make_none, may_own, sees_on, shrink_decided, shrink_mismatch, shrink_no_context, shrink_no_room, shrink_self_failed, shrink_shrunk}
 
--- the round at a place of the list
-round_at : (xs : List (ℕ × ℕ)) (i c k : ℕ) → slice_get (map (λ made. Comm made.0 made.1) xs) i ≡ Some (Comm c k) → slice_get xs i ≡ Some (c, k)
-round_at [] i c k e = absurd (cc e)
-round_at (x ∷ xs) zero c k e =
-    let same : Comm x.0 x.1 ≡ Comm c k = cc e in
-    let first : x.0 ≡ c = cc same in
-    let second : x.1 ≡ k = cc same in
-    ap Some (ap₂ (λ a b. (a, b)) first second)
-round_at (x ∷ xs) (suc i) c k e = round_at xs i c k e
+-- so many failures were gone through as have the decision's failed group
+pub reads_of : (group : List ℕ) (count : ℕ) (on : ReadOn) (old new whole : List ℕ) → AtFailure group count on new → count ≤ on.found → IsPrefix old new → IsPrefix new whole → ReadsOn group count old new whole on.reach
+reads_of group count on old new whole at enough goes begins =
+    let few = at.few in
+    let same : on.found ≡ count = omega (arith, few, enough) in
+    record { goes_on = goes; begins = begins; within = at.within; counted = sym at.counted ∙ same }
 
--- where each of the first places has another round, and there are no more, none has this one
-none_made : (xs : List (ℕ × ℕ)) (c k : ℕ) → ((j : ℕ) → j < length xs → (x : Item) × (slice_get (map (λ made. Comm made.0 made.1) xs) j ≡ Some x) × (x ≡ Comm c k → ⊥)) → list_any (λ made. (made.0 == c) && (made.1 == k)) xs ≡ false
-none_made [] c k others = refl
-none_made (x ∷ xs) c k others = go (none_made xs c k (λ j lt. others (suc j) (omega (arith, lt)))) ((x.0 == c) && (x.1 == k)) refl
+-- they do so while the list grows
+pub reads_stay : (group : List ℕ) (count : ℕ) (old new whole longer : List ℕ) (reach : ℕ) → ReadsOn group count old new whole reach → IsPrefix whole longer → ReadsOn group count old new longer reach
+reads_stay group count old new whole longer reach reads more =
+    record { goes_on = reads.goes_on; begins = prefix_trans new whole longer reads.begins more; within = reads.within; counted = reads.counted }
+
+-- the poll of a shrink is answered, with its point at its end
+pub answered_with : {P : Type 0} (meld : P → P → P) (alone : Bool) (name : Name) (asked : Call P) (old : Record) (before : Sight P) (reply : Reply P) (new : Record) (after : Sight P) → IsOf meld name after → before.steps ≤ after.steps → Fits meld name.limits before.seen old
+    → asked ≡ call.Poll old.number (comm_of asked) → IsEndRun meld name.limits alone before.seen after.seen old (call.Poll old.number (comm_of asked)) reply new → wants_memory reply ≡ false → (reply ≡ Pending → ⊥)
+    → Answered meld alone name asked old before reply new after
+answered_with meld alone name asked old before reply new after of onward fits polls ended answers decides =
+    let mine = subst (λ (a : Call _). IsEndRun meld name.limits alone before.seen after.seen old a reply new) (sym polls) ended in
+    let called = calls_is meld alone name before after onward asked old reply new of fits mine in
+    record { ends = inr (subst (λ b. EndsAs meld alone name asked old before reply b new after) (sym answers) called); pending = λ waits. absurd (decides waits) }
+
+-- no communicator was made
+none_made : (xs : List (ℕ × ℕ)) (c k : ℕ) → length xs ≡ 0 → list_any (λ made. (made.0 == c) && (made.1 == k)) xs ≡ false
+none_made [] c k none = refl
+none_made (x ∷ xs) c k none = absurd (omega (arith, none))
+
+-- where there may be the world's communicator alone, none can be made
+pub full_alone : {P : Type 0} (meld : P → P → P) (alone : Bool) (name : Name) (c k : ℕ) (now : Sight P) → IsOf meld name now → name.limits.comms ≡ 1 → IsFullBy meld alone name c k now now
+full_alone meld alone name c k now of one =
+    let below = spawns_below meld name.limits now.seen of.legal of.may_open.in_range.some_comms in
+    let none : length (spawns now.seen) ≡ 0 = omega (arith, below, one) in
+    record { of = of; did = did_none alone now.seen; full = omega (arith, none, one); unmade = none_made (spawns now.seen) c k none; onward = omega arith }
+
+-- the ids of a mask are below 32
+id_below : (mask : CtxMask) (i : ℕ) → IsLowestId mask.bits i → i < 32
+id_below mask i lowest = go (nat_lt i 32) refl
   where
-    go : list_any (λ made. (made.0 == c) && (made.1 == k)) xs ≡ false → (b : Bool) → ((x.0 == c) && (x.1 == k)) ≡ b → (b || list_any (λ made. (made.0 == c) && (made.1 == k)) xs) ≡ false
-    go rest false is = rest
-    go rest true is =
-        let both = and_parts (x.0 == c) (x.1 == k) is in
-        let here = others 0 (omega arith) in
-        let at : Comm x.0 x.1 ≡ here.0 = cc here.1 in
-        absurd (here.2 (sym at ∙ ap₂ Comm (eqb-true x.0 c both.0) (eqb-true x.1 k both.1)))
+    go : (b : Bool) → nat_lt i 32 ≡ b → i < 32
+    go true below = grind (arith, nat_tests)
+    go false above =
+        let from : 32 ≤ i = grind (arith, nat_tests) in
+        let none = bit_at_above mask.bits 32 i mask.fits from in
+        let one = lowest.in_it in absurd (cc (none, one))
 
--- so many places that are taken
-so_many : (xs : List (ℕ × ℕ)) (n : ℕ) → ((j : ℕ) → j < n → (x : Item) × (slice_get (map (λ made. Comm made.0 made.1) xs) j ≡ Some x)) → n ≤ length xs
-so_many xs zero all = omega arith
-so_many xs (suc n) all = let last = all n (omega arith) in omega (arith, in_list (map (λ made. Comm made.0 made.1) xs) n last.0 last.1, length-map xs (λ (made : ℕ × ℕ). Comm made.0 made.1))
+module _ {P : Type 0} (meld : P → P → P) (limits : Limits) (alone : Bool) (c k : ℕ) (mask : CtxMask) (x : Held) (count : ℕ) (old : Record) (before : History P) (own : Record) (now : History P)
+    (d : IsDecided meld limits alone c k mask x count old before own now) where
+  pub goes_here : IsPrefix d.decided now
+  goes_here = did_prefix alone [] d.decided now d.waited
 
-module _ {P : Type 0} (meld : P → P → P) (alone : Bool) (name : Name) (by : Caller) (c k : ℕ) (before after : Sight P) (most i : ℕ) where
-  one_more : i + 1 - 1 ≡ i
-  one_more = omega arith
+  pub number_is : own.number ≡ old.number
+  number_is = ap (λ (w : Record). w.number) d.own_is ∙ ap (λ (w : Record). w.number) d.marked.looked.record_is
 
-  -- this call made it
-  won_makes : Appends meld alone name (Comm c k) by most before (Won i) after → IsMadeBy meld alone name by c k before (i + 1) after
-  won_makes appends =
+  pub held_is : held_at own c ≡ Some x
+  held_is = ap (λ (w : Record). held_at w c) d.own_is ∙ d.marked.held
+
+  fits_decided : Fits meld limits d.decided d.mid
+  fits_decided = later meld limits alone before old d.mid c true k x d.decided d.marked
+
+  pub fits_now : IsLegal meld limits now → Fits meld limits now own
+  fits_now legal =
+      subst (Fits meld limits now) (sym d.own_is) (fits_seen meld limits now d.mid own.seen (fits_stays meld limits d.decided now d.mid goes_here legal fits_decided) d.begins)
+
+  -- others' events came, and a longer beginning of the list of failures is seen
+  pub decided_on : (new : Record) (after : History P) → Did alone [] now after → new ≡ record own { seen = new.seen } → IsPrefix own.seen new.seen → IsPrefix new.seen (failures after)
+      → IsDecided meld limits alone c k mask x count old before new after
+  decided_on new after did is goes begins =
       record {
-        of = appends.of;
-        own = Spawn (i + 1) c k ∷ [];
-        makes = ((i + 1, refl), tt);
-        few = inr (i + 1, refl);
-        settles_none = refl;
-        did = did_added alone (record { by = by; event = Spawn (i + 1) c k }) before.seen after.seen appends.outcome.0;
-        some = omega arith;
-        made = ap (slice_get (spawns after.seen)) one_more ∙ round_at (spawns after.seen) i c k appends.outcome.1;
-        onward = appends.onward;
+        mid = d.mid;
+        decided = d.decided;
+        marked = d.marked;
+        all = d.all;
+        read = d.read;
+        body = d.body;
+        some = d.some;
+        count_is = d.count_is;
+        waited = did_wait alone [] d.decided now after d.waited did;
+        own_is = is ∙ ap (λ (w : Record). record w { seen = new.seen }) d.own_is;
+        goes_on = prefix_trans d.mid.seen own.seen new.seen d.goes_on goes;
+        begins = begins;
       }
 
-  -- it had been made
-  found_made : Appends meld alone name (Comm c k) by most before (Found i) after → IsMadeBy meld alone name by c k before (i + 1) after
-  found_made appends =
+  -- the list of failures has as many of the group as the decision knows
+  pub may_read_on : MayReadOn x.group count own.seen (failures now)
+  may_read_on =
+      let enough = enough_read meld limits d.decided d.mid c k x d.marked.legal fits_decided d.marked.held d.all d.read in
+      let failed = ap length (failed_is meld limits d.decided d.mid c x fits_decided d.marked.held) in
+      let more = passing_grow (has x.group) (failures d.decided) (failures now) (failures_begin d.decided now goes_here) in
+      let counted = d.count_is in
+      record { rises = group_rises meld limits d.decided d.mid c x fits_decided d.marked.held; begins = d.begins; enough = omega (arith, counted, enough, failed, more) }
+
+  pub in_rounds : k < limits.rounds
+  in_rounds = open_round meld limits d.decided d.mid c k true x d.marked.legal fits_decided d.marked.held d.marked.open_is
+
+  -- the round's communicator may be made
+  pub may_make : MayAppend meld limits now (OfComm c k)
+  may_make =
+      append_stays meld limits d.decided now (OfComm c k) goes_here
+      (may_spawn meld limits d.decided c k (exists_is meld limits d.decided d.mid c x fits_decided d.marked.held) in_rounds
+      (read_decided meld limits d.decided d.mid c k x d.marked.legal fits_decided d.marked.held d.all d.read) mask
+      (body_read meld limits d.decided d.mid c k x d.marked.legal fits_decided d.marked.held d.all d.read ∙ d.body) d.some)
+
+  -- and the rank may hold it, with some of the group as its members
+  pub may_hold : (context reach : ℕ) (group : List ℕ) → IsLowestId mask.bits context → group ≡ without x.group (take reach own.seen) → limits.ranks ≤ 1024 → MayHold own c context (length group)
+  may_hold context reach group lowest left ranks =
+      let least = length-filter-le (λ r. not (has (take reach own.seen) r)) x.group in
+      let same = ap length left in
+      let members = ap length (group_is meld limits d.decided d.mid c x fits_decided d.marked.held) in
+      let few = members_few limits.ranks d.decided c in
       record {
-        of = appends.of;
-        own = [];
-        makes = tt;
-        few = inl refl;
-        settles_none = refl;
-        did = appends.outcome.0;
-        some = omega arith;
-        made = ap (slice_get (spawns after.seen)) one_more ∙ round_at (spawns after.seen) i c k appends.outcome.1;
-        onward = appends.onward;
+        x = x;
+        held = held_is;
+        few = omega (arith, least, same, members, few, ranks);
+        id = id_below mask context lowest;
+        fresh =
+            subst (λ (w : Record). AllByRecursion (λ i. nat_eq i context ≡ false) (contexts_of w.held)) (sym d.own_is)
+            (read_fresh meld limits d.decided d.mid c k x d.marked.legal fits_decided d.marked.held d.all d.read d.marked.open_is mask context d.body lowest.in_it);
       }
 
-  -- one or the other
-  pub makes : (end : Appended) → (end ≡ Won i) ⊎ (end ≡ Found i) → Appends meld alone name (Comm c k) by most before end after → IsMadeBy meld alone name by c k before (i + 1) after
-  makes end (inl won) appends = won_makes (subst (λ e. Appends meld alone name (Comm c k) by most before e after) won appends)
-  makes end (inr found) appends = found_made (subst (λ e. Appends meld alone name (Comm c k) by most before e after) found appends)
+module _ {P : Type 0} (meld : P → P → P) (alone : Bool) (name : Name) (asked : Call P) (k : ℕ) (mask : CtxMask) (x : Held) (count reach : ℕ) (old : Record) (before : Sight P) (own : Record) (now : Sight P) (of : IsOf meld name now) (onward : before.steps ≤ now.steps)
+    (fits : Fits meld name.limits before.seen old) (polls : asked ≡ call.Poll old.number (comm_of asked)) (d : IsDecided meld name.limits alone (comm_of asked) k mask x count old before.seen own now.seen)
+    (reads : ReadsOn x.group count d.mid.seen own.seen (failures now.seen) reach) where
+  abbrev c : ℕ
+  c = comm_of asked
 
-module _ {P : Type 0} (meld : P → P → P) (alone : Bool) (name : Name) (by : Caller) (c k : ℕ) (before after : Sight P) where
-  -- all that there may be were made of other rounds
-  pub full_of : (most : ℕ) → Appends meld alone name (Comm c k) by most before Full after → IsFullBy meld alone name c k before after
-  full_of most appends =
-      let passed = appends.outcome.1 in
-      let many = so_many (spawns after.seen) (name.limits.comms - 1) (λ j lt. let at = passed j lt in (at.0, at.1)) in
-      let some = appends.of.may_open.in_range.some_comms in
-      let few = spawns_below meld name.limits after.seen appends.of.legal some in
-      let full : length (spawns after.seen) + 1 ≡ name.limits.comms = omega (arith, many, few, some) in
-      record { of = appends.of; did = appends.outcome.0; full = full; unmade = none_made (spawns after.seen) c k (λ j lt. passed j (omega (arith, lt, full))); onward = appends.onward }
+  -- the same, by what was read of the round
+  counted : ReadsOn x.group d.all.known.count d.mid.seen own.seen (failures now.seen) reach
+  counted = subst (λ n. ReadsOn x.group n d.mid.seen own.seen (failures now.seen) reach) d.count_is reads
 
-  -- its number is small
-  pub number_fits : (j : ℕ) → IsMadeBy meld alone name by c k before j after → j < 2 ^ 16
-  number_fits j made =
-      let range = made.of.may_open.in_range in
-      let below = spawns_below meld name.limits after.seen made.of.legal range.some_comms in
-      let here = in_list (spawns after.seen) (j - 1) (c, k) made.made in
-      let some = made.some in
-      let few = range.comms in
-      omega (arith, few, below, here, some)
+  begins_now : IsPrefix d.decided now.seen
+  begins_now = goes_here meld name.limits alone c k mask x count old before.seen own now.seen d
 
--- the number of trailing zeros is the least id
-pub lowest_is : (mask : ℕ) → 0 < mask → mask < 2 ^ 32 → IsLowestId mask (trailing_zeros w32 mask)
-lowest_is mask some fits = let at = bit_at-trailing_zeros w32 mask some fits in record { in_it = at.1; least = at.2 }
+  -- whether the rank is left out, by its number
+  mine : (b : Bool) → has (take reach own.seen) own.number ≡ b → has (take reach own.seen) old.number ≡ b
+  mine b is = ap (has (take reach own.seen)) (sym (number_is meld name.limits alone c k mask x count old before.seen own now.seen d)) ∙ is
+
+  -- the rank is in the decision's failed group
+  pub ends_self_failed : (new : Record) → has (take reach own.seen) own.number ≡ true → new ≡ record own { refused = true } → Answered meld alone name asked old before (Refused SelfFailed) new now
+  ends_self_failed new among is =
+      answered_with meld alone name asked old before (Refused SelfFailed) new now of onward fits polls
+      (shrink_self_failed meld name.limits alone before.seen old d.mid c k x d.decided d.marked d.all d.read now.seen begins_now of.legal own.seen reach counted
+      [] now.seen (did_none alone now.seen) d.waited tt refl of.legal new (mine true among) (is ∙ ap (λ (w : Record). record w { refused = true }) d.own_is)) refl (λ waits. absurd (cc waits))
+
+  -- no communicator is left
+  pub ends_full : (new : Record) (after : Sight P) → IsFullBy meld alone name c k now after → has (take reach own.seen) own.number ≡ false → new ≡ closed own c → Answered meld alone name asked old before (Refused NoRoom) new after
+  ends_full new after full out is =
+      answered_with meld alone name asked old before (Refused NoRoom) new after full.of (omega (arith, onward, full.onward)) fits polls
+      (shrink_no_room meld name.limits alone before.seen old d.mid c k x d.decided d.marked d.all d.read now.seen begins_now of.legal own.seen reach counted
+      [] after.seen full.did d.waited tt refl full.of.legal mask d.body d.some (mine false out) new full.full full.unmade (is ∙ ap (λ (w : Record). closed w c) d.own_is)) refl (λ waits. absurd (cc waits))
+
+  -- it is made, and the rank holds it
+  pub ends_made : (j context size : ℕ) (group : List ℕ) (new : Record) (after : Sight P) → IsMadeBy meld alone name (Rank old.number) c k now j after → Holds c context group own j size new → IsLowestId mask.bits context
+      → group ≡ without x.group (take reach own.seen) → has (take reach own.seen) own.number ≡ false → Answered meld alone name asked old before (Shrunk j context size) new after
+  ends_made j context size group new after made holds lowest left out =
+      answered_with meld alone name asked old before (Shrunk j context size) new after made.of (omega (arith, onward, made.onward)) fits polls
+      (shrink_shrunk meld name.limits alone before.seen old d.mid c k x d.decided d.marked d.all d.read now.seen begins_now of.legal own.seen reach counted
+      made.own after.seen made.did d.waited made.makes made.settles_none made.of.legal mask d.body d.some (mine false out) j context size new made.some made.made lowest (holds.size_is ∙ ap length left)
+      (holds.record_is ∙ ap₂ (λ (w : Record) ms. let rest = closed w c in record rest { held = rest.held ++ new_held j context ms ∷ [] }) d.own_is left)) refl (λ waits. absurd (cc waits))
+
+  -- memory for it was refused, before the list of communicators was changed
+  pub ends_out : has (take reach own.seen) own.number ≡ false → Answered meld alone name asked old before (Refused OutOfMemory) own now
+  ends_out out_of_it =
+      let poll = call.Poll old.number c in
+      let quiet = did_none alone now.seen in
+      let out : RunsOut meld alone name poll old before own now =
+      runs_out_after meld alone name before now onward poll old own d.marked.look (d.marked.marks.own ++ []) of fits
+      (record { in_use = d.marked.looked.in_use; did = d.marked.looked.did; not_declared = d.marked.looked.not_declared; record_is = refl })
+      (all_did meld name.limits alone before.seen old d.mid c k x d.decided d.marked d.all d.read now.seen begins_now of.legal own.seen reach counted [] now.seen quiet d.waited tt refl of.legal)
+      (not_refused meld name.limits alone before.seen old d.mid c true k x d.decided d.marked)
+      (may_own meld name.limits alone before.seen old d.mid c k x d.decided d.marked d.all d.read now.seen begins_now of.legal own.seen reach counted [] now.seen quiet d.waited tt refl of.legal)
+      (subst (λ (events : List (Event P)). spawns (entries_by (Rank old.number) events) ≡ []) (sym (append-nil d.marked.marks.own)) (marks_make_none (Rank old.number) c k _ d.marked.marks.own d.marked.marks.marks))
+      (subst (HadCome meld name.limits now.seen old.number c) (sym (polls_it meld name.limits alone before.seen old d.mid c true k x d.decided d.marked))
+      (shrink_decided meld name.limits alone before.seen old d.mid c k x d.decided d.marked d.all d.read now.seen begins_now of.legal own.seen reach counted [] now.seen quiet d.waited tt refl of.legal mask d.body d.some (mine false out_of_it)))
+      (sees_on meld name.limits alone before.seen old d.mid c k x d.decided d.marked d.all d.read now.seen begins_now of.legal own.seen reach counted [] now.seen quiet d.waited tt refl of.legal)
+      d.begins (d.own_is ∙ ap (λ (w : Record). record w { seen = own.seen }) d.marked.looked.record_is) in
+      let shrinking : IsTrue (is_shrink (polled_by {P = P} old poll)) = ap is_shrink (polls_it meld name.limits alone before.seen old d.mid c true k x d.decided d.marked) in
+      record { ends = inr (subst (λ (a : Call P). RunsOut meld alone name a old before own now × IsTrue (is_shrink (polled_by old a))) (sym polls) (out, shrinking)); pending = λ waits. absurd (cc waits) }
+
+module _ {P : Type 0} (meld : P → P → P) (alone : Bool) (name : Name) (asked : Call P) (k : ℕ) (all : Summary P) (old : Record) (before : Sight P) (mid : Record) (now : Sight P) (of : IsOf meld name now)
+    (r : HasReadAll meld alone name asked true k all old before mid now) where
+  fits_read : Fits meld name.limits now.seen mid
+  fits_read = later meld name.limits alone before.seen old mid (comm_of asked) true k r.x now.seen r.marked
+
+  pub group_goes_up : IsStrictlyIncreasing r.x.group
+  group_goes_up = group_rises meld name.limits now.seen mid (comm_of asked) r.x fits_read r.marked.held
+
+  -- some have offered no mask
+  pub ends_mismatch : (new : Record) → ((mask : CtxMask) → all.body ≡ OfIds mask → ⊥) → new ≡ closed mid (comm_of asked) → Answered meld alone name asked old before (Refused Mismatch) new now
+  ends_mismatch new other is =
+      answered_with meld alone name asked old before (Refused Mismatch) new now of r.onward r.fits r.polls
+      (shrink_mismatch meld name.limits alone before.seen old mid (comm_of asked) k r.x now.seen r.marked all r.read new other is) refl (λ waits. absurd (cc waits))
+
+  -- no context id is free
+  pub ends_no_context : (mask : CtxMask) (new : Record) → all.body ≡ OfIds mask → mask.bits ≡ 0 → new ≡ closed mid (comm_of asked) → Answered meld alone name asked old before (Refused NoContext) new now
+  ends_no_context mask new body none is =
+      answered_with meld alone name asked old before (Refused NoContext) new now of r.onward r.fits r.polls
+      (shrink_no_context meld name.limits alone before.seen old mid (comm_of asked) k r.x now.seen r.marked all r.read mask new body none is) refl (λ waits. absurd (cc waits))
+
+  -- the round is decided on this mask
+  pub decided_first : (mask : CtxMask) → all.body ≡ OfIds mask → 0 < mask.bits → IsDecided meld name.limits alone (comm_of asked) k mask r.x all.known.count old before.seen mid now.seen
+  decided_first mask body some =
+      record {
+        mid = mid;
+        decided = now.seen;
+        marked = r.marked;
+        all = all;
+        read = r.read;
+        body = body;
+        some = some;
+        count_is = refl;
+        waited = did_none alone now.seen;
+        own_is = refl;
+        goes_on = ([], append-nil mid.seen);
+        begins = fits_read.seen;
+      }
+
+  -- and so many failures that were seen reach as far as its failed group
+  pub reached_first : (mask : CtxMask) (on : ReadOn) → all.body ≡ OfIds mask → 0 < mask.bits → AtFailure r.x.group all.known.count on mid.seen → all.known.count ≤ on.found
+      → HasReached meld alone name asked (record { round = k; mask = mask; count = all.known.count }) on.reach old before mid now
+  unfolding decided_first
+  reached_first mask on body some at enough =
+      record {
+        fits = r.fits;
+        polls = r.polls;
+        onward = r.onward;
+        x = r.x;
+        decided = decided_first mask body some;
+        reads = reads_of r.x.group all.known.count on mid.seen mid.seen (failures now.seen) at enough ([], append-nil mid.seen) fits_read.seen;
+      }
+
+-- the list of failures was read on: others' events came, and a longer beginning of it is seen
+module _ {P : Type 0} (meld : P → P → P) (alone : Bool) (name : Name) (asked : Call P) (on : ReadOn) (made : Made) (group : List ℕ) (old : Record) (before : Sight P) (own : Record) (now : Sight P)
+    (s : Stands meld alone name old before (record { asked = asked; phase = ReadingOn on made; group = group }) own now) (new : Record) (after : Sight P) (did : Did alone [] now.seen after.seen) (onward : now.steps ≤ after.steps)
+    (is : new ≡ record own { seen = new.seen }) (goes : IsPrefix own.seen new.seen) (begins : IsPrefix new.seen (failures after.seen)) where
+  -- as far as that the decision's failed group isn't known yet
+  pub reads_further : (next : ReadOn) (others : List ℕ) → AtFailure s.at.1.group made.count next new.seen → next.found < made.count → Stands meld alone name old before (record { asked = asked; phase = ReadingOn next made; group = others }) new after
+  reads_further next others at more =
+      let before_that = s.onward in
+      record {
+        fits = s.fits;
+        mine = s.mine;
+        onward = omega (arith, before_that, onward);
+        at = (
+          s.at.0,
+          s.at.1,
+          decided_on meld name.limits alone (comm_of asked) made.round made.mask s.at.1 made.count old before.seen own now.seen s.at.2 new after.seen did is goes begins,
+          at,
+          more,
+        );
+      }
+
+  -- or that it is
+  pub has_reached : (next : ReadOn) → AtFailure s.at.1.group made.count next new.seen → made.count ≤ next.found → HasReached meld alone name asked made next.reach old before new after
+  unfolding decided_on
+  has_reached next at enough =
+      let before_that = s.onward in
+      record {
+        fits = s.fits;
+        polls = s.at.0;
+        onward = omega (arith, before_that, onward);
+        x = s.at.1;
+        decided = decided_on meld name.limits alone (comm_of asked) made.round made.mask s.at.1 made.count old before.seen own now.seen s.at.2 new after.seen did is goes begins;
+        reads = reads_of s.at.1.group made.count next s.at.2.mid.seen new.seen (failures after.seen) at enough (prefix_trans s.at.2.mid.seen own.seen new.seen s.at.2.goes_on goes) begins;
+      }
+
+-- the communicator is looked for: a step in the list of communicators, or all that were left, led to this
+module _ {P : Type 0} (meld : P → P → P) (alone quiet : Bool) (only : IsTrue alone → IsTrue quiet) (name : Name) (asked : Call P) (append : Append) (context reach : ℕ) (group : List ℕ) (old : Record) (before : Sight P) (own : Record) (now : Sight P)
+    (of : IsOf meld name now) (s : Stands meld alone name old before (record { asked = asked; phase = Spawning append context reach; group = group }) own now) (comm : ℕ) (there : comm ≡ comm_of asked) where
+  pub item_is : append.item ≡ OfComm comm s.at.1.round
+  item_is = s.at.1.item ∙ ap (λ n. OfComm n s.at.1.round) (sym there)
+
+  -- the step may be made
+  pub may_step : MaySpawn meld name.limits now.seen comm s.at.1.round append
+  may_step =
+      let i = s.at.1 in
+      subst (λ n. MaySpawn meld name.limits now.seen n i.round append) (sym there) (record {
+        item = i.item;
+        may = may_make meld name.limits alone (comm_of asked) i.round i.mask i.x i.count old before.seen own now.seen i.decided;
+        in_rounds = in_rounds meld name.limits alone (comm_of asked) i.round i.mask i.x i.count old before.seen own now.seen i.decided;
+        passed = subst (λ (item : Item). Passed now.seen item append.index) i.item i.passed;
+        more = subst (λ (item : Item). append.index < room item name.limits) i.item i.more;
+      })
+
+  -- and the rank may hold what is made
+  pub may_take : MayHold own comm context (length group)
+  may_take =
+      let i = s.at.1 in
+      subst (λ n. MayHold own n context (length group)) (sym there)
+      (may_hold meld name.limits alone (comm_of asked) i.round i.mask i.x i.count old before.seen own now.seen i.decided context reach group i.lowest i.left of.may_open.in_range.ranks)
+
+  rank_is : append.by ≡ Rank own.number
+  rank_is = let i = s.at.1 in i.mine ∙ ap Rank (sym (number_is meld name.limits alone (comm_of asked) i.round i.mask i.x i.count old before.seen own now.seen i.decided))
+
+  module _ (next : Append) (new : Record) (after : Sight P) where
+    -- these are steps of the rank's own
+    pub spawn_walks : (result : Spawned) → SpawnIs meld quiet name comm s.at.1.round context append next group own now result new after → Walks meld quiet name own.number now after
+    spawn_walks spawned.Unknown is = record { of = is.0.of; own = []; did = is.0.did; onward = is.0.onward }
+    spawn_walks (spawned.Made j size) is =
+        record { of = is.0.of; own = is.0.own; did = subst (λ by. Did quiet (entries_by by is.0.own) now.seen after.seen) rank_is is.0.did; onward = is.0.onward }
+    spawn_walks spawned.Full is = record { of = is.0.of; own = []; did = is.0.did; onward = is.0.onward }
+
+    -- and add nothing, or the communicator
+    pub spawn_adds : (reply : Option (Reply P)) (result : Spawned) → SpawnIs meld quiet name comm s.at.1.round context append next group own now result new after → Adds quiet [] own asked reply now.seen after.seen
+    spawn_adds reply spawned.Unknown is = adds_none quiet [] own asked reply now.seen after.seen is.0.did
+    spawn_adds reply (spawned.Made j size) is =
+        record { events = is.0.own; did = subst (λ by. Did quiet (entries_by by is.0.own) now.seen after.seen) rank_is is.0.did; few = by_few is.0.few }
+      where
+        by_few : (is.0.own ≡ []) ⊎ ((i : ℕ) × (is.0.own ≡ Spawn i comm s.at.1.round ∷ [])) → (is.0.own ≡ []) ⊎ ((event : Event P) × (is.0.own ≡ event ∷ []) × Makes [] own asked reply event)
+        by_few (inl none) = inl none
+        by_few (inr (i, one)) =
+            let at = s.at.1 in
+            let fits = fits_now meld name.limits alone (comm_of asked) at.round at.mask at.x at.count old before.seen own now.seen at.decided of.legal in
+            let held = held_is meld name.limits alone (comm_of asked) at.round at.mask at.x at.count old before.seen own now.seen at.decided in
+            let named = comm_is meld name.limits now.seen own (comm_of asked) at.x fits held in
+            inr (
+              Spawn i comm at.round,
+              one,
+              record {
+                x = at.x;
+                held = held;
+                adds = subst (λ (a : Call P). CallAdds [] own.number at.x a (Spawn i comm at.round)) (sym s.at.0)
+                    (subst (λ request. PollAdds {P = P} [] at.x request (Spawn i comm at.round)) (sym at.decided.marked.open_is) (inr (i, ap (λ n. Spawn i n at.round) (there ∙ sym named))));
+                wins = λ no_poll. absurd (cc (no_poll, ap (λ (a : Call P). (traits_of a).polls) s.at.0));
+              },
+            )
+    spawn_adds reply spawned.Full is = adds_none quiet [] own asked reply now.seen after.seen is.0.did
+
+    -- it isn't found yet
+    pub spawn_goes_on : (others : List ℕ) → others ≡ group → SpawnIs meld quiet name comm s.at.1.round context append next group own now spawned.Unknown new after
+        → Stands meld alone name old before (record { asked = asked; phase = Spawning next context reach; group = others }) new after
+    unfolding decided_on
+    spawn_goes_on others kept is =
+        let i = s.at.1 in
+        let sought = is.0 in
+        let did = did_loosely alone quiet only [] now.seen after.seen sought.did in
+        let grown = failures_begin now.seen after.seen (did_prefix alone [] now.seen after.seen did) in
+        let here : next.item ≡ OfComm comm i.round = sought.item ∙ item_is in
+        let earlier = s.onward in
+        let onward = sought.onward in
+        subst (λ ms. Stands meld alone name old before (record { asked = asked; phase = Spawning next context reach; group = ms }) new after) (sym kept)
+        (subst (λ (w : Record). Stands meld alone name old before (record { asked = asked; phase = Spawning next context reach; group = group }) w after) (sym is.1) (record {
+          fits = s.fits;
+          mine = s.mine;
+          onward = omega (arith, earlier, onward);
+          at = (
+            s.at.0,
+            record {
+              x = i.x;
+              round = i.round;
+              mask = i.mask;
+              count = i.count;
+              decided =
+                  decided_on meld name.limits alone (comm_of asked) i.round i.mask i.x i.count old before.seen own now.seen i.decided own after.seen did refl ([], append-nil own.seen)
+                  (prefix_trans own.seen (failures now.seen) (failures after.seen) i.decided.begins grown);
+              lowest = i.lowest;
+              reads = reads_stay i.x.group i.count i.decided.mid.seen own.seen (failures now.seen) (failures after.seen) reach i.reads grown;
+              stays = i.stays;
+              left = i.left;
+              item = sought.item ∙ i.item;
+              mine = sought.mine ∙ i.mine;
+              passed = subst (λ (item : Item). Passed after.seen item next.index) (sym here) sought.passed;
+              more = subst (λ (item : Item). next.index < room item name.limits) (sym here) sought.more;
+            },
+          );
+        }))
+
+    -- it is made, and held
+    pub spawn_makes : (j size : ℕ) → SpawnIs meld quiet name comm s.at.1.round context append next group own now (spawned.Made j size) new after → Answered meld alone name asked old before (Shrunk j context size) new after
+    spawn_makes j size is =
+        let i = s.at.1 in
+        let made = is.0 in
+        let mine : IsMadeBy meld alone name (Rank old.number) (comm_of asked) i.round now j after =
+        subst (λ n. IsMadeBy meld alone name (Rank old.number) n i.round now j after) there (record {
+          of = made.of;
+          own = made.own;
+          makes = made.makes;
+          few = made.few;
+          settles_none = made.settles_none;
+          did = subst (λ by. Did alone (entries_by by made.own) now.seen after.seen) i.mine (did_loosely alone quiet only (entries_by append.by made.own) now.seen after.seen made.did);
+          some = made.some;
+          made = made.made;
+          onward = made.onward;
+        }) in
+        ends_made meld alone name asked i.round i.mask i.x i.count reach old before own now of s.onward s.fits s.at.0 i.decided i.reads j context size group new after mine
+        (subst (λ n. Holds n context group own j size new) there is.1) i.lowest i.left i.stays
+
+    -- there is no room for it
+    pub spawn_full : (ended : Record) → SpawnIs meld quiet name comm s.at.1.round context append next group own now spawned.Full new after → ended ≡ closed new comm → Answered meld alone name asked old before (Refused NoRoom) ended after
+    spawn_full ended is closes =
+        let i = s.at.1 in
+        let full = is.0 in
+        let loosely : IsFullBy meld alone name (comm_of asked) i.round now after =
+        subst (λ n. IsFullBy meld alone name n i.round now after) there
+        (record { of = full.of; did = did_loosely alone quiet only [] now.seen after.seen full.did; full = full.full; unmade = full.unmade; onward = full.onward }) in
+        ends_full meld alone name asked i.round i.mask i.x i.count reach old before own now of s.onward s.fits s.at.0 i.decided i.reads ended after loosely i.stays (closes ∙ ap₂ closed is.1 there)

@@ -6,8 +6,9 @@ use Rattle.ulfm_model.specs.Terms.{comm_of}
 use Rattle.ulfm_model.proofs.{Decisions.{slot_stands}, Marking.{failed_few}, Lists.{has_at, has_filter, length_prefix}}
 use Rattle.ulfm_words.specs.Steps.{IsAdded, IsOf, Name, Sight}
 use Rattle.ulfm_words.proofs.Trails.{did_added, did_after}
-use Rattle.ulfm_comm.specs.{Calls.{Calls, reply_of}, Ends.{IsEndRun}, Looked.{Looked}, Starts.{Settles, start_leaves, start_result}}
-use Rattle.ulfm_comm.proofs.{Calling.{calls_is}, Helds.{change_alike}, Holding.{comm_is, exists_is, failed_is, group_is, holds}, LeftOut.{filter_begins}, Replying.{held_before, replied, self_failed}}
+use Rattle.ulfm_comm.specs.{Calls.{Calls, reply_of}, Ends.{IsEndRun}, Look.{Looked}, Exchange.{Settles, start_leaves, start_result}}
+use Rattle.ulfm_comm.proofs.{CallRuns.{calls_is}, Helds.{change_alike}, Holding.{comm_is, exists_is, failed_is, group_is, holds}, LeftOut.{filter_begins}}
+use Rattle.ulfm_comm.proofs.WholeCall.{held_before, replied, self_failed}
 
 -- a rank whose place is marked is declared
 marked_declared : {P : Type 0} (meld : P → P → P) (limits : Limits) (h : History P) (c k r : ℕ) (mark : MarkCount) → IsLegal meld limits h → slot h c k r ≡ Some (Marked mark) → IsTrue (has (failures h) r)

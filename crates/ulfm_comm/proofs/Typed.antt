@@ -7,7 +7,7 @@ use Rattle.ulfm_model.specs.{Answers.{MayOwn, polled_by}, History.{entries_by, f
 use Rattle.ulfm_model.proofs.Histories.{members_stay}
 use Rattle.ulfm_words.specs.Steps.{Name, Sight}
 use Rattle.ulfm_comm.specs.Calls.{Calls, EndsAs, EndsReply, RunsOut, wants_memory}
-use Rattle.ulfm_comm.proofs.{Calling.{called_counts, called_run}, Holding.{exists_is, failed_is}, ReplyKinds.{answered_on}}
+use Rattle.ulfm_comm.proofs.{CallRuns.{called_counts, called_run}, Holding.{exists_is, failed_is}, ReplyKinds.{answered_on}}
 
 module _ {P : Type 0} (meld : P → P → P) (alone : Bool) (name : Name) (asked : Call P) (old : Record) (before : Sight P) (new : Record) (after : Sight P) where
   calls_as : (reply : Reply P) (b : Bool) → EndsAs meld alone name asked old before reply b new after → is_shrink (polled_by old asked) ≡ false → Calls meld alone name asked old before reply new after

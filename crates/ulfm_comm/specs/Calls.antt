@@ -78,20 +78,8 @@ EndsBy meld alone name asked old before refusal false new after = Calls meld alo
 
 -- whether a reply says that memory ran out
 abbrev pub wants_memory : {P : Type 0} → Reply P → Bool
-wants_memory Started = false
-wants_memory Pending = false
-wants_memory (Agreed value count raised) = false
-wants_memory (Shrunk j context size) = false
-wants_memory Done = false
-wants_memory (FailedGroup count) = false
-wants_memory (Acked count) = false
-wants_memory Declared = false
-wants_memory AlreadyFailed = false
-wants_memory Revoked = false
-wants_memory AlreadyRevoked = false
-wants_memory (Standing revoked) = false
-wants_memory Freed = false
 wants_memory (Refused refusal) = is_out_of_memory refusal
+wants_memory _ = false
 
 -- a call that is answered, or the poll of a shrink that ran out of memory
 abbrev pub EndsAs : {P : Type 0} → (P → P → P) → Bool → Name → Call P → Record → Sight P → Reply P → Bool → Record → Sight P → Type 0

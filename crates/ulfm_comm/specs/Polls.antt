@@ -9,8 +9,8 @@ use Rattle.ulfm_model.specs.{Answers.{polled_by}, History.{History, IsLegal, fai
 use Rattle.ulfm_model.specs.{Runs.{Did, IsRun}}
 use Rattle.ulfm_words.specs.Steps.{IsOf, Name, Sight}
 use Rattle.ulfm_steps.specs.{Marks.{Marks}, Rounds.{IsSummed}}
-use Rattle.ulfm_comm.specs.{Calls.{Calls, EndsBy, is_out_of_memory}, Looked.{Looked}}
-use Rattle.ulfm_comm.specs.declared.polled.{Polled.{Polled}, Polled.TheVariants.{Agreed, Done, Pending, Shrunk}}
+use Rattle.ulfm_comm.specs.{Calls.{Calls, EndsBy, is_out_of_memory}, Look.{Looked}}
+use Rattle.ulfm_comm.specs.declared.{calls.polled.Polled.{Polled}, calls.polled.Polled.TheVariants.{Agreed, Done, Pending, Shrunk}}
 
 -- an agree or a shrink in round k
 abbrev pub agreement : Bool → ℕ → Request

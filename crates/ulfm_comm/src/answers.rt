@@ -6,7 +6,6 @@ ghost use Rattle.ulfm_model.specs.Answers.{traits_of};
 ghost use Rattle.ulfm_model.specs.Records.{Held, held_at, is_shrink};
 ghost use Rattle.ulfm_comm.specs.Jobs.{IsAbout, IsJob, IsOther, StepsBy, state_of};
 
-use crate::held::is_shrink;
 use crate::rank::Rank;
 use crate::world::World;
 use std::alloc::{AllocError, Allocator};
@@ -14,6 +13,7 @@ use ulfm_laws::meld::Packed;
 use ulfm_model::call::{Call, rank_of};
 use ulfm_model::refusal::Refusal;
 use ulfm_model::reply::Reply;
+use ulfm_record::held::is_shrink;
 use ulfm_words::Words;
 
 // The outside declares a rank.

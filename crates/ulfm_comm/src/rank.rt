@@ -1,29 +1,28 @@
 ghost use Rattle.std.specs.Prelude.{◌≡◌, ◌≢◌, ◌<◌, ◌≤◌, ◌+◌, ◌==◌, ℕ, [], true, false, filter, length, map, nat_eq, not, take, Some, None, MatchOption, IfOk};
-ghost use Rattle.std.specs.List.{IsDistinct, list_any};
+ghost use Rattle.std.specs.List.{IsDistinct};
 ghost use mathlib.Core.List.{IsPrefix};
-ghost use Rattle.ulfm_model.specs.Records.{Held, free_ids, held_at, is_shrink, new_record, with_held};
-ghost use Rattle.ulfm_model.specs.History.{failures, first_ranks, without};
-ghost use Rattle.ulfm_model.specs.Words.{MayOpen};
-ghost use Rattle.ulfm_model.specs.Answers.{closed, opened};
+ghost use Rattle.ulfm_model.specs.{Records.{Held, free_ids, held_at, new_record, with_held}, History.{failures, first_ranks, without}, Words.{MayOpen}};
+ghost use Rattle.ulfm_model.specs.{Answers.{closed, first_refusal, opened}, Terms.{tests_of}};
 ghost use Rattle.ulfm_words.specs.Steps.{IsOf, Goes};
-ghost use Rattle.ulfm_steps.specs.Looks.{LookIs, LookTakes};
-ghost use Rattle.ulfm_steps.specs.ReadsOn.{AtFailure, MayReadOn, ReadOnTakes};
+ghost use Rattle.ulfm_steps.specs.{Looks.{LookIs, LookTakes}, ReadsOn.{AtFailure, MayReadOn, ReadOnTakes}};
 ghost use Rattle.ulfm_steps.specs.declared.item.Item.TheVariants.{Comm as OfComm};
-ghost use Rattle.ulfm_comm.specs.Shrinks.{MayHold, MaySpawn, SpawnIs, SpawnTakes};
-ghost use Rattle.ulfm_comm.specs.Starts.{HasNext};
-ghost use Rattle.ulfm_comm.specs.declared.spawned.Spawned.TheVariants.{Unknown};
+ghost use Rattle.ulfm_record.specs.Kept.{HasNext};
+ghost use Rattle.ulfm_comm.specs.Spawning.{MayHold, MaySpawn, SpawnIs, SpawnTakes};
+ghost use Rattle.ulfm_comm.specs.declared.phases.spawning.Spawned.TheVariants.{Unknown};
 
 use crate::groups::without;
-use crate::held::{self, HeldComm, place_of, take_in};
-use crate::ids::free_ids;
-use crate::spawned::{Spawned, place_in};
+use crate::phases::spawning::{Spawned, place_in};
 use std::alloc::{AllocError, Allocator};
 use std::marker::{Model, PhantomData};
 use std::mem;
 use ulfm_laws::ctx_mask::CtxMask;
 use ulfm_laws::meld::Packed;
-use ulfm_model::call::Request;
+use ulfm_model::call::{Call, Request};
 use ulfm_model::limits::Limits;
+use ulfm_model::refusal::Refusal;
+use ulfm_record::held::{self, HeldComm, place_of, take_in};
+use ulfm_record::ids::free_ids;
+use ulfm_record::refuse::refusal_on;
 use ulfm_steps::{Append, Look, ReadOn};
 use ulfm_words::Words;
 
@@ -108,6 +107,18 @@ impl<P: Packed, A: Allocator> Rank<P, A> {
         }
     }
 
+    /// A communicator that it holds.
+    pub(crate) fn held_comm(&self, comm: u16) -> &HeldComm<A>
+        requires { (x : Held) × (held_at self.now comm ≡ Some x) }
+        ensures { held_at self.now comm ≡ Some result.now }
+    {
+        match self.held(comm) {
+            Some(x) => x,
+            // Its callers know that the rank holds it, since the look of their call.
+            None => unreachable!(),
+        }
+    }
+
     /// The members of a communicator that it holds, in order. It is no step.
     pub fn members(&self, comm: u16) -> Option<&[u16]>
         ensures { MatchOption result (held_at self.now comm ≡ None) (λ group. (x : Held) × (held_at self.now comm ≡ Some x) × (group.now ≡ x.group)) }
@@ -132,18 +143,61 @@ impl<P: Packed, A: Allocator> Rank<P, A> {
         self.refused
     }
 
-    // How many rounds a communicator has.
-    pub(crate) fn rounds(&self) -> u16
-        ensures { result ≡ self.now.limits.rounds }
-    {
-        self.limits.rounds
-    }
-
     // What it has seen is forgotten, so that a look begins.
     pub(crate) fn forget(&mut self)
         ensures { self.new ≡ record self.old { seen = [] } }
     {
         self.seen.clear();
+    }
+
+    // From now on it is refused.
+    pub(crate) fn refuse(&mut self)
+        ensures { self.new ≡ record self.old { refused = true } }
+    {
+        self.refused = true;
+    }
+
+    // So many failures of a communicator are acknowledged now.
+    pub(crate) fn acknowledge(&mut self, comm: u16, count: u16)
+        ensures { self.new ≡ with_held self.old comm (λ y. record y { acked = count }) }
+    {
+        held::acknowledge(&mut self.held, comm, count);
+    }
+
+    // The first refusal of a call on a communicator that it holds, if its record has one.
+    pub(crate) fn refusal(&self, x: &HeldComm<A>, asked: &Call<P>) -> Option<Refusal>
+        ensures { result ≡ first_refusal (tests_of self.now x.now asked.now) }
+    {
+        refusal_on(self.limits, &self.held, x, asked)
+    }
+
+    // The context ids that none of its communicators has.
+    pub(crate) fn free_ids(&self) -> CtxMask
+        ensures { result ≡ free_ids self.now.held }
+    {
+        free_ids(&self.held)
+    }
+
+    // A request is open on a communicator, and its round is used up.
+    pub(crate) fn open(&mut self, comm: u16, request: Request)
+        requires next { HasNext request }
+        ensures { self.new ≡ with_held self.old comm (λ y. opened y (Some request)) }
+    {
+        held::open(&mut self.held, comm, request);
+    }
+
+    // No request is open on a communicator.
+    pub(crate) fn close(&mut self, comm: u16)
+        ensures { self.new ≡ closed self.old comm }
+    {
+        held::close(&mut self.held, comm);
+    }
+
+    // It doesn't hold the communicator of this number any more.
+    pub(crate) fn release(&mut self, comm: u16)
+        ensures { self.new ≡ record self.old { held = filter (λ x. not (x.comm == comm)) self.old.held } }
+    {
+        held::release(&mut self.held, comm);
     }
 
     // One load of the list of failures, or all that are left: whether its end is reached.
@@ -193,6 +247,7 @@ impl<P: Packed, A: Allocator> Rank<P, A> {
         ensures done { whole ≡ true → on.new.found ≡ count }
     {
         let Some(i) = place_of(&self.held, comm) else {
+            // It is held, as a `requires` says; what is seen grows beside it, so that `held_comm` can't lend it.
             unreachable!()
         };
         on.advance(
@@ -203,56 +258,6 @@ impl<P: Packed, A: Allocator> Rank<P, A> {
             &mut self.seen,
             whole,
         );
-    }
-
-    // From now on it is refused.
-    pub(crate) fn refuse(&mut self)
-        ensures { self.new ≡ record self.old { refused = true } }
-    {
-        self.refused = true;
-    }
-
-    // So many failures of a communicator are acknowledged now.
-    pub(crate) fn acknowledge(&mut self, comm: u16, count: u16)
-        ensures { self.new ≡ with_held self.old comm (λ y. record y { acked = count }) }
-    {
-        held::acknowledge(&mut self.held, comm, count);
-    }
-
-    // Whether it has a shrink open.
-    pub(crate) fn is_shrinking(&self) -> bool
-        ensures { result ≡ list_any (λ x. is_shrink x.request) self.now.held }
-    {
-        held::is_shrinking(&self.held)
-    }
-
-    // The context ids that none of its communicators has.
-    pub(crate) fn free_ids(&self) -> CtxMask
-        ensures { result ≡ free_ids self.now.held }
-    {
-        free_ids(&self.held)
-    }
-
-    // A request is open on a communicator, and its round is used up.
-    pub(crate) fn open(&mut self, comm: u16, request: Request)
-        requires next { HasNext request }
-        ensures { self.new ≡ with_held self.old comm (λ y. opened y (Some request)) }
-    {
-        held::open(&mut self.held, comm, request);
-    }
-
-    // No request is open on a communicator.
-    pub(crate) fn close(&mut self, comm: u16)
-        ensures { self.new ≡ closed self.old comm }
-    {
-        held::close(&mut self.held, comm);
-    }
-
-    // It doesn't hold the communicator of this number any more.
-    pub(crate) fn release(&mut self, comm: u16)
-        ensures { self.new ≡ record self.old { held = filter (λ x. not (x.comm == comm)) self.old.held } }
-    {
-        held::release(&mut self.held, comm);
     }
 }
 
@@ -274,10 +279,8 @@ impl<P: Packed, A: Allocator + Copy> Rank<P, A> {
         requires within { reach ≤ length self.now.seen }
         ensures { IfOk result (λ _. (x : Held) → held_at self.now comm ≡ Some x → group.new.items ≡ without x.group (take reach self.now.seen)) }
     {
-        let Some(i) = place_of(&self.held, comm) else {
-            unreachable!()
-        };
-        *group = without(self.allocator(), &self.held[i].group, &self.seen[..reach])?;
+        let x = self.held_comm(comm);
+        *group = without(self.allocator(), &x.group, &self.seen[..reach])?;
         Ok(())
     }
 

@@ -6,8 +6,9 @@ use Rattle.ulfm_model.specs.{History.{IsLegal, entries_by}, Records.{Fits, Recor
 use Rattle.ulfm_model.proofs.{LeftRuns.{call_legal, fail_legal}, Lists.{each_from, prefix_trans}, Stable.{fits_stays}}
 use Rattle.ulfm_words.specs.Steps.{IsOf, Name, Sight}
 use Rattle.ulfm_words.proofs.Trails.{did_prefix, did_wait}
-use Rattle.ulfm_comm.specs.{Calls.{Calls, EndsAs, EndsReply, wants_memory}, Fails.{Fails}, Ends.{IsRefusedAgain}, Stages.{Answered, Stands, Stepped, UnderWay, Waits, next_of, reply_in}}
-use Rattle.ulfm_comm.proofs.{Adding.{step_did}, Calling.{called_run}, InOrder.{each_set}, Loosely.{did_among}}
+use Rattle.ulfm_comm.specs.{Calls.{Calls, EndsAs, EndsReply, wants_memory}, Fails.{Fails}, Ends.{IsRefusedAgain}}
+use Rattle.ulfm_comm.specs.{Phase.{Answered, Stands, UnderWay, Waits, next_of, reply_in}, Step.{Stepped}}
+use Rattle.ulfm_comm.proofs.{StepAdds.{step_did}, CallRuns.{called_run}, InOrder.{each_set}, AmongOthers.{did_among}}
 use Rattle.ulfm_comm_tests.specs.Seats.{HasStood, IsPlay, Seated, Sits}
 use mathlib.Core.List.{IsPrefix}
 

@@ -4,7 +4,7 @@ use Rattle.std.specs.List.{AllByRecursion}
 use mathlib.Core.List.{IsPrefix}
 use Rattle.ulfm_model.specs.Records.{Fits, Record}
 use Rattle.ulfm_words.specs.Steps.{IsOf, Name, Sight}
-use Rattle.ulfm_comm.specs.Stages.{Stands, UnderWay, Waits}
+use Rattle.ulfm_comm.specs.Phase.{Stands, UnderWay, Waits}
 
 -- a rank's record, and its call under way, if there is one
 pub record Seated (P : Type 0) : Type 0 where

@@ -1,6 +1,6 @@
 // Calls of single ranks: memory that is refused, and others' events that come in between.
 
-use crate::lone::Lone;
+use crate::member::first_member;
 use linked_list_allocator::LocalHeap;
 use std::alloc::{AllocError, Allocator, Global};
 use std::process::Abort;
@@ -46,16 +46,15 @@ const THREE: Limits = Limits {
 // Rank 0 asks for the failed group, into a vector that gets no memory: its record has the failure, and is else as it was.
 fn get_refused(rt: &impl Abort, alloc: Global, full: &LocalHeap) -> Result<(), Fail> {
     let words = PlainWords::<FlagAnd>::open(THREE)?;
-    let mut lone = Lone::open(rt, alloc, words, 3)?;
+    let mut first = first_member(rt, alloc, words, 3)?;
     let mut found = Vec::new(full);
-    assert!(rt; lone.declare(1) == Ok(true));
-    let refused = lone.get_failed(0, &mut found);
+    assert!(rt; first.fail(1) == Ok(true));
+    let refused = first.get_failed(0, &mut found);
     assert!(rt; refused == Err(Refusal::OutOfMemory));
     assert!(rt; found.is_empty());
-    let own = lone.own();
-    assert_eq!(rt; own.failures(), [1].as_slice());
-    assert!(rt; own.members(0) == Some([0, 1, 2].as_slice()));
-    assert!(rt; own.context(0) == Some(0));
+    assert_eq!(rt; first.failures(), [1].as_slice());
+    assert!(rt; first.members(0) == Some([0, 1, 2].as_slice()));
+    assert!(rt; first.context(0) == Some(0));
     Ok(())
 }
 
@@ -80,7 +79,8 @@ fn lost_fail_is_not_claimed(rt: HostRuntime) -> Result<(), Fail> {
         Intruder {
             plain,
             guest,
-            wait: None,
+            // Just before the exchange: the look makes one load.
+            wait: Some(1),
         },
     )?;
     let mut pass = world.pass(rt.alloc())?;
@@ -107,19 +107,18 @@ fn own_place_is_taken(rt: HostRuntime) -> Result<(), Fail> {
             given,
         },
     };
-    let mut lone = Lone::open(
+    let mut first = first_member(
         &rt,
         rt.alloc(),
         Intruder {
             plain,
             guest,
-            wait: None,
+            // Just before the exchange: the look makes one load.
+            wait: Some(1),
         },
         3,
     )?;
-    // Just before the exchange: the look makes one load.
-    lone.wait(1);
-    let refused = lone.iagree(0, FlagAnd { bits: 0x3 });
+    let refused = first.iagree(0, FlagAnd { bits: 0x3 });
     assert!(rt; refused == Err(Refusal::Twice));
     Ok(())
 }
@@ -127,10 +126,10 @@ fn own_place_is_taken(rt: HostRuntime) -> Result<(), Fail> {
 #[test]
 fn shrink_offers_free_ids(rt: HostRuntime) -> Result<(), Fail> {
     let words = PlainWords::<FlagAnd>::open(THREE)?;
-    let mut lone = Lone::open(&rt, rt.alloc(), words, 3)?;
-    assert!(rt; lone.declare(1) == Ok(true));
-    assert!(rt; lone.ishrink(1) == Err(Refusal::NoSuchComm));
-    assert!(rt; lone.ishrink(0) == Ok(()));
+    let mut first = first_member(&rt, rt.alloc(), words, 3)?;
+    assert!(rt; first.fail(1) == Ok(true));
+    assert!(rt; first.ishrink(1) == Err(Refusal::NoSuchComm));
+    assert!(rt; first.ishrink(0) == Ok(()));
     // All ids but 0, one failure that is known, and none that is acknowledged.
     let offered = Step {
         place: Place::Slot {
@@ -141,10 +140,10 @@ fn shrink_offers_free_ids(rt: HostRuntime) -> Result<(), Fail> {
         word: 0x01ff_ffff_fc00_000d,
         by: Caller::Rank(0),
     };
-    assert!(rt; lone.nth(1) == Some(offered));
-    assert!(rt; lone.ishrink(0) == Err(Refusal::Busy));
-    assert!(rt; lone.free(1) == Err(Refusal::NoSuchComm));
-    assert!(rt; lone.free(0) == Err(Refusal::WorldKept));
+    assert!(rt; first.pass().nth(1) == Some(offered));
+    assert!(rt; first.ishrink(0) == Err(Refusal::Busy));
+    assert!(rt; first.free(1) == Err(Refusal::NoSuchComm));
+    assert!(rt; first.free(0) == Err(Refusal::WorldKept));
     Ok(())
 }
 
@@ -156,13 +155,13 @@ fn last_round_is_kept_for_a_shrink(rt: HostRuntime) -> Result<(), Fail> {
         rounds: 1,
     };
     let words = PlainWords::<FlagAnd>::open(limits)?;
-    let mut lone = Lone::open(&rt, rt.alloc(), words, 2)?;
-    let refused = lone.iagree(0, FlagAnd { bits: 0x3 });
+    let mut first = first_member(&rt, rt.alloc(), words, 2)?;
+    let refused = first.iagree(0, FlagAnd { bits: 0x3 });
     assert!(rt; refused == Err(Refusal::RoundsUsedUp));
-    assert!(rt; lone.ishrink(0) == Ok(()));
-    assert!(rt; lone.declare(0) == Ok(true));
-    assert!(rt; lone.ishrink(0) == Err(Refusal::SelfFailed));
-    assert!(rt; lone.free(1) == Err(Refusal::SelfFailed));
+    assert!(rt; first.ishrink(0) == Ok(()));
+    assert!(rt; first.fail(0) == Ok(true));
+    assert!(rt; first.ishrink(0) == Err(Refusal::SelfFailed));
+    assert!(rt; first.free(1) == Err(Refusal::SelfFailed));
     Ok(())
 }
 
@@ -175,30 +174,30 @@ const THREE_COMMS: Limits = Limits {
 #[test]
 fn survivor_shrinks(rt: HostRuntime) -> Result<(), Fail> {
     let words = PlainWords::<FlagAnd>::open(THREE_COMMS)?;
-    let mut lone = Lone::open(&rt, rt.alloc(), words, 3)?;
-    assert!(rt; lone.declare(2) == Ok(true));
-    assert!(rt; lone.ishrink(0) == Ok(()));
-    assert!(rt; lone.poll(0) == Ok(Polled::Pending));
-    assert!(rt; lone.declare(1) == Ok(true));
+    let mut first = first_member(&rt, rt.alloc(), words, 3)?;
+    assert!(rt; first.fail(2) == Ok(true));
+    assert!(rt; first.ishrink(0) == Ok(()));
+    assert!(rt; first.poll(0) == Ok(Polled::Pending));
+    assert!(rt; first.fail(1) == Ok(true));
     let alone = Polled::Shrunk {
         comm: 1,
         context: 1,
         size: 1,
     };
-    assert!(rt; lone.poll(0) == Ok(alone));
-    assert!(rt; lone.poll(0) == Err(Refusal::Idle));
-    assert!(rt; lone.own().members(1) == Some([0].as_slice()));
-    assert!(rt; lone.own().context(1) == Some(1));
-    assert!(rt; lone.ishrink(1) == Ok(()));
+    assert!(rt; first.poll(0) == Ok(alone));
+    assert!(rt; first.poll(0) == Err(Refusal::Idle));
+    assert!(rt; first.members(1) == Some([0].as_slice()));
+    assert!(rt; first.context(1) == Some(1));
+    assert!(rt; first.ishrink(1) == Ok(()));
     let again = Polled::Shrunk {
         comm: 2,
         context: 2,
         size: 1,
     };
-    assert!(rt; lone.poll(1) == Ok(again));
-    assert!(rt; lone.ishrink(2) == Ok(()));
-    assert!(rt; lone.poll(2) == Err(Refusal::NoRoom));
-    assert!(rt; lone.poll(2) == Err(Refusal::Idle));
+    assert!(rt; first.poll(1) == Ok(again));
+    assert!(rt; first.ishrink(2) == Ok(()));
+    assert!(rt; first.poll(2) == Err(Refusal::NoRoom));
+    assert!(rt; first.poll(2) == Err(Refusal::Idle));
     Ok(())
 }
 
@@ -229,19 +228,19 @@ fn shrink_with<R: Abort, A: Allocator + Copy, B: Allocator + Copy>(
         rounds: 2,
     };
     let words = PlainWords::<FlagAnd>::open(limits)?;
-    let mut lone = Lone::open(rt, alloc, words, 1)?;
-    assert!(rt; lone.ishrink(0) == Ok(()));
+    let mut first = first_member(rt, alloc, words, 1)?;
+    assert!(rt; first.ishrink(0) == Ok(()));
     let taken = rest_of(alloc, outside);
-    assert!(rt; lone.poll(0) == Err(Refusal::OutOfMemory));
-    assert!(rt; lone.poll(0) == Err(Refusal::OutOfMemory));
-    assert!(rt; lone.own().members(1).is_none());
+    assert!(rt; first.poll(0) == Err(Refusal::OutOfMemory));
+    assert!(rt; first.poll(0) == Err(Refusal::OutOfMemory));
+    assert!(rt; first.members(1).is_none());
     drop(taken);
     let made = Polled::Shrunk {
         comm: 1,
         context: 1,
         size: 1,
     };
-    assert!(rt; lone.poll(0) == Ok(made));
+    assert!(rt; first.poll(0) == Ok(made));
     Ok(())
 }
 
@@ -268,21 +267,21 @@ fn agree_meets_a_shrink(rt: HostRuntime) -> Result<(), Fail> {
             given,
         },
     };
-    let mut lone = Lone::open(
+    let mut first = first_member(
         &rt,
         rt.alloc(),
         Intruder {
             plain,
             guest,
-            wait: None,
+            // Just before the place of rank 1 is read: the declaration makes two steps, the start of the shrink three, the look
+            // two loads, one mark is made, and the first place is read.
+            wait: Some(9),
         },
         3,
     )?;
-    assert!(rt; lone.declare(2) == Ok(true));
-    assert!(rt; lone.ishrink(0) == Ok(()));
-    // Just before the place of rank 1 is read: the look makes two loads, one mark is made, and the first place is read.
-    lone.wait(4);
-    assert!(rt; lone.poll(0) == Err(Refusal::Mismatch));
-    assert!(rt; lone.poll(0) == Err(Refusal::Idle));
+    assert!(rt; first.fail(2) == Ok(true));
+    assert!(rt; first.ishrink(0) == Ok(()));
+    assert!(rt; first.poll(0) == Err(Refusal::Mismatch));
+    assert!(rt; first.poll(0) == Err(Refusal::Idle));
     Ok(())
 }

@@ -6,7 +6,7 @@ mod calls;
 #[cfg(test)]
 mod jobs;
 #[cfg(test)]
-mod lone;
+mod member;
 #[cfg(test)]
 mod play;
 #[cfg(test)]

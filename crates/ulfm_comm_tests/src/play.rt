@@ -6,7 +6,7 @@ ghost use Rattle.ulfm_model.specs.Records.{Fits};
 ghost use Rattle.ulfm_model.specs.declared.event.Caller.TheVariants.{Rank as OfRank};
 ghost use Rattle.ulfm_words.specs.Steps.{IsNew, IsOf};
 ghost use Rattle.ulfm_comm_tests.specs.Seats.{IsPlay, Sits};
-ghost use Rattle.ulfm_comm.specs.Stages.{Waits};
+ghost use Rattle.ulfm_comm.specs.Phase.{Waits};
 
 use std::alloc::{AllocError, Allocator, Global};
 use std::marker::Model;

@@ -3,6 +3,7 @@ use Rattle.std.proofs.Common.{◌≡◌, ℕ, Bool, true, false, ◌==◌, List,
 use Rattle.std.specs.Prelude.{IfOk, OnOk, OnErr}
 use Rattle.std.specs.List.{IsDistinct, position}
 use Rattle.std.proofs.lemmas.List.{map-set}
+use Rattle.std.proofs.lemmas.Simd.{map-map}
 use Rattle.std.proofs.Math.Seq.{map-set_same}
 use Rattle.std.specs.declared.alloc.AllocError.{AllocError}
 use Rattle.ulfm_model.specs.declared.{call.Call.{Call}, limits.Limits.{Limits}, event.Caller.TheVariants.{Rank}, refusal.Refusal.TheVariants.{NoSuchRank, SelfFailed}, reply.Reply.{Reply}, reply.Reply.TheVariants.{Refused}}
@@ -15,7 +16,7 @@ use Rattle.ulfm_object.specs.Objects.{IsFew, TakesStep, state_of}
 use Rattle.ulfm_record.specs.Kept.{record_of}
 use Rattle.ulfm_model.proofs.LeftSound.{step_sound}
 use Rattle.ulfm_object.proofs.ObjectSteps.{few_of, next_of_call, ranks_distinct, replaced}
-use Rattle.ulfm_record.proofs.Places.{find_no_place, find_place, map_map}
+use Rattle.ulfm_record.proofs.Places.{find_no_place, find_place}
 use Rattle.ulfm_model.proofs.OnlyStep.{step_is_next}
 use Rattle.ulfm_model.proofs.StepsNext.{next_is_step}
 
@@ -94,7 +95,7 @@ module _ {P A : Type 0} (meld : P → P → P) (limits : Limits) (log : History 
   module _ (may : MayOpen limits) (sound : IsSound meld old) where
     -- what a call of a rank requires of the state
     pub numbers_of : map (λ (x : RankRecord A). x.number) records ≡ first_ranks limits.ranks
-    numbers_of = sym (map_map (λ (x : Record). x.number) (record_of limits) records) ∙ sound.numbers
+    numbers_of = sym (map-map (λ (x : Record). x.number) (record_of limits) records) ∙ sound.numbers
 
     pub few_here : IsFew log
     few_here = few_of meld limits log may sound.legal

@@ -1,5 +1,5 @@
 -- What the program of the sequential object needs of its state, and the steps that it takes.
-use Rattle.std.proofs.Common.{◌≡◌, ℕ, zero, suc, ◌+◌, ◌<◌, ◌≤◌, Bool, true, false, ◌==◌, List, [], ◌∷◌, map, length, Option, Some, None, is_some, get_or, set, refl, ap, ap₂, sym, ◌∙◌, subst, arith, nat_eq, nat_le, if◌then◌else◌}
+use Rattle.std.proofs.Common.{◌≡◌, ℕ, zero, suc, ◌+◌, ◌^◌, ◌<◌, ◌≤◌, Bool, true, false, ◌==◌, List, [], ◌∷◌, map, length, Option, Some, None, is_some, get_or, set, refl, ap, ap₂, sym, ◌∙◌, subst, arith, nat_eq, nat_le, if◌then◌else◌}
 use Rattle.std.specs.List.{AllByRecursion, IsDistinct, list_any, position}
 use Rattle.std.proofs.lemmas.Bool.{eq-eqb, eqb-true, ne_eqb}
 use Rattle.std.proofs.lemmas.Bool.Decides.{nat_tests}
@@ -24,10 +24,10 @@ none_first_test test tests none = go test.0 refl none
     go true is none = absurd (cc none)
     go false is none = (is, none)
 
-round_left : (rounds next : ℕ) → rounds ≤ 4096 → nat_le rounds next ≡ false → next < 65535
+round_left : (rounds next : ℕ) → rounds ≤ 4096 → nat_le rounds next ≡ false → next + 1 < 2 ^ 16
 round_left rounds next small left = grind (arith, nat_tests)
 
-round_before : (rounds next : ℕ) → rounds ≤ 4096 → nat_le rounds (next + 1) ≡ false → next < 65535
+round_before : (rounds next : ℕ) → rounds ≤ 4096 → nat_le rounds (next + 1) ≡ false → next + 1 < 2 ^ 16
 round_before rounds next small left = grind (arith, nat_tests)
 
 -- a request that the record's tests allow has a round whose next number fits

@@ -3,7 +3,7 @@ ghost use Rattle.std.specs.Prelude.{◌≡◌, ◌++◌, ◌∷◌, [], IfOk, So
 ghost use Rattle.std.specs.List.{cons_option};
 ghost use Rattle.ulfm_model.specs.Computed.{added, added_by_poll, given_at, is_free_mask, known_at, mark_at, mark_of, marks_of, settle_of, spawn_of};
 ghost use Rattle.ulfm_model.specs.History.{entries_by};
-ghost use Rattle.ulfm_record.specs.Kept.{held_of, record_of};
+ghost use Rattle.ulfm_record.specs.Kept.{record_of};
 ghost use Rattle.ulfm_model.specs.declared.call.Request.TheVariants.{Shrink};
 
 use std::alloc::{AllocError, Allocator};
@@ -18,7 +18,9 @@ use ulfm_model::call::{Call, Request};
 use ulfm_model::contribution::{Contribution, MarkCount, Offer};
 use ulfm_model::event::{Caller, Entry, Event};
 use ulfm_model::limits::Limits;
-use ulfm_record::record::{HeldComm, RankRecord, free_ids};
+use ulfm_record::held::HeldComm;
+use ulfm_record::ids::free_ids;
+use ulfm_record::record::RankRecord;
 
 /// A count of failures, at most 1024.
 fn known_at(count: usize) -> Known
@@ -66,7 +68,7 @@ fn settle_of<P: Copy, A: Allocator + Copy + Drop>(
     x: &HeldComm<A>,
     offer: Offer<P>,
 ) -> Result<Vec<Event<P>, A>, AllocError>
-    ensures { IfOk result (λ events. events.items ≡ settle_of history.now rank (held_of x.now) offer) }
+    ensures { IfOk result (λ events. events.items ≡ settle_of history.now rank x.now offer) }
 {
     let mut events = Vec::new(alloc);
     if slot(history, x.comm, x.next_agreement, rank).is_none() {
@@ -239,13 +241,13 @@ pub fn added<P: Meld, A: Allocator + Copy + Drop>(
     x: &HeldComm<A>,
     asked: &Call<P>,
 ) -> Result<Vec<Event<P>, A>, AllocError>
-    ensures { IfOk result (λ events. events.items ≡ added P.meld limits history.now (record_of limits own.now) (held_of x.now) asked.now) }
+    ensures { IfOk result (λ events. events.items ≡ added P.meld limits history.now (record_of limits own.now) x.now asked.now) }
 {
     let rank = own.number;
     match *asked {
         Call::Agree { value, .. } => settle_of(alloc, history, rank, x, Offer::Flag(value)),
         Call::Shrink { .. } => {
-            let mask = free_ids(alloc, &own.held)?;
+            let mask = free_ids(&own.held);
             settle_of(alloc, history, rank, x, Offer::Ctx(mask))
         }
         Call::Barrier { .. } => {

@@ -12,8 +12,9 @@ use ulfm_model::call::{Call, comm_of};
 use ulfm_model::event::Entry;
 use ulfm_model::limits::Limits;
 use ulfm_model::reply::Reply;
-use ulfm_record::leaves::{settle, take_in};
-use ulfm_record::record::{HeldComm, RankRecord};
+use ulfm_record::held::{HeldComm, take_in};
+use ulfm_record::leaves::settle;
+use ulfm_record::record::RankRecord;
 
 /// Takes in a reply, with the failures that the rank has seen by then. Memory is taken first: after an error the record is as
 /// it was.
@@ -35,7 +36,8 @@ pub fn leave<P: Copy, A: Allocator + Copy + Drop>(
         Reply::Shrunk { comm, context, .. } => {
             let group = members(alloc, limits.ranks, after, comm)?;
             let made = HeldComm::new(comm, context, group);
-            take_in(&mut own.held, comm_of(asked), made)?;
+            own.held.reserve(1)?;
+            take_in(&mut own.held, comm_of(asked), made);
             own.seen = seen;
         }
         _ => {

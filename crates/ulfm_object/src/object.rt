@@ -26,7 +26,8 @@ use ulfm_model::event::{Caller, Entry, Event};
 use ulfm_model::limits::{Limits, OpenFault};
 use ulfm_model::refusal::Refusal;
 use ulfm_model::reply::Reply;
-use ulfm_record::record::{HeldComm, RankRecord};
+use ulfm_record::held::HeldComm;
+use ulfm_record::record::RankRecord;
 
 /// The sequential object.
 #[derive(Drop)]

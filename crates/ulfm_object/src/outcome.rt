@@ -7,7 +7,7 @@ ghost use Rattle.ulfm_model.specs.History.{entries_by};
 ghost use Rattle.ulfm_model.specs.Records.{held_at};
 ghost use Rattle.ulfm_model.specs.Words.{MayOpen};
 ghost use Rattle.ulfm_object.specs.Objects.{IsFew};
-ghost use Rattle.ulfm_record.specs.Kept.{held_of, record_of};
+ghost use Rattle.ulfm_record.specs.Kept.{record_of};
 ghost use Rattle.ulfm_model.specs.declared.event.Caller.TheVariants.{Rank};
 ghost use Rattle.ulfm_model.specs.declared.reply.Reply.TheVariants.{Refused};
 
@@ -21,7 +21,8 @@ use ulfm_model::event::{Caller, Entry};
 use ulfm_model::limits::Limits;
 use ulfm_model::refusal::Refusal;
 use ulfm_model::reply::Reply;
-use ulfm_record::record::{HeldComm, RankRecord, place_of};
+use ulfm_record::held::{HeldComm, place_of};
+use ulfm_record::record::RankRecord;
 use ulfm_record::refuse::refusal_of;
 
 /// The history after a call, and its reply.
@@ -42,9 +43,9 @@ fn held_outcome<P: Meld, A: Allocator + Copy + Drop>(
 ) -> Result<Outcome<P, A>, AllocError>
     requires may { MayOpen limits }
     requires few { IsFew history.now }
-    ensures after { let outcome = held_outcome P.meld limits history.now (record_of limits own.now) (held_of x.now) asked.now in
+    ensures after { let outcome = held_outcome P.meld limits history.now (record_of limits own.now) x.now asked.now in
         IfOk result (λ out. out.after.items ≡ history.now ++ entries_by (Rank own.now.number) outcome.own) }
-    ensures reply { IfOk result (λ out. out.reply ≡ (held_outcome P.meld limits history.now (record_of limits own.now) (held_of x.now) asked.now).reply) }
+    ensures reply { IfOk result (λ out. out.reply ≡ (held_outcome P.meld limits history.now (record_of limits own.now) x.now asked.now).reply) }
 {
     let events = added(alloc, limits, history, own, x, asked)?;
     let after = extended(alloc, history, Caller::Rank(own.number), &events)?;

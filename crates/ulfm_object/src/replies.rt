@@ -6,7 +6,7 @@ ghost use Rattle.ulfm_model.specs.Answers.{barrier_reply};
 ghost use Rattle.ulfm_model.specs.History.{decision, failed, failures, has_arrived, is_decided, spawns};
 ghost use Rattle.ulfm_history.specs.Walked.{decision_of};
 ghost use Rattle.ulfm_object.specs.Objects.{IsFew, view_after};
-ghost use Rattle.ulfm_record.specs.Kept.{held_of, record_of};
+ghost use Rattle.ulfm_record.specs.Kept.{record_of};
 ghost use Rattle.ulfm_model.specs.declared.event.Event.{Event};
 ghost use Rattle.ulfm_model.specs.declared.reply.Reply.TheVariants.{Pending};
 
@@ -23,7 +23,9 @@ use ulfm_model::event::Entry;
 use ulfm_model::limits::Limits;
 use ulfm_model::refusal::Refusal;
 use ulfm_model::reply::Reply;
-use ulfm_record::record::{HeldComm, RankRecord, lowest_id};
+use ulfm_record::held::HeldComm;
+use ulfm_record::ids::lowest_id;
+use ulfm_record::record::RankRecord;
 
 /// The reply to a start, by what stood at the rank's place before.
 fn start_reply<P: Copy>(stood: Option<Slot<P>>) -> Reply<P>
@@ -115,7 +117,7 @@ fn barrier_poll<P: Copy, A: Allocator + Copy + Drop>(
     x: &HeldComm<A>,
     round: u16,
 ) -> Result<Reply<P>, AllocError>
-    ensures { (events : List (Event P)) → IfOk result (λ reply. reply ≡ barrier_reply (view_after before.now after.now events) (held_of x.now) round) }
+    ensures { (events : List (Event P)) → IfOk result (λ reply. reply ≡ barrier_reply (view_after before.now after.now events) x.now round) }
 {
     if is_revoked(after, x.comm) {
         return Ok(Reply::Refused(Refusal::IsRevoked));
@@ -182,7 +184,7 @@ fn open_reply<P: Meld, A: Allocator + Copy + Drop>(
 ) -> Result<Reply<P>, AllocError>
     requires { IsFew after.now }
     ensures { (events : List (Event P)) → let view = view_after before.now after.now events in
-        IfOk result (λ reply. reply ≡ poll_reply P.meld limits view rank (held_of x.now) (Some request)) }
+        IfOk result (λ reply. reply ≡ poll_reply P.meld limits view rank x.now (Some request)) }
 {
     let ranks = limits.ranks;
     match request {
@@ -203,7 +205,7 @@ fn poll_reply<P: Meld, A: Allocator + Copy + Drop>(
 ) -> Result<Reply<P>, AllocError>
     requires { IsFew after.now }
     ensures { (events : List (Event P)) → let view = view_after before.now after.now events in
-        IfOk result (λ reply. reply ≡ poll_reply P.meld limits view rank (held_of x.now) x.now.request) }
+        IfOk result (λ reply. reply ≡ poll_reply P.meld limits view rank x.now x.now.request) }
 {
     match x.request {
         None => Ok(Reply::Pending),
@@ -237,7 +239,7 @@ pub fn replied<P: Meld, A: Allocator + Copy + Drop>(
 ) -> Result<Reply<P>, AllocError>
     requires { IsFew after.now }
     ensures { (events : List (Event P)) → let view = view_after before.now after.now events in
-        IfOk result (λ reply. reply ≡ replied P.meld limits before.now view (record_of limits own.now) (held_of x.now) asked.now) }
+        IfOk result (λ reply. reply ≡ replied P.meld limits before.now view (record_of limits own.now) x.now asked.now) }
 {
     let ranks = limits.ranks;
     match *asked {

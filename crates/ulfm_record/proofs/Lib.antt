@@ -1,2 +1,3 @@
-pub mod Ids
+pub mod Contexts
 pub mod Places
+pub mod Testing

@@ -1,15 +1,14 @@
 // What a call starts.
 ghost use Rattle.std.specs.Prelude.{◌≡◌};
 ghost use Rattle.ulfm_model.specs.Answers.{traits_of};
-ghost use Rattle.ulfm_record.specs.Kept.{held_of};
 
-use crate::record::HeldComm;
+use crate::held::HeldComm;
 use std::alloc::Allocator;
 use ulfm_model::call::{Call, Request};
 
 /// The request that a call starts on a communicator.
 pub(crate) fn started<P: Copy, A: Allocator>(x: &HeldComm<A>, asked: &Call<P>) -> Option<Request>
-    ensures { result ≡ (traits_of asked.now).starts (held_of x.now) }
+    ensures { result ≡ (traits_of asked.now).starts x.now }
 {
     match *asked {
         Call::Agree { .. } => Some(Request::Agree {

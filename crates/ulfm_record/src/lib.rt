@@ -1,9 +1,13 @@
-//! What one rank of the sequential agreement object holds, when that refuses a call, and what a reply leaves of it.
+//! What one rank holds, when that refuses a call, and what a reply leaves of it. The sequential object and the ranks over
+//! words stand on it.
 #![tactic(auto)]
 
 mod calls;
+pub mod held;
+pub mod ids;
 pub mod leaves;
 pub mod record;
 pub mod refuse;
 
-pub use record::{HeldComm, RankRecord};
+pub use held::HeldComm;
+pub use record::RankRecord;

@@ -6,7 +6,7 @@ use Rattle.ulfm_laws.specs.declared.flag_and.FlagAnd.{FlagAnd}
 use Rattle.ulfm_model.specs.declared.call.Call.TheVariants.{Fail, GetFailed, Ack, Agree, Shrink, Barrier, Poll, Revoke, IsRevoked, Free}
 use Rattle.ulfm_script.specs.declared.line_kind.LineKind.{LineKind}
 use Rattle.ulfm_script.specs.declared.line_kind.LineKind.TheVariants.{Verb}
-use Rattle.ulfm_script.specs.{Calls.{ScriptCall, place_of, fail_of, get_of, ack_of, agree_of, shrink_of, barrier_of, poll_of, revoke_of, is_revoked_of, free_of, call_from, call_of}, Digits.{rank_of, comm_of, number_of, flag_of, flag_text}, Spelling.{IsOnComm, Spells}, Steps.{◌>>=◌}, Words.{word_of, one_of, two_of, three_of}}
+use Rattle.ulfm_script.specs.{Calls.{ScriptCall, place_of, fail_of, ack_of, agree_of, plain_of, call_from, call_of}, Digits.{rank_of, comm_of, number_of, flag_of, flag_text}, Spelling.{IsOnComm, Spells}, Steps.{◌>>=◌}, Words.{word_of, one_of, two_of, three_of}}
 use Rattle.ulfm_script.proofs.{Hexadecimal.{flag_again, flag_found}, Numerals.{number_again, number_found, number_to_again, number_to_found}, WordLemmas.{IsWord, decimal_is_word, flag_is_word, joined, joined_word, one_again, one_found, same_done, step_found, three_again, three_found, two_again, two_found}}
 
 rank_again : (rank : ℕ) → rank < 1024 → rank_of (decimal rank) ≡ Ok rank
@@ -31,33 +31,8 @@ unfolding place_of
 place_again rank comm h k =
     rw (two_again (decimal rank) (decimal comm) (number_is_word rank (omega (arith, h))) (number_is_word comm (omega (arith, k))), rank_again rank h, comm_again comm k) refl
 
-get_again : (rank comm : ℕ) → rank < 1024 → comm < 256 → call_of (codes "get " ++ place_text rank comm) ≡ Ok (GetFailed rank comm)
-unfolding call_of get_of
-get_again rank comm h k = rw (place_again rank comm h k) refl
-
-shrink_again : (rank comm : ℕ) → rank < 1024 → comm < 256 → call_of (codes "shrink " ++ place_text rank comm) ≡ Ok (Shrink rank comm)
-unfolding call_of shrink_of
-shrink_again rank comm h k = rw (place_again rank comm h k) refl
-
-barrier_again : (rank comm : ℕ) → rank < 1024 → comm < 256 → call_of (codes "barrier " ++ place_text rank comm) ≡ Ok (Barrier rank comm)
-unfolding call_of barrier_of
-barrier_again rank comm h k = rw (place_again rank comm h k) refl
-
-poll_again : (rank comm : ℕ) → rank < 1024 → comm < 256 → call_of (codes "poll " ++ place_text rank comm) ≡ Ok (Poll rank comm)
-unfolding call_of poll_of
-poll_again rank comm h k = rw (place_again rank comm h k) refl
-
-revoke_again : (rank comm : ℕ) → rank < 1024 → comm < 256 → call_of (codes "revoke " ++ place_text rank comm) ≡ Ok (Revoke rank comm)
-unfolding call_of revoke_of
-revoke_again rank comm h k = rw (place_again rank comm h k) refl
-
-is_revoked_again : (rank comm : ℕ) → rank < 1024 → comm < 256 → call_of (codes "isrevoked " ++ place_text rank comm) ≡ Ok (IsRevoked rank comm)
-unfolding call_of is_revoked_of
-is_revoked_again rank comm h k = rw (place_again rank comm h k) refl
-
-free_again : (rank comm : ℕ) → rank < 1024 → comm < 256 → call_of (codes "free " ++ place_text rank comm) ≡ Ok (Free rank comm)
-unfolding call_of free_of
-free_again rank comm h k = rw (place_again rank comm h k) refl
+plain_again : (call_at : ℕ → ℕ → ScriptCall) (rank comm : ℕ) → rank < 1024 → comm < 256 → plain_of call_at (Some (place_text rank comm)) ≡ Ok (call_at rank comm)
+plain_again call_at rank comm h k = rw (place_again rank comm h k) refl
 
 ack_again : (rank comm count : ℕ) → rank < 1024 → comm < 256 → count < 10000 → call_of (codes "ack " ++ (decimal rank ++ 32 ∷ (decimal comm ++ 32 ∷ decimal count))) ≡ Ok (Ack rank comm count)
 unfolding call_of ack_of
@@ -74,16 +49,17 @@ plain_line verb rank comm = ap (λ (t : List ℕ). verb ++ (decimal rank ++ 32 �
 
 -- what is spelled so is read
 pub spelled_again : (line : List ℕ) (call : ScriptCall) → Spells line call → call_of line ≡ Ok call
+unfolding call_of
 spelled_again line (Fail rank) h = ap call_of h.1 ∙ fail_again rank h.0
-spelled_again line (GetFailed rank comm) h = ap call_of (h.line_is ∙ plain_line (codes "get ") rank comm) ∙ get_again rank comm h.rank_fits h.comm_fits
+spelled_again line (GetFailed rank comm) h = ap call_of (h.line_is ∙ plain_line (codes "get ") rank comm) ∙ plain_again GetFailed rank comm h.rank_fits h.comm_fits
 spelled_again line (Ack rank comm count) h = ap call_of h.1.line_is ∙ ack_again rank comm count h.1.rank_fits h.1.comm_fits h.0
 spelled_again line (Agree rank comm flag) h = ap call_of h.line_is ∙ agree_again rank comm flag h.rank_fits h.comm_fits
-spelled_again line (Shrink rank comm) h = ap call_of (h.line_is ∙ plain_line (codes "shrink ") rank comm) ∙ shrink_again rank comm h.rank_fits h.comm_fits
-spelled_again line (Barrier rank comm) h = ap call_of (h.line_is ∙ plain_line (codes "barrier ") rank comm) ∙ barrier_again rank comm h.rank_fits h.comm_fits
-spelled_again line (Poll rank comm) h = ap call_of (h.line_is ∙ plain_line (codes "poll ") rank comm) ∙ poll_again rank comm h.rank_fits h.comm_fits
-spelled_again line (Revoke rank comm) h = ap call_of (h.line_is ∙ plain_line (codes "revoke ") rank comm) ∙ revoke_again rank comm h.rank_fits h.comm_fits
-spelled_again line (IsRevoked rank comm) h = ap call_of (h.line_is ∙ plain_line (codes "isrevoked ") rank comm) ∙ is_revoked_again rank comm h.rank_fits h.comm_fits
-spelled_again line (Free rank comm) h = ap call_of (h.line_is ∙ plain_line (codes "free ") rank comm) ∙ free_again rank comm h.rank_fits h.comm_fits
+spelled_again line (Shrink rank comm) h = ap call_of (h.line_is ∙ plain_line (codes "shrink ") rank comm) ∙ plain_again Shrink rank comm h.rank_fits h.comm_fits
+spelled_again line (Barrier rank comm) h = ap call_of (h.line_is ∙ plain_line (codes "barrier ") rank comm) ∙ plain_again Barrier rank comm h.rank_fits h.comm_fits
+spelled_again line (Poll rank comm) h = ap call_of (h.line_is ∙ plain_line (codes "poll ") rank comm) ∙ plain_again Poll rank comm h.rank_fits h.comm_fits
+spelled_again line (Revoke rank comm) h = ap call_of (h.line_is ∙ plain_line (codes "revoke ") rank comm) ∙ plain_again Revoke rank comm h.rank_fits h.comm_fits
+spelled_again line (IsRevoked rank comm) h = ap call_of (h.line_is ∙ plain_line (codes "isrevoked ") rank comm) ∙ plain_again IsRevoked rank comm h.rank_fits h.comm_fits
+spelled_again line (Free rank comm) h = ap call_of (h.line_is ∙ plain_line (codes "free ") rank comm) ∙ plain_again Free rank comm h.rank_fits h.comm_fits
 
 -- a verb whose fields were read stands at the line's beginning
 abbrev Reads : (verb : List ℕ) → (Option (List ℕ) → Result ScriptCall LineKind) → Type 0
@@ -139,10 +115,6 @@ three_line verb fields a b last text rank comm e h k i j l = record {
   line_is = ap (joined verb) e ∙ ap (λ (t : List ℕ). verb ++ 32 ∷ (t ++ 32 ∷ (b ++ 32 ∷ last))) i ∙ ap (λ (t : List ℕ). verb ++ 32 ∷ (decimal rank ++ 32 ∷ (t ++ 32 ∷ last))) j ∙ ap (λ (t : List ℕ). verb ++ 32 ∷ (decimal rank ++ 32 ∷ (decimal comm ++ 32 ∷ t))) l ∙ sym (append_assoc verb (32 ∷ []) (decimal rank ++ 32 ∷ (decimal comm ++ 32 ∷ text)));
 }
 
--- a call of a rank and a communicator, and nothing behind them
-abbrev plain_of : (ℕ → ℕ → ScriptCall) → Option (List ℕ) → Result ScriptCall LineKind
-plain_of call_at fields = place_of fields >>= λ place. Ok (call_at place.0 place.1)
-
 -- its verb is spelled with those alone
 abbrev IsPlain : (verb : List ℕ) → (ℕ → ℕ → ScriptCall) → Type 0
 IsPlain verb call_at = (line : List ℕ) (rank comm : ℕ) → IsOnComm line (verb ++ 32 ∷ []) rank comm [] → Spells line (call_at rank comm)
@@ -158,34 +130,6 @@ plain_found verb call_at spells fields call e =
     let p = place_found pair w.0.0 w.0.1 x.0 w.2 in
     let is : call_at p.rank p.comm ≡ call = ap (λ (at : ℕ × ℕ). call_at at.0 at.1) (same_done (p.rank, p.comm) x.0 p.rest) ∙ same_done (call_at x.0.0 x.0.1) call x.2 in
     subst (Spells (joined verb fields)) is (spells (joined verb fields) p.rank p.comm (two_line verb fields w.0.0 w.0.1 p.rank p.comm (two_found fields w.0 w.1) p.rank_fits p.comm_fits p.a_is p.b_is))
-
-get_found : Reads (codes "get") get_of
-unfolding get_of
-get_found = plain_found (codes "get") GetFailed (λ line rank comm h. h)
-
-shrink_found : Reads (codes "shrink") shrink_of
-unfolding shrink_of
-shrink_found = plain_found (codes "shrink") Shrink (λ line rank comm h. h)
-
-barrier_found : Reads (codes "barrier") barrier_of
-unfolding barrier_of
-barrier_found = plain_found (codes "barrier") Barrier (λ line rank comm h. h)
-
-poll_found : Reads (codes "poll") poll_of
-unfolding poll_of
-poll_found = plain_found (codes "poll") Poll (λ line rank comm h. h)
-
-revoke_found : Reads (codes "revoke") revoke_of
-unfolding revoke_of
-revoke_found = plain_found (codes "revoke") Revoke (λ line rank comm h. h)
-
-is_revoked_found : Reads (codes "isrevoked") is_revoked_of
-unfolding is_revoked_of
-is_revoked_found = plain_found (codes "isrevoked") IsRevoked (λ line rank comm h. h)
-
-free_found : Reads (codes "free") free_of
-unfolding free_of
-free_found = plain_found (codes "free") Free (λ line rank comm h. h)
 
 abbrev ack_rest : List ℕ → ℕ → ℕ → Result ScriptCall LineKind
 ack_rest word rank comm = number_of word >>= λ count. Ok (Ack rank comm count)
@@ -230,15 +174,15 @@ no_verb line call e = absurd cc
 
 read_from : (word : List ℕ) (fields : Option (List ℕ)) (call : ScriptCall) → call_from (word, fields) ≡ Ok call → Spells (joined word fields) call
 read_from word fields call e = verb_found word (codes "fail") fields fail_of _ call fail_found
-    (verb_found word (codes "get") fields get_of _ call get_found
+    (verb_found word (codes "get") fields (plain_of GetFailed) _ call (plain_found (codes "get") GetFailed (λ line rank comm h. h))
     (verb_found word (codes "ack") fields ack_of _ call ack_found
     (verb_found word (codes "agree") fields agree_of _ call agree_found
-    (verb_found word (codes "shrink") fields shrink_of _ call shrink_found
-    (verb_found word (codes "barrier") fields barrier_of _ call barrier_found
-    (verb_found word (codes "poll") fields poll_of _ call poll_found
-    (verb_found word (codes "revoke") fields revoke_of _ call revoke_found
-    (verb_found word (codes "isrevoked") fields is_revoked_of _ call is_revoked_found
-    (verb_found word (codes "free") fields free_of _ call free_found (no_verb (joined word fields) call)))))))))) e
+    (verb_found word (codes "shrink") fields (plain_of Shrink) _ call (plain_found (codes "shrink") Shrink (λ line rank comm h. h))
+    (verb_found word (codes "barrier") fields (plain_of Barrier) _ call (plain_found (codes "barrier") Barrier (λ line rank comm h. h))
+    (verb_found word (codes "poll") fields (plain_of Poll) _ call (plain_found (codes "poll") Poll (λ line rank comm h. h))
+    (verb_found word (codes "revoke") fields (plain_of Revoke) _ call (plain_found (codes "revoke") Revoke (λ line rank comm h. h))
+    (verb_found word (codes "isrevoked") fields (plain_of IsRevoked) _ call (plain_found (codes "isrevoked") IsRevoked (λ line rank comm h. h))
+    (verb_found word (codes "free") fields (plain_of Free) _ call (plain_found (codes "free") Free (λ line rank comm h. h)) (no_verb (joined word fields) call)))))))))) e
 
 -- what is read is spelled so
 pub read_is_spelled : (line : List ℕ) (call : ScriptCall) → call_of line ≡ Ok call → Spells line call

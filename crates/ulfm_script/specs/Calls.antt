@@ -29,11 +29,6 @@ fail_of fields = do
   rank ← rank_of word
   Ok (Fail rank)
 
-unfoldable pub get_of : Option (List ℕ) → Result ScriptCall LineKind
-get_of fields = do
-  place ← place_of fields
-  Ok (GetFailed place.0 place.1)
-
 unfoldable pub ack_of : Option (List ℕ) → Result ScriptCall LineKind
 ack_of fields = do
   words ← three_of fields
@@ -50,49 +45,25 @@ agree_of fields = do
   flag ← flag_of words.2
   Ok (Agree rank comm flag)
 
-unfoldable pub shrink_of : Option (List ℕ) → Result ScriptCall LineKind
-shrink_of fields = do
+-- a call of a rank and a communicator, and nothing behind them
+abbrev pub plain_of : (ℕ → ℕ → ScriptCall) → Option (List ℕ) → Result ScriptCall LineKind
+plain_of call_at fields = do
   place ← place_of fields
-  Ok (Shrink place.0 place.1)
-
-unfoldable pub barrier_of : Option (List ℕ) → Result ScriptCall LineKind
-barrier_of fields = do
-  place ← place_of fields
-  Ok (Barrier place.0 place.1)
-
-unfoldable pub poll_of : Option (List ℕ) → Result ScriptCall LineKind
-poll_of fields = do
-  place ← place_of fields
-  Ok (Poll place.0 place.1)
-
-unfoldable pub revoke_of : Option (List ℕ) → Result ScriptCall LineKind
-revoke_of fields = do
-  place ← place_of fields
-  Ok (Revoke place.0 place.1)
-
-unfoldable pub is_revoked_of : Option (List ℕ) → Result ScriptCall LineKind
-is_revoked_of fields = do
-  place ← place_of fields
-  Ok (IsRevoked place.0 place.1)
-
-unfoldable pub free_of : Option (List ℕ) → Result ScriptCall LineKind
-free_of fields = do
-  place ← place_of fields
-  Ok (Free place.0 place.1)
+  Ok (call_at place.0 place.1)
 
 -- a verb, and the text behind it
 abbrev pub call_from : List ℕ × Option (List ℕ) → Result ScriptCall LineKind
 call_from first =
     if bytes_eq first.0 (codes "fail") then fail_of first.1
-    else (if bytes_eq first.0 (codes "get") then get_of first.1
+    else (if bytes_eq first.0 (codes "get") then plain_of GetFailed first.1
     else (if bytes_eq first.0 (codes "ack") then ack_of first.1
     else (if bytes_eq first.0 (codes "agree") then agree_of first.1
-    else (if bytes_eq first.0 (codes "shrink") then shrink_of first.1
-    else (if bytes_eq first.0 (codes "barrier") then barrier_of first.1
-    else (if bytes_eq first.0 (codes "poll") then poll_of first.1
-    else (if bytes_eq first.0 (codes "revoke") then revoke_of first.1
-    else (if bytes_eq first.0 (codes "isrevoked") then is_revoked_of first.1
-    else (if bytes_eq first.0 (codes "free") then free_of first.1
+    else (if bytes_eq first.0 (codes "shrink") then plain_of Shrink first.1
+    else (if bytes_eq first.0 (codes "barrier") then plain_of Barrier first.1
+    else (if bytes_eq first.0 (codes "poll") then plain_of Poll first.1
+    else (if bytes_eq first.0 (codes "revoke") then plain_of Revoke first.1
+    else (if bytes_eq first.0 (codes "isrevoked") then plain_of IsRevoked first.1
+    else (if bytes_eq first.0 (codes "free") then plain_of Free first.1
     else Err Verb)))))))))
 
 -- the call of a line

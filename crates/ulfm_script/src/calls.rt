@@ -1,13 +1,14 @@
 //! The calls of a script, line by line.
 ghost use Rattle.std.specs.Prelude.{◌≡◌, Ok, IfOk};
-ghost use Rattle.ulfm_script.specs.Calls.{ScriptCall, call_of, place_of, fail_of, get_of, ack_of, agree_of, shrink_of};
-ghost use Rattle.ulfm_script.specs.Calls.{barrier_of, poll_of, revoke_of, is_revoked_of, free_of};
+ghost use Rattle.ulfm_script.specs.Calls.{ScriptCall, call_of, place_of, fail_of, ack_of, agree_of};
 ghost use Rattle.ulfm_script.specs.Spelling.{Spells};
 ghost use Rattle.ulfm_script.specs.Words.{rest_at};
 
-use crate::digits::{LAST_COMM, LAST_RANK, read_flag, read_number, read_number_to};
 use crate::line_kind::LineKind;
-use crate::words::{one_word, split_word, three_words, two_words};
+use crate::words::{
+    LAST_COMM, LAST_RANK, one_word, read_flag, read_number, read_number_to, split_word,
+    three_words, two_words,
+};
 use ulfm_laws::FlagAnd;
 use ulfm_model::Call;
 
@@ -33,23 +34,30 @@ fn parse_call(line: &[u8]) -> Result<Call<FlagAnd>, LineKind>
     if verb == b"fail".as_slice() {
         read_fail(fields)
     } else if verb == b"get".as_slice() {
-        read_get(fields)
+        let (rank, comm) = read_place(fields)?;
+        Ok(Call::GetFailed { rank, comm })
     } else if verb == b"ack".as_slice() {
         read_ack(fields)
     } else if verb == b"agree".as_slice() {
         read_agree(fields)
     } else if verb == b"shrink".as_slice() {
-        read_shrink(fields)
+        let (rank, comm) = read_place(fields)?;
+        Ok(Call::Shrink { rank, comm })
     } else if verb == b"barrier".as_slice() {
-        read_barrier(fields)
+        let (rank, comm) = read_place(fields)?;
+        Ok(Call::Barrier { rank, comm })
     } else if verb == b"poll".as_slice() {
-        read_poll(fields)
+        let (rank, comm) = read_place(fields)?;
+        Ok(Call::Poll { rank, comm })
     } else if verb == b"revoke".as_slice() {
-        read_revoke(fields)
+        let (rank, comm) = read_place(fields)?;
+        Ok(Call::Revoke { rank, comm })
     } else if verb == b"isrevoked".as_slice() {
-        read_is_revoked(fields)
+        let (rank, comm) = read_place(fields)?;
+        Ok(Call::IsRevoked { rank, comm })
     } else if verb == b"free".as_slice() {
-        read_free(fields)
+        let (rank, comm) = read_place(fields)?;
+        Ok(Call::Free { rank, comm })
     } else {
         Err(LineKind::Verb)
     }
@@ -75,14 +83,6 @@ fn read_place(fields: Option<&[u8]>) -> Result<(u16, u16), LineKind>
     Ok((rank, comm))
 }
 
-#[tactic(auto, unfolding(crate::specs::Calls::get_of))]
-fn read_get(fields: Option<&[u8]>) -> Result<Call<FlagAnd>, LineKind>
-    ensures { result ≡ get_of (rest_at fields.entry) }
-{
-    let (rank, comm) = read_place(fields)?;
-    Ok(Call::GetFailed { rank, comm })
-}
-
 #[tactic(auto, unfolding(crate::specs::Calls::ack_of))]
 fn read_ack(fields: Option<&[u8]>) -> Result<Call<FlagAnd>, LineKind>
     ensures { result ≡ ack_of (rest_at fields.entry) }
@@ -103,52 +103,4 @@ fn read_agree(fields: Option<&[u8]>) -> Result<Call<FlagAnd>, LineKind>
     let comm = read_number_to(LAST_COMM, comm)?;
     let value = read_flag(value)?;
     Ok(Call::Agree { rank, comm, value })
-}
-
-#[tactic(auto, unfolding(crate::specs::Calls::shrink_of))]
-fn read_shrink(fields: Option<&[u8]>) -> Result<Call<FlagAnd>, LineKind>
-    ensures { result ≡ shrink_of (rest_at fields.entry) }
-{
-    let (rank, comm) = read_place(fields)?;
-    Ok(Call::Shrink { rank, comm })
-}
-
-#[tactic(auto, unfolding(crate::specs::Calls::barrier_of))]
-fn read_barrier(fields: Option<&[u8]>) -> Result<Call<FlagAnd>, LineKind>
-    ensures { result ≡ barrier_of (rest_at fields.entry) }
-{
-    let (rank, comm) = read_place(fields)?;
-    Ok(Call::Barrier { rank, comm })
-}
-
-#[tactic(auto, unfolding(crate::specs::Calls::poll_of))]
-fn read_poll(fields: Option<&[u8]>) -> Result<Call<FlagAnd>, LineKind>
-    ensures { result ≡ poll_of (rest_at fields.entry) }
-{
-    let (rank, comm) = read_place(fields)?;
-    Ok(Call::Poll { rank, comm })
-}
-
-#[tactic(auto, unfolding(crate::specs::Calls::revoke_of))]
-fn read_revoke(fields: Option<&[u8]>) -> Result<Call<FlagAnd>, LineKind>
-    ensures { result ≡ revoke_of (rest_at fields.entry) }
-{
-    let (rank, comm) = read_place(fields)?;
-    Ok(Call::Revoke { rank, comm })
-}
-
-#[tactic(auto, unfolding(crate::specs::Calls::is_revoked_of))]
-fn read_is_revoked(fields: Option<&[u8]>) -> Result<Call<FlagAnd>, LineKind>
-    ensures { result ≡ is_revoked_of (rest_at fields.entry) }
-{
-    let (rank, comm) = read_place(fields)?;
-    Ok(Call::IsRevoked { rank, comm })
-}
-
-#[tactic(auto, unfolding(crate::specs::Calls::free_of))]
-fn read_free(fields: Option<&[u8]>) -> Result<Call<FlagAnd>, LineKind>
-    ensures { result ≡ free_of (rest_at fields.entry) }
-{
-    let (rank, comm) = read_place(fields)?;
-    Ok(Call::Free { rank, comm })
 }

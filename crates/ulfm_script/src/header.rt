@@ -4,9 +4,8 @@ ghost use Rattle.ulfm_model.specs.Words.{MayOpen};
 ghost use Rattle.ulfm_script.specs.Headers.{header_of, limits_of};
 ghost use Rattle.ulfm_script.specs.Words.{rest_at};
 
-use crate::digits::read_number;
 use crate::line_kind::LineKind;
-use crate::words::{four_words, split_word};
+use crate::words::{four_words, read_number, split_word};
 use ulfm_model::Limits;
 
 /// The limits that a header gives: the line `ulfm 1 RANKS COMMS ROUNDS`, without its newline. The fault is `Header` where

@@ -2,7 +2,6 @@
 #![tactic(auto)]
 
 pub mod calls;
-mod digits;
 pub mod engine;
 pub mod fault;
 pub mod header;

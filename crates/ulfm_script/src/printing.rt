@@ -3,8 +3,8 @@ ghost use Rattle.std.specs.Prelude.{◌≡◌, ◌++◌, OnOk};
 ghost use Rattle.std.specs.Fmt.{decimal};
 ghost use Rattle.ulfm_script.specs.Printed.{acked_text, agreed_text, failed_text, ranks_text, refused_text, reply_text, shrunk_text, standing_text};
 
-use crate::digits::flag_digits;
 use crate::last_group::LastGroup;
+use crate::words::flag_digits;
 use itoa::Buffer;
 use std::alloc::{AllocError, Allocator};
 use ulfm_laws::FlagAnd;

@@ -1,8 +1,16 @@
-//! The words of a line.
-ghost use Rattle.std.specs.Prelude.{◌≡◌};
+//! The words of a line, and the numbers and flags that they are.
+ghost use Rattle.std.specs.Prelude.{◌≡◌, ◌<◌, ◌≤◌};
+ghost use Rattle.ulfm_script.specs.Digits.{digit_of, hex_of, number_of, number_to, flag_of, hex_digit, flag_text};
 ghost use Rattle.ulfm_script.specs.Words.{word_of, next_word, one_of, two_of, three_of, four_of, rest_at, word_at, two_at, three_at, four_at, Gives};
 
 use crate::line_kind::LineKind;
+use ulfm_laws::FlagAnd;
+
+/// The greatest rank that a script may name.
+pub(crate) const LAST_RANK: u16 = 1023;
+
+/// The greatest communicator that a script may name.
+pub(crate) const LAST_COMM: u16 = 255;
 
 /// The first word, and the text behind the space after it.
 pub(crate) fn split_word(text: &[u8]) -> (&[u8], Option<&[u8]>)
@@ -71,4 +79,101 @@ pub(crate) fn four_words(text: Option<&[u8]>) -> Result<(&[u8], &[u8], &[u8], &[
     let (a, rest) = next_word(text)?;
     let (b, c, d) = three_words(rest)?;
     Ok((a, b, c, d))
+}
+
+/// A decimal number of at most four digits, without leading zeros.
+#[tactic(auto, unfolding(crate::specs::Digits::number_of))]
+pub(crate) fn read_number(word: &[u8]) -> Result<u16, LineKind>
+    ensures { result ≡ number_of word.now }
+{
+    if word.is_empty() || word.len() > 4 || (word.len() > 1 && word[0] == b'0') {
+        return Err(LineKind::Number);
+    }
+    let mut value = 0;
+    for byte in word {
+        let Some(digit) = digit_value(*byte) else {
+            return Err(LineKind::Number);
+        };
+        value = value * 10 + digit;
+    }
+    Ok(value)
+}
+
+/// A number that is at most `most`.
+#[tactic(auto, unfolding(crate::specs::Digits::number_to))]
+pub(crate) fn read_number_to(most: u16, word: &[u8]) -> Result<u16, LineKind>
+    ensures { result ≡ number_to most word.now }
+{
+    let value = read_number(word)?;
+    if value > most {
+        return Err(LineKind::Number);
+    }
+    Ok(value)
+}
+
+fn digit_value(byte: u8) -> Option<u16>
+    ensures { result ≡ digit_of byte }
+{
+    if byte >= b'0' && byte <= b'9' {
+        Some(u16::from(byte - b'0'))
+    } else {
+        None
+    }
+}
+
+/// Eight lower case hexadecimal digits.
+#[tactic(auto, unfolding(crate::specs::Digits::flag_of))]
+pub(crate) fn read_flag(word: &[u8]) -> Result<FlagAnd, LineKind>
+    ensures { result ≡ flag_of word.now }
+{
+    if word.len() != 8 {
+        return Err(LineKind::Flag);
+    }
+    let mut bits = 0;
+    for byte in word {
+        let Some(digit) = hex_value(*byte) else {
+            return Err(LineKind::Flag);
+        };
+        bits = bits * 16 + digit;
+    }
+    Ok(FlagAnd { bits })
+}
+
+fn hex_value(byte: u8) -> Option<u32>
+    ensures { result ≡ hex_of byte }
+{
+    if byte >= b'0' && byte <= b'9' {
+        Some(u32::from(byte - b'0'))
+    } else if byte >= b'a' && byte <= b'f' {
+        Some(u32::from(byte - b'a') + 10)
+    } else {
+        None
+    }
+}
+
+/// A flag as eight lower case hexadecimal digits.
+#[tactic(auto, unfolding(crate::specs::Digits::flag_text))]
+pub(crate) fn flag_digits(flag: FlagAnd) -> [u8; 8]
+    ensures { result ≡ flag_text flag }
+{
+    let mut digits = [b'0'; 8];
+    let mut rest = flag.bits;
+    let mut place = 8;
+    'places: while place > 0 {
+        place -= 1;
+        digits[place] = hex_glyph((rest % 16) as u8);
+        rest /= 16;
+    }
+    digits
+}
+
+fn hex_glyph(value: u8) -> u8
+    requires { value < 16 }
+    ensures { result ≡ hex_digit value }
+{
+    if value < 10 {
+        b'0' + value
+    } else {
+        b'a' - 10 + value
+    }
 }

@@ -3,7 +3,7 @@ pub mod SummaryWords
 pub mod Keys
 pub mod Trails
 pub mod Growing
-pub mod Paging
+pub mod Lines
 pub mod Tied
 pub mod Telling
 pub mod Ranks

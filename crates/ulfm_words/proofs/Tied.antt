@@ -1,19 +1,17 @@
 -- What setting a word does to a journal's history.
 use Rattle.std.proofs.Common.{◌≡◌, ◌≢◌, ◌⊎◌, inl, inr, ℕ, zero, suc, ◌+◌, ◌≤◌, ◌<◌, ◌==◌, cond, Option, Some, List, [], ◌∷◌, ◌++◌, length, get_or, refl, sym, ◌∙◌, ap, ap₂, arith, get_or-set_other, get_or-set_same, length-append}
-use Rattle.std.specs.Prelude.{slice_index, slice_set, count_by, replicate}
+use Rattle.std.specs.Prelude.{slice_index, slice_set, count_by}
 use Rattle.std.specs.List.{slice_get, cons_option, AllByRecursion}
 use Rattle.std.proofs.Math.ListN.{length-set}
 use Rattle.std.proofs.lemmas.Grind.{common_steps}
-use Rattle.std.proofs.lemmas.List.{length-replicate}
-use Rattle.std.proofs.lemmas.List.Folds.{sum_by-replicate}
 use Rattle.std.proofs.lemmas.List.Sums.{sum_by-set}
 use Rattle.std.proofs.lemmas.Option.{slice_get_read}
 use Rattle.ulfm_model.specs.declared.{event.Entry.{Entry}, limits.Limits.{Limits}, place.Place.{Place}, place.Place.TheVariants.{List as ListAt, Comm as CommAt, Revoked as RevokedAt, Slot as SlotAt, Arrival as ArrivalAt}}
-use Rattle.ulfm_model.specs.{History.{History, MayFollow}, Words.{MayOpen, place_of, size_of, word_at, word_of}}
+use Rattle.ulfm_model.specs.{History.{History, MayFollow}, Words.{place_of, word_at, word_of}}
 use Rattle.ulfm_model.proofs.{Histories.{legal_push}, WordRules.{word_set, word_kept, word_some}}
 use Rattle.ulfm_words.specs.declared.{pass.Setting.{Setting}, step.Step.{Step}}
 use Rattle.ulfm_words.specs.{Entries.{entry_of}, Pass.{entry_at, entries, IsMade, is_zero, IsTied}, Places.{IsWithin, key_in}}
-use Rattle.ulfm_words.proofs.{Keys.{key_lt, one_key}, Paging.{zeros}}
+use Rattle.ulfm_words.proofs.Keys.{key_lt, one_key}
 
 -- where nothing has happened each word is 0
 pub zero_at : {P : Type 0} (pack : P → ℕ) (p : Place) → word_at pack [] p ≡ 0
@@ -115,15 +113,3 @@ module _ {P : Type 0} (meld : P → P → P) (pack : P → ℕ) (unpack : ℕ �
         legal = rw history (legal_push meld limits (entries unpack limits ws ms) e tied.legal may);
         room = omega (arith, fewer, length-append ms (m ∷ []), tied.room, more);
       })
-
-  -- words that are all 0, and a journal of nothing
-  pub tied_new : (n room : ℕ) → MayOpen limits → size_of limits ≤ n → n ≤ room → IsTied meld pack unpack limits (replicate n 0) [] room
-  tied_new n room may fits enough =
-      record {
-        may_open = may;
-        size = omega (arith, fits, length-replicate {A = ℕ} n 0);
-        made = tt;
-        same = λ p within. zeros n (key_in limits p) ∙ sym (zero_at pack p);
-        legal = tt;
-        room = omega (arith, enough, sum_by-replicate (λ x. cond (is_zero x) 1 0) n 0);
-      }

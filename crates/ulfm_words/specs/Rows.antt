@@ -14,39 +14,39 @@ heads_of limits = limits.ranks + 2 * limits.comms
 abbrev pub lines_of : Limits → ℕ
 lines_of limits = limits.comms * (2 * limits.rounds)
 
--- the word of a cell, counted through all lines: where the page of its line begins is looked up
+-- the word of a cell, counted through all lines: where its line begins is looked up
 abbrev pub word_in : ℕ → List ℕ → List ℕ → ℕ → ℕ
-word_in ranks pages words cell = slice_index words (slice_index pages (cell / ranks) + cell % ranks)
+word_in ranks starts words cell = slice_index words (slice_index starts (cell / ranks) + cell % ranks)
 
 -- the words of all lines, in order
 abbrev pub cells_of : ℕ → List ℕ → List ℕ → List ℕ
-cells_of ranks pages words = map (word_in ranks pages words) (range_with_len 0 (length pages * ranks))
+cells_of ranks starts words = map (word_in ranks starts words) (range_with_len 0 (length starts * ranks))
 
 -- the words of a row, in the order of their keys
 abbrev pub row_of : ℕ → List ℕ → List ℕ → List ℕ → List ℕ
-row_of ranks heads pages words = heads ++ cells_of ranks pages words
+row_of ranks heads starts words = heads ++ cells_of ranks starts words
 
--- a page was made
+-- a line was made, by where it begins
 abbrev pub is_made : ℕ → Bool
-is_made page = not (page == 0)
+is_made start = not (start == 0)
 
--- The words of the first page are never set: it stands for each page that wasn't made. Each other was made for a line of its own.
+-- The words that stand first are never set: they stand for each line that wasn't made. Each line that was has words of its own.
 -- There is room for all, and their places are small.
-pub record ArePages (ranks : ℕ) (pages words : List ℕ) (capacity : ℕ) : Type 0 where
+pub record AreLines (ranks : ℕ) (starts words : List ℕ) (capacity : ℕ) : Type 0 where
   pub some : 0 < ranks
   pub zeros : (i : ℕ) → i < ranks → slice_index words i ≡ 0
-  pub made : length words ≡ (count_by is_made pages + 1) * ranks
-  pub below : (i : ℕ) → slice_index pages i + ranks ≤ length words
-  pub own : (i j r s : ℕ) → r < ranks → s < ranks → slice_index pages i + r ≡ slice_index pages j + s → slice_index pages i ≢ 0 → i ≡ j
-  pub past : (i : ℕ) → slice_index pages i ≢ 0 → ranks ≤ slice_index pages i
-  pub room : (length pages + 1) * ranks ≤ capacity
-  pub few : (length pages + 1) * ranks < 4294967296
+  pub made : length words ≡ (count_by is_made starts + 1) * ranks
+  pub below : (i : ℕ) → slice_index starts i + ranks ≤ length words
+  pub own : (i j r s : ℕ) → r < ranks → s < ranks → slice_index starts i + r ≡ slice_index starts j + s → slice_index starts i ≢ 0 → i ≡ j
+  pub past : (i : ℕ) → slice_index starts i ≢ 0 → ranks ≤ slice_index starts i
+  pub room : (length starts + 1) * ranks ≤ capacity
+  pub few : (length starts + 1) * ranks < 4294967296
 
--- a row has all words that come first, and a page for each line, made or not
-pub record IsRow (limits : Limits) (heads pages words : List ℕ) (capacity : ℕ) : Type 0 where
+-- a row has all words that come first, and each line, made or not
+pub record IsRow (limits : Limits) (heads starts words : List ℕ) (capacity : ℕ) : Type 0 where
   pub first : length heads ≡ heads_of limits
-  pub lines : length pages ≡ lines_of limits
-  pub made : ArePages limits.ranks pages words capacity
+  pub lines : length starts ≡ lines_of limits
+  pub made : AreLines limits.ranks starts words capacity
 
 -- the seat of a place: among the words that come first by its key, or in a line by its rank
 abbrev pub HasSeat : Limits → Place → Seat → Type 0

@@ -1,7 +1,10 @@
 //! Laws of places and of the words of slots. Each function does nothing: what it ensures is a law.
+ghost use Rattle.std.specs.Prelude.{◌≡◌, Some};
+ghost use Rattle.ulfm_model.specs.Words.{slot_word};
+ghost use Rattle.ulfm_model.specs.declared.contribution.Slot.{Slot};
 ghost use Rattle.ulfm_model.specs.declared.limits.Limits.{Limits};
 ghost use Rattle.ulfm_words.specs.Places.{HaveWords};
-ghost use Rattle.ulfm_words.specs.Slots.{HaveOneWord};
+ghost use Rattle.ulfm_words.specs.Slots.{HaveOneWord, slot_in};
 
 use ulfm_laws::flag_and::FlagAnd;
 use ulfm_laws::meld::Packed;
@@ -15,4 +18,9 @@ pub fn places_have_words()
 /// and masks have one word whatever the flags are; `read_slot` says so.
 pub fn slots_have_one_word()
     ensures { HaveOneWord ⟦<FlagAnd as Packed>⟧.pack ⟦<FlagAnd as Packed>⟧.unpack }
+{}
+
+/// The word of a slot is read as that slot, whatever the flags are.
+pub fn slots_are_read<P: Packed>()
+    ensures { (s : Slot P) → slot_in P.unpack (slot_word P.pack s) ≡ Some s }
 {}

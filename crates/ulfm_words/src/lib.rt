@@ -4,7 +4,6 @@
 pub mod laws;
 pub mod loads;
 pub mod pass;
-pub mod places;
 pub mod plain;
 mod row;
 pub mod sets;
@@ -14,9 +13,8 @@ pub mod words;
 
 pub use loads::{load_arrival, load_comm, load_failure, load_revocation, load_summary};
 pub use pass::PlainPass;
-pub use places::key_of;
 pub use plain::{PlainTold, PlainWords};
 pub use sets::{put_slot, set_arrival, set_comm, set_failure, set_revocation, set_slot};
-pub use slots::{read_slot, read_written, slot_word};
+pub use slots::{read_slot, slot_word};
 pub use step::{Last, Step};
 pub use words::{OpenWords, Words};

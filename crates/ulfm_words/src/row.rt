@@ -2,7 +2,7 @@
 ghost use Rattle.std.specs.Prelude.{◌≡◌, ◌≢◌, ◌<◌, ◌≤◌, ◌*◌, IfOk, length, replicate, slice_index, slice_set, vec_capacity};
 ghost use Rattle.ulfm_model.specs.Words.{MayOpen, size_of};
 ghost use Rattle.ulfm_words.specs.Places.{IsWithin, key_in};
-ghost use Rattle.ulfm_words.specs.Rows.{ArePages, HasSeat, cells_of};
+ghost use Rattle.ulfm_words.specs.Rows.{AreLines, HasSeat, cells_of};
 
 use std::alloc::{AllocError, Allocator};
 use std::marker::Model;
@@ -46,68 +46,68 @@ pub(crate) fn seat_of(place: Place, limits: Limits) -> Seat
     }
 }
 
-// Makes the page of a line, of words that are 0. It takes no memory.
+// Makes a line, of words that are 0. It takes no memory.
 #[cold]
 #[inline(never)]
-fn make_page<A: Allocator>(
-    pages: &mut Vec<u32, A>,
+fn make_line<A: Allocator>(
+    starts: &mut Vec<u32, A>,
     words: &mut Vec<u64, A>,
     line: usize,
     ranks: usize,
 )
-    requires are { ArePages ranks pages.old.items words.old.items (vec_capacity words.old) }
-    requires line { line < length pages.old.items }
-    requires unmade { slice_index pages.old.items line ≡ 0 }
-    ensures are { ArePages ranks pages.new.items words.new.items (vec_capacity words.new) }
-    ensures cells { cells_of ranks pages.new.items words.new.items ≡ cells_of ranks pages.old.items words.old.items }
-    ensures made { slice_index pages.new.items line ≢ 0 }
-    ensures lines { length pages.new.items ≡ length pages.old.items }
+    requires are { AreLines ranks starts.old.items words.old.items (vec_capacity words.old) }
+    requires line { line < length starts.old.items }
+    requires unmade { slice_index starts.old.items line ≡ 0 }
+    ensures are { AreLines ranks starts.new.items words.new.items (vec_capacity words.new) }
+    ensures cells { cells_of ranks starts.new.items words.new.items ≡ cells_of ranks starts.old.items words.old.items }
+    ensures made { slice_index starts.new.items line ≢ 0 }
+    ensures lines { length starts.new.items ≡ length starts.old.items }
 {
-    pages[line] = words.len() as u32;
+    starts[line] = words.len() as u32;
     let _ = words.resize(words.len() + ranks, 0);
 }
 
-// Where the page of a line begins, which begins there so far, once it is made. It takes no memory.
+// Where the words of a line begin, which begin there so far, once it is made. It takes no memory.
 #[inline(always)]
 fn reach<A: Allocator>(
-    pages: &mut Vec<u32, A>,
+    starts: &mut Vec<u32, A>,
     words: &mut Vec<u64, A>,
     line: usize,
     ranks: usize,
     begin: u32,
 ) -> usize
-    requires are { ArePages ranks pages.old.items words.old.items (vec_capacity words.old) }
-    requires line { line < length pages.old.items }
-    requires begin { begin ≡ slice_index pages.old.items line }
-    ensures are { ArePages ranks pages.new.items words.new.items (vec_capacity words.new) }
-    ensures cells { cells_of ranks pages.new.items words.new.items ≡ cells_of ranks pages.old.items words.old.items }
-    ensures made { slice_index pages.new.items line ≢ 0 }
-    ensures lines { length pages.new.items ≡ length pages.old.items }
-    ensures begins { result ≡ slice_index pages.new.items line }
+    requires are { AreLines ranks starts.old.items words.old.items (vec_capacity words.old) }
+    requires line { line < length starts.old.items }
+    requires begin { begin ≡ slice_index starts.old.items line }
+    ensures are { AreLines ranks starts.new.items words.new.items (vec_capacity words.new) }
+    ensures cells { cells_of ranks starts.new.items words.new.items ≡ cells_of ranks starts.old.items words.old.items }
+    ensures made { slice_index starts.new.items line ≢ 0 }
+    ensures lines { length starts.new.items ≡ length starts.old.items }
+    ensures begins { result ≡ slice_index starts.new.items line }
 {
     if begin != 0 {
         return begin as usize;
     }
-    make_page(pages, words, line, ranks);
-    pages[line] as usize
+    make_line(starts, words, line, ranks);
+    starts[line] as usize
 }
 
-// Makes the pages of the first so many lines, as far as they aren't made. It takes no memory.
+// Makes the first so many lines, as far as they aren't made. It takes no memory.
 fn make_first<A: Allocator>(
-    pages: &mut Vec<u32, A>,
+    starts: &mut Vec<u32, A>,
     words: &mut Vec<u64, A>,
     count: usize,
     ranks: usize,
 )
-    requires are { ArePages ranks pages.old.items words.old.items (vec_capacity words.old) }
-    requires count { count ≤ length pages.old.items }
-    ensures are { ArePages ranks pages.new.items words.new.items (vec_capacity words.new) }
-    ensures cells { cells_of ranks pages.new.items words.new.items ≡ cells_of ranks pages.old.items words.old.items }
-    ensures lines { length pages.new.items ≡ length pages.old.items }
+    requires are { AreLines ranks starts.old.items words.old.items (vec_capacity words.old) }
+    requires count { count ≤ length starts.old.items }
+    ensures are { AreLines ranks starts.new.items words.new.items (vec_capacity words.new) }
+    ensures cells { cells_of ranks starts.new.items words.new.items ≡ cells_of ranks starts.old.items words.old.items }
+    ensures lines { length starts.new.items ≡ length starts.old.items }
 {
     for line in 0..count {
-        let begin = pages[line];
-        reach(pages, words, line, ranks, begin);
+        let begin = starts[line];
+        reach(starts, words, line, ranks, begin);
     }
 }
 
@@ -120,9 +120,9 @@ pub(crate) struct Row<A: Allocator> {
     pub limits: Limits,
     // Those of the lists and the revocations.
     heads: Vec<u64, A>,
-    // Of each line where its page begins; 0 until the first of its words is set.
-    pages: Vec<u32, A>,
-    // Page after page, with a word for each rank. There is room for all; the first has no word that is set.
+    // Of each line where its words begin; 0 until the first of them is set.
+    starts: Vec<u32, A>,
+    // Line after line as they were made, with a word for each rank. There is room for all; the first has no word that is set.
     words: Vec<u64, A>,
 }
 
@@ -133,9 +133,9 @@ impl<A: Allocator> Model for Row<A> {
 
     ghost Value = { Filled };
 
-    ghost view = { λ a. record { limits = a.limits; words = row_of a.limits.ranks a.heads.items a.pages.items a.words.items } };
+    ghost view = { λ a. record { limits = a.limits; words = row_of a.limits.ranks a.heads.items a.starts.items a.words.items } };
 
-    ghost invariant = { λ a. MayOpen a.limits × IsRow a.limits a.heads.items a.pages.items a.words.items (vec_capacity a.words) };
+    ghost invariant = { λ a. MayOpen a.limits × IsRow a.limits a.heads.items a.starts.items a.words.items (vec_capacity a.words) };
 }
 
 impl<A: Allocator + Copy> Row<A> {
@@ -150,16 +150,16 @@ impl<A: Allocator + Copy> Row<A> {
         let lines = comms * (2 * limits.rounds as usize);
         let mut heads = Vec::with_capacity(alloc, first)?;
         heads.resize(first, 0)?;
-        let mut pages = Vec::with_capacity(alloc, lines)?;
-        pages.resize(lines, 0)?;
+        let mut starts = Vec::with_capacity(alloc, lines)?;
+        starts.resize(lines, 0)?;
         let mut words = Vec::with_capacity(alloc, (lines + 1) * ranks)?;
         words.resize(ranks, 0)?;
         let made = if lines * ranks <= SHORT { lines } else { 0 };
-        make_first(&mut pages, &mut words, made, ranks);
+        make_first(&mut starts, &mut words, made, ranks);
         Ok(Row {
             limits,
             heads,
-            pages,
+            starts,
             words,
         })
     }
@@ -172,7 +172,7 @@ impl<A: Allocator + Copy> Row<A> {
     {
         match seat_of(place, self.limits) {
             Seat::Head { index } => self.heads[index],
-            Seat::Cell { line, rank } => self.words[self.pages[line] as usize + rank],
+            Seat::Cell { line, rank } => self.words[self.starts[line] as usize + rank],
         }
     }
 
@@ -194,12 +194,12 @@ impl<A: Allocator + Copy> Row<A> {
                 stood
             }
             Seat::Cell { line, rank } => {
-                let begin = self.pages[line];
+                let begin = self.starts[line];
                 let stood = self.words[begin as usize + rank];
                 if stood == 0 {
                     let ranks = self.limits.ranks as usize;
-                    let (pages, words) = (&mut self.pages, &mut self.words);
-                    let begin = reach(pages, words, line, ranks, begin);
+                    let (starts, words) = (&mut self.starts, &mut self.words);
+                    let begin = reach(starts, words, line, ranks, begin);
                     self.words[begin + rank] = word;
                 }
                 stood

@@ -77,13 +77,6 @@ pub(crate) fn summary_in<P: Packed>(word: u64) -> Summary<P>
     Summary { body, known, acked }
 }
 
-/// The word of a slot is read as that slot.
-pub fn read_written<P: Packed>(slot: &Slot<P>) -> Option<Slot<P>>
-    ensures { result ≡ Some slot.now }
-{
-    read_slot(slot_word(slot))
-}
-
 // The word of these parts.
 fn packed(tag: u64, known: u16, acked: u16, payload: u32) -> u64
     requires { tag ≤ 3 }

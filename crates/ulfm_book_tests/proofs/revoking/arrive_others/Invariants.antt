@@ -4,4 +4,4 @@ use Rattle.ulfm_book_tests.proofs.revoking.arrive_others.Given as goal
 
 abbrev pub invariant-loop-member : goal.invariant-loop-member
 invariant-loop-member g l =
-    (l.world ≡ l.fn.world) × AllByRecursion (λ m. m.name ≡ l.world.words) l.member-iterator.rest.items × AllByRecursion (λ m. m.name ≡ l.world.words) l.ready.items
+    (l.outside ≡ l.fn.outside) × AllByRecursion (λ m. m.name ≡ l.outside.name) l.member-iterator.rest.items × AllByRecursion (λ m. m.name ≡ l.outside.name) l.ready.items

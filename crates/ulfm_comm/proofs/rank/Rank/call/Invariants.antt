@@ -1,6 +1,6 @@
 use Rattle.std.proofs.Common.{◌≡◌, false}
 use Rattle.ulfm_words.specs.Steps.{IsOf}
-use Rattle.ulfm_comm.specs.Stages.{Stands, left}
+use Rattle.ulfm_comm.specs.Phase.{Stands, left}
 use Rattle.ulfm_comm.proofs.rank.Rank.call.Given as goal
 
 abbrev pub invariant-loop-next : goal.invariant-loop-next

@@ -1,7 +1,7 @@
 use Rattle.std.proofs.Common.{◌≡◌, ◌<◌, ◌≤◌, length, filter, Some, ap₂, sym, ◌∙◌, subst, arith}
 use Rattle.std.specs.List.Sorted.{IsStrictlyIncreasing}
 use Rattle.ulfm_model.specs.{History.{IsPlace, has}, Records.{Held, held_at}}
-use Rattle.ulfm_comm.specs.Starts.{Settles}
+use Rattle.ulfm_comm.specs.Exchange.{Settles}
 use Rattle.ulfm_comm.proofs.{Holding.{group_rises}, Starts.{known_few, known_within, own_place, settles_is}}
 use Rattle.ulfm_comm.proofs.rank.Rank.contribute.Goals as goal
 use Rattle.ulfm_comm.proofs.rank.Rank.contribute.Goals.{After-count_in-known}

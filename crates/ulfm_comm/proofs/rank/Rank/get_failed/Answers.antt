@@ -22,12 +22,22 @@ counts g c =
     has_counted g.P.Meld.meld g.W.Words.alone (g.W.Words.name c.args.world.now.words) c.args.self.now.number c.args.comm c.in_ok-counted.field-0 c.args.self.now (g.W.Words.sight c.args.pass.now) c.call.new.self (g.W.Words.sight c.call.new.pass)
     c.requires.fits (calls g c)
 
+-- the communicator is held, since its failed group was counted
+pub held_comm-x-requires : goal.held_comm-x-requires
+held_comm-x-requires g c =
+    let called : Calls g.P.Meld.meld g.W.Words.alone (g.W.Words.name c.args.world.now.words) (call.GetFailed c.args.self.now.number c.args.comm) c.args.self.now (g.W.Words.sight c.args.pass.now) (FailedGroup c.in_ok-counted.field-0) c.call.new.self (g.W.Words.sight c.call.new.pass) =
+    let name = g.W.Words.name c.args.world.now.words in
+    subst (λ r. EndsReply g.P.Meld.meld g.W.Words.alone name (call.GetFailed c.args.self.now.number c.args.comm) c.args.self.now (g.W.Words.sight c.args.pass.now) r c.call.new.self (g.W.Words.sight c.call.new.pass)) (sym c.in_ok-counted.ensures)
+    (subst (λ n. EndsReply g.P.Meld.meld g.W.Words.alone name (call.GetFailed n c.args.comm) c.args.self.now (g.W.Words.sight c.args.pass.now) c.call.result c.call.new.self (g.W.Words.sight c.call.new.pass)) c.number-rank.ensures c.call.ensures.ends) in
+    let h = has_counted g.P.Meld.meld g.W.Words.alone (g.W.Words.name c.args.world.now.words) c.args.self.now.number c.args.comm c.in_ok-counted.field-0 c.args.self.now (g.W.Words.sight c.args.pass.now) c.call.new.self (g.W.Words.sight c.call.new.pass) c.requires.fits called in
+    (h.x, h.held)
+
 -- the members rise
 rises : (g : _) (c : After-failures g) → IsStrictlyIncreasing c.x.inside.group.items
 rises g c =
-    let held : held_at c.call.new.self c.args.comm ≡ Some c.in-Some.x.now = c.in-Some.ensures.held in
+    let held : held_at c.call.new.self c.args.comm ≡ Some c.held_comm-x.result.now = c.held_comm-x.ensures in
     subst IsStrictlyIncreasing (sym (ap (λ (y : Held). y.group) c.x.view_is))
-    (group_rises g.P.Meld.meld (g.W.Words.name c.args.world.now.words).limits (g.W.Words.sight c.call.new.pass).seen c.call.new.self c.args.comm c.in-Some.x.now (calls g c).fits held)
+    (group_rises g.P.Meld.meld (g.W.Words.name c.args.world.now.words).limits (g.W.Words.sight c.call.new.pass).seen c.call.new.self c.args.comm c.held_comm-x.result.now (calls g c).fits held)
 
 pub make_room-requires : goal.make_room-requires
 make_room-requires g c = subst IsStrictlyIncreasing (sym c.deref.ensures.value) (rises g (goal.at.make_room-requires g c).After-failures)
@@ -42,7 +52,7 @@ returns-then-is_err-clause-gets g c = (counts g (goal.at.returns-then-is_err-cla
 found : (g : _) (c : After-put_in g) (h : HasCounted g.P.Meld.meld g.W.Words.alone (g.W.Words.name c.args.world.now.words) c.args.self.now.number c.args.comm c.in_ok-counted.field-0 c.args.self.now (g.W.Words.sight c.args.pass.now) c.call.new.self (g.W.Words.sight c.call.new.pass))
     → c.put_in.new.found.items ≡ filter (has h.x.group) c.call.new.self.seen
 found g c h =
-    let same : c.in-Some.x.now ≡ h.x = cc (c.in-Some.ensures.held, h.held) in
+    let same : c.held_comm-x.result.now ≡ h.x = cc (c.held_comm-x.ensures, h.held) in
     let group = c.deref-2.ensures.value ∙ (ap (λ (y : Held). y.group) c.x.view_is ∙ ap (λ (y : Held). y.group) same) in
     c.put_in.ensures ∙ ap₂ (λ w v. filter (has w) v) group c.failures-2.ensures
 

@@ -1,11 +1,11 @@
-use Rattle.std.proofs.Common.{◌≡◌, arith, [], Some, IsTrue, MatchBool, ap, ◌∙◌, subst, sym}
+use Rattle.std.proofs.Common.{rules, ◌≡◌, arith, [], Some, IsTrue, MatchBool, ap, ◌∙◌, subst, sym}
 use Rattle.ulfm_model.specs.declared.{call.Request.TheVariants.{Barrier}, event.Caller.TheVariants.{Rank}, event.Event.TheVariants.{Arrive}, refusal.Refusal.TheVariants.{Twice}, reply.Reply.TheVariants.{Refused, Started}}
 use Rattle.ulfm_model.specs.{Answers.{opened}, History.{has_arrived}, Records.{with_held}, Runs.{Did}}
 use Rattle.ulfm_model.specs.Terms.{comm_of}
 use Rattle.ulfm_words.specs.Steps.{IsAdded}
-use Rattle.ulfm_comm.specs.Stages.{Answered, HasLooked, Walks}
-use Rattle.ulfm_comm.proofs.{Entering.{when_lost, when_won}, Exchanging.{arrived_before, arrived_now, arriving_may, arriving_within, walks_tried}}
-use Rattle.ulfm_comm.proofs.Adding.{adds_arrived, adds_none}
+use Rattle.ulfm_comm.specs.{Phase.{Answered}, Look.{HasLooked}, Step.{Walks}}
+use Rattle.ulfm_comm.proofs.{BarrierStart.{when_lost, when_won}, Exchange.{arrived_before, arrived_now, arriving_may, arriving_within, walks_tried}}
+use Rattle.ulfm_comm.proofs.StepAdds.{adds_arrived, adds_none}
 use Rattle.ulfm_comm.proofs.rank.Rank.go_arriving.Goals as goal
 use Rattle.ulfm_comm.proofs.rank.Rank.go_arriving.Goals.{After-set_arrival}
 
@@ -36,48 +36,56 @@ walks g c =
     walks_tried g.P.Meld.meld g.W.Words.alone (g.W.Words.name c.args.world.now.words) c.args.self.now.number (g.W.Words.sight c.args.pass.now) (g.W.Words.sight c.set_arrival.new.pass)
     c.set_arrival.ensures.tries.of c.set_arrival.ensures.tries.steps c.set_arrival.result (Arrive (comm_of c.args.asked.now) c.args.round c.args.self.now.number) (outcome g c)
 
-pub returns-then-not-set_arrival-clause-walks : goal.returns-then-not-set_arrival-clause-walks
-returns-then-not-set_arrival-clause-walks g c = walks g (goal.at.returns-then-not-set_arrival-clause-walks g c).After-set_arrival
+pub returns-then-not-set_arrival : goal.returns-then-not-set_arrival
+returns-then-not-set_arrival g c =
+    λ group whole.
+    record {
+      walks = walks g (goal.at.returns-then-not-set_arrival g c).After-set_arrival;
+      named = search rules;
+      nearer = search rules;
+      further = search rules;
+      adds = λ not.
+          let at = (goal.at.returns-then-not-set_arrival g c).After-set_arrival in
+          adds_none g.W.Words.alone c.args.self.now.seen c.args.self.now c.args.asked.now (Some (Refused Twice)) (g.W.Words.sight c.args.pass.now).seen (g.W.Words.sight c.set_arrival.new.pass).seen
+          (when_lost _ _ c.set_arrival.result c.if-not-set_arrival.true (outcome g at));
+      sees = search rules;
+      past = search rules;
+      turns = λ alone only old before stands.
+          let at = (goal.at.returns-then-not-set_arrival g c).After-set_arrival in
+          let lost = when_lost _ _ c.set_arrival.result c.if-not-set_arrival.true (outcome g at) in
+          let name = g.W.Words.name c.args.world.now.words in
+          let own = c.args.self.now in
+          let now = g.W.Words.sight c.args.pass.now in
+          let after = g.W.Words.sight c.set_arrival.new.pass in
+          subst (λ asked. ((p : HasLooked g.P.Meld.meld name.limits alone asked old before.seen own now.seen) × (c.args.round ≡ p.x.next_barrier)) → Answered g.P.Meld.meld alone name asked old before (Refused Twice) own after) (sym stands.at.1)
+          (λ p. arrived_before g.P.Meld.meld alone g.W.Words.alone only name (comm_of c.args.asked.now) c.args.round old before own now after (omega (arith, stands.onward, c.set_arrival.ensures.tries.steps)) stands.fits p.0 p.1 c.set_arrival.ensures.tries.of (arrived g at) lost)
+          (stands.at.0, stands.at.2);
+    }
 
-pub returns-clause-walks : goal.returns-clause-walks
-returns-clause-walks g c = walks g (goal.at.returns-clause-walks g c).After-set_arrival
-
-pub returns-then-not-set_arrival-clause-turns : goal.returns-then-not-set_arrival-clause-turns
-returns-then-not-set_arrival-clause-turns g c =
-    λ group alone only old before stands.
-    let at = (goal.at.returns-then-not-set_arrival-clause-turns g c).After-set_arrival in
-    let lost = when_lost _ _ c.set_arrival.result c.if-not-set_arrival.true (outcome g at) in
-    let name = g.W.Words.name c.args.world.now.words in
-    let own = c.args.self.now in
-    let now = g.W.Words.sight c.args.pass.now in
-    let after = g.W.Words.sight c.set_arrival.new.pass in
-    subst (λ asked. ((p : HasLooked g.P.Meld.meld name.limits alone asked old before.seen own now.seen) × (c.args.round ≡ p.x.next_barrier)) → Answered g.P.Meld.meld alone name asked old before (Refused Twice) own after) (sym stands.at.1)
-    (λ p. arrived_before g.P.Meld.meld alone g.W.Words.alone only name (comm_of c.args.asked.now) c.args.round old before own now after (omega (arith, stands.onward, c.set_arrival.ensures.tries.steps)) stands.fits p.0 p.1 c.set_arrival.ensures.tries.of (arrived g at) lost)
-    (stands.at.0, stands.at.2)
-
-pub returns-clause-turns : goal.returns-clause-turns
-returns-clause-turns g c =
-    λ group alone only old before stands.
-    let at = (goal.at.returns-clause-turns g c).After-set_arrival in
-    let won = when_won _ _ c.set_arrival.result c.if-not-set_arrival.false (outcome g at) in
-    let name = g.W.Words.name c.args.world.now.words in
-    let own = c.args.self.now in
-    let now = g.W.Words.sight c.args.pass.now in
-    let after = g.W.Words.sight c.set_arrival.new.pass in
-    let leaves = c.open.ensures ∙ ap (λ w. with_held own w (λ y. opened y (Some (Barrier c.args.round)))) c.comm_of-comm.ensures in
-    subst (λ asked. ((p : HasLooked g.P.Meld.meld name.limits alone asked old before.seen own now.seen) × (c.args.round ≡ p.x.next_barrier)) → Answered g.P.Meld.meld alone name asked old before Started c.open.new.self after) (sym stands.at.1)
-    (λ p. arrived_now g.P.Meld.meld alone g.W.Words.alone only name (comm_of c.args.asked.now) c.args.round old before own now after (omega (arith, stands.onward, c.set_arrival.ensures.tries.steps)) stands.fits p.0 p.1 c.set_arrival.ensures.tries.of (arrived g at) c.open.new.self won leaves)
-    (stands.at.0, stands.at.2)
-
-pub returns-then-not-set_arrival-clause-adds : goal.returns-then-not-set_arrival-clause-adds
-returns-then-not-set_arrival-clause-adds g c =
-    let at = (goal.at.returns-then-not-set_arrival-clause-adds g c).After-set_arrival in
-    adds_none g.W.Words.alone c.args.self.now.seen c.args.self.now c.args.asked.now (Some (Refused Twice)) (g.W.Words.sight c.args.pass.now).seen (g.W.Words.sight c.set_arrival.new.pass).seen
-    (when_lost _ _ c.set_arrival.result c.if-not-set_arrival.true (outcome g at))
-
-pub returns-clause-adds : goal.returns-clause-adds
-returns-clause-adds g c =
-    let at = (goal.at.returns-clause-adds g c).After-set_arrival in
-    let s = c.requires.stands.1 in
-    adds_arrived g.P.Meld.meld g.W.Words.alone (g.W.Words.name c.args.world.now.words).limits c.args.asked.now s.0 s.1.seen c.args.self.now (g.W.Words.sight c.args.pass.now).seen (g.W.Words.sight c.set_arrival.new.pass).seen
-    c.requires.of.legal s.2.at.0 s.0.number c.args.round s.2.at.1 s.2.at.2 (when_won _ _ c.set_arrival.result c.if-not-set_arrival.false (outcome g at))
+pub returns : goal.returns
+returns g c =
+    λ group whole.
+    record {
+      walks = walks g (goal.at.returns g c).After-set_arrival;
+      named = search rules;
+      nearer = search rules;
+      further = search rules;
+      adds = λ not.
+          let at = (goal.at.returns g c).After-set_arrival in
+          let s = c.requires.stands.1 in
+          adds_arrived g.P.Meld.meld g.W.Words.alone (g.W.Words.name c.args.world.now.words).limits c.args.asked.now s.0 s.1.seen c.args.self.now (g.W.Words.sight c.args.pass.now).seen (g.W.Words.sight c.set_arrival.new.pass).seen
+          c.requires.of.legal s.2.at.0 s.0.number c.args.round s.2.at.1 s.2.at.2 (when_won _ _ c.set_arrival.result c.if-not-set_arrival.false (outcome g at));
+      sees = search rules;
+      past = search rules;
+      turns = λ alone only old before stands.
+          let at = (goal.at.returns g c).After-set_arrival in
+          let won = when_won _ _ c.set_arrival.result c.if-not-set_arrival.false (outcome g at) in
+          let name = g.W.Words.name c.args.world.now.words in
+          let own = c.args.self.now in
+          let now = g.W.Words.sight c.args.pass.now in
+          let after = g.W.Words.sight c.set_arrival.new.pass in
+          let leaves = c.open.ensures ∙ ap (λ w. with_held own w (λ y. opened y (Some (Barrier c.args.round)))) c.comm_of-comm.ensures in
+          subst (λ asked. ((p : HasLooked g.P.Meld.meld name.limits alone asked old before.seen own now.seen) × (c.args.round ≡ p.x.next_barrier)) → Answered g.P.Meld.meld alone name asked old before Started c.open.new.self after) (sym stands.at.1)
+          (λ p. arrived_now g.P.Meld.meld alone g.W.Words.alone only name (comm_of c.args.asked.now) c.args.round old before own now after (omega (arith, stands.onward, c.set_arrival.ensures.tries.steps)) stands.fits p.0 p.1 c.set_arrival.ensures.tries.of (arrived g at) c.open.new.self won leaves)
+          (stands.at.0, stands.at.2);
+    }

@@ -1,4 +1,7 @@
-use Rattle.ulfm_comm.proofs.AfterLook.{begins_looking}
+use Rattle.std.proofs.Common.{rules, subst}
+use Rattle.ulfm_model.specs.Records.{Record}
+use Rattle.ulfm_comm.specs.Step.{Walks}
+use Rattle.ulfm_comm.proofs.Look.{begins_looking}
 use Rattle.ulfm_comm.proofs.rank.Rank.go_begun.Goals as goal
 
 pub go_looking-requires-clause-stands : goal.go_looking-requires-clause-stands
@@ -14,8 +17,21 @@ go_looking-requires-clause-stands g c =
       ),
     )
 
-pub returns-clause-turns : goal.returns-clause-turns
-returns-clause-turns g c =
-    λ group alone only old before u.
-    c.go_looking.ensures.turns group alone only old before
-    (begins_looking g.P.Meld.meld alone (g.W.Words.name c.args.world.now.words) c.args.asked.now old before group c.args.self.now c.forget.new.self (g.W.Words.sight c.args.pass.now) c.requires.of c.forget.ensures u)
+pub returns : goal.returns
+returns g c =
+    λ group.
+    let now = g.W.Words.sight c.args.pass.now in
+    let after = g.W.Words.sight c.go_looking.new.pass in
+    let t = c.go_looking.ensures group in
+    record {
+      walks = subst (λ (w : Record). Walks g.P.Meld.meld g.W.Words.alone (g.W.Words.name c.args.world.now.words) w.number now after) c.forget.ensures t.walks;
+      named = t.named;
+      nearer = search rules;
+      further = search rules;
+      adds = t.adds;
+      sees = search rules;
+      past = search rules;
+      turns = λ alone only old before u.
+          t.turns alone only old before
+          (begins_looking g.P.Meld.meld alone (g.W.Words.name c.args.world.now.words) c.args.asked.now old before group c.args.self.now c.forget.new.self (g.W.Words.sight c.args.pass.now) c.requires.of c.forget.ensures u);
+    }

@@ -1,6 +1,6 @@
-use Rattle.std.proofs.Common.{arith, false, refl, sym, ◌∙◌, inl, inr}
+use Rattle.std.proofs.Common.{rules, arith, false, refl, sym, ◌∙◌, inl, inr}
 use Rattle.ulfm_steps.specs.declared.arrivals.Missing.TheVariants.{Nobody, Others, Declared}
-use Rattle.ulfm_comm.proofs.Polling.{checking_early, checking_missing, checking_revoked, checking_within}
+use Rattle.ulfm_comm.proofs.Barrier.{checking_early, checking_missing, checking_revoked, checking_within}
 use Rattle.ulfm_comm.proofs.rank.Rank.go_checking.Goals as goal
 
 pub load_revocation-requires-clause-within : goal.load_revocation-requires-clause-within
@@ -8,30 +8,6 @@ load_revocation-requires-clause-within g c =
     let stands = c.requires.stands.1 in
     checking_within g.P.Meld.meld false (g.W.Words.name c.args.world.now.words) c.args.asked.now c.args.missing c.requires.stands.0 c.args.self.now (g.W.Words.sight c.args.pass.now) c.requires.of stands.0 stands.1 stands.2
     c.comm_of-comm.result c.comm_of-comm.ensures
-
-pub returns-then-load_revocation-clause-turns : goal.returns-then-load_revocation-clause-turns
-returns-then-load_revocation-clause-turns g c = λ group alone only old before stands.
-    checking_revoked g.P.Meld.meld alone (g.W.Words.name c.args.world.now.words) c.args.asked.now c.args.missing group c.args.self.now (g.W.Words.sight c.args.pass.now) c.requires.of old before stands
-    g.W.Words.alone only (g.W.Words.sight c.load_revocation.new.pass) c.load_revocation.ensures.loads.of c.load_revocation.ensures.loads.did (omega (arith, c.load_revocation.ensures.loads.steps)) c.comm_of-comm.result c.comm_of-comm.ensures c.close.new.self
-    (sym c.load_revocation.ensures.revoked ∙ c.if-load_revocation.true) c.close.ensures
-
-pub returns-in-Nobody-clause-turns : goal.returns-in-Nobody-clause-turns
-returns-in-Nobody-clause-turns g c = λ group alone only old before stands.
-    checking_missing g.P.Meld.meld alone (g.W.Words.name c.args.world.now.words) c.args.asked.now c.args.missing group c.args.self.now (g.W.Words.sight c.args.pass.now) c.requires.of old before stands
-    g.W.Words.alone only (g.W.Words.sight c.load_revocation.new.pass) c.load_revocation.ensures.loads.of c.load_revocation.ensures.loads.did (omega (arith, c.load_revocation.ensures.loads.steps)) c.comm_of-comm.result c.comm_of-comm.ensures c.close-in-Nobody.new.self
-    (sym c.load_revocation.ensures.revoked ∙ c.if-load_revocation.false) Nobody c.in-Nobody.is c.close-in-Nobody.ensures
-
-pub returns-in-Others-clause-turns : goal.returns-in-Others-clause-turns
-returns-in-Others-clause-turns g c = λ group alone only old before stands.
-    checking_missing g.P.Meld.meld alone (g.W.Words.name c.args.world.now.words) c.args.asked.now c.args.missing group c.args.self.now (g.W.Words.sight c.args.pass.now) c.requires.of old before stands
-    g.W.Words.alone only (g.W.Words.sight c.load_revocation.new.pass) c.load_revocation.ensures.loads.of c.load_revocation.ensures.loads.did (omega (arith, c.load_revocation.ensures.loads.steps)) c.comm_of-comm.result c.comm_of-comm.ensures c.args.self.now
-    (sym c.load_revocation.ensures.revoked ∙ c.if-load_revocation.false) Others c.in-Others.is refl
-
-pub returns-in-Declared-clause-turns : goal.returns-in-Declared-clause-turns
-returns-in-Declared-clause-turns g c = λ group alone only old before stands.
-    checking_missing g.P.Meld.meld alone (g.W.Words.name c.args.world.now.words) c.args.asked.now c.args.missing group c.args.self.now (g.W.Words.sight c.args.pass.now) c.requires.of old before stands
-    g.W.Words.alone only (g.W.Words.sight c.load_revocation.new.pass) c.load_revocation.ensures.loads.of c.load_revocation.ensures.loads.did (omega (arith, c.load_revocation.ensures.loads.steps)) c.comm_of-comm.result c.comm_of-comm.ensures c.close-in-Declared.new.self
-    (sym c.load_revocation.ensures.revoked ∙ c.if-load_revocation.false) Declared c.in-Declared.is c.close-in-Declared.ensures
 
 pub returns-then-load_revocation-clause-early : goal.returns-then-load_revocation-clause-early
 returns-then-load_revocation-clause-early g c = λ alone only old before fits polls earlier i. inr (inl refl)
@@ -48,3 +24,71 @@ pub returns-in-Declared-clause-early : goal.returns-in-Declared-clause-early
 returns-in-Declared-clause-early g c = λ alone only old before fits polls earlier i.
     inr (inr (checking_early g.P.Meld.meld (g.W.Words.name c.args.world.now.words).limits alone g.W.Words.alone only c.args.asked.now c.args.missing earlier old before.seen c.args.self.now (g.W.Words.sight c.args.pass.now).seen (g.W.Words.sight c.load_revocation.new.pass).seen
     polls i c.load_revocation.ensures.loads.did c.comm_of-comm.result c.comm_of-comm.ensures (sym c.load_revocation.ensures.revoked ∙ c.if-load_revocation.false) Declared c.in-Declared.is c.close-in-Declared.new.self c.close-in-Declared.ensures))
+
+pub returns-then-load_revocation-clause-turn : goal.returns-then-load_revocation-clause-turn
+returns-then-load_revocation-clause-turn g c =
+    λ group whole.
+    record {
+      walks = search rules;
+      named = search rules;
+      nearer = search rules;
+      further = search rules;
+      adds = search rules;
+      sees = search rules;
+      past = search rules;
+      turns = λ alone only old before stands.
+          checking_revoked g.P.Meld.meld alone (g.W.Words.name c.args.world.now.words) c.args.asked.now c.args.missing group c.args.self.now (g.W.Words.sight c.args.pass.now) c.requires.of old before stands
+          g.W.Words.alone only (g.W.Words.sight c.load_revocation.new.pass) c.load_revocation.ensures.loads.of c.load_revocation.ensures.loads.did (omega (arith, c.load_revocation.ensures.loads.steps)) c.comm_of-comm.result c.comm_of-comm.ensures c.close.new.self
+          (sym c.load_revocation.ensures.revoked ∙ c.if-load_revocation.true) c.close.ensures;
+    }
+
+pub returns-in-Nobody-clause-turn : goal.returns-in-Nobody-clause-turn
+returns-in-Nobody-clause-turn g c =
+    λ group whole.
+    record {
+      walks = search rules;
+      named = search rules;
+      nearer = search rules;
+      further = search rules;
+      adds = search rules;
+      sees = search rules;
+      past = search rules;
+      turns = λ alone only old before stands.
+          checking_missing g.P.Meld.meld alone (g.W.Words.name c.args.world.now.words) c.args.asked.now c.args.missing group c.args.self.now (g.W.Words.sight c.args.pass.now) c.requires.of old before stands
+          g.W.Words.alone only (g.W.Words.sight c.load_revocation.new.pass) c.load_revocation.ensures.loads.of c.load_revocation.ensures.loads.did (omega (arith, c.load_revocation.ensures.loads.steps)) c.comm_of-comm.result c.comm_of-comm.ensures c.close-in-Nobody.new.self
+          (sym c.load_revocation.ensures.revoked ∙ c.if-load_revocation.false) Nobody c.in-Nobody.is c.close-in-Nobody.ensures;
+    }
+
+pub returns-in-Others-clause-turn : goal.returns-in-Others-clause-turn
+returns-in-Others-clause-turn g c =
+    λ group whole.
+    record {
+      walks = search rules;
+      named = search rules;
+      nearer = search rules;
+      further = search rules;
+      adds = search rules;
+      sees = search rules;
+      past = search rules;
+      turns = λ alone only old before stands.
+          checking_missing g.P.Meld.meld alone (g.W.Words.name c.args.world.now.words) c.args.asked.now c.args.missing group c.args.self.now (g.W.Words.sight c.args.pass.now) c.requires.of old before stands
+          g.W.Words.alone only (g.W.Words.sight c.load_revocation.new.pass) c.load_revocation.ensures.loads.of c.load_revocation.ensures.loads.did (omega (arith, c.load_revocation.ensures.loads.steps)) c.comm_of-comm.result c.comm_of-comm.ensures c.args.self.now
+          (sym c.load_revocation.ensures.revoked ∙ c.if-load_revocation.false) Others c.in-Others.is refl;
+    }
+
+pub returns-in-Declared-clause-turn : goal.returns-in-Declared-clause-turn
+returns-in-Declared-clause-turn g c =
+    λ group whole.
+    record {
+      walks = search rules;
+      named = search rules;
+      nearer = search rules;
+      further = search rules;
+      adds = search rules;
+      sees = search rules;
+      past = search rules;
+      turns = λ alone only old before stands.
+          checking_missing g.P.Meld.meld alone (g.W.Words.name c.args.world.now.words) c.args.asked.now c.args.missing group c.args.self.now (g.W.Words.sight c.args.pass.now) c.requires.of old before stands
+          g.W.Words.alone only (g.W.Words.sight c.load_revocation.new.pass) c.load_revocation.ensures.loads.of c.load_revocation.ensures.loads.did (omega (arith, c.load_revocation.ensures.loads.steps)) c.comm_of-comm.result c.comm_of-comm.ensures c.close-in-Declared.new.self
+          (sym c.load_revocation.ensures.revoked ∙ c.if-load_revocation.false) Declared c.in-Declared.is c.close-in-Declared.ensures;
+    }

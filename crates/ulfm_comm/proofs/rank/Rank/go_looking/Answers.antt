@@ -1,36 +1,99 @@
-use Rattle.std.proofs.Common.{◌≡◌, arith, subst, [], true, ap, ap₂, sym, ◌∙◌}
+use Rattle.std.proofs.Common.{rules, ◌≡◌, arith, subst, [], true, ap, ap₂, sym, ◌∙◌}
 use Rattle.ulfm_model.specs.{History.{failures, has}, Records.{Record}}
 use mathlib.Core.List.{IsPrefix}
 use Rattle.ulfm_model.proofs.{Histories.{failures_begin}, Lists.{length_prefix, prefix_trans}}
 use Rattle.ulfm_words.proofs.Trails.{did_prefix, did_wait}
-use Rattle.ulfm_comm.proofs.Bounding.{fewer_more, looks_up}
-use Rattle.ulfm_comm.proofs.{AfterLook.{just_declared}, Loosely.{did_loosely}}
+use Rattle.ulfm_comm.proofs.StepsLeft.{fewer_more, looks_up}
+use Rattle.ulfm_comm.proofs.{Look.{just_declared}, AmongOthers.{did_loosely}}
 use Rattle.ulfm_comm.proofs.rank.Rank.go_looking.Goals as goal
 
-pub returns-then-has_rank-clause-turns : goal.returns-then-has_rank-clause-turns
-returns-then-has_rank-clause-turns g c =
-    let name = g.W.Words.name c.args.world.now.words in
-    let now = g.W.Words.sight c.args.pass.now in
-    let after = g.W.Words.sight c.look_on.new.pass in
-    λ group alone only old before u.
-    let goes = did_loosely alone g.W.Words.alone only [] now.seen after.seen c.look_on.ensures.goes.did in
-    let found : c.look_on.new.self.seen ≡ failures after.seen = c.if-not-look_on.ensures.look in
-    let number = c.number.ensures ∙ (ap (λ (w : Record). w.number) c.look_on.ensures.kept ∙ ap (λ (w : Record). w.number) u.at.1) in
-    let own = c.look_on.ensures.kept ∙ ap (λ (w : Record). record w { seen = c.look_on.new.self.seen }) u.at.1 in
-    just_declared g.P.Meld.meld alone name c.args.asked.now old before c.refuse.new.self after (omega (arith, u.onward, c.look_on.ensures.goes.onward)) c.look_on.ensures.goes.of u.fits u.at.0 (did_wait alone [] before.seen now.seen after.seen u.at.2 goes)
-    (ap₂ has (sym (c.failures.ensures ∙ found)) (sym number) ∙ (sym c.has_rank.ensures ∙ c.if-has_rank.true))
-    (c.refuse.ensures ∙ (ap (λ (w : Record). record w { refused = true }) own ∙ ap (λ s. record old { seen = s; refused = true }) found))
+pub returns-then-not-look_on : goal.returns-then-not-look_on
+returns-then-not-look_on g c =
+    λ group.
+    record {
+      walks = search rules;
+      named = search rules;
+      nearer = search rules;
+      further = search rules;
+      adds = search rules;
+      sees = search rules;
+      past = search rules;
+      turns = λ alone only old before u.
+          let now = g.W.Words.sight c.args.pass.now in
+          let after = g.W.Words.sight c.look_on.new.pass in
+          let goes = did_loosely alone g.W.Words.alone only [] now.seen after.seen c.look_on.ensures.goes.did in
+          let own = c.look_on.ensures.kept ∙ ap (λ (w : Record). record w { seen = c.look_on.new.self.seen }) u.at.1 in
+          record {
+            fits = u.fits;
+            mine = u.mine;
+            onward = omega (arith, u.onward, c.look_on.ensures.goes.onward);
+            at = (u.at.0, own, did_wait alone [] before.seen now.seen after.seen u.at.2 goes, c.if-not-look_on.ensures.look);
+          };
+    }
 
-pub returns-clause-nearer : goal.returns-clause-nearer
-returns-clause-nearer g c = λ single.
-    let name = g.W.Words.name c.args.world.now.words in
-    let now = g.W.Words.sight c.args.pass.now in
-    let after = g.W.Words.sight c.look_on.new.pass in
-    let own = c.args.self.now in
-    let new = c.look_on.new.self in
-    let at = c.requires.stands.1.2.at in
-    let grown = failures_begin now.seen after.seen (did_prefix g.W.Words.alone [] now.seen after.seen c.look_on.ensures.goes.did) in
-    let found : new.seen ≡ failures after.seen = c.if-not-look_on.ensures.look in
-    let begins = subst (IsPrefix own.seen) (sym found) (prefix_trans own.seen (failures now.seen) (failures after.seen) at.3.0 grown) in
-    fewer_more name.limits c.looked.new.self c.args.asked.now _ _
-    (looks_up name.limits own new c.args.asked.now c.look_on.ensures.kept at.3.1 (length_prefix own.seen new.seen begins)) c.looked.result c.looked.ensures.nearer
+pub returns-then-has_rank : goal.returns-then-has_rank
+returns-then-has_rank g c =
+    λ group.
+    record {
+      walks = search rules;
+      named = search rules;
+      nearer = search rules;
+      further = search rules;
+      adds = search rules;
+      sees = search rules;
+      past = search rules;
+      turns = let name = g.W.Words.name c.args.world.now.words in
+          let now = g.W.Words.sight c.args.pass.now in
+          let after = g.W.Words.sight c.look_on.new.pass in
+          λ alone only old before u.
+          let goes = did_loosely alone g.W.Words.alone only [] now.seen after.seen c.look_on.ensures.goes.did in
+          let found : c.look_on.new.self.seen ≡ failures after.seen = c.if-not-look_on.ensures.look in
+          let number = c.number.ensures ∙ (ap (λ (w : Record). w.number) c.look_on.ensures.kept ∙ ap (λ (w : Record). w.number) u.at.1) in
+          let own = c.look_on.ensures.kept ∙ ap (λ (w : Record). record w { seen = c.look_on.new.self.seen }) u.at.1 in
+          just_declared g.P.Meld.meld alone name c.args.asked.now old before c.refuse.new.self after (omega (arith, u.onward, c.look_on.ensures.goes.onward)) c.look_on.ensures.goes.of u.fits u.at.0 (did_wait alone [] before.seen now.seen after.seen u.at.2 goes)
+          (ap₂ has (sym (c.failures.ensures ∙ found)) (sym number) ∙ (sym c.has_rank.ensures ∙ c.if-has_rank.true))
+          (c.refuse.ensures ∙ (ap (λ (w : Record). record w { refused = true }) own ∙ ap (λ s. record old { seen = s; refused = true }) found));
+    }
+
+pub returns : goal.returns
+returns g c =
+    λ group.
+    record {
+      walks = search rules;
+      named = search rules;
+      nearer = λ single.
+          let name = g.W.Words.name c.args.world.now.words in
+          let now = g.W.Words.sight c.args.pass.now in
+          let after = g.W.Words.sight c.look_on.new.pass in
+          let own = c.args.self.now in
+          let new = c.look_on.new.self in
+          let at = c.requires.stands.1.2.at in
+          let grown = failures_begin now.seen after.seen (did_prefix g.W.Words.alone [] now.seen after.seen c.look_on.ensures.goes.did) in
+          let found : new.seen ≡ failures after.seen = c.if-not-look_on.ensures.look in
+          let begins = subst (IsPrefix own.seen) (sym found) (prefix_trans own.seen (failures now.seen) (failures after.seen) at.3.0 grown) in
+          fewer_more name.limits c.looked.new.self c.args.asked.now _ _
+          (looks_up name.limits own new c.args.asked.now c.look_on.ensures.kept at.3.1 (length_prefix own.seen new.seen begins)) c.looked.result c.looked.ensures.nearer;
+      further = search rules;
+      adds = search rules;
+      sees = search rules;
+      past = search rules;
+      turns = λ alone only old before u.
+          let now = g.W.Words.sight c.args.pass.now in
+          let after = g.W.Words.sight c.look_on.new.pass in
+          let goes = did_loosely alone g.W.Words.alone only [] now.seen after.seen c.look_on.ensures.goes.did in
+          let own = c.look_on.ensures.kept ∙ ap (λ (w : Record). record w { seen = c.look_on.new.self.seen }) u.at.1 in
+          let found : c.look_on.new.self.seen ≡ failures after.seen = c.if-not-look_on.ensures.look in
+          let number = c.number.ensures ∙ (ap (λ (w : Record). w.number) c.look_on.ensures.kept ∙ ap (λ (w : Record). w.number) u.at.1) in
+          c.looked.ensures.turns group alone old before
+          (record {
+            fits = u.fits;
+            mine = u.mine;
+            onward = omega (arith, u.onward, c.look_on.ensures.goes.onward);
+            looked = record {
+              in_use = u.at.0;
+              did = did_wait alone [] before.seen now.seen after.seen u.at.2 goes;
+              not_declared = ap₂ has (sym (c.failures.ensures ∙ found)) (sym number) ∙ (sym c.has_rank.ensures ∙ c.if-has_rank.false);
+              record_is = own ∙ ap (λ s. record old { seen = s }) found;
+            };
+          });
+    }

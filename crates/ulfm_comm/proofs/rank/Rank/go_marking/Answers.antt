@@ -1,34 +1,22 @@
-use Rattle.std.proofs.Common.{◌≡◌, false, ap, ◌∙◌, arith}
+use Rattle.std.proofs.Common.{rules, ◌≡◌, false, ap, ◌∙◌, arith}
 use Rattle.ulfm_model.specs.Records.{Held}
-use Rattle.ulfm_comm.proofs.Polling.{marking_goes, marking_may_on, marking_reads}
-use Rattle.ulfm_comm.proofs.Adding.{adds_marked}
-use Rattle.ulfm_comm.specs.Stages.{Adds}
+use Rattle.ulfm_comm.proofs.Agreement.{marking_goes, marking_may_on, marking_reads}
+use Rattle.ulfm_comm.proofs.StepAdds.{adds_marked}
+use Rattle.ulfm_comm.specs.Step.{Adds}
 use Rattle.std.proofs.Common.{Option}
 use Rattle.ulfm_model.specs.declared.reply.Reply.{Reply}
 use Rattle.ulfm_comm.proofs.rank.Rank.go_marking.Goals as goal
 use Rattle.ulfm_comm.proofs.rank.Rank.go_marking.Goals.{After-advance, After-deref}
 
 -- the members that the code reads
-members : (g : _) (c : After-deref g) → c.deref.result.now ≡ c.in-Some.x.now.group
+members : (g : _) (c : After-deref g) → c.deref.result.now ≡ c.held_comm-x.result.now.group
 members g c = c.deref.ensures.value ∙ ap (λ (y : Held). y.group) c.x.view_is
 
 pub advance-requires-clause-may : goal.advance-requires-clause-may
 advance-requires-clause-may g c =
     let stands = c.requires.stands.1 in
     marking_may_on g.P.Meld.meld (g.W.Words.name c.args.world.now.words) c.args.asked.now c.args.marks c.args.shrinks c.requires.stands.0 c.args.self.now (g.W.Words.sight c.args.pass.now) c.requires.of
-    c.in-Some.x.now c.comm_of.result c.in-Some.ensures.held c.comm_of.ensures c.deref.result.now c.failures-seen.result.now (members g (goal.at.advance-requires-clause-may g c).After-deref) c.failures-seen.ensures false stands.0 stands.1 stands.2
-
-pub returns-then-marks-seen-clause-turns : goal.returns-then-marks-seen-clause-turns
-returns-then-marks-seen-clause-turns g c = λ group alone only old before stands.
-    marking_goes g.P.Meld.meld (g.W.Words.name c.args.world.now.words) c.args.asked.now c.args.marks c.args.shrinks group c.args.self.now (g.W.Words.sight c.args.pass.now) c.requires.of
-    c.in-Some.x.now c.comm_of.result c.in-Some.ensures.held c.comm_of.ensures c.deref.result.now c.failures-seen.result.now (members g (goal.at.returns-then-marks-seen-clause-turns g c).After-deref) c.failures-seen.ensures alone old before stands
-    g.W.Words.alone only (g.W.Words.sight c.advance.new.pass) c.advance.new.self c.advance.ensures.rank c.advance.ensures.comm c.advance.ensures.round c.advance.ensures.at c.advance.ensures.marks c.if-marks-seen.true
-
-pub returns-clause-turns : goal.returns-clause-turns
-returns-clause-turns g c = λ group alone only old before stands.
-    marking_reads g.P.Meld.meld (g.W.Words.name c.args.world.now.words) c.args.asked.now c.args.marks c.args.shrinks group c.args.self.now (g.W.Words.sight c.args.pass.now) c.requires.of
-    c.in-Some.x.now c.comm_of.result c.in-Some.ensures.held c.comm_of.ensures c.deref.result.now c.failures-seen.result.now (members g (goal.at.returns-clause-turns g c).After-deref) c.failures-seen.ensures alone old before stands
-    g.W.Words.alone only (g.W.Words.sight c.advance.new.pass) c.advance.new.self c.advance.ensures.rank c.advance.ensures.comm c.advance.ensures.round c.advance.ensures.at c.advance.ensures.marks c.new.result c.new.ensures (omega (arith, c.if-marks-seen.false))
+    c.held_comm-x.result.now c.comm_of.result c.held_comm-x.ensures c.comm_of.ensures c.deref.result.now c.failures-seen.result.now (members g (goal.at.advance-requires-clause-may g c).After-deref) c.failures-seen.ensures false stands.0 stands.1 stands.2
 
 -- what its exchange adds
 adds : (g : _) (c : After-advance g) (reply : Option (Reply g.row.P.Denot)) → c.args.whole ≡ false → Adds g.W.Words.alone c.args.self.now.seen c.args.self.now c.args.asked.now reply (g.W.Words.sight c.args.pass.now).seen (g.W.Words.sight c.advance.new.pass).seen
@@ -39,8 +27,36 @@ adds g c reply not =
     adds_marked g.P.Meld.meld g.W.Words.alone (g.W.Words.name c.args.world.now.words) c.args.asked.now c.args.marks c.args.shrinks s.0 s.1.0 s.1.1 c.args.self.now (g.W.Words.sight c.args.pass.now) after c.requires.of s.1.2 reply
     (rw (← c.failures-seen.ensures) (c.advance.ensures.once not))
 
-pub returns-then-marks-seen-clause-adds : goal.returns-then-marks-seen-clause-adds
-returns-then-marks-seen-clause-adds g c = adds g (goal.at.returns-then-marks-seen-clause-adds g c).After-advance _
+pub returns-then-marks-seen : goal.returns-then-marks-seen
+returns-then-marks-seen g c =
+    λ group.
+    record {
+      walks = search rules;
+      named = search rules;
+      nearer = search rules;
+      further = search rules;
+      adds = adds g (goal.at.returns-then-marks-seen g c).After-advance _;
+      sees = search rules;
+      past = search rules;
+      turns = λ alone only old before stands.
+          marking_goes g.P.Meld.meld (g.W.Words.name c.args.world.now.words) c.args.asked.now c.args.marks c.args.shrinks group c.args.self.now (g.W.Words.sight c.args.pass.now) c.requires.of
+          c.held_comm-x.result.now c.comm_of.result c.held_comm-x.ensures c.comm_of.ensures c.deref.result.now c.failures-seen.result.now (members g (goal.at.returns-then-marks-seen g c).After-deref) c.failures-seen.ensures alone old before stands
+          g.W.Words.alone only (g.W.Words.sight c.advance.new.pass) c.advance.new.self c.advance.ensures.rank c.advance.ensures.comm c.advance.ensures.round c.advance.ensures.at c.advance.ensures.marks c.if-marks-seen.true;
+    }
 
-pub returns-clause-adds : goal.returns-clause-adds
-returns-clause-adds g c = adds g (goal.at.returns-clause-adds g c).After-advance _
+pub returns : goal.returns
+returns g c =
+    λ group.
+    record {
+      walks = search rules;
+      named = search rules;
+      nearer = search rules;
+      further = search rules;
+      adds = adds g (goal.at.returns g c).After-advance _;
+      sees = search rules;
+      past = search rules;
+      turns = λ alone only old before stands.
+          marking_reads g.P.Meld.meld (g.W.Words.name c.args.world.now.words) c.args.asked.now c.args.marks c.args.shrinks group c.args.self.now (g.W.Words.sight c.args.pass.now) c.requires.of
+          c.held_comm-x.result.now c.comm_of.result c.held_comm-x.ensures c.comm_of.ensures c.deref.result.now c.failures-seen.result.now (members g (goal.at.returns g c).After-deref) c.failures-seen.ensures alone old before stands
+          g.W.Words.alone only (g.W.Words.sight c.advance.new.pass) c.advance.new.self c.advance.ensures.rank c.advance.ensures.comm c.advance.ensures.round c.advance.ensures.at c.advance.ensures.marks c.new.result c.new.ensures (omega (arith, c.if-marks-seen.false));
+    }

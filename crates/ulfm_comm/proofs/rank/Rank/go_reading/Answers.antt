@@ -1,12 +1,12 @@
-use Rattle.std.proofs.Common.{◌≡◌, false, [], length, ap, sym, ◌∙◌, arith}
+use Rattle.std.proofs.Common.{rules, ◌≡◌, false, [], length, ap, sym, ◌∙◌, arith}
 use Rattle.ulfm_model.specs.Records.{Held}
-use Rattle.ulfm_comm.specs.Stages.{Walks}
-use Rattle.ulfm_comm.proofs.Polling.{reading_agrees, reading_goes, reading_may, reading_pends, reading_shrinks, reading_so_far, reading_within}
+use Rattle.ulfm_comm.specs.Step.{Walks}
+use Rattle.ulfm_comm.proofs.Agreement.{reading_agrees, reading_goes, reading_may, reading_pends, reading_shrinks, reading_so_far, reading_within}
 use Rattle.ulfm_comm.proofs.rank.Rank.go_reading.Goals as goal
 use Rattle.ulfm_comm.proofs.rank.Rank.go_reading.Goals.{After-deref, After-advance, After-len}
 
 -- the members that the code reads
-members : (g : _) (c : After-deref g) → c.deref.result.now ≡ c.in-Some.x.now.group
+members : (g : _) (c : After-deref g) → c.deref.result.now ≡ c.held_comm-x.result.now.group
 members g c = c.deref.ensures.value ∙ ap (λ (y : Held). y.group) c.x.view_is
 
 -- and their number
@@ -21,37 +21,19 @@ pub advance-requires-clause-round : goal.advance-requires-clause-round
 advance-requires-clause-round g c =
     let stands = c.requires.stands in
     reading_may g.P.Meld.meld (g.W.Words.name c.args.world.now.words) c.args.asked.now c.args.reading c.args.shrinks c.args.group.now.items c.args.self.now (g.W.Words.sight c.args.pass.now)
-    c.in-Some.x.now c.comm_of-comm.result c.in-Some.ensures.held c.comm_of-comm.ensures c.deref.result.now (members g (goal.at.advance-requires-clause-round g c).After-deref) false stands.0 stands.1 stands.2
+    c.held_comm-x.result.now c.comm_of-comm.result c.held_comm-x.ensures c.comm_of-comm.ensures c.deref.result.now (members g (goal.at.advance-requires-clause-round g c).After-deref) false stands.0 stands.1 stands.2
 
 pub advance-requires-clause-more : goal.advance-requires-clause-more
 advance-requires-clause-more g c =
     let stands = c.requires.stands in
     reading_within g.P.Meld.meld (g.W.Words.name c.args.world.now.words) c.args.asked.now c.args.reading c.args.shrinks c.args.group.now.items c.args.self.now (g.W.Words.sight c.args.pass.now)
-    c.in-Some.x.now c.comm_of-comm.result c.in-Some.ensures.held c.comm_of-comm.ensures c.deref.result.now (members g (goal.at.advance-requires-clause-more g c).After-deref) false stands.0 stands.1 stands.2
+    c.held_comm-x.result.now c.comm_of-comm.result c.held_comm-x.ensures c.comm_of-comm.ensures c.deref.result.now (members g (goal.at.advance-requires-clause-more g c).After-deref) false stands.0 stands.1 stands.2
 
 pub advance-requires-clause-read : goal.advance-requires-clause-read
 advance-requires-clause-read g c =
     let stands = c.requires.stands in
     reading_so_far g.P.Meld.meld (g.W.Words.name c.args.world.now.words) c.args.asked.now c.args.reading c.args.shrinks c.args.group.now.items c.args.self.now (g.W.Words.sight c.args.pass.now)
-    c.in-Some.x.now c.comm_of-comm.result c.in-Some.ensures.held c.comm_of-comm.ensures c.deref.result.now (members g (goal.at.advance-requires-clause-read g c).After-deref) false stands.0 stands.1 stands.2
-
-pub returns-then-not-advance-clause-walks : goal.returns-then-not-advance-clause-walks
-returns-then-not-advance-clause-walks g c = walks g (goal.at.returns-then-not-advance-clause-walks g c).After-advance
-
-pub returns-then-not-advance-clause-turns : goal.returns-then-not-advance-clause-turns
-returns-then-not-advance-clause-turns g c = λ alone only old before stands.
-    reading_pends g.P.Meld.meld (g.W.Words.name c.args.world.now.words) c.args.asked.now c.args.reading c.args.shrinks c.args.group.now.items c.args.self.now (g.W.Words.sight c.args.pass.now)
-    c.in-Some.x.now c.comm_of-comm.result c.in-Some.ensures.held c.comm_of-comm.ensures c.deref.result.now (members g (goal.at.returns-then-not-advance-clause-turns g c).After-deref) alone old before stands
-    g.W.Words.alone only (g.W.Words.sight c.advance.new.pass) c.advance.ensures.goes.of c.advance.ensures.goes.did c.advance.ensures.goes.onward c.advance.ensures.takes.some c.if-not-advance.ensures.missing
-
-pub returns-then-reading-len-clause-walks : goal.returns-then-reading-len-clause-walks
-returns-then-reading-len-clause-walks g c = walks g (goal.at.returns-then-reading-len-clause-walks g c).After-advance
-
-pub returns-then-reading-len-clause-turns : goal.returns-then-reading-len-clause-turns
-returns-then-reading-len-clause-turns g c = λ alone only old before stands.
-    reading_goes g.P.Meld.meld (g.W.Words.name c.args.world.now.words) c.args.asked.now c.args.reading c.args.shrinks c.args.group.now.items c.args.self.now (g.W.Words.sight c.args.pass.now)
-    c.in-Some.x.now c.comm_of-comm.result c.in-Some.ensures.held c.comm_of-comm.ensures c.deref.result.now (members g (goal.at.returns-then-reading-len-clause-turns g c).After-deref) alone old before stands
-    g.W.Words.alone only (g.W.Words.sight c.advance.new.pass) c.advance.ensures.goes.of c.advance.ensures.goes.did c.advance.ensures.goes.onward c.advance.new.self c.advance.ensures.comm c.advance.ensures.round (omega (arith, c.if-reading-len.true, length_is g (goal.at.returns-then-reading-len-clause-turns g c).After-len)) c.advance.ensures.read
+    c.held_comm-x.result.now c.comm_of-comm.result c.held_comm-x.ensures c.comm_of-comm.ensures c.deref.result.now (members g (goal.at.advance-requires-clause-read g c).After-deref) false stands.0 stands.1 stands.2
 
 pub shrunk-requires-clause-read : goal.shrunk-requires-clause-read
 shrunk-requires-clause-read g c =
@@ -59,28 +41,74 @@ shrunk-requires-clause-read g c =
       stands.0,
       stands.1,
       reading_shrinks g.P.Meld.meld (g.W.Words.name c.args.world.now.words) c.args.asked.now c.args.reading c.args.shrinks c.args.group.now.items c.args.self.now (g.W.Words.sight c.args.pass.now)
-          c.in-Some.x.now c.comm_of-comm.result c.in-Some.ensures.held c.comm_of-comm.ensures c.deref.result.now (members g (goal.at.shrunk-requires-clause-read g c).After-deref) false stands.0 stands.1 stands.2
+          c.held_comm-x.result.now c.comm_of-comm.result c.held_comm-x.ensures c.comm_of-comm.ensures c.deref.result.now (members g (goal.at.shrunk-requires-clause-read g c).After-deref) false stands.0 stands.1 stands.2
           g.W.Words.alone (λ here. absurd (cc here)) (g.W.Words.sight c.advance.new.pass) c.advance.ensures.goes.of c.advance.ensures.goes.did c.advance.ensures.goes.onward
           c.advance.new.self c.advance.ensures.round c.advance.ensures.within (omega (arith, c.if-reading-len.false, length_is g (goal.at.shrunk-requires-clause-read g c).After-len)) c.advance.ensures.read c.if-shrinks.true,
     )
 
-pub returns-then-shrinks-clause-walks : goal.returns-then-shrinks-clause-walks
-returns-then-shrinks-clause-walks g c = walks g (goal.at.returns-then-shrinks-clause-walks g c).After-advance
+pub returns-then-not-advance : goal.returns-then-not-advance
+returns-then-not-advance g c =
+    record {
+      walks = walks g (goal.at.returns-then-not-advance g c).After-advance;
+      named = search rules;
+      nearer = search rules;
+      further = search rules;
+      adds = search rules;
+      sees = search rules;
+      past = search rules;
+      turns = λ alone only old before stands.
+          reading_pends g.P.Meld.meld (g.W.Words.name c.args.world.now.words) c.args.asked.now c.args.reading c.args.shrinks c.args.group.now.items c.args.self.now (g.W.Words.sight c.args.pass.now)
+          c.held_comm-x.result.now c.comm_of-comm.result c.held_comm-x.ensures c.comm_of-comm.ensures c.deref.result.now (members g (goal.at.returns-then-not-advance g c).After-deref) alone old before stands
+          g.W.Words.alone only (g.W.Words.sight c.advance.new.pass) c.advance.ensures.goes.of c.advance.ensures.goes.did c.advance.ensures.goes.onward c.advance.ensures.takes.some c.if-not-advance.ensures.missing;
+    }
 
-pub returns-then-shrinks-clause-turns : goal.returns-then-shrinks-clause-turns
-returns-then-shrinks-clause-turns g c = λ alone only old before stands.
-    c.shrunk.ensures.turns alone old before
-    (reading_shrinks g.P.Meld.meld (g.W.Words.name c.args.world.now.words) c.args.asked.now c.args.reading c.args.shrinks c.args.group.now.items c.args.self.now (g.W.Words.sight c.args.pass.now)
-    c.in-Some.x.now c.comm_of-comm.result c.in-Some.ensures.held c.comm_of-comm.ensures c.deref.result.now (members g (goal.at.returns-then-shrinks-clause-turns g c).After-deref) alone old before stands
-    g.W.Words.alone only (g.W.Words.sight c.advance.new.pass) c.advance.ensures.goes.of c.advance.ensures.goes.did c.advance.ensures.goes.onward
-    c.advance.new.self c.advance.ensures.round c.advance.ensures.within (omega (arith, c.if-reading-len.false, length_is g (goal.at.returns-then-shrinks-clause-turns g c).After-len)) c.advance.ensures.read c.if-shrinks.true)
+pub returns-then-reading-len : goal.returns-then-reading-len
+returns-then-reading-len g c =
+    record {
+      walks = walks g (goal.at.returns-then-reading-len g c).After-advance;
+      named = search rules;
+      nearer = search rules;
+      further = search rules;
+      adds = search rules;
+      sees = search rules;
+      past = search rules;
+      turns = λ alone only old before stands.
+          reading_goes g.P.Meld.meld (g.W.Words.name c.args.world.now.words) c.args.asked.now c.args.reading c.args.shrinks c.args.group.now.items c.args.self.now (g.W.Words.sight c.args.pass.now)
+          c.held_comm-x.result.now c.comm_of-comm.result c.held_comm-x.ensures c.comm_of-comm.ensures c.deref.result.now (members g (goal.at.returns-then-reading-len g c).After-deref) alone old before stands
+          g.W.Words.alone only (g.W.Words.sight c.advance.new.pass) c.advance.ensures.goes.of c.advance.ensures.goes.did c.advance.ensures.goes.onward c.advance.new.self c.advance.ensures.comm c.advance.ensures.round (omega (arith, c.if-reading-len.true, length_is g (goal.at.returns-then-reading-len g c).After-len)) c.advance.ensures.read;
+    }
 
-pub returns-clause-walks : goal.returns-clause-walks
-returns-clause-walks g c = walks g (goal.at.returns-clause-walks g c).After-advance
+pub returns-then-shrinks : goal.returns-then-shrinks
+returns-then-shrinks g c =
+    record {
+      walks = walks g (goal.at.returns-then-shrinks g c).After-advance;
+      named = search rules;
+      nearer = search rules;
+      further = search rules;
+      adds = search rules;
+      sees = search rules;
+      past = search rules;
+      turns = λ alone only old before stands.
+          c.shrunk.ensures.turns alone old before
+          (reading_shrinks g.P.Meld.meld (g.W.Words.name c.args.world.now.words) c.args.asked.now c.args.reading c.args.shrinks c.args.group.now.items c.args.self.now (g.W.Words.sight c.args.pass.now)
+          c.held_comm-x.result.now c.comm_of-comm.result c.held_comm-x.ensures c.comm_of-comm.ensures c.deref.result.now (members g (goal.at.returns-then-shrinks g c).After-deref) alone old before stands
+          g.W.Words.alone only (g.W.Words.sight c.advance.new.pass) c.advance.ensures.goes.of c.advance.ensures.goes.did c.advance.ensures.goes.onward
+          c.advance.new.self c.advance.ensures.round c.advance.ensures.within (omega (arith, c.if-reading-len.false, length_is g (goal.at.returns-then-shrinks g c).After-len)) c.advance.ensures.read c.if-shrinks.true);
+    }
 
-pub returns-clause-turns : goal.returns-clause-turns
-returns-clause-turns g c = λ alone only old before stands.
-    reading_agrees g.P.Meld.meld (g.W.Words.name c.args.world.now.words) c.args.asked.now c.args.reading c.args.shrinks c.args.group.now.items c.args.self.now (g.W.Words.sight c.args.pass.now)
-    c.in-Some.x.now c.comm_of-comm.result c.in-Some.ensures.held c.comm_of-comm.ensures c.deref.result.now (members g (goal.at.returns-clause-turns g c).After-deref) alone old before stands
-    g.W.Words.alone only (g.W.Words.sight c.advance.new.pass) c.advance.ensures.goes.of c.advance.ensures.goes.did c.advance.ensures.goes.onward
-    c.advance.new.self c.advance.ensures.round c.advance.ensures.within (omega (arith, c.if-reading-len.false, length_is g (goal.at.returns-clause-turns g c).After-len)) c.advance.ensures.read c.if-shrinks.false c.agreed.new.self c.agreed.ensures.closes c.agreed.result c.agreed.ensures.reply
+pub returns : goal.returns
+returns g c =
+    record {
+      walks = walks g (goal.at.returns g c).After-advance;
+      named = search rules;
+      nearer = search rules;
+      further = search rules;
+      adds = search rules;
+      sees = search rules;
+      past = search rules;
+      turns = λ alone only old before stands.
+          reading_agrees g.P.Meld.meld (g.W.Words.name c.args.world.now.words) c.args.asked.now c.args.reading c.args.shrinks c.args.group.now.items c.args.self.now (g.W.Words.sight c.args.pass.now)
+          c.held_comm-x.result.now c.comm_of-comm.result c.held_comm-x.ensures c.comm_of-comm.ensures c.deref.result.now (members g (goal.at.returns g c).After-deref) alone old before stands
+          g.W.Words.alone only (g.W.Words.sight c.advance.new.pass) c.advance.ensures.goes.of c.advance.ensures.goes.did c.advance.ensures.goes.onward
+          c.advance.new.self c.advance.ensures.round c.advance.ensures.within (omega (arith, c.if-reading-len.false, length_is g (goal.at.returns g c).After-len)) c.advance.ensures.read c.if-shrinks.false c.agreed.new.self c.agreed.ensures.closes c.agreed.result c.agreed.ensures.reply;
+    }

@@ -1,12 +1,12 @@
-use Rattle.std.proofs.Common.{◌≤◌, [], ap, ◌∙◌, IsTrue, Bool, false}
+use Rattle.std.proofs.Common.{rules, ◌≤◌, [], ap, ◌∙◌, IsTrue, Bool, false}
 use Rattle.ulfm_model.specs.Records.{held_at, Record}
 use Rattle.ulfm_model.specs.Terms.{comm_of}
 use Rattle.ulfm_words.specs.Steps.{Sight}
 use Rattle.ulfm_steps.specs.ReadsOn.{AtFailure}
-use Rattle.ulfm_comm.specs.Stages.{HasReached, Stands}
-use Rattle.ulfm_comm.specs.declared.doing.Phase.TheVariants.{ReadingOn as AtReadingOn}
-use Rattle.ulfm_comm.proofs.Ending.{has_reached, held_is, may_read_on, reads_further}
-use Rattle.ulfm_comm.proofs.Loosely.{did_loosely}
+use Rattle.ulfm_comm.specs.{Spawning.{HasReached}, Phase.{Stands}}
+use Rattle.ulfm_comm.specs.declared.phases.phase.Phase.TheVariants.{ReadingOn as AtReadingOn}
+use Rattle.ulfm_comm.proofs.Spawning.{has_reached, held_is, may_read_on, reads_further}
+use Rattle.ulfm_comm.proofs.AmongOthers.{did_loosely}
 use Rattle.ulfm_comm.proofs.rank.Rank.go_reading_on.Goals as goal
 use Rattle.ulfm_comm.proofs.rank.Rank.go_reading_on.Goals.{After-read_on}
 
@@ -38,15 +38,6 @@ at_failure g c alone old before s =
     c.read_on.ensures.at s.at.1
     (ap (held_at c.args.self.now) c.comm_of.ensures ∙ held_is g.P.Meld.meld name.limits alone comm c.args.made.round c.args.made.mask s.at.1 c.args.made.count old before.seen c.args.self.now now.seen s.at.2)
 
-pub returns-then-on-made-clause-turns : goal.returns-then-on-made-clause-turns
-returns-then-on-made-clause-turns g c = λ alone only old before s.
-    let now = g.W.Words.sight c.args.pass.now in
-    let after = g.W.Words.sight c.read_on.new.pass in
-    let ensures = c.read_on.ensures in
-    reads_further g.P.Meld.meld alone (g.W.Words.name c.args.world.now.words) c.args.asked.now c.args.on c.args.made c.args.group.now.items old before c.args.self.now now s c.read_on.new.self after
-    (did_loosely alone g.W.Words.alone only [] now.seen after.seen ensures.goes.did) ensures.goes.onward ensures.kept ensures.goes_on ensures.begins c.read_on.new.on c.args.group.now.items
-    (at_failure g (goal.at.returns-then-on-made-clause-turns g c).After-read_on alone old before s) c.if-on-made.true
-
 -- the decision's whole failed group is known
 reached : (g : _) (c : After-read_on g) (alone : Bool) → (IsTrue alone → IsTrue g.W.Words.alone) → (old : Record) (before : Sight g.row.P.Denot) → StoodAt g c alone old before → c.args.made.count ≤ c.read_on.new.on.found
     → HasReached g.P.Meld.meld alone (g.W.Words.name c.args.world.now.words) c.args.asked.now c.args.made c.read_on.new.on.reach old before c.read_on.new.self (g.W.Words.sight c.read_on.new.pass)
@@ -65,16 +56,37 @@ reached-requires-clause-reached g c =
       reached g (goal.at.reached-requires-clause-reached g c).After-read_on false (λ here. absurd (cc here)) stands.0 stands.1 stands.2 c.if-on-made.false,
     )
 
-pub returns-clause-walks : goal.returns-clause-walks
-returns-clause-walks g c =
-    let goes = c.read_on.ensures.goes in
-    record { of = goes.of; own = []; did = goes.did; onward = goes.onward }
+pub returns-then-on-made : goal.returns-then-on-made
+returns-then-on-made g c =
+    record {
+      walks = let goes = c.read_on.ensures.goes in
+          record { of = goes.of; own = []; did = goes.did; onward = goes.onward };
+      named = search rules;
+      nearer = search rules;
+      further = search rules;
+      adds = search rules;
+      sees = search rules;
+      past = search rules;
+      turns = λ alone only old before s.
+          let now = g.W.Words.sight c.args.pass.now in
+          let after = g.W.Words.sight c.read_on.new.pass in
+          let ensures = c.read_on.ensures in
+          reads_further g.P.Meld.meld alone (g.W.Words.name c.args.world.now.words) c.args.asked.now c.args.on c.args.made c.args.group.now.items old before c.args.self.now now s c.read_on.new.self after
+          (did_loosely alone g.W.Words.alone only [] now.seen after.seen ensures.goes.did) ensures.goes.onward ensures.kept ensures.goes_on ensures.begins c.read_on.new.on c.args.group.now.items
+          (at_failure g (goal.at.returns-then-on-made g c).After-read_on alone old before s) c.if-on-made.true;
+    }
 
-pub returns-clause-turns : goal.returns-clause-turns
-returns-clause-turns g c = λ alone only old before s.
-    c.reached.ensures.turns alone old before (reached g (goal.at.returns-clause-turns g c).After-read_on alone only old before s c.if-on-made.false)
-
-pub returns-then-on-made-clause-walks : goal.returns-then-on-made-clause-walks
-returns-then-on-made-clause-walks g c =
-    let goes = c.read_on.ensures.goes in
-    record { of = goes.of; own = []; did = goes.did; onward = goes.onward }
+pub returns : goal.returns
+returns g c =
+    record {
+      walks = let goes = c.read_on.ensures.goes in
+          record { of = goes.of; own = []; did = goes.did; onward = goes.onward };
+      named = search rules;
+      nearer = search rules;
+      further = search rules;
+      adds = search rules;
+      sees = search rules;
+      past = search rules;
+      turns = λ alone only old before s.
+          c.reached.ensures.turns alone old before (reached g (goal.at.returns g c).After-read_on alone only old before s c.if-on-made.false);
+    }

@@ -1,13 +1,13 @@
-use Rattle.std.proofs.Common.{arith, List, ℕ, [], Some, IsTrue, MatchBool, subst, sym}
+use Rattle.std.proofs.Common.{rules, arith, List, ℕ, [], Some, IsTrue, MatchBool, subst, sym}
 use Rattle.ulfm_model.specs.declared.{event.Caller.TheVariants.{Rank}, event.Event.TheVariants.{Revoke}}
 use Rattle.ulfm_model.specs.{History.{is_revoked}, Runs.{Did}}
 use Rattle.ulfm_model.specs.Terms.{comm_of}
 use Rattle.ulfm_words.specs.Steps.{IsAdded}
-use Rattle.ulfm_comm.specs.{Revokes.{revoked}, Stages.{Answered, HasLooked, Turns, Walks}}
-use Rattle.ulfm_comm.specs.declared.doing.{Next.TheVariants.{Ends}, Phase.TheVariants.{Revoking}}
-use Rattle.ulfm_comm.proofs.{Exchanging.{fits_now, revoke_answered, walks_tried}, Revoking.{held_below, held_may_end}}
+use Rattle.ulfm_comm.specs.{Revokes.{revoked}, Phase.{Answered, Turns}, Look.{HasLooked}, Step.{Walks}}
+use Rattle.ulfm_comm.specs.declared.{phases.phase.Next.TheVariants.{Ends}, phases.phase.Phase.TheVariants.{Revoking}}
+use Rattle.ulfm_comm.proofs.{Exchange.{fits_now, revoke_answered, walks_tried}, Revokes.{held_below, held_may_end}}
 use Rattle.ulfm_model.specs.declared.reply.Reply.TheVariants.{AlreadyRevoked}
-use Rattle.ulfm_comm.proofs.{Adding.{adds_none, adds_revoked}, Entering.{when_lost, when_won}}
+use Rattle.ulfm_comm.proofs.{StepAdds.{adds_none, adds_revoked}, BarrierStart.{when_lost, when_won}}
 use Rattle.ulfm_comm.proofs.rank.Rank.go_revoking.Goals as goal
 use Rattle.ulfm_comm.proofs.rank.Rank.go_revoking.Goals.{After-set_revocation}
 
@@ -52,33 +52,41 @@ answered g c =
     (λ p. revoke_answered g.P.Meld.meld alone g.W.Words.alone only name (comm_of c.args.asked.now) old before own now after (omega (arith, stands.onward, c.set_revocation.ensures.tries.steps)) stands.fits c.set_revocation.ensures.tries.of p c.set_revocation.result (outcome g c) there)
     stands.at.0
 
-pub returns-then-set_revocation-clause-walks : goal.returns-then-set_revocation-clause-walks
-returns-then-set_revocation-clause-walks g c = walks g (goal.at.returns-then-set_revocation-clause-walks g c).After-set_revocation
+pub returns-then-set_revocation : goal.returns-then-set_revocation
+returns-then-set_revocation g c =
+    λ group whole.
+    record {
+      walks = walks g (goal.at.returns-then-set_revocation g c).After-set_revocation;
+      named = search rules;
+      nearer = search rules;
+      further = search rules;
+      adds = λ not.
+          let at = (goal.at.returns-then-set_revocation g c).After-set_revocation in
+          let s = c.requires.stands.1 in
+          adds_revoked g.P.Meld.meld g.W.Words.alone (g.W.Words.name c.args.world.now.words).limits c.args.asked.now s.0 s.1.seen c.args.self.now (g.W.Words.sight c.args.pass.now).seen (g.W.Words.sight c.set_revocation.new.pass).seen
+          c.requires.of.legal s.2.at.0 s.0.number s.2.at.1 (when_won _ _ c.set_revocation.result c.if-set_revocation.true (outcome g at));
+      sees = search rules;
+      past = search rules;
+      turns = λ alone only old before stands.
+          subst (λ won. Answered g.P.Meld.meld alone (g.W.Words.name c.args.world.now.words) c.args.asked.now old before (revoked won) c.args.self.now (g.W.Words.sight c.set_revocation.new.pass)) c.if-set_revocation.true
+          (answered g (goal.at.returns-then-set_revocation g c).After-set_revocation group alone only old before stands);
+    }
 
-pub returns-else-set_revocation-clause-walks : goal.returns-else-set_revocation-clause-walks
-returns-else-set_revocation-clause-walks g c = walks g (goal.at.returns-else-set_revocation-clause-walks g c).After-set_revocation
-
-pub returns-then-set_revocation-clause-turns : goal.returns-then-set_revocation-clause-turns
-returns-then-set_revocation-clause-turns g c =
-    λ group alone only old before stands.
-    subst (λ won. Answered g.P.Meld.meld alone (g.W.Words.name c.args.world.now.words) c.args.asked.now old before (revoked won) c.args.self.now (g.W.Words.sight c.set_revocation.new.pass)) c.if-set_revocation.true
-    (answered g (goal.at.returns-then-set_revocation-clause-turns g c).After-set_revocation group alone only old before stands)
-
-pub returns-else-set_revocation-clause-turns : goal.returns-else-set_revocation-clause-turns
-returns-else-set_revocation-clause-turns g c =
-    λ group alone only old before stands.
-    subst (λ won. Answered g.P.Meld.meld alone (g.W.Words.name c.args.world.now.words) c.args.asked.now old before (revoked won) c.args.self.now (g.W.Words.sight c.set_revocation.new.pass)) c.if-set_revocation.false
-    (answered g (goal.at.returns-else-set_revocation-clause-turns g c).After-set_revocation group alone only old before stands)
-
-pub returns-then-set_revocation-clause-adds : goal.returns-then-set_revocation-clause-adds
-returns-then-set_revocation-clause-adds g c =
-    let at = (goal.at.returns-then-set_revocation-clause-adds g c).After-set_revocation in
-    let s = c.requires.stands.1 in
-    adds_revoked g.P.Meld.meld g.W.Words.alone (g.W.Words.name c.args.world.now.words).limits c.args.asked.now s.0 s.1.seen c.args.self.now (g.W.Words.sight c.args.pass.now).seen (g.W.Words.sight c.set_revocation.new.pass).seen
-    c.requires.of.legal s.2.at.0 s.0.number s.2.at.1 (when_won _ _ c.set_revocation.result c.if-set_revocation.true (outcome g at))
-
-pub returns-else-set_revocation-clause-adds : goal.returns-else-set_revocation-clause-adds
-returns-else-set_revocation-clause-adds g c =
-    let at = (goal.at.returns-else-set_revocation-clause-adds g c).After-set_revocation in
-    adds_none g.W.Words.alone c.args.self.now.seen c.args.self.now c.args.asked.now (Some AlreadyRevoked) (g.W.Words.sight c.args.pass.now).seen (g.W.Words.sight c.set_revocation.new.pass).seen
-    (when_lost _ _ c.set_revocation.result c.if-set_revocation.false (outcome g at))
+pub returns-else-set_revocation : goal.returns-else-set_revocation
+returns-else-set_revocation g c =
+    λ group whole.
+    record {
+      walks = walks g (goal.at.returns-else-set_revocation g c).After-set_revocation;
+      named = search rules;
+      nearer = search rules;
+      further = search rules;
+      adds = λ not.
+          let at = (goal.at.returns-else-set_revocation g c).After-set_revocation in
+          adds_none g.W.Words.alone c.args.self.now.seen c.args.self.now c.args.asked.now (Some AlreadyRevoked) (g.W.Words.sight c.args.pass.now).seen (g.W.Words.sight c.set_revocation.new.pass).seen
+          (when_lost _ _ c.set_revocation.result c.if-set_revocation.false (outcome g at));
+      sees = search rules;
+      past = search rules;
+      turns = λ alone only old before stands.
+          subst (λ won. Answered g.P.Meld.meld alone (g.W.Words.name c.args.world.now.words) c.args.asked.now old before (revoked won) c.args.self.now (g.W.Words.sight c.set_revocation.new.pass)) c.if-set_revocation.false
+          (answered g (goal.at.returns-else-set_revocation g c).After-set_revocation group alone only old before stands);
+    }

@@ -1,15 +1,15 @@
-use Rattle.std.proofs.Common.{ℕ, arith, false, List, Some, ap, refl, sym, subst, ◌∙◌}
+use Rattle.std.proofs.Common.{rules, ℕ, arith, false, List, Some, ap, refl, sym, subst, ◌∙◌}
 use Rattle.ulfm_model.specs.Records.{Record}
-use Rattle.ulfm_comm.proofs.Adding.{adds_settled, start_keeps}
+use Rattle.ulfm_comm.proofs.StepAdds.{adds_settled, start_keeps}
 use Rattle.ulfm_model.specs.declared.reply.Reply.TheVariants.{Started}
-use Rattle.ulfm_comm.specs.{Calls.{reply_of}, Stages.{Adds, Answered, Turns}}
-use Rattle.ulfm_comm.specs.declared.doing.{Next.TheVariants.{Ends}, Phase.TheVariants.{Settling}}
+use Rattle.ulfm_comm.specs.{Calls.{reply_of}, Step.{Adds}, Phase.{Answered, Turns}}
+use Rattle.ulfm_comm.specs.declared.{phases.phase.Next.TheVariants.{Ends}, phases.phase.Phase.TheVariants.{Settling}}
 use Rattle.ulfm_model.specs.declared.place.Place.TheVariants.{Slot as SlotAt}
 use Rattle.ulfm_model.specs.Terms.{comm_of}
 use Rattle.ulfm_steps.specs.Turns.{IsOneStep}
 use Rattle.ulfm_comm.specs.StepsLeft.{IsStepOf}
-use Rattle.ulfm_comm.specs.declared.doing.StepName.TheVariants.{Settle as AtSettle}
-use Rattle.ulfm_comm.proofs.{Holding.{comm_is, found_there}, Exchanging.{fits_now, seen_is, start_answered, walks_settled}, Starts.{acked_known}}
+use Rattle.ulfm_comm.specs.declared.phases.phase.StepName.TheVariants.{Settle as AtSettle}
+use Rattle.ulfm_comm.proofs.{Holding.{comm_is, found_there}, Exchange.{fits_now, seen_is, start_answered, walks_settled}, Starts.{acked_known}}
 use Rattle.ulfm_comm.proofs.rank.Rank.go_settling.Goals as goal
 use Rattle.ulfm_comm.proofs.rank.Rank.go_settling.Goals.{After-end_start}
 
@@ -22,19 +22,14 @@ pub contribute-settled-requires-clause-held : goal.contribute-settled-requires-c
 contribute-settled-requires-clause-held g c =
     let s = c.requires.stands.1.2 in
     let p = s.at.0 in
-    found_there g.P.Meld.meld (g.W.Words.name c.args.world.now.words).limits (g.W.Words.sight c.args.pass.now).seen c.args.self.now c.comm_of.result c.in-Some.x.now
-    (fits_now _ _ _ _ _ _ _ _ p c.requires.of.legal) c.in-Some.ensures.held
+    found_there g.P.Meld.meld (g.W.Words.name c.args.world.now.words).limits (g.W.Words.sight c.args.pass.now).seen c.args.self.now c.comm_of.result c.held_comm-x.result.now
+    (fits_now _ _ _ _ _ _ _ _ p c.requires.of.legal) c.held_comm-x.ensures
 
 pub contribute-settled-requires-clause-acked : goal.contribute-settled-requires-clause-acked
 contribute-settled-requires-clause-acked g c =
     let s = c.requires.stands.1.2 in
     let p = s.at.0 in
-    acked_known g.P.Meld.meld (g.W.Words.name c.args.world.now.words).limits p.look c.args.self.now c.comm_of.result c.in-Some.x.now p.fits c.in-Some.ensures.held (seen_is _ _ _ _ _ _ _ _ p)
-
-pub returns-in-Ok-clause-walks : goal.returns-in-Ok-clause-walks
-returns-in-Ok-clause-walks g c =
-    walks_settled g.P.Meld.meld g.W.Words.alone (g.W.Words.name c.args.world.now.words) c.args.self.now.number (g.W.Words.sight c.args.pass.now) (g.W.Words.sight c.contribute-settled.new.pass)
-    c.contribute-settled.ensures.of c.contribute-settled.ensures.one.steps c.args.self.now c.in-Some.x.now c.args.offer c.contribute-settled.result refl c.contribute-settled.ensures.settles
+    acked_known g.P.Meld.meld (g.W.Words.name c.args.world.now.words).limits p.look c.args.self.now c.comm_of.result c.held_comm-x.result.now p.fits c.held_comm-x.ensures (seen_is _ _ _ _ _ _ _ _ p)
 
 -- the start is answered as its exchange says
 answered : (g : _) (c : After-end_start g) (group : List ℕ)
@@ -42,23 +37,11 @@ answered : (g : _) (c : After-end_start g) (group : List ℕ)
     (Ends (reply_of (λ _. Started) c.end_start.result)) group c.end_start.new.self (g.W.Words.sight c.contribute-settled.new.pass)
 answered g c =
     λ group alone only old before stands.
-    let held = c.in-Some.ensures.held in
+    let held = c.held_comm-x.ensures in
     let name = g.W.Words.name c.args.world.now.words in
     subst (λ r. Answered g.P.Meld.meld alone name c.args.asked.now old before (reply_of (λ _. Started) r) c.end_start.new.self (g.W.Words.sight c.contribute-settled.new.pass)) (sym c.end_start.ensures.result)
     (start_answered g.P.Meld.meld alone g.W.Words.alone only name c.args.asked.now c.args.request c.args.offer group old before c.args.self.now (g.W.Words.sight c.args.pass.now) (g.W.Words.sight c.contribute-settled.new.pass)
-    (omega (arith, c.contribute-settled.ensures.one.steps)) stands c.in-Some.x.now (rw (← c.comm_of.ensures) held) c.contribute-settled.result c.end_start.new.self c.contribute-settled.ensures.of c.contribute-settled.ensures.settles (rw (← c.comm_of-2.ensures) c.end_start.ensures.leaves))
-
-pub returns-in-Ok-clause-turns : goal.returns-in-Ok-clause-turns
-returns-in-Ok-clause-turns g c =
-    λ group alone only old before stands.
-    subst (λ r. Answered g.P.Meld.meld alone (g.W.Words.name c.args.world.now.words) c.args.asked.now old before (reply_of (λ _. Started) r) c.end_start.new.self (g.W.Words.sight c.contribute-settled.new.pass)) c.in-Ok.is
-    (answered g (goal.at.returns-in-Ok-clause-turns g c).After-end_start group alone only old before stands)
-
-pub returns-in-Err-clause-turns : goal.returns-in-Err-clause-turns
-returns-in-Err-clause-turns g c =
-    λ group alone only old before stands.
-    subst (λ r. Answered g.P.Meld.meld alone (g.W.Words.name c.args.world.now.words) c.args.asked.now old before (reply_of (λ _. Started) r) c.end_start.new.self (g.W.Words.sight c.contribute-settled.new.pass)) c.in-Err.is
-    (answered g (goal.at.returns-in-Err-clause-turns g c).After-end_start group alone only old before stands)
+    (omega (arith, c.contribute-settled.ensures.one.steps)) stands c.held_comm-x.result.now (rw (← c.comm_of.ensures) held) c.contribute-settled.result c.end_start.new.self c.contribute-settled.ensures.of c.contribute-settled.ensures.settles (rw (← c.comm_of-2.ensures) c.end_start.ensures.leaves))
 
 -- what its exchange adds
 adds : (g : _) (c : After-end_start g) → Adds g.W.Words.alone c.args.self.now.seen c.args.self.now c.args.asked.now (Some (reply_of (λ _. Started) c.end_start.result)) (g.W.Words.sight c.args.pass.now).seen (g.W.Words.sight c.contribute-settled.new.pass).seen
@@ -66,26 +49,10 @@ adds g c =
     let s = c.requires.stands in
     let now = g.W.Words.sight c.args.pass.now in
     let after = g.W.Words.sight c.contribute-settled.new.pass in
-    let held = c.in-Some.ensures.held in
+    let held = c.held_comm-x.ensures in
     subst (λ r. Adds g.W.Words.alone c.args.self.now.seen c.args.self.now c.args.asked.now (Some (reply_of (λ _. Started) r)) now.seen after.seen) (sym c.end_start.ensures.result)
-    (adds_settled g.P.Meld.meld g.W.Words.alone (g.W.Words.name c.args.world.now.words) c.args.asked.now c.args.request c.args.offer s.0 s.1.0 s.1.1 c.args.self.now now after.seen s.1.2 c.in-Some.x.now (rw (← c.comm_of.ensures) held)
+    (adds_settled g.P.Meld.meld g.W.Words.alone (g.W.Words.name c.args.world.now.words) c.args.asked.now c.args.request c.args.offer s.0 s.1.0 s.1.1 c.args.self.now now after.seen s.1.2 c.held_comm-x.result.now (rw (← c.comm_of.ensures) held)
     c.contribute-settled.result c.contribute-settled.ensures.settles)
-
-pub returns-in-Ok-clause-adds : goal.returns-in-Ok-clause-adds
-returns-in-Ok-clause-adds g c =
-    subst (λ r. Adds g.W.Words.alone c.args.self.now.seen c.args.self.now c.args.asked.now (Some (reply_of (λ _. Started) r)) (g.W.Words.sight c.args.pass.now).seen (g.W.Words.sight c.contribute-settled.new.pass).seen) c.in-Ok.is
-    (adds g (goal.at.returns-in-Ok-clause-adds g c).After-end_start)
-
-pub returns-in-Ok-clause-sees : goal.returns-in-Ok-clause-sees
-returns-in-Ok-clause-sees g c = ap (λ (w : Record). w.seen) c.end_start.ensures.leaves ∙ start_keeps c.args.self.now _ c.args.request c.contribute-settled.result
-
-pub returns-in-Err-clause-adds : goal.returns-in-Err-clause-adds
-returns-in-Err-clause-adds g c =
-    subst (λ r. Adds g.W.Words.alone c.args.self.now.seen c.args.self.now c.args.asked.now (Some (reply_of (λ _. Started) r)) (g.W.Words.sight c.args.pass.now).seen (g.W.Words.sight c.contribute-settled.new.pass).seen) c.in-Err.is
-    (adds g (goal.at.returns-in-Err-clause-adds g c).After-end_start)
-
-pub returns-in-Err-clause-sees : goal.returns-in-Err-clause-sees
-returns-in-Err-clause-sees g c = ap (λ (w : Record). w.seen) c.end_start.ensures.leaves ∙ start_keeps c.args.self.now _ c.args.request c.contribute-settled.result
 
 -- the exchange is at the rank's own place, in a round of the call's communicator
 named : (g : _) (c : After-end_start g) → IsStepOf AtSettle c.args.self.now.number (comm_of c.args.asked.now) (g.W.Words.sight c.args.pass.now) (g.W.Words.sight c.contribute-settled.new.pass)
@@ -94,15 +61,47 @@ named g c =
     let now = g.W.Words.sight c.args.pass.now in
     let after = g.W.Words.sight c.contribute-settled.new.pass in
     let own = c.args.self.now in
-    let x = c.in-Some.x.now in
+    let x = c.held_comm-x.result.now in
     let s = c.requires.stands.1.2 in
     let p = s.at.0 in
-    let held = c.in-Some.ensures.held in
+    let held = c.held_comm-x.ensures in
     let there = comm_is g.P.Meld.meld limits now.seen own (comm_of c.args.asked.now) x (fits_now _ _ _ _ _ _ _ _ p c.requires.of.legal) (rw (← c.comm_of.ensures) held) in
     (x.next_agreement, subst (λ n. IsOneStep (SlotAt n x.next_agreement own.number) false now after) there c.contribute-settled.ensures.one)
 
-pub returns-in-Ok-clause-named : goal.returns-in-Ok-clause-named
-returns-in-Ok-clause-named g c = named g (goal.at.returns-in-Ok-clause-named g c).After-end_start
+pub returns-in-Ok : goal.returns-in-Ok
+returns-in-Ok g c =
+    λ group whole.
+    record {
+      walks = walks_settled g.P.Meld.meld g.W.Words.alone (g.W.Words.name c.args.world.now.words) c.args.self.now.number (g.W.Words.sight c.args.pass.now) (g.W.Words.sight c.contribute-settled.new.pass)
+          c.contribute-settled.ensures.of c.contribute-settled.ensures.one.steps c.args.self.now c.held_comm-x.result.now c.args.offer c.contribute-settled.result refl c.contribute-settled.ensures.settles;
+      named = λ not. named g (goal.at.returns-in-Ok g c).After-end_start;
+      nearer = search rules;
+      further = search rules;
+      adds = λ not.
+          subst (λ r. Adds g.W.Words.alone c.args.self.now.seen c.args.self.now c.args.asked.now (Some (reply_of (λ _. Started) r)) (g.W.Words.sight c.args.pass.now).seen (g.W.Words.sight c.contribute-settled.new.pass).seen) c.in-Ok.is
+          (adds g (goal.at.returns-in-Ok g c).After-end_start);
+      sees = ap (λ (w : Record). w.seen) c.end_start.ensures.leaves ∙ start_keeps c.args.self.now _ c.args.request c.contribute-settled.result;
+      past = search rules;
+      turns = λ alone only old before stands.
+          subst (λ r. Answered g.P.Meld.meld alone (g.W.Words.name c.args.world.now.words) c.args.asked.now old before (reply_of (λ _. Started) r) c.end_start.new.self (g.W.Words.sight c.contribute-settled.new.pass)) c.in-Ok.is
+          (answered g (goal.at.returns-in-Ok g c).After-end_start group alone only old before stands);
+    }
 
-pub returns-in-Err-clause-named : goal.returns-in-Err-clause-named
-returns-in-Err-clause-named g c = named g (goal.at.returns-in-Err-clause-named g c).After-end_start
+pub returns-in-Err : goal.returns-in-Err
+returns-in-Err g c =
+    λ group whole.
+    record {
+      walks = walks_settled g.P.Meld.meld g.W.Words.alone (g.W.Words.name c.args.world.now.words) c.args.self.now.number (g.W.Words.sight c.args.pass.now) (g.W.Words.sight c.contribute-settled.new.pass)
+          c.contribute-settled.ensures.of c.contribute-settled.ensures.one.steps c.args.self.now c.held_comm-x.result.now c.args.offer c.contribute-settled.result refl c.contribute-settled.ensures.settles;
+      named = λ not. named g (goal.at.returns-in-Err g c).After-end_start;
+      nearer = search rules;
+      further = search rules;
+      adds = λ not.
+          subst (λ r. Adds g.W.Words.alone c.args.self.now.seen c.args.self.now c.args.asked.now (Some (reply_of (λ _. Started) r)) (g.W.Words.sight c.args.pass.now).seen (g.W.Words.sight c.contribute-settled.new.pass).seen) c.in-Err.is
+          (adds g (goal.at.returns-in-Err g c).After-end_start);
+      sees = ap (λ (w : Record). w.seen) c.end_start.ensures.leaves ∙ start_keeps c.args.self.now _ c.args.request c.contribute-settled.result;
+      past = search rules;
+      turns = λ alone only old before stands.
+          subst (λ r. Answered g.P.Meld.meld alone (g.W.Words.name c.args.world.now.words) c.args.asked.now old before (reply_of (λ _. Started) r) c.end_start.new.self (g.W.Words.sight c.contribute-settled.new.pass)) c.in-Err.is
+          (answered g (goal.at.returns-in-Err g c).After-end_start group alone only old before stands);
+    }

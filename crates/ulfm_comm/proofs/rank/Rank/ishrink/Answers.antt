@@ -2,7 +2,7 @@ use Rattle.std.proofs.Common.{refl, subst, sym}
 use Rattle.ulfm_model.specs.declared.call.Call.TheVariants as call
 use Rattle.ulfm_model.specs.declared.reply.Reply.TheVariants.{Started}
 use Rattle.ulfm_comm.specs.Calls.{EndsReply, reply_of}
-use Rattle.ulfm_comm.proofs.{Calling.{called_run}, Excluding.{start_excludes}, Typed.{ends_calls}}
+use Rattle.ulfm_comm.proofs.{CallRuns.{called_run}, Excludes.{start_excludes}, Typed.{ends_calls}}
 use Rattle.ulfm_comm.proofs.rank.Rank.ishrink.Goals as goal
 
 pub returns-clause-excludes : goal.returns-clause-excludes

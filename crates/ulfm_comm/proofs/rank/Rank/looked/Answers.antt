@@ -1,6 +1,6 @@
 use Rattle.std.proofs.Common.{ap, sym, ◌∙◌}
 use Rattle.ulfm_model.specs.Records.{held_at}
-use Rattle.ulfm_comm.proofs.AfterLook.{just_missing, just_refused}
+use Rattle.ulfm_comm.proofs.Look.{just_missing, just_refused}
 use Rattle.ulfm_comm.proofs.rank.Rank.looked.Goals as goal
 
 pub returns-in_default-clause-turns : goal.returns-in_default-clause-turns

@@ -4,100 +4,96 @@ use Rattle.ulfm_model.specs.declared.{call.Call.{Call}, reply.Reply.TheVariants.
 use Rattle.ulfm_model.specs.{Answers.{first_refusal}, History.{has}, Records.{Held, Record, held_at}}
 use Rattle.ulfm_model.specs.Terms.{comm_of, tests_of}
 use Rattle.ulfm_model.proofs.Marking.{failed_few}
-use Rattle.ulfm_comm.specs.Stages.{Answered, JustLooked}
-use Rattle.ulfm_comm.proofs.{AfterLook.{just_acked, just_counted, just_fits, just_freed, just_passed, own_barrier, own_question, own_revoke, starts_agree, starts_shrink}, Holding.{group_rises}}
+use Rattle.ulfm_comm.specs.{Phase.{Answered}, Look.{JustLooked}}
+use Rattle.ulfm_comm.proofs.Look.{just_acked, just_counted, just_fits, just_freed, just_passed, own_barrier, own_question, own_revoke, starts_agree, starts_shrink}
+use Rattle.ulfm_comm.proofs.Holding.{group_rises}
 use Rattle.ulfm_comm.proofs.rank.Rank.passed.Goals as goal
-use Rattle.ulfm_comm.proofs.rank.Rank.passed.Goals.{In-Some}
+use Rattle.ulfm_comm.proofs.rank.Rank.passed.Goals.{After-held_comm-x}
 
 -- the communicator of the call
-held : (g : _) (c : In-Some g) → held_at c.args.self.now (comm_of c.args.asked.now) ≡ Some c.in-Some.x.now
-held g c = ap (held_at c.args.self.now) (sym c.comm_of.ensures) ∙ c.in-Some.ensures.held
+held : (g : _) (c : After-held_comm-x g) → held_at c.args.self.now (comm_of c.args.asked.now) ≡ Some c.held_comm-x.result.now
+held g c = ap (held_at c.args.self.now) (sym c.comm_of.ensures) ∙ c.held_comm-x.ensures
 
 -- the record doesn't refuse the call on it
-passes : (g : _) (c : In-Some g) → first_refusal (tests_of c.args.self.now c.in-Some.x.now c.args.asked.now) ≡ None
+passes : (g : _) (c : After-held_comm-x g) → first_refusal (tests_of c.args.self.now c.held_comm-x.result.now c.args.asked.now) ≡ None
 passes g c =
     let first = held g c in
     let second = c.requires.passes.held in
-    let same : c.requires.passes.x ≡ c.in-Some.x.now = cc (first, second) in
+    let same : c.requires.passes.x ≡ c.held_comm-x.result.now = cc (first, second) in
     subst (λ y. first_refusal (tests_of c.args.self.now y c.args.asked.now) ≡ None) same c.requires.passes.passed
 
-rises : (g : _) (c : In-Some g) → IsStrictlyIncreasing c.in-Some.x.now.group
+rises : (g : _) (c : After-held_comm-x g) → IsStrictlyIncreasing c.held_comm-x.result.now.group
 rises g c =
     let j = c.requires.just in
-    group_rises g.P.Meld.meld (g.W.Words.name c.args.world.now.words).limits (g.W.Words.sight c.args.pass.now).seen c.args.self.now (comm_of c.args.asked.now) c.in-Some.x.now
+    group_rises g.P.Meld.meld (g.W.Words.name c.args.world.now.words).limits (g.W.Words.sight c.args.pass.now).seen c.args.self.now (comm_of c.args.asked.now) c.held_comm-x.result.now
     (just_fits g.P.Meld.meld _ (g.W.Words.name c.args.world.now.words) c.args.asked.now j.0 j.1 c.args.self.now (g.W.Words.sight c.args.pass.now) j.2 c.requires.of) (held g c)
 
-pub unreachable-requires : goal.unreachable-requires
-unreachable-requires g c =
-    let missing = ap (held_at c.args.self.now) (sym c.comm_of.ensures) ∙ c.in_default.ensures.held in
-    let there = c.requires.passes.held in absurd (cc (missing, there))
-
 pub count_in-count-requires : goal.count_in-count-requires
-count_in-count-requires g c = subst IsStrictlyIncreasing (sym (c.deref.ensures.value ∙ ap (λ (y : Held). y.group) c.x.view_is)) (rises g (goal.at.count_in-count-requires g c).In-Some)
+count_in-count-requires g c = subst IsStrictlyIncreasing (sym (c.deref.ensures.value ∙ ap (λ (y : Held). y.group) c.x.view_is)) (rises g (goal.at.count_in-count-requires g c).After-held_comm-x)
 
 pub count_in-known-requires : goal.count_in-known-requires
-count_in-known-requires g c = subst IsStrictlyIncreasing (sym (c.deref-in-Ack.ensures.value ∙ ap (λ (y : Held). y.group) c.x.view_is)) (rises g (goal.at.count_in-known-requires g c).In-Some)
+count_in-known-requires g c = subst IsStrictlyIncreasing (sym (c.deref-in-Ack.ensures.value ∙ ap (λ (y : Held). y.group) c.x.view_is)) (rises g (goal.at.count_in-known-requires g c).After-held_comm-x)
 
 pub returns-in-Agree-clause-turns : goal.returns-in-Agree-clause-turns
 returns-in-Agree-clause-turns g c =
-    let at = (goal.at.returns-in-Agree-clause-turns g c).In-Some in
+    let at = (goal.at.returns-in-Agree-clause-turns g c).After-held_comm-x in
     λ group alone old before j.
-    let p = just_passed g.P.Meld.meld alone (g.W.Words.name c.args.world.now.words) c.args.asked.now old before c.args.self.now (g.W.Words.sight c.args.pass.now) j c.requires.of c.in-Some.x.now (held g at) (passes g at) in
-    record { fits = j.fits; mine = j.mine; onward = j.onward; at = (p, starts_agree c.args.asked.now _ _ _ old c.in-Some.x.now _ c.in-Agree.is (ap (λ (y : Held). y.next_agreement) c.x.view_is)) }
+    let p = just_passed g.P.Meld.meld alone (g.W.Words.name c.args.world.now.words) c.args.asked.now old before c.args.self.now (g.W.Words.sight c.args.pass.now) j c.requires.of c.held_comm-x.result.now (held g at) (passes g at) in
+    record { fits = j.fits; mine = j.mine; onward = j.onward; at = (p, starts_agree c.args.asked.now _ _ _ old c.held_comm-x.result.now _ c.in-Agree.is (ap (λ (y : Held). y.next_agreement) c.x.view_is)) }
 
 pub returns-in-Shrink-clause-turns : goal.returns-in-Shrink-clause-turns
 returns-in-Shrink-clause-turns g c =
-    let at = (goal.at.returns-in-Shrink-clause-turns g c).In-Some in
+    let at = (goal.at.returns-in-Shrink-clause-turns g c).After-held_comm-x in
     λ group alone old before j.
-    let p = just_passed g.P.Meld.meld alone (g.W.Words.name c.args.world.now.words) c.args.asked.now old before c.args.self.now (g.W.Words.sight c.args.pass.now) j c.requires.of c.in-Some.x.now (held g at) (passes g at) in
-    record { fits = j.fits; mine = j.mine; onward = j.onward; at = (p, starts_shrink c.args.asked.now _ _ old c.args.self.now _ c.in-Some.x.now _ _ c.in-Shrink.is j.looked.record_is c.free_ids.ensures (ap (λ (y : Held). y.next_agreement) c.x.view_is)) }
+    let p = just_passed g.P.Meld.meld alone (g.W.Words.name c.args.world.now.words) c.args.asked.now old before c.args.self.now (g.W.Words.sight c.args.pass.now) j c.requires.of c.held_comm-x.result.now (held g at) (passes g at) in
+    record { fits = j.fits; mine = j.mine; onward = j.onward; at = (p, starts_shrink c.args.asked.now _ _ old c.args.self.now _ c.held_comm-x.result.now _ _ c.in-Shrink.is j.looked.record_is c.free_ids.ensures (ap (λ (y : Held). y.next_agreement) c.x.view_is)) }
 
 pub returns-in-Barrier-clause-turns : goal.returns-in-Barrier-clause-turns
 returns-in-Barrier-clause-turns g c =
-    let at = (goal.at.returns-in-Barrier-clause-turns g c).In-Some in
+    let at = (goal.at.returns-in-Barrier-clause-turns g c).After-held_comm-x in
     λ group alone old before j.
-    let p = just_passed g.P.Meld.meld alone (g.W.Words.name c.args.world.now.words) c.args.asked.now old before c.args.self.now (g.W.Words.sight c.args.pass.now) j c.requires.of c.in-Some.x.now (held g at) (passes g at) in
+    let p = just_passed g.P.Meld.meld alone (g.W.Words.name c.args.world.now.words) c.args.asked.now old before c.args.self.now (g.W.Words.sight c.args.pass.now) j c.requires.of c.held_comm-x.result.now (held g at) (passes g at) in
     record { fits = j.fits; mine = j.mine; onward = j.onward; at = (p, own_barrier c.args.asked.now _ _ old.number j.mine c.in-Barrier.is, ap (λ (y : Held). y.next_barrier) c.x.view_is) }
 
 pub returns-in-Revoke-clause-turns : goal.returns-in-Revoke-clause-turns
 returns-in-Revoke-clause-turns g c =
-    let at = (goal.at.returns-in-Revoke-clause-turns g c).In-Some in
+    let at = (goal.at.returns-in-Revoke-clause-turns g c).After-held_comm-x in
     λ group alone old before j.
-    let p = just_passed g.P.Meld.meld alone (g.W.Words.name c.args.world.now.words) c.args.asked.now old before c.args.self.now (g.W.Words.sight c.args.pass.now) j c.requires.of c.in-Some.x.now (held g at) (passes g at) in
+    let p = just_passed g.P.Meld.meld alone (g.W.Words.name c.args.world.now.words) c.args.asked.now old before c.args.self.now (g.W.Words.sight c.args.pass.now) j c.requires.of c.held_comm-x.result.now (held g at) (passes g at) in
     record { fits = j.fits; mine = j.mine; onward = j.onward; at = (p, own_revoke c.args.asked.now _ _ old.number j.mine c.in-Revoke.is) }
 
 pub returns-in-IsRevoked-clause-turns : goal.returns-in-IsRevoked-clause-turns
 returns-in-IsRevoked-clause-turns g c =
-    let at = (goal.at.returns-in-IsRevoked-clause-turns g c).In-Some in
+    let at = (goal.at.returns-in-IsRevoked-clause-turns g c).After-held_comm-x in
     λ group alone old before j.
-    let p = just_passed g.P.Meld.meld alone (g.W.Words.name c.args.world.now.words) c.args.asked.now old before c.args.self.now (g.W.Words.sight c.args.pass.now) j c.requires.of c.in-Some.x.now (held g at) (passes g at) in
+    let p = just_passed g.P.Meld.meld alone (g.W.Words.name c.args.world.now.words) c.args.asked.now old before c.args.self.now (g.W.Words.sight c.args.pass.now) j c.requires.of c.held_comm-x.result.now (held g at) (passes g at) in
     record { fits = j.fits; mine = j.mine; onward = j.onward; at = (p, own_question c.args.asked.now _ _ old.number j.mine c.in-IsRevoked.is) }
 
 pub returns-in-GetFailed-clause-turns : goal.returns-in-GetFailed-clause-turns
 returns-in-GetFailed-clause-turns g c =
-    let at = (goal.at.returns-in-GetFailed-clause-turns g c).In-Some in
+    let at = (goal.at.returns-in-GetFailed-clause-turns g c).After-held_comm-x in
     λ group alone old before j.
-    let here : held_at c.args.self.now c.in-GetFailed.comm ≡ Some c.in-Some.x.now = ap (λ (a : Call g.row.P.Denot). held_at c.args.self.now (comm_of a)) (sym c.in-GetFailed.is) ∙ held g at in
+    let here : held_at c.args.self.now c.in-GetFailed.comm ≡ Some c.held_comm-x.result.now = ap (λ (a : Call g.row.P.Denot). held_at c.args.self.now (comm_of a)) (sym c.in-GetFailed.is) ∙ held g at in
     subst (λ a. Answered g.P.Meld.meld alone (g.W.Words.name c.args.world.now.words) a old before (FailedGroup c.count_in-count.result) c.args.self.now (g.W.Words.sight c.args.pass.now)) (sym c.in-GetFailed.is)
-    (just_counted g.P.Meld.meld alone (g.W.Words.name c.args.world.now.words) _ _ old before c.args.self.now (g.W.Words.sight c.args.pass.now) c.requires.of c.in-Some.x.now here _ (c.count_in-count.ensures ∙ ap₂ (λ w v. length (filter (has w) v)) (c.deref.ensures.value ∙ ap (λ (y : Held). y.group) c.x.view_is) c.failures.ensures) (subst (λ a. JustLooked g.P.Meld.meld alone (g.W.Words.name c.args.world.now.words) a old before c.args.self.now (g.W.Words.sight c.args.pass.now)) c.in-GetFailed.is j))
+    (just_counted g.P.Meld.meld alone (g.W.Words.name c.args.world.now.words) _ _ old before c.args.self.now (g.W.Words.sight c.args.pass.now) c.requires.of c.held_comm-x.result.now here _ (c.count_in-count.ensures ∙ ap₂ (λ w v. length (filter (has w) v)) (c.deref.ensures.value ∙ ap (λ (y : Held). y.group) c.x.view_is) c.failures.ensures) (subst (λ a. JustLooked g.P.Meld.meld alone (g.W.Words.name c.args.world.now.words) a old before c.args.self.now (g.W.Words.sight c.args.pass.now)) c.in-GetFailed.is j))
 
 pub returns-in-Ack-clause-turns : goal.returns-in-Ack-clause-turns
 returns-in-Ack-clause-turns g c =
-    let at = (goal.at.returns-in-Ack-clause-turns g c).In-Some in
+    let at = (goal.at.returns-in-Ack-clause-turns g c).After-held_comm-x in
     λ group alone old before j.
-    let here : held_at c.args.self.now c.in-Ack.comm ≡ Some c.in-Some.x.now = ap (λ (a : Call g.row.P.Denot). held_at c.args.self.now (comm_of a)) (sym c.in-Ack.is) ∙ held g at in
+    let here : held_at c.args.self.now c.in-Ack.comm ≡ Some c.held_comm-x.result.now = ap (λ (a : Call g.row.P.Denot). held_at c.args.self.now (comm_of a)) (sym c.in-Ack.is) ∙ held g at in
     subst (λ a. Answered g.P.Meld.meld alone (g.W.Words.name c.args.world.now.words) a old before (Acked c.acknowledged-count.result) c.acknowledge.new.self (g.W.Words.sight c.args.pass.now)) (sym c.in-Ack.is)
-    (just_acked g.P.Meld.meld alone (g.W.Words.name c.args.world.now.words) _ _ old before c.args.self.now (g.W.Words.sight c.args.pass.now) c.requires.of c.in-Some.x.now here _ _ _
+    (just_acked g.P.Meld.meld alone (g.W.Words.name c.args.world.now.words) _ _ old before c.args.self.now (g.W.Words.sight c.args.pass.now) c.requires.of c.held_comm-x.result.now here _ _ _
     (c.acknowledged-count.ensures ∙ ap₂ (λ m n. max m (min c.in-Ack.count n)) (ap (λ (y : Held). y.acked) c.x.view_is) (c.count_in-known.ensures ∙ ap₂ (λ w v. length (filter (has w) v)) (c.deref-in-Ack.ensures.value ∙ ap (λ (y : Held). y.group) c.x.view_is) c.failures-in-Ack.ensures)) c.acknowledge.ensures (subst (λ a. JustLooked g.P.Meld.meld alone (g.W.Words.name c.args.world.now.words) a old before c.args.self.now (g.W.Words.sight c.args.pass.now)) c.in-Ack.is j))
 
 pub returns-in-Free-clause-turns : goal.returns-in-Free-clause-turns
 returns-in-Free-clause-turns g c =
-    let at = (goal.at.returns-in-Free-clause-turns g c).In-Some in
+    let at = (goal.at.returns-in-Free-clause-turns g c).After-held_comm-x in
     λ group alone old before j.
-    let here : held_at c.args.self.now c.in-Free.comm ≡ Some c.in-Some.x.now = ap (λ (a : Call g.row.P.Denot). held_at c.args.self.now (comm_of a)) (sym c.in-Free.is) ∙ held g at in
+    let here : held_at c.args.self.now c.in-Free.comm ≡ Some c.held_comm-x.result.now = ap (λ (a : Call g.row.P.Denot). held_at c.args.self.now (comm_of a)) (sym c.in-Free.is) ∙ held g at in
     subst (λ a. Answered g.P.Meld.meld alone (g.W.Words.name c.args.world.now.words) a old before Freed c.release.new.self (g.W.Words.sight c.args.pass.now)) (sym c.in-Free.is)
-    (just_freed g.P.Meld.meld alone (g.W.Words.name c.args.world.now.words) _ _ old before c.args.self.now (g.W.Words.sight c.args.pass.now) c.requires.of c.in-Some.x.now here _
-    (subst (λ a. first_refusal (tests_of c.args.self.now c.in-Some.x.now a) ≡ None) c.in-Free.is (passes g at)) c.release.ensures (subst (λ a. JustLooked g.P.Meld.meld alone (g.W.Words.name c.args.world.now.words) a old before c.args.self.now (g.W.Words.sight c.args.pass.now)) c.in-Free.is j))
+    (just_freed g.P.Meld.meld alone (g.W.Words.name c.args.world.now.words) _ _ old before c.args.self.now (g.W.Words.sight c.args.pass.now) c.requires.of c.held_comm-x.result.now here _
+    (subst (λ a. first_refusal (tests_of c.args.self.now c.held_comm-x.result.now a) ≡ None) c.in-Free.is (passes g at)) c.release.ensures (subst (λ a. JustLooked g.P.Meld.meld alone (g.W.Words.name c.args.world.now.words) a old before c.args.self.now (g.W.Words.sight c.args.pass.now)) c.in-Free.is j))
 
 pub overflow_cast-count : goal.overflow_cast-count
 overflow_cast-count g c =

@@ -12,7 +12,7 @@ use Rattle.ulfm_steps.specs.declared.item.Item.{Item}
 use Rattle.ulfm_steps.specs.declared.item.Item.TheVariants.{Comm as OfComm}
 use Rattle.ulfm_model.specs.declared.limits.Limits.{Limits}
 use Rattle.ulfm_model.specs.Terms.{comm_of}
-use Rattle.ulfm_comm.proofs.Ending.{ends_full, ends_out, ends_self_failed, full_alone, held_is, number_is}
+use Rattle.ulfm_comm.proofs.Spawning.{ends_full, ends_out, ends_self_failed, full_alone, held_is, number_is}
 use Rattle.ulfm_comm.proofs.rank.Rank.reached.Goals as goal
 use Rattle.ulfm_comm.proofs.rank.Rank.reached.Goals.{After-has_rank}
 

@@ -5,7 +5,7 @@ use Rattle.ulfm_model.specs.Records.{Held, Record, held_at}
 use Rattle.ulfm_model.specs.declared.call.Call.{Call}
 use Rattle.ulfm_model.specs.Terms.{comm_of}
 use Rattle.ulfm_steps.specs.ReadsOn.{AtFailure}
-use Rattle.ulfm_comm.proofs.Ending.{decided_first, ends_mismatch, ends_no_context, group_goes_up, reached_first}
+use Rattle.ulfm_comm.proofs.Spawning.{decided_first, ends_mismatch, ends_no_context, group_goes_up, reached_first}
 use Rattle.ulfm_comm.proofs.rank.Rank.shrunk.Goals as goal
 use Rattle.ulfm_comm.proofs.rank.Rank.shrunk.Goals.{After-deref, After-new-on}
 
@@ -29,8 +29,8 @@ returns-then-mask-eq0-clause-turns g c = λ alone old before r.
 -- the members of what the rank holds
 group_is : (g : _) (c : After-deref g) → (x : Held) → held_at c.args.self.now (comm_of c.args.asked.now) ≡ Some x → c.deref.result.now ≡ x.group
 group_is g c x held =
-    let found = sym (ap (held_at c.args.self.now) c.comm_of-comm.ensures) ∙ c.in-Some.ensures.held in
-    let same : c.in-Some.x.now ≡ x = cc (found, held) in
+    let found = sym (ap (held_at c.args.self.now) c.comm_of-comm.ensures) ∙ c.held_comm-x.ensures in
+    let same : c.held_comm-x.result.now ≡ x = cc (found, held) in
     c.deref.ensures.value ∙ ap (λ (y : Held). y.group) (c.x.view_is ∙ same)
 
 pub new-on-requires : goal.new-on-requires

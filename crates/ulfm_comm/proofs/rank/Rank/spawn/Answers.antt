@@ -6,9 +6,9 @@ use Rattle.ulfm_model.specs.Terms.{contexts_of, new_held}
 use Rattle.ulfm_steps.specs.Appends.{Passed, room}
 use Rattle.ulfm_steps.specs.declared.item.Item.{Item}
 use Rattle.ulfm_steps.specs.declared.item.Item.TheVariants.{Comm as OfComm}
-use Rattle.ulfm_comm.specs.Shrinks.{IsMadeBy}
+use Rattle.ulfm_comm.specs.Spawning.{IsMadeBy}
 use Rattle.ulfm_comm.proofs.Helds.{room_left, room_pushed}
-use Rattle.ulfm_comm.proofs.Spawning.{full_of, makes, number_fits}
+use Rattle.ulfm_comm.proofs.Spawn.{full_of, makes, number_fits}
 use Rattle.ulfm_comm.proofs.rank.Rank.spawn.Goals as goal
 use Rattle.ulfm_comm.proofs.rank.Rank.spawn.Goals.{In-Some-place_in, After-take_in}
 

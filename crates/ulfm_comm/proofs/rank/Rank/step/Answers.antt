@@ -2,8 +2,8 @@ use Rattle.std.proofs.Common.{◌≡◌, Bool, IsTrue, ap, refl, sym, ◌∙◌,
 use Rattle.ulfm_model.specs.declared.call.Call.{Call}
 use Rattle.ulfm_model.specs.Records.{Record}
 use Rattle.ulfm_words.specs.Steps.{Sight}
-use Rattle.ulfm_comm.specs.Stages.{Answered, NextIs, Stands, Stepped, UnderWay, Waits}
-use Rattle.ulfm_comm.proofs.Lasting.{stands_lasts}
+use Rattle.ulfm_comm.specs.{Phase.{Answered, NextIs, Stands, UnderWay, Waits}, Step.{Stepped}}
+use Rattle.ulfm_comm.proofs.Stands.{stands_lasts}
 use Rattle.ulfm_comm.proofs.rank.Rank.step.Goals as goal
 use Rattle.ulfm_comm.proofs.rank.Rank.step.Goals.{After-go, After-go-arg-4-1}
 
@@ -29,7 +29,7 @@ pub turned : (g : _) (c : After-go g) → (alone : Bool) → (IsTrue alone → I
 turned g c alone only old before stood u waits =
     let name = g.W.Words.name c.args.world.now.words in
     let now = g.W.Words.sight c.args.pass.now in
-    c.go.ensures.turns alone only old before
+    c.go.ensures.turn.turns alone only old before
     (subst (λ (doing : UnderWay g.row.P.Denot). Stands g.P.Meld.meld alone name old before doing c.args.self.now now) (same g (goal.at.After-go g c).After-go-arg-4-1)
     (stands_lasts g.P.Meld.meld alone name old before c.args.doing.now c.args.self.now stood now u waits c.requires.of))
 
@@ -55,14 +55,14 @@ stepped g c =
     let at = (goal.at.After-go g c).After-go-arg-4-1 in
     subst (λ (was : UnderWay g.row.P.Denot). Stepped g.P.Meld.meld g.W.Words.alone (g.W.Words.name c.args.world.now.words) was c.args.self.now (g.W.Words.sight c.args.pass.now) c.go.result c.go.new.self (g.W.Words.sight c.go.new.pass))
     (sym (same g at)) (record {
-      of = c.go.ensures.walks.of;
-      onward = c.go.ensures.walks.onward;
-      named = c.go.ensures.named refl;
-      nearer = c.go.ensures.nearer refl;
+      of = c.go.ensures.turn.walks.of;
+      onward = c.go.ensures.turn.walks.onward;
+      named = c.go.ensures.turn.named refl;
+      nearer = c.go.ensures.turn.nearer refl;
       over = c.go.ensures.over;
-      adds = c.go.ensures.adds refl;
-      sees = c.go.ensures.sees;
-      past = c.go.ensures.past;
+      adds = c.go.ensures.turn.adds refl;
+      sees = c.go.ensures.turn.sees;
+      past = c.go.ensures.turn.past;
       checks = c.go.ensures.checks;
       early = c.go.ensures.early;
     })

@@ -1,21 +1,21 @@
 use Rattle.std.proofs.Common.{vec_capacity}
-use Rattle.ulfm_words.proofs.Paging.{cell_put, cell_read}
+use Rattle.ulfm_words.proofs.Lines.{cell_put, cell_read}
 use Rattle.ulfm_words.proofs.row.Row.set_once.Goals as goal
 
 pub returns-then-stood-eq0-2-clause-stood : goal.returns-then-stood-eq0-2-clause-stood
 returns-then-stood-eq0-2-clause-stood g c =
     let row = c.self.inside in
-    rw (← c.self.view_is) (cell_read row.limits row.heads.items row.pages.items row.words.items (vec_capacity row.words) c.self.invariant.1 c.args.place c.in-Cell.line c.in-Cell.rank c.index-begin.result.now c.index-stood-in-Cell.result.now c.in-Cell.ensures c.index-begin.ensures c.index-stood-in-Cell.ensures)
+    rw (← c.self.view_is) (cell_read row.limits row.heads.items row.starts.items row.words.items (vec_capacity row.words) c.self.invariant.1 c.args.place c.in-Cell.line c.in-Cell.rank c.index-begin.result.now c.index-stood-in-Cell.result.now c.in-Cell.ensures c.index-begin.ensures c.index-stood-in-Cell.ensures)
 
 pub returns-then-stood-eq0-2-clause-set : goal.returns-then-stood-eq0-2-clause-set
 returns-then-stood-eq0-2-clause-set g c none =
     let row = c.self.inside in
     let reached = c.reach-begin.ensures in
     rw (← c.self.view_is)
-    (cell_put row.limits row.heads.items row.pages.items row.words.items (vec_capacity row.words) c.self.invariant.1 c.reach-begin.new.pages.items c.reach-begin.new.words.items (vec_capacity c.reach-begin.new.words) c.args.place c.in-Cell.line c.in-Cell.rank c.reach-begin.result c.args.word
+    (cell_put row.limits row.heads.items row.starts.items row.words.items (vec_capacity row.words) c.self.invariant.1 c.reach-begin.new.starts.items c.reach-begin.new.words.items (vec_capacity c.reach-begin.new.words) c.args.place c.in-Cell.line c.in-Cell.rank c.reach-begin.result c.args.word
     reached.are reached.cells reached.lines reached.made c.in-Cell.ensures reached.begins)
 
 pub returns-else-stood-eq0-2-clause-stood : goal.returns-else-stood-eq0-2-clause-stood
 returns-else-stood-eq0-2-clause-stood g c =
     let row = c.self.inside in
-    rw (← c.self.view_is) (cell_read row.limits row.heads.items row.pages.items row.words.items (vec_capacity row.words) c.self.invariant.1 c.args.place c.in-Cell.line c.in-Cell.rank c.index-begin.result.now c.index-stood-in-Cell.result.now c.in-Cell.ensures c.index-begin.ensures c.index-stood-in-Cell.ensures)
+    rw (← c.self.view_is) (cell_read row.limits row.heads.items row.starts.items row.words.items (vec_capacity row.words) c.self.invariant.1 c.args.place c.in-Cell.line c.in-Cell.rank c.index-begin.result.now c.index-stood-in-Cell.result.now c.in-Cell.ensures c.index-begin.ensures c.index-stood-in-Cell.ensures)

@@ -1,0 +1,170 @@
+-- What a call promises, by its run.
+use Rattle.std.proofs.Common.{◌≡◌, ◌⊎◌, ℕ, ◌≤◌, Bool, true, false, List, [], None, refl, ap, sym, ◌∙◌, subst, append-nil, inl, inr, IsTrue}
+use Rattle.std.specs.List.{AllByRecursion}
+use mathlib.Core.List.{IsPrefix}
+use Rattle.ulfm_model.specs.declared.{call.Call.{Call}, event.Caller.TheVariants.{Rank}, event.Event.{Event}, limits.Limits.{Limits}, refusal.Refusal.TheVariants.{NoSuchComm, ProcFailed, SelfFailed}}
+use Rattle.ulfm_model.specs.declared.{reply.Reply.{Reply}, reply.Reply.TheVariants.{FailedGroup, Pending, Refused}}
+use Rattle.ulfm_model.specs.{Answers.{MayOwn, Sees, polled_by, refusal_of}, History.{History, IsLegal, entries_by, failures, has, spawns}, Records.{Fits, Record, held_at, is_shrink}, Runs.{Did, IsAloneRun, IsCall, IsRun}}
+use Rattle.ulfm_model.specs.Terms.{comm_of}
+use Rattle.ulfm_model.proofs.{LeftFits.{fits_seen}, LeftRuns.{call_fits}, Lists.{prefix_trans}, Stable.{fits_stays}}
+use Rattle.ulfm_words.specs.Steps.{IsOf, Name, Sight}
+use Rattle.ulfm_words.proofs.Trails.{did_none, did_prefix, did_quiet, did_wait}
+use Rattle.ulfm_comm.specs.{Calls.{Calls, HadCome, RunsOut}, Ends.{IsEarlyRun, IsEndRun, IsRefusedAgain}, Look.{Looked}}
+use Rattle.ulfm_comm.proofs.ReplyKinds.{counted_seen}
+use Rattle.ulfm_comm.proofs.WholeCall.{refused_missing, sees_later, self_failed, view_at}
+
+-- a call of a rank where nobody else steps: one that was refused for good before is refused again, without a step
+abbrev pub IsAloneCall : {P : Type 0} → (P → P → P) → Limits → History P → History P → Record → Call P → Reply P → Record → Type 0
+IsAloneCall meld limits before after old asked reply new =
+    (IsTrue old.refused × (after ≡ before) × (reply ≡ Refused SelfFailed) × (new ≡ old)) ⊎ IsAloneRun meld limits before after old asked reply new
+
+module _ {P : Type 0} (meld : P → P → P) (limits : Limits) (alone : Bool) (before after : History P) (old : Record) (asked : Call P) (reply : Reply P) (new : Record) where
+  -- a run of which the caller saw the end, and then others' events
+  pub run_early : IsLegal meld limits after → IsEarlyRun meld limits alone before after old asked reply new → IsRun meld limits alone before after old asked reply new
+  run_early legal early =
+      let ended = early.run in
+      let span = ended.run.span in
+      record {
+        in_use = ended.run.in_use;
+        span = record {
+          look = span.look;
+          point = span.point;
+          own = span.own;
+          looked = span.looked;
+          did = did_wait alone (entries_by (Rank old.number) span.own) span.look early.found after span.did early.waited;
+          point_begins = span.point_begins;
+          point_ends = prefix_trans span.point early.found after span.point_ends (did_prefix alone [] early.found after early.waited);
+          legal = legal;
+        };
+        answer = record {
+          own = ended.run.answer.own;
+          replies = ended.run.answer.replies;
+          leaves = record {
+            seen = sees_later (is_shrink (polled_by old asked)) (failures span.look) early.found after new.seen
+                (did_prefix alone [] early.found after early.waited) ended.run.answer.leaves.seen;
+            record_is = ended.run.answer.leaves.record_is;
+          };
+        };
+      }
+
+  -- where nobody else steps, a run is one of the sequential object
+  pub alone_of : IsEndRun meld limits alone before after old asked reply new → IsTrue alone → IsAloneCall meld limits before after old asked reply new
+  alone_of ended here = inr (by_alone alone here ended)
+    where
+      by_alone : (b : Bool) → IsTrue b → IsEndRun meld limits b before after old asked reply new → IsAloneRun meld limits before after old asked reply new
+      by_alone true here ended = record { run = ended.run; at_end = ended.at_end; marks = ended.marks refl }
+      by_alone false here ended = absurd (cc here)
+
+-- what a call is, by its end
+module _ {P : Type 0} (meld : P → P → P) (alone : Bool) (name : Name) (asked : Call P) (old : Record) (before : Sight P) (reply : Reply P) (new : Record) (after : Sight P) (called : Calls meld alone name asked old before reply new after) where
+  -- it is one of the sequential object, among the steps of others
+  pub called_run : IsCall meld name.limits alone before.seen after.seen old asked reply new
+  called_run = by_end called.ends
+    where
+      by_end : (IsRefusedAgain old reply new × (after ≡ before)) ⊎ (IsEndRun meld name.limits alone before.seen after.seen old asked reply new ⊎ IsEarlyRun meld name.limits alone before.seen after.seen old asked reply new)
+          → IsCall meld name.limits alone before.seen after.seen old asked reply new
+      by_end (inl (again, same)) = inl (again.refused, ap (λ (w : Sight P). w.seen) same, again.reply_is, again.record_is)
+      by_end (inr (inl ended)) = inr ended.run
+      by_end (inr (inr early)) = inr (run_early meld name.limits alone before.seen after.seen old asked reply new called.of.legal early)
+
+  -- where nobody else steps, it is one of the sequential object alone
+  pub called_alone : IsTrue alone → IsAloneCall meld name.limits before.seen after.seen old asked reply new
+  called_alone here = by_end called.ends
+    where
+      by_end : (IsRefusedAgain old reply new × (after ≡ before)) ⊎ (IsEndRun meld name.limits alone before.seen after.seen old asked reply new ⊎ IsEarlyRun meld name.limits alone before.seen after.seen old asked reply new)
+          → IsAloneCall meld name.limits before.seen after.seen old asked reply new
+      by_end (inl (again, same)) = inl (again.refused, ap (λ (w : Sight P). w.seen) same, again.reply_is, again.record_is)
+      by_end (inr (inl ended)) = alone_of meld name.limits alone before.seen after.seen old asked reply new ended here
+      by_end (inr (inr early)) =
+          subst (λ h. IsAloneCall meld name.limits before.seen h old asked reply new) (sym (did_quiet alone early.found after.seen early.waited here))
+          (alone_of meld name.limits alone before.seen early.found old asked reply new early.run here)
+
+  -- one that counted failures has seen all that are declared at its end
+  pub called_counts : (count : ℕ) → reply ≡ FailedGroup count → new.seen ≡ failures after.seen
+  called_counts count is = by_end called.ends
+    where
+      by_end : (IsRefusedAgain old reply new × (after ≡ before)) ⊎ (IsEndRun meld name.limits alone before.seen after.seen old asked reply new ⊎ IsEarlyRun meld name.limits alone before.seen after.seen old asked reply new)
+          → new.seen ≡ failures after.seen
+      by_end (inl (again, same)) = let other = again.reply_is in absurd (cc (other, is))
+      by_end (inr (inl ended)) = counted_seen meld name.limits alone before.seen after.seen old asked reply new ended.run count is ∙ ap failures ended.at_end
+      by_end (inr (inr early)) = absurd (not_early early.missing)
+        where
+          not_early : (reply ≡ Pending) ⊎ (reply ≡ Refused ProcFailed) → ⊥
+          not_early (inl waits) = cc (waits, is)
+          not_early (inr failed) = cc (failed, is)
+
+module _ {P : Type 0} (meld : P → P → P) (alone : Bool) (name : Name) (before after : Sight P) (onward : before.steps ≤ after.steps) where
+  -- a call with its point at its end
+  pub calls_is : (asked : Call P) (old : Record) (reply : Reply P) (new : Record) → IsOf meld name after → Fits meld name.limits before.seen old
+      → IsEndRun meld name.limits alone before.seen after.seen old asked reply new → Calls meld alone name asked old before reply new after
+  calls_is asked old reply new of fits ended =
+      record {
+        of = of;
+        onward = onward;
+        fits = call_fits meld name.limits alone before.seen after.seen old asked reply new fits (inr ended.run);
+        ends = inr (inl ended);
+      }
+
+  -- the poll of a barrier, with its point where somebody was found missing
+  pub calls_early : (asked : Call P) (old : Record) (reply : Reply P) (new : Record) → IsOf meld name after → Fits meld name.limits before.seen old
+      → IsEarlyRun meld name.limits alone before.seen after.seen old asked reply new → Calls meld alone name asked old before reply new after
+  calls_early asked old reply new of fits early =
+      record {
+        of = of;
+        onward = onward;
+        fits = call_fits meld name.limits alone before.seen after.seen old asked reply new fits (inr (run_early meld name.limits alone before.seen after.seen old asked reply new of.legal early));
+        ends = inr (inr early);
+      }
+
+  -- a rank that its look finds declared
+  pub calls_declared : (asked : Call P) (old new : Record) → IsOf meld name after → Fits meld name.limits before.seen old → old.refused ≡ false → Did alone [] before.seen after.seen
+      → IsTrue (has (failures after.seen) old.number) → new ≡ record old { seen = failures after.seen; refused = true } → Calls meld alone name asked old before (Refused SelfFailed) new after
+  calls_declared asked old new of fits in_use did declared is =
+      calls_is asked old (Refused SelfFailed) new of fits (self_failed meld name.limits alone before.seen after.seen old after.seen asked new in_use did (did_none alone after.seen) of.legal declared is)
+
+  -- a rank that goes on after its look
+  pub looked_fits : (old mid : Record) → IsOf meld name after → Fits meld name.limits before.seen old → Looked alone before.seen after.seen old mid → Fits meld name.limits after.seen mid
+  looked_fits old mid of fits looked =
+      let still = fits_stays meld name.limits before.seen after.seen old (did_prefix alone [] before.seen after.seen looked.did) of.legal fits in
+      subst (Fits meld name.limits after.seen) (sym looked.record_is) (fits_seen meld name.limits after.seen old (failures after.seen) still ([], append-nil (failures after.seen)))
+
+  -- a call on a communicator that the rank doesn't hold
+  pub calls_missing : (asked : Call P) (old mid : Record) → IsOf meld name after → Fits meld name.limits before.seen old → Looked alone before.seen after.seen old mid → held_at mid (comm_of asked) ≡ None
+      → Calls meld alone name asked old before (Refused NoSuchComm) mid after
+  calls_missing asked old mid of fits looked missing =
+      calls_is asked old (Refused NoSuchComm) mid of fits (refused_missing meld name.limits alone before.seen after.seen old mid looked asked mid of.legal missing refl)
+
+  -- a call that ran out of memory, of a rank that has then seen so much
+  pub runs_out_after : (asked : Call P) (old new : Record) (look : History P) (own : List (Event P)) → IsOf meld name after → Fits meld name.limits before.seen old → Looked alone before.seen look old (record old { seen = failures look })
+      → Did alone (entries_by (Rank old.number) own) look after.seen → refusal_of old asked ≡ None → AllByRecursion (MayOwn (failures look) old asked) own → spawns (entries_by (Rank old.number) own) ≡ [] → HadCome meld name.limits after.seen old.number (comm_of asked) (polled_by old asked)
+      → Sees (is_shrink (polled_by old asked)) (failures look) after.seen new.seen → IsPrefix new.seen (failures after.seen) → new ≡ record old { seen = new.seen } → RunsOut meld alone name asked old before new after
+  runs_out_after asked old new look own of fits looked did passed may none come sees begins is =
+      let to_look = did_prefix alone [] before.seen look looked.did in
+      let to_end = did_prefix alone (entries_by (Rank old.number) own) look after.seen did in
+      let whole = prefix_trans before.seen look after.seen to_look to_end in
+      let still = fits_stays meld name.limits before.seen after.seen old whole of.legal fits in
+      record {
+        of = of;
+        onward = onward;
+        fits = subst (Fits meld name.limits after.seen) (sym is) (fits_seen meld name.limits after.seen old new.seen still begins);
+        run_out = record {
+          in_use = looked.in_use;
+          span = record {
+            look = look;
+            point = after.seen;
+            own = own;
+            looked = looked.did;
+            did = did;
+            point_begins = whole;
+            point_ends = ([], append-nil after.seen);
+            legal = of.legal;
+          };
+          not_declared = looked.not_declared;
+          not_refused = passed;
+          own = may;
+          makes_none = none;
+          had_come = come;
+          sees = sees;
+          record_is = is;
+        };
+      }

@@ -1,0 +1,193 @@
+-- What comes after the look of a call.
+use Rattle.std.proofs.Common.{◌≡◌, ℕ, ◌<◌, ◌≤◌, ◌==◌, Bool, true, false, not, List, [], ◌∷◌, length, filter, max, min, Option, Some, None, is_some, refl, ap, ap₂, sym, ◌∙◌, subst, arith, inr, IsTrue, if◌then◌else◌}
+use Rattle.std.specs.List.{AllByRecursion}
+use Rattle.ulfm_laws.specs.declared.ctx_mask.CtxMask.{CtxMask}
+use Rattle.ulfm_model.specs.declared.call.Call.TheVariants as call
+use Rattle.ulfm_model.specs.declared.{call.Call.{Call}, call.Request.{Request}, call.Request.TheVariants.{Agree, Shrink}, contribution.Offer.{Offer}, contribution.Offer.TheVariants.{Flag, Ctx}, event.Caller.TheVariants.{Rank}, refusal.Refusal.{Refusal}, refusal.Refusal.TheVariants.{Idle, NoSuchComm, SelfFailed}, reply.Reply.{Reply}, reply.Reply.TheVariants.{Acked, FailedGroup, Freed, Pending, Refused}}
+use Rattle.ulfm_model.specs.{Answers.{Effect, first_refusal, printed, left_with, traits_of}, Answers.Effect.{Keeps}, History.{failures, has}, Records.{Fits, Held, Record, free_ids, held_at, with_held}, Runs.{Did}}
+use Rattle.ulfm_model.specs.Terms.{comm_of, request_of, tests_of}
+use Rattle.ulfm_words.specs.Steps.{IsOf, Name, Sight}
+use Rattle.ulfm_words.proofs.Trails.{did_none}
+use Rattle.ulfm_steps.specs.Looks.{LookIs}
+use Rattle.ulfm_comm.specs.{Calls.{Calls, EndsAs, is_out_of_memory, wants_memory}, Phase.{Answered, Stands}, Look.{HasLooked, JustLooked}}
+use Rattle.ulfm_comm.specs.Exchange.{StartsWith}
+use Rattle.ulfm_comm.specs.declared.phases.phase.Phase.TheVariants.{Begun, Looking}
+use Rattle.ulfm_comm.proofs.{Acks.{ack_failed_is, get_failed_is}, CallRuns.{calls_declared, calls_is, calls_missing, looked_fits}, Frees.{calls_freed}}
+use Rattle.ulfm_comm.proofs.{WholeCall.{held_before, refused}, Refusals.{by_tests}}
+
+-- what each test of a call refuses leaves the record as it is, and isn't want of memory
+abbrev IsMild : Bool × Refusal → Type 0
+IsMild test = ((printed test.1).2 ≡ Keeps) × (is_out_of_memory test.1 ≡ false)
+
+mild_tests : {P : Type 0} (own : Record) (x : Held) (asked : Call P) → AllByRecursion IsMild (tests_of own x asked)
+mild_tests own x (call.Fail rank) = tt
+mild_tests own x (call.GetFailed rank c) = tt
+mild_tests own x (call.Ack rank c count) = tt
+mild_tests own x (call.Agree rank c value) = ((refl, refl), ((refl, refl), tt))
+mild_tests own x (call.Shrink rank c) = ((refl, refl), ((refl, refl), ((refl, refl), tt)))
+mild_tests own x (call.Barrier rank c) = ((refl, refl), ((refl, refl), tt))
+mild_tests own x (call.Poll rank c) = ((refl, refl), tt)
+mild_tests own x (call.Revoke rank c) = tt
+mild_tests own x (call.IsRevoked rank c) = tt
+mild_tests own x (call.Free rank c) = ((refl, refl), ((refl, refl), tt))
+
+mild_first : (tests : List (Bool × Refusal)) (refusal : Refusal) → AllByRecursion IsMild tests → first_refusal tests ≡ Some refusal → ((printed refusal).2 ≡ Keeps) × (is_out_of_memory refusal ≡ false)
+mild_first [] refusal all is = absurd (cc is)
+mild_first ((true, first) ∷ tests) refusal all is = let same : first ≡ refusal = cc is in subst (λ r. ((printed r).2 ≡ Keeps) × (is_out_of_memory r ≡ false)) same all.0
+mild_first ((false, first) ∷ tests) refusal all is = mild_first tests refusal all.1 is
+
+-- the tests don't read what was seen
+pub tests_same : {P : Type 0} (own : Record) (seen : List ℕ) (x : Held) (asked : Call P) → tests_of (record own { seen = seen }) x asked ≡ tests_of own x asked
+tests_same own seen x (call.Fail rank) = refl
+tests_same own seen x (call.GetFailed rank c) = refl
+tests_same own seen x (call.Ack rank c count) = refl
+tests_same own seen x (call.Agree rank c value) = refl
+tests_same own seen x (call.Shrink rank c) = refl
+tests_same own seen x (call.Barrier rank c) = refl
+tests_same own seen x (call.Poll rank c) = refl
+tests_same own seen x (call.Revoke rank c) = refl
+tests_same own seen x (call.IsRevoked rank c) = refl
+tests_same own seen x (call.Free rank c) = refl
+
+-- a poll that is refused has no request
+idle_poll : {P : Type 0} (own : Record) (x : Held) (asked : Call P) (refusal : Refusal) → (traits_of asked).polls ≡ true → first_refusal (tests_of own x asked) ≡ Some refusal → x.request ≡ None
+idle_poll own x (call.Poll rank c) refusal polls is = by_request x.request is
+  where
+    by_request : (request : Option Request) → first_refusal ((not (is_some request), Idle) ∷ []) ≡ Some refusal → request ≡ None
+    by_request None is = refl
+    by_request (Some request) is = absurd (cc is)
+idle_poll own x (call.Fail rank) refusal polls is = absurd (cc polls)
+idle_poll own x (call.GetFailed rank c) refusal polls is = absurd (cc polls)
+idle_poll own x (call.Ack rank c count) refusal polls is = absurd (cc polls)
+idle_poll own x (call.Agree rank c value) refusal polls is = absurd (cc polls)
+idle_poll own x (call.Shrink rank c) refusal polls is = absurd (cc polls)
+idle_poll own x (call.Barrier rank c) refusal polls is = absurd (cc polls)
+idle_poll own x (call.Revoke rank c) refusal polls is = absurd (cc polls)
+idle_poll own x (call.IsRevoked rank c) refusal polls is = absurd (cc polls)
+idle_poll own x (call.Free rank c) refusal polls is = absurd (cc polls)
+
+module _ {P : Type 0} (meld : P → P → P) (alone : Bool) (name : Name) (asked : Call P) (old : Record) (before : Sight P) (new : Record) (after : Sight P) where
+  -- a reply that isn't pending, and isn't for want of memory
+  pub answered_by : (reply : Reply P) → wants_memory reply ≡ false → (reply ≡ Pending → ⊥) → Calls meld alone name asked old before reply new after → Answered meld alone name asked old before reply new after
+  answered_by reply none other calls =
+      record { ends = inr (subst (λ b. EndsAs meld alone name asked old before reply b new after) (sym none) calls); pending = λ is. absurd (other is) }
+
+module _ {P : Type 0} (meld : P → P → P) (alone : Bool) (name : Name) (asked : Call P) (old : Record) (before : Sight P) (mid : Record) (now : Sight P) (j : JustLooked meld alone name asked old before mid now) (of : IsOf meld name now) where
+  pub just_fits : Fits meld name.limits now.seen mid
+  just_fits = looked_fits meld alone name before now j.onward old mid of j.fits j.looked
+
+  -- on a communicator that the rank doesn't hold
+  pub just_missing : held_at mid (comm_of asked) ≡ None → Answered meld alone name asked old before (Refused NoSuchComm) mid now
+  just_missing missing = answered_by meld alone name asked old before mid now (Refused NoSuchComm) refl (λ is. absurd (cc is)) (calls_missing meld alone name before now j.onward asked old mid of j.fits j.looked missing)
+
+  module _ (x : Held) (held : held_at mid (comm_of asked) ≡ Some x) where
+    pub tests_before : tests_of mid x asked ≡ tests_of old x asked
+    tests_before = ap (λ (w : Record). tests_of w x asked) j.looked.record_is ∙ tests_same old (failures now.seen) x asked
+
+    -- the record refuses the call
+    pub just_refused : (refusal : Refusal) → first_refusal (tests_of mid x asked) ≡ Some refusal → Answered meld alone name asked old before (Refused refusal) mid now
+    just_refused refusal is =
+        let mild = mild_first (tests_of mid x asked) refusal (mild_tests mid x asked) is in
+        let first : first_refusal (tests_of old x asked) ≡ Some refusal = sym (ap first_refusal tests_before) ∙ is in
+        let at = held_before meld name.limits alone before.seen now.seen old mid j.looked (comm_of asked) (Some x) held in
+        answered_by meld alone name asked old before mid now (Refused refusal) mild.1 (λ same. absurd (cc same))
+        (calls_is meld alone name before now j.onward asked old (Refused refusal) mid of j.fits
+        (refused meld name.limits alone before.seen now.seen old mid j.looked asked refusal mid of.legal
+        (by_tests meld alone name before now asked old mid j.fits j.looked x held (Some refusal) first)
+        (sym (ap (λ (e : Effect). left_with mid (comm_of asked) e) mild.0))
+        (λ polls. ap₂ (λ (b : Bool) h. if b then request_of h else None) polls at ∙ idle_poll mid x asked refusal polls is)))
+
+    -- it doesn't
+    abbrev pub just_passed : first_refusal (tests_of mid x asked) ≡ None → HasLooked meld name.limits alone asked old before.seen mid now.seen
+    just_passed is =
+        record {
+          look = now.seen;
+          looked = j.looked;
+          legal = of.legal;
+          fits = just_fits;
+          x = x;
+          held = held;
+          passed = by_tests meld alone name before now asked old mid j.fits j.looked x held None (sym (ap first_refusal tests_before) ∙ is);
+          waited = did_none alone now.seen;
+        }
+
+module _ {P : Type 0} (meld : P → P → P) (alone : Bool) (name : Name) (rank c : ℕ) (old : Record) (before : Sight P) (mid : Record) (now : Sight P) (of : IsOf meld name now) (x : Held) (held : held_at mid c ≡ Some x) where
+  -- so many ranks have failed
+  pub just_counted : (n : ℕ) → n ≡ length (filter (has x.group) mid.seen) → JustLooked meld alone name (call.GetFailed rank c) old before mid now → Answered meld alone name (call.GetFailed rank c) old before (FailedGroup n) mid now
+  just_counted n is j =
+      answered_by meld alone name (call.GetFailed rank c) old before mid now (FailedGroup n) refl (λ same. absurd (cc same))
+      (calls_is meld alone name before now j.onward (call.GetFailed rank c) old (FailedGroup n) mid of j.fits
+      (get_failed_is meld name.limits alone before.seen now.seen old mid j.looked of.legal (just_fits meld alone name (call.GetFailed rank c) old before mid now j of) rank c x held n mid
+      (is ∙ ap (λ (w : Record). length (filter (has x.group) w.seen)) j.looked.record_is) refl))
+
+  -- so many are acknowledged
+  pub just_acked : (count n : ℕ) (new : Record) → n ≡ max x.acked (min count (length (filter (has x.group) mid.seen))) → new ≡ with_held mid c (λ y. record y { acked = n }) → JustLooked meld alone name (call.Ack rank c count) old before mid now
+      → Answered meld alone name (call.Ack rank c count) old before (Acked n) new now
+  just_acked count n new is left j =
+      answered_by meld alone name (call.Ack rank c count) old before new now (Acked n) refl (λ same. absurd (cc same))
+      (calls_is meld alone name before now j.onward (call.Ack rank c count) old (Acked n) new of j.fits
+      (ack_failed_is meld name.limits alone before.seen now.seen old mid j.looked of.legal (just_fits meld alone name (call.Ack rank c count) old before mid now j of) rank c x held count n new
+      (is ∙ ap (λ (w : Record). max x.acked (min count (length (filter (has x.group) w.seen)))) j.looked.record_is) left))
+
+  -- the communicator is given back
+  pub just_freed : (new : Record) → first_refusal (tests_of {P = P} mid x (call.Free rank c)) ≡ None → new ≡ record mid { held = filter (λ y. not (y.comm == c)) mid.held } → JustLooked meld alone name (call.Free rank c) old before mid now
+      → Answered meld alone name (call.Free rank c) old before Freed new now
+  just_freed new passed left j =
+      answered_by meld alone name (call.Free rank c) old before new now Freed refl (λ same. absurd (cc same))
+      (calls_freed meld alone name before now j.onward rank c old mid new of j.fits j.looked x held (sym (ap first_refusal (tests_before meld alone name (call.Free rank c) old before mid now j of x held)) ∙ passed) left)
+
+-- a rank that its look finds declared
+pub just_declared : {P : Type 0} (meld : P → P → P) (alone : Bool) (name : Name) (asked : Call P) (old : Record) (before : Sight P) (new : Record) (now : Sight P) → before.steps ≤ now.steps → IsOf meld name now → Fits meld name.limits before.seen old → old.refused ≡ false
+    → Did alone [] before.seen now.seen → IsTrue (has (failures now.seen) old.number) → new ≡ record old { seen = failures now.seen; refused = true } → Answered meld alone name asked old before (Refused SelfFailed) new now
+just_declared meld alone name asked old before new now onward of fits in_use did declared is =
+    answered_by meld alone name asked old before new now (Refused SelfFailed) refl (λ same. absurd (cc same)) (calls_declared meld alone name before now onward asked old new of fits in_use did declared is)
+
+-- a rank's call is in its own name
+same_rank : (rank r : ℕ) → Rank rank ≡ Rank r → rank ≡ r
+same_rank rank r is = cc is
+
+module _ {P : Type 0} (asked : Call P) (rank c r : ℕ) (mine : (traits_of asked).by ≡ Rank r) where
+  pub own_barrier : asked ≡ call.Barrier rank c → asked ≡ call.Barrier r (comm_of asked)
+  own_barrier is =
+      let same = same_rank rank r (subst (λ (a : Call P). (traits_of a).by ≡ Rank r) is mine) in
+      is ∙ ap₂ (λ n w. call.Barrier n w) same (sym (ap (λ (a : Call P). comm_of a) is))
+
+  pub own_revoke : asked ≡ call.Revoke rank c → asked ≡ call.Revoke r (comm_of asked)
+  own_revoke is =
+      let same = same_rank rank r (subst (λ (a : Call P). (traits_of a).by ≡ Rank r) is mine) in
+      is ∙ ap₂ (λ n w. call.Revoke n w) same (sym (ap (λ (a : Call P). comm_of a) is))
+
+  pub own_question : asked ≡ call.IsRevoked rank c → asked ≡ call.IsRevoked r (comm_of asked)
+  own_question is =
+      let same = same_rank rank r (subst (λ (a : Call P). (traits_of a).by ≡ Rank r) is mine) in
+      is ∙ ap₂ (λ n w. call.IsRevoked n w) same (sym (ap (λ (a : Call P). comm_of a) is))
+
+-- what the start of an agree contributes, and that of a shrink
+pub starts_agree : {P : Type 0} (asked : Call P) (rank c : ℕ) (value : P) (own : Record) (x : Held) (round : ℕ) → asked ≡ call.Agree rank c value → round ≡ x.next_agreement → StartsWith asked own x (Agree round) (Flag value)
+starts_agree asked rank c value own x round is at = subst (λ a. StartsWith a own x (Agree round) (Flag value)) (sym is) (ap Agree at, refl)
+
+pub starts_shrink : {P : Type 0} (asked : Call P) (rank c : ℕ) (own mid : Record) (seen : List ℕ) (x : Held) (round : ℕ) (ids : CtxMask) → asked ≡ call.Shrink rank c → mid ≡ record own { seen = seen } → ids ≡ free_ids mid.held → round ≡ x.next_agreement
+    → StartsWith asked own x (Shrink round) (Ctx ids)
+starts_shrink {P} asked rank c own mid seen x round ids is mid_is free at =
+    subst (λ a. StartsWith a own x (Shrink round) (Ctx ids)) (sym is) (ap Shrink at, ap as_offer (free ∙ ap (λ (w : Record). free_ids w.held) mid_is))
+  where
+    as_offer : CtxMask → Offer P
+    as_offer i = Ctx i
+
+-- a look begins with what was seen forgotten
+pub begins_looking : {P : Type 0} (meld : P → P → P) (alone : Bool) (name : Name) (asked : Call P) (old : Record) (before : Sight P) (group : List ℕ) (own new : Record) (now : Sight P) → IsOf meld name now → new ≡ record own { seen = [] }
+    → Stands meld alone name old before (record { asked = asked; phase = Begun; group = group }) own now → Stands meld alone name old before (record { asked = asked; phase = Looking; group = group }) new now
+begins_looking meld alone name asked old before group own new now of is u =
+    let some : 0 < name.limits.ranks = omega (arith, of.may_open.in_range.some_ranks) in
+    let seen : new.seen ≡ [] = ap (λ (w : Record). w.seen) is in
+    record {
+      fits = u.fits;
+      mine = u.mine;
+      onward = u.onward;
+      at = (
+        u.at.0,
+        is ∙ (ap (λ (w : Record). record w { seen = [] }) u.at.1 ∙ ap (λ s. record old { seen = s }) (sym seen)),
+        u.at.2,
+        subst (λ s. LookIs name.limits false s now.seen) (sym seen) ((failures now.seen, refl), some),
+      );
+    }

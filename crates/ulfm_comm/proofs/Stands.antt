@@ -1,0 +1,142 @@
+-- A call under way stands as it stood, after others' events.
+use Rattle.std.proofs.Common.{ℕ, Bool, List, [], arith, take}
+use mathlib.Core.List.{IsPrefix}
+use Rattle.ulfm_laws.specs.declared.ctx_mask.CtxMask.{CtxMask}
+use Rattle.ulfm_model.specs.declared.{call.Call.{Call}, limits.Limits.{Limits}}
+use Rattle.ulfm_model.specs.{History.{History, IsLegal, failures}, Records.{Held, Record}, Runs.{Did}}
+use Rattle.ulfm_model.proofs.{Histories.{failures_begin}, Lists.{prefix_trans}}
+use Rattle.ulfm_model.specs.Terms.{comm_of}
+use Rattle.ulfm_words.specs.Steps.{IsOf, Name, Sight}
+use Rattle.ulfm_words.proofs.Trails.{did_prefix, did_wait}
+use Rattle.ulfm_steps.specs.declared.{append.Append.{Append}, mark_all.MarkAll.{MarkAll}, read_round.ReadRound.{ReadRound}}
+use Rattle.ulfm_steps.proofs.{Appending.{passed_stays}, Arriving.{at_arrival_stays}, Reading.{summed_later}}
+use Rattle.ulfm_comm.specs.Polls.{HasMarked}
+use Rattle.ulfm_comm.specs.{Look.{HasLooked}, Spawning.{IsDecided, IsSpawning}, Agreement.{IsMarking, IsReading}, Barrier.{IsWaiting}}
+use Rattle.ulfm_comm.specs.Phase.{Stands, StandsAt, UnderWay, Waits}
+use Rattle.ulfm_comm.specs.declared.phases.phase.Phase.{Phase}
+use Rattle.ulfm_comm.specs.declared.phases.phase.Phase.TheVariants.{Over, Begun, Looking, Settling, Arriving, Revoking, Asking, Marking, Reading, ReadingOn, Spawning, Waiting, Checking}
+
+module _ {P : Type 0} (meld : P → P → P) (limits : Limits) (alone : Bool) (old : Record) (before : History P) (own : Record) (now later : History P) (did : Did alone [] now later) (legal : IsLegal meld limits later) where
+  pub grows : IsPrefix now later
+  grows = did_prefix alone [] now later did
+
+  pub more_failures : IsPrefix (failures now) (failures later)
+  more_failures = failures_begin now later grows
+
+  abbrev pub looked_lasts : (asked : Call P) → HasLooked meld limits alone asked old before own now → HasLooked meld limits alone asked old before own later
+  looked_lasts asked p = record { look = p.look; looked = p.looked; legal = p.legal; fits = p.fits; x = p.x; held = p.held; passed = p.passed; waited = did_wait alone [] p.look now later p.waited did }
+
+  abbrev pub marking_lasts : (c : ℕ) (shrinks : Bool) (marks : MarkAll) → IsMarking meld limits alone c shrinks marks old before own now → IsMarking meld limits alone c shrinks marks old before own later
+  marking_lasts c shrinks marks p = record {
+    look = p.look;
+    looked = p.looked;
+    legal = p.legal;
+    fits = p.fits;
+    x = p.x;
+    held = p.held;
+    open_is = p.open_is;
+    mine = p.mine;
+    there = p.there;
+    at = p.at;
+    marked = p.marked;
+    has_marked = p.has_marked;
+    waited = did_wait alone [] p.marked now later p.waited did;
+  }
+
+  pub marked_lasts : (c : ℕ) (shrinks : Bool) (k : ℕ) (x : Held) → HasMarked meld limits alone c shrinks k x old before own now → HasMarked meld limits alone c shrinks k x old before own later
+  marked_lasts c shrinks k x p =
+      record {
+        look = p.look;
+        looked = p.looked;
+        fits = p.fits;
+        held = p.held;
+        open_is = p.open_is;
+        marked = p.marked;
+        marks = p.marks;
+        waited = did_wait alone [] p.marked now later p.waited did;
+        legal = legal;
+      }
+
+  pub reading_lasts : (c : ℕ) (shrinks : Bool) (reading : ReadRound P) → IsReading meld limits alone c shrinks reading old before own now → IsReading meld limits alone c shrinks reading old before own later
+  reading_lasts c shrinks reading p =
+      record {
+        x = p.x;
+        marked = marked_lasts c shrinks reading.round p.x p.marked;
+        there = p.there;
+        within = p.within;
+        read = summed_later meld now later c reading.round (take reading.read p.x.group) reading.all grows p.read;
+      }
+
+  abbrev pub decided_lasts : (c k : ℕ) (mask : CtxMask) (x : Held) (count : ℕ) → IsDecided meld limits alone c k mask x count old before own now → IsDecided meld limits alone c k mask x count old before own later
+  decided_lasts c k mask x count p = record {
+    mid = p.mid;
+    decided = p.decided;
+    marked = p.marked;
+    all = p.all;
+    read = p.read;
+    body = p.body;
+    some = p.some;
+    count_is = p.count_is;
+    waited = did_wait alone [] p.decided now later p.waited did;
+    own_is = p.own_is;
+    goes_on = p.goes_on;
+    begins = prefix_trans own.seen (failures now) (failures later) p.begins more_failures;
+  }
+
+  pub spawning_lasts : (c : ℕ) (append : Append) (context reach : ℕ) (group : List ℕ) → IsSpawning meld limits alone c append context reach group old before own now → IsSpawning meld limits alone c append context reach group old before own later
+  spawning_lasts c append context reach group p =
+      record {
+        x = p.x;
+        round = p.round;
+        mask = p.mask;
+        count = p.count;
+        decided = decided_lasts c p.round p.mask p.x p.count p.decided;
+        lowest = p.lowest;
+        reads = record { goes_on = p.reads.goes_on; begins = prefix_trans own.seen (failures now) (failures later) p.reads.begins more_failures; within = p.reads.within; counted = p.reads.counted };
+        stays = p.stays;
+        left = p.left;
+        item = p.item;
+        mine = p.mine;
+        passed = passed_stays append.item append.index now later grows p.passed;
+        more = p.more;
+      }
+
+  pub waiting_lasts : (c k : ℕ) (x : Held) → IsWaiting meld limits alone c k x old before own now → IsWaiting meld limits alone c k x old before own later
+  waiting_lasts c k x p = record { look = p.look; looked = p.looked; legal = p.legal; fits = p.fits; held = p.held; open_is = p.open_is; waited = did_wait alone [] p.look now later p.waited did }
+
+module _ {P : Type 0} (meld : P → P → P) (alone : Bool) (name : Name) (asked : Call P) (old : Record) (before : Sight P) (group : List ℕ) (own : Record) (now later : Sight P) (did : Did alone [] now.seen later.seen) (of : IsOf meld name later) where
+  at_lasts : (phase : Phase P) → StandsAt meld alone name asked old before phase group own now → StandsAt meld alone name asked old before phase group own later
+  at_lasts Over p = (p.0, p.1, did_wait alone [] before.seen now.seen later.seen p.2 did)
+  at_lasts Begun p = (p.0, p.1, did_wait alone [] before.seen now.seen later.seen p.2 did)
+  at_lasts Looking p =
+      let more = failures_begin now.seen later.seen (did_prefix alone [] now.seen later.seen did) in
+      (p.0, p.1, did_wait alone [] before.seen now.seen later.seen p.2 did, (prefix_trans own.seen (failures now.seen) (failures later.seen) p.3.0 more, p.3.1))
+  at_lasts (Settling request offer) p = (looked_lasts meld name.limits alone old before.seen own now.seen later.seen did of.legal asked p.0, p.1)
+  at_lasts (Arriving round) p = (looked_lasts meld name.limits alone old before.seen own now.seen later.seen did of.legal asked p.0, p.1, p.2)
+  at_lasts Revoking p = (looked_lasts meld name.limits alone old before.seen own now.seen later.seen did of.legal asked p.0, p.1)
+  at_lasts Asking p = (looked_lasts meld name.limits alone old before.seen own now.seen later.seen did of.legal asked p.0, p.1)
+  at_lasts (Marking marks shrinks) p = (p.0, marking_lasts meld name.limits alone old before.seen own now.seen later.seen did of.legal (comm_of asked) shrinks marks p.1, p.2)
+  at_lasts (Reading reading shrinks) p = (p.0, reading_lasts meld name.limits alone old before.seen own now.seen later.seen did of.legal (comm_of asked) shrinks reading p.1)
+  at_lasts (ReadingOn on made) p = (p.0, p.1, decided_lasts meld name.limits alone old before.seen own now.seen later.seen did of.legal (comm_of asked) made.round made.mask p.1 made.count p.2, p.3, p.4)
+  at_lasts (Spawning append context reach) p = (p.0, spawning_lasts meld name.limits alone old before.seen own now.seen later.seen did of.legal (comm_of asked) append context reach group p.1)
+  at_lasts (Waiting arrivals) p = (
+    p.0,
+    p.1,
+    p.2,
+    waiting_lasts meld name.limits alone old before.seen own now.seen later.seen did of.legal (comm_of asked) arrivals.round p.2 p.3,
+    at_arrival_stays p.2.group own.seen arrivals now.seen later.seen (did_prefix alone [] now.seen later.seen did) p.4,
+  )
+  at_lasts (Checking missing) p =
+      let i = p.2 in
+      (p.0, p.1, record { x = i.x; k = i.k; waits = i.waits; are = i.are; legal = i.legal; waited = did_wait alone [] p.1 now.seen later.seen i.waited did })
+
+-- the call stands
+pub stands_lasts : {P : Type 0} (meld : P → P → P) (alone : Bool) (name : Name) (old : Record) (before : Sight P) (doing : UnderWay P) (own : Record) (now later : Sight P) → Stands meld alone name old before doing own now → Waits alone now later
+    → IsOf meld name later → Stands meld alone name old before doing own later
+stands_lasts meld alone name old before doing own now later u waits of =
+    record {
+      fits = u.fits;
+      mine = u.mine;
+      onward = omega (arith, u.onward, waits.onward);
+      at = at_lasts meld alone name doing.asked old before doing.group own now later waits.did of doing.phase u.at;
+    }

@@ -1,0 +1,78 @@
+-- How many steps a call makes at most.
+use Rattle.std.proofs.Common.{◌≡◌, ℕ, ◌+◌, ◌-◌, ◌<◌, ◌≤◌, Bool, true, false, List, length, filter, max, Option, Some, refl, ap, sym, ◌∙◌, subst, length-append, arith}
+use mathlib.Core.List.{IsPrefix}
+use Rattle.ulfm_model.specs.declared.call.Call.TheVariants as call
+use Rattle.ulfm_model.specs.declared.{call.Call.{Call}, call.Request.{Request}, call.Request.TheVariants.{Agree, Shrink, Barrier}, limits.Limits.{Limits}}
+use Rattle.ulfm_model.specs.{History.{History, IsLegal, failures, has, without}, Records.{Held, Record, held_at}}
+use Rattle.ulfm_model.specs.Terms.{comm_of, request_of}
+use Rattle.ulfm_steps.specs.{Arriving.{arrivals_left, in_order}, Marks.{marks_left}, Rounds.{reads_left}}
+use Rattle.ulfm_steps.specs.declared.{arrivals.{Arrivals.{Arrivals}}, mark_all.MarkAll.{MarkAll}, read_round.ReadRound.{ReadRound}}
+use Rattle.ulfm_steps.proofs.Arriving.{in_order_few}
+use Rattle.ulfm_comm.specs.{Polls.{agreement}, StepsLeft.{FewerLeft, after_look, after_round, group_of, polling, steps_left}}
+use Rattle.ulfm_comm.specs.declared.{phases.phase.Next.{Next}, phases.phase.Next.TheVariants.{Goes, Ends}}
+use Rattle.ulfm_comm.specs.declared.phases.phase.Phase.TheVariants.{Looking, Marking, Reading, Waiting}
+
+-- what was seen makes no difference to what may follow a look
+pub after_look_same : {P : Type 0} (limits : Limits) (own : Record) (seen : List ℕ) (asked : Call P) → after_look limits (record own { seen = seen }) asked ≡ after_look limits own asked
+after_look_same limits own seen (call.Fail rank) = refl
+after_look_same limits own seen (call.GetFailed rank c) = refl
+after_look_same limits own seen (call.Ack rank c count) = refl
+after_look_same limits own seen (call.Agree rank c value) = refl
+after_look_same limits own seen (call.Shrink rank c) = refl
+after_look_same limits own seen (call.Barrier rank c) = refl
+after_look_same limits own seen (call.Poll rank c) = refl
+after_look_same limits own seen (call.Revoke rank c) = refl
+after_look_same limits own seen (call.IsRevoked rank c) = refl
+after_look_same limits own seen (call.Free rank c) = refl
+
+-- what is fewer than some is fewer than more
+pub fewer_more : {P : Type 0} (limits : Limits) (own : Record) (asked : Call P) (few more : ℕ) → few ≤ more → (next : Next P) → FewerLeft few limits own asked next → FewerLeft more limits own asked next
+fewer_more limits own asked few more le (Goes phase) fewer = omega (arith, le, fewer)
+fewer_more limits own asked few more le (Ends reply) fewer = tt
+
+module _ {P : Type 0} (limits : Limits) (own : Record) (asked : Call P) where
+  -- the poll of a request
+  look_poll : (rank c : ℕ) (x : Held) (request : Option Request) → asked ≡ call.Poll rank c → held_at own (comm_of asked) ≡ Some x → x.request ≡ request → after_look limits own asked ≡ polling limits (length x.group) request
+  look_poll rank c x request is held is_open =
+      subst (λ (a : Call P). held_at own (comm_of a) ≡ Some x → after_look limits own a ≡ polling limits (length x.group) request) (sym is)
+      (λ at. ap (λ h. polling limits (length (group_of h)) (request_of h)) at ∙ ap (polling limits (length x.group)) is_open) held
+
+  -- what comes right after a look
+  module _ (meld : P → P → P) (h : History P) (legal : IsLegal meld limits h) (begins : IsPrefix own.seen (failures h)) (some : 0 < limits.comms) (rank c : ℕ) (x : Held) (is : asked ≡ call.Poll rank c) (held : held_at own (comm_of asked) ≡ Some x) where
+    abbrev most : ℕ
+    most = after_look limits own asked + max 1 (limits.ranks - length own.seen)
+
+    few : length (in_order x.group own.seen) ≤ length x.group
+    few = in_order_few meld limits h x.group own.seen legal begins
+
+    pub waiting_after : (k : ℕ) (arrivals : Arrivals) → x.request ≡ Some (Barrier k) → steps_left limits own asked (Waiting arrivals) < most
+    waiting_after k arrivals is_open =
+        let all = look_poll rank c x (Some (Barrier k)) is held is_open in
+        subst (λ g. arrivals_left g own.seen arrivals + 1 < most) (sym (ap group_of held)) (omega (arith, all, few))
+
+    pub marking_after : (k : ℕ) (shrinks : Bool) (marks : MarkAll) → x.request ≡ Some (agreement shrinks k) → steps_left limits own asked (Marking marks shrinks) < most
+    marking_after k shrinks marks is_open =
+        subst (λ g. marks_left g own.seen marks.next + length g + after_round limits own shrinks < most) (sym (ap group_of held)) (by_kind shrinks is_open)
+      where
+        by_kind : (b : Bool) → x.request ≡ Some (agreement b k) → marks_left x.group own.seen marks.next + length x.group + after_round limits own b < most
+        by_kind false is_open =
+            let all = look_poll rank c x (Some (Agree k)) is held is_open in
+            omega (arith, all, few, length-append (filter (has x.group) own.seen) (without x.group own.seen))
+        by_kind true is_open =
+            let all = look_poll rank c x (Some (Shrink k)) is held is_open in
+            omega (arith, all, few, some, length-append (filter (has x.group) own.seen) (without x.group own.seen))
+
+    pub reading_after : (k : ℕ) (shrinks : Bool) (reading : ReadRound P) → x.request ≡ Some (agreement shrinks k) → steps_left limits own asked (Reading reading shrinks) < most
+    reading_after k shrinks reading is_open =
+        subst (λ g. reads_left g reading + after_round limits own shrinks < most) (sym (ap group_of held)) (by_kind shrinks is_open)
+      where
+        by_kind : (b : Bool) → x.request ≡ Some (agreement b k) → reads_left x.group reading + after_round limits own b < most
+        by_kind false is_open = let all = look_poll rank c x (Some (Agree k)) is held is_open in omega (arith, all)
+        by_kind true is_open = let all = look_poll rank c x (Some (Shrink k)) is held is_open in omega (arith, all, some)
+
+-- once a look has ended, fewer steps are left than before its last load
+pub looks_up : {P : Type 0} (limits : Limits) (own new : Record) (asked : Call P) → new ≡ record own { seen = new.seen } → length own.seen < limits.ranks → length own.seen ≤ length new.seen
+    → after_look limits new asked + max 1 (limits.ranks - length new.seen) ≤ steps_left limits own asked Looking
+looks_up limits own new asked kept more longer =
+    let same = ap (λ (w : Record). after_look limits w asked) kept ∙ after_look_same limits own new.seen asked in
+    omega (arith, more, longer, same)

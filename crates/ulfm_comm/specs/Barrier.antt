@@ -1,0 +1,54 @@
+-- The poll of a barrier: who has arrived, and whether the communicator is revoked.
+use Rattle.std.specs.Prelude.{◌≡◌, ◌⊎◌, ℕ, Bool, [], Some}
+use Rattle.ulfm_model.specs.declared.{call.Call.{Call}, call.Request.TheVariants.{Barrier}, limits.Limits.{Limits}}
+use Rattle.ulfm_model.specs.declared.{refusal.Refusal.TheVariants.{IsRevoked, ProcFailed}, reply.Reply.{Reply}}
+use Rattle.ulfm_model.specs.declared.reply.Reply.TheVariants.{Pending, Refused, Done}
+use Rattle.ulfm_model.specs.{History.{History, IsLegal}, Records.{Fits, Held, Record, held_at}, Runs.{Did}, Answers.{closed}}
+use Rattle.ulfm_steps.specs.Arriving.{MissingAre}
+use Rattle.ulfm_steps.specs.declared.{arrivals.Missing.{Missing}, arrivals.Missing.TheVariants.{Nobody, Others, Declared}}
+use Rattle.ulfm_comm.specs.{Ends.{IsEndRun}, Look.{Looked}}
+
+-- a rank that has a barrier open in this round
+pub record Awaits {P : Type 0} (meld : P → P → P) (limits : Limits) (h : History P) (c k : ℕ) (own : Record) : Type 0 where
+  pub fits : Fits meld limits h own
+  pub x : Held
+  pub held : held_at own c ≡ Some x
+  pub open_is : x.request ≡ Some (Barrier k)
+
+-- what the poll answers where the communicator isn't revoked
+abbrev pub missing_reply : {P : Type 0} → Missing → Reply P
+missing_reply Nobody = Done
+missing_reply Others = Pending
+missing_reply Declared = Refused ProcFailed
+
+-- what that leaves of the record
+abbrev pub missing_leaves : Record → ℕ → Missing → Record
+missing_leaves own c Nobody = closed own c
+missing_leaves own c Others = own
+missing_leaves own c Declared = closed own c
+
+-- The poll of a barrier has looked; since then there were others' events alone.
+pub record IsWaiting {P : Type 0} (meld : P → P → P) (limits : Limits) (alone : Bool) (c k : ℕ) (x : Held) (old : Record) (before : History P) (mid : Record)
+    (now : History P) : Type 0 where
+  pub look : History P
+  pub looked : Looked alone before look old mid
+  pub legal : IsLegal meld limits look
+  pub fits : Fits meld limits look mid
+  pub held : held_at mid c ≡ Some x
+  pub open_is : x.request ≡ Some (Barrier k)
+  pub waited : Did alone [] look now
+
+-- The poll of a barrier is about to load the revocation: who was missing was found when this had been seen.
+pub record IsChecking {P : Type 0} (meld : P → P → P) (limits : Limits) (alone : Bool) (c : ℕ) (missing : Missing) (earlier : History P) (old : Record)
+    (before : History P) (own : Record) (now : History P) : Type 0 where
+  pub x : Held
+  pub k : ℕ
+  pub waits : IsWaiting meld limits alone c k x old before own earlier
+  pub are : MissingAre earlier c k x.group own.seen missing
+  pub legal : IsLegal meld limits earlier
+  pub waited : Did alone [] earlier now
+
+-- where somebody was missing, that is when the poll is answered so
+abbrev pub AnswersEarly : {P : Type 0} → (P → P → P) → Limits → Bool → Call P → Missing → History P → Record → History P → Reply P → Record → Type 0
+AnswersEarly meld limits alone asked missing earlier old before reply new =
+    (missing ≡ Nobody) ⊎ ((reply ≡ Refused IsRevoked) ⊎ IsEndRun meld limits alone before earlier old asked reply new)

@@ -1,0 +1,13 @@
+// The calls of a rank and of a world, a file for each.
+mod ack;
+mod agree;
+mod barrier;
+mod fail;
+mod free;
+mod get_failed;
+mod is_revoked;
+mod poll;
+pub mod polled;
+mod replies;
+mod revoke;
+mod shrink;

@@ -1,0 +1,39 @@
+ghost use Rattle.std.specs.Prelude.{◌≡◌};
+ghost use Rattle.ulfm_model.specs.Records.{Fits};
+ghost use Rattle.ulfm_model.specs.declared.call.Call.TheVariants.{Ack as Asked};
+ghost use Rattle.ulfm_model.specs.declared.reply.Reply.TheVariants.{Acked as Answered};
+ghost use Rattle.ulfm_words.specs.Steps.{IsOf};
+ghost use Rattle.ulfm_comm.specs.Calls.{Calls, reply_of};
+
+use crate::calls::replies::acked;
+use crate::rank::Rank;
+use crate::world::World;
+use std::alloc::Allocator;
+use ulfm_laws::meld::Packed;
+use ulfm_model::call::Call;
+use ulfm_model::refusal::Refusal;
+use ulfm_words::Words;
+
+impl<P: Packed, A: Allocator + Copy> Rank<P, A> {
+    /// Acknowledges the first `count` failures of a communicator that are known, or all that are known where `count` is
+    /// greater: how many are acknowledged now, earlier calls included. It makes the steps of a look (ULFM: Communicator
+    /// Functions, `MPI_COMM_ACK_FAILED`).
+    ///
+    /// `SelfFailed` where the rank is declared, `NoSuchComm` where it doesn't hold the communicator.
+    #[inline(never)]
+    pub fn ack_failed<W: Words<P, A>>(
+        &mut self,
+        world: &World<W, P, A>,
+        pass: &mut W::Pass,
+        comm: u16,
+        count: u16,
+    ) -> Result<u16, Refusal>
+        requires of { IsOf P.meld (W.name world.now.words) (W.sight pass.old) }
+        requires fits { Fits P.meld (W.name world.now.words).limits (W.sight pass.old).seen self.old }
+        ensures { Calls P.meld W.alone (W.name world.now.words) (Asked self.old.number comm count) self.old (W.sight pass.old) (reply_of Answered result)
+            self.new (W.sight pass.new) }
+    {
+        let rank = self.number();
+        acked(self.call(world, pass, Call::Ack { rank, comm, count }))
+    }
+}

@@ -1,0 +1,42 @@
+ghost use Rattle.ulfm_model.specs.Records.{Fits};
+ghost use Rattle.ulfm_model.specs.declared.call.Call.TheVariants.{Agree as Asked};
+ghost use Rattle.ulfm_model.specs.declared.reply.Reply.TheVariants.{Started};
+ghost use Rattle.ulfm_words.specs.Steps.{IsOf};
+ghost use Rattle.ulfm_comm.specs.Calls.{Calls, reply_of};
+
+use crate::calls::replies::started;
+use crate::rank::Rank;
+use crate::world::World;
+use std::alloc::Allocator;
+use ulfm_laws::meld::Packed;
+use ulfm_model::call::Call;
+use ulfm_model::refusal::Refusal;
+use ulfm_words::Words;
+
+impl<P: Packed, A: Allocator + Copy> Rank<P, A> {
+    /// Starts an agree on a flag, in the rank's next agreement round of the communicator: the rank contributes the flag,
+    /// the failures that it knows and those of them that it has acknowledged. From then on the request is open, until a
+    /// poll ends it. It makes the steps of a look and one more (ULFM: Communicator Functions, `MPI_COMM_IAGREE`).
+    ///
+    /// `SelfFailed` where the rank is declared, `NoSuchComm` where it doesn't hold the communicator, `Busy` where a request
+    /// is open on it, `RoundsUsedUp` where no round is left but the last, which is kept for a shrink. Then `SelfFailed`
+    /// where another rank's mark came before the contribution, and `Twice` where another contribution stands at the rank's
+    /// place. After a refusal no request was started.
+    #[inline(never)]
+    pub fn iagree<W: Words<P, A>>(
+        &mut self,
+        world: &World<W, P, A>,
+        pass: &mut W::Pass,
+        comm: u16,
+        value: P,
+    ) -> Result<(), Refusal>
+        requires of { IsOf P.meld (W.name world.now.words) (W.sight pass.old) }
+        requires fits { Fits P.meld (W.name world.now.words).limits (W.sight pass.old).seen self.old }
+        ensures { Calls P.meld W.alone (W.name world.now.words) (Asked self.old.number comm value) self.old (W.sight pass.old) (reply_of (λ _. Started) result)
+            self.new (W.sight pass.new) }
+    {
+        let rank = self.number();
+        let asked = Call::Agree { rank, comm, value };
+        started(self.call(world, pass, asked))
+    }
+}

@@ -1,0 +1,39 @@
+ghost use Rattle.ulfm_model.specs.Records.{Fits};
+ghost use Rattle.ulfm_model.specs.declared.call.Call.TheVariants.{Barrier as Asked};
+ghost use Rattle.ulfm_model.specs.declared.reply.Reply.TheVariants.{Started};
+ghost use Rattle.ulfm_words.specs.Steps.{IsOf};
+ghost use Rattle.ulfm_comm.specs.Calls.{Calls, reply_of};
+
+use crate::calls::replies::started;
+use crate::rank::Rank;
+use crate::world::World;
+use std::alloc::Allocator;
+use ulfm_laws::meld::Packed;
+use ulfm_model::call::Call;
+use ulfm_model::refusal::Refusal;
+use ulfm_words::Words;
+
+impl<P: Packed, A: Allocator + Copy> Rank<P, A> {
+    /// Starts a barrier, in the rank's next barrier round of the communicator, which are counted apart from its agreement
+    /// rounds: the rank has arrived. From then on the request is open, until a poll ends it. That a communicator is revoked
+    /// doesn't keep a barrier from starting; its poll says so. It makes the steps of a look and one more.
+    ///
+    /// `SelfFailed` where the rank is declared, `NoSuchComm` where it doesn't hold the communicator, `Busy` where a request
+    /// is open on it, `RoundsUsedUp` where no round is left. Then `Twice` where the rank has arrived in this round before.
+    /// After a refusal no request was started.
+    #[inline(never)]
+    pub fn ibarrier<W: Words<P, A>>(
+        &mut self,
+        world: &World<W, P, A>,
+        pass: &mut W::Pass,
+        comm: u16,
+    ) -> Result<(), Refusal>
+        requires of { IsOf P.meld (W.name world.now.words) (W.sight pass.old) }
+        requires fits { Fits P.meld (W.name world.now.words).limits (W.sight pass.old).seen self.old }
+        ensures { Calls P.meld W.alone (W.name world.now.words) (Asked self.old.number comm) self.old (W.sight pass.old) (reply_of (λ _. Started) result)
+            self.new (W.sight pass.new) }
+    {
+        let rank = self.number();
+        started(self.call(world, pass, Call::Barrier { rank, comm }))
+    }
+}

@@ -1,0 +1,38 @@
+ghost use Rattle.ulfm_model.specs.Records.{Fits};
+ghost use Rattle.ulfm_model.specs.declared.call.Call.TheVariants.{Free as Asked};
+ghost use Rattle.ulfm_model.specs.declared.reply.Reply.TheVariants.{Freed};
+ghost use Rattle.ulfm_words.specs.Steps.{IsOf};
+ghost use Rattle.ulfm_comm.specs.Calls.{Calls, reply_of};
+
+use crate::calls::replies::freed;
+use crate::rank::Rank;
+use crate::world::World;
+use std::alloc::Allocator;
+use ulfm_laws::meld::Packed;
+use ulfm_model::call::Call;
+use ulfm_model::refusal::Refusal;
+use ulfm_words::Words;
+
+impl<P: Packed, A: Allocator + Copy> Rank<P, A> {
+    /// Gives a communicator back: the rank doesn't hold it any more, and its context id is free at this rank. In MPI all
+    /// members call `MPI_COMM_FREE` together; here each rank drops its own, and the others' stay as they are. It makes the
+    /// steps of a look.
+    ///
+    /// `SelfFailed` where the rank is declared, `NoSuchComm` where it doesn't hold the communicator, `WorldKept` where it is
+    /// the world's own, `Busy` where a request is open on it.
+    #[inline(never)]
+    pub fn free<W: Words<P, A>>(
+        &mut self,
+        world: &World<W, P, A>,
+        pass: &mut W::Pass,
+        comm: u16,
+    ) -> Result<(), Refusal>
+        requires of { IsOf P.meld (W.name world.now.words) (W.sight pass.old) }
+        requires fits { Fits P.meld (W.name world.now.words).limits (W.sight pass.old).seen self.old }
+        ensures { Calls P.meld W.alone (W.name world.now.words) (Asked self.old.number comm) self.old (W.sight pass.old) (reply_of (λ _. Freed) result) self.new
+            (W.sight pass.new) }
+    {
+        let rank = self.number();
+        freed(self.call(world, pass, Call::Free { rank, comm }))
+    }
+}

@@ -1,0 +1,50 @@
+ghost use Rattle.std.specs.Prelude.{◌≡◌, IfOk, OnErr, length};
+ghost use Rattle.ulfm_model.specs.Records.{Fits};
+ghost use Rattle.ulfm_model.specs.History.{failed};
+ghost use Rattle.ulfm_model.specs.declared.call.Call.TheVariants.{GetFailed as Asked};
+ghost use Rattle.ulfm_words.specs.Steps.{IsOf};
+ghost use Rattle.ulfm_comm.specs.Calls.{Gets};
+
+use crate::calls::replies::counted;
+use crate::groups::{make_room, put_in};
+use crate::rank::Rank;
+use crate::world::World;
+use std::alloc::Allocator;
+use ulfm_laws::meld::Packed;
+use ulfm_model::call::Call;
+use ulfm_model::refusal::Refusal;
+use ulfm_words::Words;
+
+impl<P: Packed, A: Allocator + Copy> Rank<P, A> {
+    /// Puts the failed group of a communicator into a vector, in the order of the declarations: the members that are
+    /// known to have failed. What the vector held is dropped. It makes the steps of a look (ULFM: Communicator Functions,
+    /// `MPI_COMM_GET_FAILED`).
+    ///
+    /// `SelfFailed` where the rank is declared, `NoSuchComm` where it doesn't hold the communicator, `OutOfMemory` where
+    /// the vector has too little room and its growth is refused. After a refusal the vector is as it was.
+    #[inline(never)]
+    pub fn get_failed<W: Words<P, A>, B: Allocator>(
+        &mut self,
+        world: &World<W, P, A>,
+        pass: &mut W::Pass,
+        comm: u16,
+        found: &mut Vec<u16, B>,
+    ) -> Result<(), Refusal>
+        requires of { IsOf P.meld (W.name world.now.words) (W.sight pass.old) }
+        requires fits { Fits P.meld (W.name world.now.words).limits (W.sight pass.old).seen self.old }
+        ensures gets { Gets P.meld W.alone (W.name world.now.words) (Asked self.old.number comm) self.old (W.sight pass.old) (length found.new.items) result
+            self.new (W.sight pass.new) }
+        ensures group { IfOk result (λ _. found.new.items ≡ failed (W.name world.now.words).limits.ranks (W.sight pass.new).seen comm) }
+        ensures kept { OnErr result (found.new.items ≡ found.old.items) }
+    {
+        let rank = self.number();
+        counted(self.call(world, pass, Call::GetFailed { rank, comm }))?;
+        let x = self.held_comm(comm);
+        if make_room(&x.group, self.failures(), found).is_err() {
+            return Err(Refusal::OutOfMemory);
+        }
+        found.clear();
+        put_in(&x.group, self.failures(), found);
+        Ok(())
+    }
+}

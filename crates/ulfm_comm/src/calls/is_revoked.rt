@@ -1,0 +1,36 @@
+ghost use Rattle.ulfm_model.specs.Records.{Fits};
+ghost use Rattle.ulfm_model.specs.declared.call.Call.TheVariants.{IsRevoked as Asked};
+ghost use Rattle.ulfm_model.specs.declared.reply.Reply.TheVariants.{Standing};
+ghost use Rattle.ulfm_words.specs.Steps.{IsOf};
+ghost use Rattle.ulfm_comm.specs.Calls.{Calls, reply_of};
+
+use crate::calls::replies::standing;
+use crate::rank::Rank;
+use crate::world::World;
+use std::alloc::Allocator;
+use ulfm_laws::meld::Packed;
+use ulfm_model::call::Call;
+use ulfm_model::refusal::Refusal;
+use ulfm_words::Words;
+
+impl<P: Packed, A: Allocator + Copy> Rank<P, A> {
+    /// Whether a communicator is revoked, as its own load finds it. It makes the steps of a look and one more (ULFM:
+    /// Communicator Functions, `MPI_COMM_IS_REVOKED`).
+    ///
+    /// `SelfFailed` where the rank is declared, `NoSuchComm` where it doesn't hold the communicator.
+    #[inline(never)]
+    pub fn is_revoked<W: Words<P, A>>(
+        &mut self,
+        world: &World<W, P, A>,
+        pass: &mut W::Pass,
+        comm: u16,
+    ) -> Result<bool, Refusal>
+        requires of { IsOf P.meld (W.name world.now.words) (W.sight pass.old) }
+        requires fits { Fits P.meld (W.name world.now.words).limits (W.sight pass.old).seen self.old }
+        ensures { Calls P.meld W.alone (W.name world.now.words) (Asked self.old.number comm) self.old (W.sight pass.old) (reply_of Standing result) self.new
+            (W.sight pass.new) }
+    {
+        let rank = self.number();
+        standing(self.call(world, pass, Call::IsRevoked { rank, comm }))
+    }
+}

@@ -1,0 +1,120 @@
+// What a call's reply is to its caller.
+ghost use Rattle.std.specs.Prelude.{◌≡◌};
+ghost use Rattle.ulfm_model.specs.declared.reply.Reply.TheVariants.{Started, FailedGroup, Acked, Freed, Refused, Standing};
+ghost use Rattle.ulfm_comm.specs.Calls.{reply_of};
+ghost use Rattle.ulfm_comm.specs.Polls.{polled};
+ghost use Rattle.ulfm_comm.specs.Replies.{IsAcked, IsCounted, IsFreed, IsPolled, IsRevokedBy, IsStanding, IsStart};
+ghost use Rattle.ulfm_comm.specs.Revokes.{revoked};
+
+use crate::calls::polled::Polled;
+use ulfm_model::refusal::Refusal;
+use ulfm_model::reply::Reply;
+
+// The refusal that a reply is, where it isn't its call's answer.
+fn refusal_in<P>(reply: Reply<P>) -> Refusal
+    requires { (refusal : Refusal) × (reply ≡ Refused refusal) }
+    ensures { reply ≡ Refused result }
+{
+    match reply {
+        Reply::Refused(refusal) => refusal,
+        // A call's reply is its own answer or a refusal, as its caller says.
+        _ => unreachable!(),
+    }
+}
+
+// That of a start.
+pub(crate) fn started<P>(reply: Reply<P>) -> Result<(), Refusal>
+    requires { IsStart reply }
+    ensures { reply_of (λ _. Started) result ≡ reply }
+{
+    match reply {
+        Reply::Started => Ok(()),
+        _ => Err(refusal_in(reply)),
+    }
+}
+
+// That of a query of the failed group: how many ranks it has.
+pub(crate) fn counted<P>(reply: Reply<P>) -> Result<u16, Refusal>
+    requires { IsCounted reply }
+    ensures { reply_of FailedGroup result ≡ reply }
+{
+    match reply {
+        Reply::FailedGroup { count } => Ok(count),
+        _ => Err(refusal_in(reply)),
+    }
+}
+
+// That of an acknowledgement: how many failures are acknowledged now.
+pub(crate) fn acked<P>(reply: Reply<P>) -> Result<u16, Refusal>
+    requires { IsAcked reply }
+    ensures { reply_of Acked result ≡ reply }
+{
+    match reply {
+        Reply::Acked { count } => Ok(count),
+        _ => Err(refusal_in(reply)),
+    }
+}
+
+// That of a communicator given back.
+pub(crate) fn freed<P>(reply: Reply<P>) -> Result<(), Refusal>
+    requires { IsFreed reply }
+    ensures { reply_of (λ _. Freed) result ≡ reply }
+{
+    match reply {
+        Reply::Freed => Ok(()),
+        _ => Err(refusal_in(reply)),
+    }
+}
+
+// That of a revocation: whether it was this call's.
+pub(crate) fn revoked<P>(reply: Reply<P>) -> Result<bool, Refusal>
+    requires { IsRevokedBy reply }
+    ensures { reply_of revoked result ≡ reply }
+{
+    match reply {
+        Reply::Revoked => Ok(true),
+        Reply::AlreadyRevoked => Ok(false),
+        _ => Err(refusal_in(reply)),
+    }
+}
+
+// Whether a communicator is revoked.
+pub(crate) fn standing<P>(reply: Reply<P>) -> Result<bool, Refusal>
+    requires { IsStanding reply }
+    ensures { reply_of Standing result ≡ reply }
+{
+    match reply {
+        Reply::Standing { revoked } => Ok(revoked),
+        _ => Err(refusal_in(reply)),
+    }
+}
+
+// That of a poll.
+pub(crate) fn polled<P>(reply: Reply<P>) -> Result<Polled<P>, Refusal>
+    requires { IsPolled reply }
+    ensures { reply_of polled result ≡ reply }
+{
+    match reply {
+        Reply::Pending => Ok(Polled::Pending),
+        Reply::Agreed {
+            value,
+            failed,
+            raised,
+        } => Ok(Polled::Agreed {
+            value,
+            failed,
+            raised,
+        }),
+        Reply::Shrunk {
+            comm,
+            context,
+            size,
+        } => Ok(Polled::Shrunk {
+            comm,
+            context,
+            size,
+        }),
+        Reply::Done => Ok(Polled::Done),
+        _ => Err(refusal_in(reply)),
+    }
+}

@@ -1,0 +1,45 @@
+ghost use Rattle.std.specs.Prelude.{IfOk};
+ghost use Rattle.ulfm_model.specs.Records.{Fits};
+ghost use Rattle.ulfm_model.specs.declared.call.Call.TheVariants.{Shrink as Asked};
+ghost use Rattle.ulfm_model.specs.declared.reply.Reply.TheVariants.{Started};
+ghost use Rattle.ulfm_words.specs.Steps.{IsOf};
+ghost use Rattle.ulfm_comm.specs.Calls.{Calls, reply_of};
+ghost use Rattle.ulfm_comm.specs.Excludes.{Excludes};
+
+use crate::calls::replies::started;
+use crate::rank::Rank;
+use crate::world::World;
+use std::alloc::Allocator;
+use ulfm_laws::meld::Packed;
+use ulfm_model::call::Call;
+use ulfm_model::refusal::Refusal;
+use ulfm_words::Words;
+
+impl<P: Packed, A: Allocator + Copy> Rank<P, A> {
+    /// Starts a shrink of a communicator, in the rank's next agreement round of it: the rank contributes the context ids
+    /// that none of its communicators has, the failures that it knows, all of which are to be left out, and those of them
+    /// that it has acknowledged. From then on the request is open, until a poll ends it. It makes the steps of a look and
+    /// one more (ULFM: Communicator Functions, `MPI_COMM_ISHRINK`).
+    ///
+    /// `SelfFailed` where the rank is declared, `NoSuchComm` where it doesn't hold the communicator, `Busy` where a request
+    /// is open on it, `ShrinkOpen` where the rank has a shrink open on any of its communicators, since it offers the same
+    /// ids to one shrink at a time, `RoundsUsedUp` where no round is left. Then `SelfFailed` where another rank's mark came
+    /// before the contribution, and `Twice` where another contribution stands at the rank's place. After a refusal no
+    /// request was started.
+    #[inline(never)]
+    pub fn ishrink<W: Words<P, A>>(
+        &mut self,
+        world: &World<W, P, A>,
+        pass: &mut W::Pass,
+        comm: u16,
+    ) -> Result<(), Refusal>
+        requires of { IsOf P.meld (W.name world.now.words) (W.sight pass.old) }
+        requires fits { Fits P.meld (W.name world.now.words).limits (W.sight pass.old).seen self.old }
+        ensures calls { Calls P.meld W.alone (W.name world.now.words) (Asked self.old.number comm) self.old (W.sight pass.old) (reply_of (λ _. Started) result)
+            self.new (W.sight pass.new) }
+        ensures excludes { IfOk result (λ _. Excludes P.meld (W.name world.now.words).limits (W.sight pass.old).seen (W.sight pass.new).seen self.old comm) }
+    {
+        let rank = self.number();
+        started(self.call(world, pass, Call::Shrink { rank, comm }))
+    }
+}

@@ -1,0 +1,185 @@
+// The one step that starts and questions make after their look.
+ghost use Rattle.std.specs.Prelude.{ℕ, Bool, List, ◌≡◌, false, Some, ◌≤◌, ◌<◌, filter, length};
+ghost use Rattle.ulfm_model.specs.{Terms.{comm_of}, History.{has}, Records.{Fits, held_at}};
+ghost use Rattle.ulfm_record.specs.Kept.{HasNext};
+ghost use Rattle.ulfm_comm.specs.{Phase.{StillStands}, Exchange.{Settles, start_leaves, start_result}, Step.{TakesTurn}};
+ghost use Rattle.ulfm_comm.specs.declared.phases.phase.Next.TheVariants.{Ends as NextEnds};
+ghost use Rattle.ulfm_comm.specs.declared.phases.phase.Phase.TheVariants.{Settling as AtSettling, Arriving as AtArriving, Revoking as AtRevoking};
+ghost use Rattle.ulfm_comm.specs.declared.phases.phase.Phase.TheVariants.{Asking as AtAsking};
+ghost use Rattle.ulfm_words.specs.Steps.{IsOf};
+ghost use Rattle.ulfm_model.specs.declared.place.Place.TheVariants.{Slot as SlotAt};
+ghost use Rattle.ulfm_steps.specs.Turns.{IsOneStep};
+
+use crate::groups::count_in;
+use crate::rank::Rank;
+use crate::world::World;
+use std::alloc::Allocator;
+use ulfm_laws::acked::Acked;
+use ulfm_laws::known::Known;
+use ulfm_laws::meld::Packed;
+use ulfm_model::call::{Call, Request, comm_of};
+use ulfm_model::contribution::{Contribution, Offer, Slot};
+use ulfm_model::event::Caller;
+use ulfm_model::refusal::Refusal;
+use ulfm_model::reply::Reply;
+use ulfm_record::HeldComm;
+use ulfm_steps::Settle;
+use ulfm_words::{Words, load_revocation, set_arrival, set_revocation};
+
+// An offer with these counts of failures.
+fn contribution<P: Packed>(offer: Offer<P>, known: usize, acked: u16) -> Contribution<P>
+    requires known { known ≤ 1024 }
+    requires acked { acked ≤ known }
+    ensures offer { result.offer ≡ offer }
+    ensures known { result.known.count ≡ known }
+    ensures acked { result.acked.count ≡ acked }
+{
+    let count = known as u16;
+    Contribution {
+        offer,
+        known: Known { count },
+        acked: Acked { count: acked },
+    }
+}
+
+impl<P: Packed, A: Allocator> Rank<P, A> {
+    // The exchange of an agree or of a shrink: the rank contributes to its next agreement round.
+    #[inline(always)]
+    pub(crate) fn go_settling<W: Words<P, A>>(
+        &mut self,
+        world: &World<W, P, A>,
+        pass: &mut W::Pass,
+        asked: &Call<P>,
+        request: Request,
+        offer: Offer<P>,
+    ) -> Reply<P>
+        requires of { IsOf P.meld (W.name world.now.words) (W.sight pass.old) }
+        requires stands { (group : List ℕ)
+            × StillStands P.meld (W.name world.now.words) asked.now (AtSettling request offer) group self.old (W.sight pass.old) }
+        ensures { (group : List ℕ) (whole : Bool) → TakesTurn P.meld W.alone whole (W.name world.now.words) asked.now (AtSettling request offer) group
+            self.old (W.sight pass.old) (NextEnds result) group self.new (W.sight pass.new) }
+    {
+        let x = self.held_comm(comm_of(asked));
+        let settled = self.contribute(world, pass, x, offer);
+        match self.end_start(comm_of(asked), request, settled) {
+            Ok(()) => Reply::Started,
+            Err(refusal) => Reply::Refused(refusal),
+        }
+    }
+
+    // The exchange of a barrier: the rank arrives in its next barrier round.
+    #[inline(always)]
+    pub(crate) fn go_arriving<W: Words<P, A>>(
+        &mut self,
+        world: &World<W, P, A>,
+        pass: &mut W::Pass,
+        asked: &Call<P>,
+        round: u16,
+    ) -> Reply<P>
+        requires of { IsOf P.meld (W.name world.now.words) (W.sight pass.old) }
+        requires stands { (group : List ℕ) × StillStands P.meld (W.name world.now.words) asked.now (AtArriving round) group self.old (W.sight pass.old) }
+        ensures { (group : List ℕ) (whole : Bool) → TakesTurn P.meld W.alone whole (W.name world.now.words) asked.now (AtArriving round) group self.old
+            (W.sight pass.old) (NextEnds result) group self.new (W.sight pass.new) }
+    {
+        let comm = comm_of(asked);
+        let number = self.number();
+        let by = Caller::Rank(number);
+        if !set_arrival(&world.words, pass, by, comm, round, number) {
+            return Reply::Refused(Refusal::Twice);
+        }
+        self.open(comm, Request::Barrier { round });
+        Reply::Started
+    }
+
+    // The exchange of a revocation.
+    #[inline(always)]
+    pub(crate) fn go_revoking<W: Words<P, A>>(
+        &self,
+        world: &World<W, P, A>,
+        pass: &mut W::Pass,
+        asked: &Call<P>,
+    ) -> Reply<P>
+        requires of { IsOf P.meld (W.name world.now.words) (W.sight pass.old) }
+        requires stands { (group : List ℕ) × StillStands P.meld (W.name world.now.words) asked.now AtRevoking group self.now (W.sight pass.old) }
+        ensures { (group : List ℕ) (whole : Bool) → TakesTurn P.meld W.alone whole (W.name world.now.words) asked.now AtRevoking group self.now
+            (W.sight pass.old) (NextEnds result) group self.now (W.sight pass.new) }
+    {
+        let by = Caller::Rank(self.number());
+        if set_revocation(&world.words, pass, by, comm_of(asked)) {
+            Reply::Revoked
+        } else {
+            Reply::AlreadyRevoked
+        }
+    }
+
+    // The load of a revocation.
+    #[inline(always)]
+    pub(crate) fn go_asking<W: Words<P, A>>(
+        &self,
+        world: &World<W, P, A>,
+        pass: &mut W::Pass,
+        asked: &Call<P>,
+    ) -> Reply<P>
+        requires of { IsOf P.meld (W.name world.now.words) (W.sight pass.old) }
+        requires stands { (group : List ℕ) × StillStands P.meld (W.name world.now.words) asked.now AtAsking group self.now (W.sight pass.old) }
+        ensures { (group : List ℕ) (whole : Bool) → TakesTurn P.meld W.alone whole (W.name world.now.words) asked.now AtAsking group self.now
+            (W.sight pass.old) (NextEnds result) group self.now (W.sight pass.new) }
+    {
+        Reply::Standing {
+            revoked: load_revocation(&world.words, pass, comm_of(asked)),
+        }
+    }
+
+    // Contributes to the rank's next agreement round of a communicator that it holds: an offer, the failures that its look
+    // found and those of them that it has acknowledged. It is one step: an exchange, which gives what stood there before.
+    fn contribute<W: Words<P, A>>(
+        &self,
+        world: &World<W, P, A>,
+        pass: &mut W::Pass,
+        x: &HeldComm<A>,
+        offer: Offer<P>,
+    ) -> Result<(), Slot<P>>
+        requires of { IsOf P.meld (W.name world.now.words) (W.sight pass.old) }
+        requires fits { Fits P.meld (W.name world.now.words).limits (W.sight pass.old).seen self.now }
+        requires held { held_at self.now x.now.comm ≡ Some x.now }
+        requires acked { x.now.acked ≤ length (filter (has x.now.group) self.now.seen) }
+        requires room { x.now.next_agreement < (W.name world.now.words).limits.rounds }
+        ensures of { IsOf P.meld (W.name world.now.words) (W.sight pass.new) }
+        ensures one { IsOneStep (SlotAt x.now.comm x.now.next_agreement self.now.number) false (W.sight pass.old) (W.sight pass.new) }
+        ensures settles { Settles W.alone (W.sight pass.old).seen (W.sight pass.new).seen self.now x.now offer result }
+    {
+        let known = count_in(&x.group, self.failures());
+        let given = contribution(offer, known, x.acked);
+        let settle = Settle {
+            comm: x.comm,
+            round: x.next_agreement,
+            rank: self.number(),
+            given,
+        };
+        settle.finish(&world.words, pass)
+    }
+
+    // Ends a start: the request is open where the rank has contributed. A mark means that the rank was declared.
+    fn end_start(
+        &mut self,
+        comm: u16,
+        request: Request,
+        settled: Result<(), Slot<P>>,
+    ) -> Result<(), Refusal>
+        requires next { HasNext request }
+        ensures result { result ≡ start_result settled }
+        ensures leaves { self.new ≡ start_leaves self.old comm request settled }
+    {
+        match settled {
+            Ok(()) => {
+                self.open(comm, request);
+                Ok(())
+            }
+            Err(Slot::Mark(_)) => {
+                self.refuse();
+                Err(Refusal::SelfFailed)
+            }
+            Err(Slot::Given(_)) => Err(Refusal::Twice),
+        }
+    }
+}

@@ -1,0 +1,224 @@
+// The look of a call, and what comes after it.
+ghost use Rattle.std.specs.Prelude.{ℕ, Bool, List, ◌≡◌, ◌+◌, ◌-◌, ◌<◌, false, true, length, max, min, None, Some, MatchOption};
+ghost use Rattle.ulfm_model.specs.{Records.{Record}, Terms.{comm_of}};
+ghost use Rattle.ulfm_model.specs.declared.{call.Call.TheVariants.{Poll as PollAsked}, call.Request.TheVariants.{Barrier as OfBarrier}};
+ghost use Rattle.ulfm_comm.specs.{Polls.{IsAgreement, agreement}, Phase.{IsFurther, NextIs, Stands, StillStands, left}, Look.{JustLooked, Passes}};
+ghost use Rattle.ulfm_comm.specs.{StepsLeft.{FewerLeft, after_look, steps_left}, Step.{TakesTurn}};
+ghost use Rattle.ulfm_comm.specs.declared.phases.phase.Phase.TheVariants.{Begun as AtBegun, Looking as AtLooking};
+ghost use Rattle.ulfm_words.specs.Steps.{IsOf, Sight};
+
+use crate::groups::count_in;
+use crate::phases::phase::{Next, Phase};
+use crate::rank::Rank;
+use crate::world::World;
+use std::alloc::Allocator;
+use ulfm_laws::meld::Packed;
+use ulfm_model::call::{Call, Request, comm_of};
+use ulfm_model::contribution::Offer;
+use ulfm_model::refusal::Refusal;
+use ulfm_model::reply::Reply;
+use ulfm_steps::group::has_rank;
+use ulfm_steps::{Arrivals, MarkAll, ReadRound};
+use ulfm_words::Words;
+
+// As many failures as are asked for, of those that are known, but no fewer than before.
+fn acknowledged(before: u16, asked: u16, known: usize) -> u16
+    ensures { result ≡ max before (min asked known) }
+{
+    let within = if (asked as usize) < known {
+        asked
+    } else {
+        known as u16
+    };
+    before.max(within)
+}
+
+// The round of an open barrier.
+fn barrier(request: Option<Request>) -> Option<u16>
+    ensures { MatchOption result (IsAgreement request) (λ round. request ≡ Some (OfBarrier round)) }
+{
+    match request {
+        Some(Request::Barrier { round }) => Some(round),
+        _ => None,
+    }
+}
+
+// The round of an open agreement, and whether it is a shrink.
+fn agreement(request: Option<Request>) -> Option<(u16, bool)>
+    ensures { MatchOption result (IsAgreement request → request ≡ None) (λ found. request ≡ Some (agreement found.1 found.0)) }
+{
+    match request {
+        Some(Request::Agree { round }) => Some((round, false)),
+        Some(Request::Shrink { round }) => Some((round, true)),
+        _ => None,
+    }
+}
+
+impl<P: Packed, A: Allocator> Rank<P, A> {
+    // The first load of the list of failures, or the whole look.
+    #[inline(always)]
+    pub(crate) fn go_begun<W: Words<P, A>>(
+        &mut self,
+        world: &World<W, P, A>,
+        pass: &mut W::Pass,
+        asked: &Call<P>,
+        whole: bool,
+    ) -> Next<P>
+        requires of { IsOf P.meld (W.name world.now.words) (W.sight pass.old) }
+        requires stands { (group : List ℕ) × StillStands P.meld (W.name world.now.words) asked.now AtBegun group self.old (W.sight pass.old) }
+        ensures { (group : List ℕ) → TakesTurn P.meld W.alone whole (W.name world.now.words) asked.now AtBegun group self.old (W.sight pass.old) result group
+            self.new (W.sight pass.new) }
+    {
+        self.forget();
+        self.go_looking(world, pass, asked, whole)
+    }
+
+    // A load of the list of failures, or all that are left of the look. At its end it is known what comes next.
+    #[inline(always)]
+    pub(crate) fn go_looking<W: Words<P, A>>(
+        &mut self,
+        world: &World<W, P, A>,
+        pass: &mut W::Pass,
+        asked: &Call<P>,
+        whole: bool,
+    ) -> Next<P>
+        requires of { IsOf P.meld (W.name world.now.words) (W.sight pass.old) }
+        requires stands { (group : List ℕ) × StillStands P.meld (W.name world.now.words) asked.now AtLooking group self.old (W.sight pass.old) }
+        ensures { (group : List ℕ) → TakesTurn P.meld W.alone whole (W.name world.now.words) asked.now AtLooking group self.old (W.sight pass.old) result
+            group self.new (W.sight pass.new) }
+    {
+        if !self.look_on(&world.words, pass, whole) {
+            return Next::Goes(Phase::Looking);
+        }
+        if has_rank(self.failures(), self.number()) {
+            self.refuse();
+            return Next::Ends(Reply::Refused(Refusal::SelfFailed));
+        }
+        self.looked(world, pass, asked)
+    }
+
+    // What comes after the look of a rank that it didn't find declared.
+    fn looked<W: Words<P, A>>(
+        &mut self,
+        world: &World<W, P, A>,
+        pass: &W::Pass,
+        asked: &Call<P>,
+    ) -> Next<P>
+        requires of { IsOf P.meld (W.name world.now.words) (W.sight pass.now) }
+        requires just { (old : Record) × (before : Sight P)
+            × JustLooked P.meld false (W.name world.now.words) asked.now old before self.old (W.sight pass.now) }
+        ensures further { IsFurther AtLooking result }
+        ensures nearer { FewerLeft (after_look (W.name world.now.words).limits self.old asked.now + max 1
+            ((W.name world.now.words).limits.ranks - length self.old.seen)) (W.name world.now.words).limits self.new asked.now result }
+        ensures turns { (group : List ℕ) (alone : Bool) (old : Record) (before : Sight P)
+            → JustLooked P.meld alone (W.name world.now.words) asked.now old before self.old (W.sight pass.now)
+            → NextIs P.meld alone (W.name world.now.words) asked.now old before result group self.new (W.sight pass.now) }
+    {
+        let Some(x) = self.held(comm_of(asked)) else {
+            return Next::Ends(Reply::Refused(Refusal::NoSuchComm));
+        };
+        if let Some(refusal) = self.refusal(x, asked) {
+            return Next::Ends(Reply::Refused(refusal));
+        }
+        self.passed(world, pass, asked)
+    }
+
+    // What comes next where the record doesn't refuse the call.
+    fn passed<W: Words<P, A>>(
+        &mut self,
+        world: &World<W, P, A>,
+        pass: &W::Pass,
+        asked: &Call<P>,
+    ) -> Next<P>
+        requires of { IsOf P.meld (W.name world.now.words) (W.sight pass.now) }
+        requires just { (old : Record) × (before : Sight P)
+            × JustLooked P.meld false (W.name world.now.words) asked.now old before self.old (W.sight pass.now) }
+        requires passes { Passes self.old asked.now }
+        ensures further { IsFurther AtLooking result }
+        ensures nearer { FewerLeft (after_look (W.name world.now.words).limits self.old asked.now + max 1
+            ((W.name world.now.words).limits.ranks - length self.old.seen)) (W.name world.now.words).limits self.new asked.now result }
+        ensures turns { (group : List ℕ) (alone : Bool) (old : Record) (before : Sight P)
+            → JustLooked P.meld alone (W.name world.now.words) asked.now old before self.old (W.sight pass.now)
+            → NextIs P.meld alone (W.name world.now.words) asked.now old before result group self.new (W.sight pass.now) }
+    {
+        let x = self.held_comm(comm_of(asked));
+        match *asked {
+            Call::GetFailed { .. } => {
+                let count = count_in(&x.group, self.failures()) as u16;
+                Next::Ends(Reply::FailedGroup { count })
+            }
+            Call::Ack { comm, count, .. } => {
+                let known = count_in(&x.group, self.failures());
+                let count = acknowledged(x.acked, count, known);
+                self.acknowledge(comm, count);
+                Next::Ends(Reply::Acked { count })
+            }
+            Call::Agree { value, .. } => Next::Goes(Phase::Settling {
+                request: Request::Agree {
+                    round: x.next_agreement,
+                },
+                offer: Offer::Flag(value),
+            }),
+            Call::Shrink { .. } => Next::Goes(Phase::Settling {
+                request: Request::Shrink {
+                    round: x.next_agreement,
+                },
+                offer: Offer::Ctx(self.free_ids()),
+            }),
+            Call::Barrier { .. } => Next::Goes(Phase::Arriving {
+                round: x.next_barrier,
+            }),
+            Call::Poll { .. } => Next::Goes(self.ready(world, pass, asked)),
+            Call::Revoke { .. } => Next::Goes(Phase::Revoking),
+            Call::IsRevoked { .. } => Next::Goes(Phase::Asking),
+            Call::Free { comm, .. } => {
+                self.release(comm);
+                Next::Ends(Reply::Freed)
+            }
+            // A declaration is no call of a rank.
+            Call::Fail { .. } => unreachable!(),
+        }
+    }
+
+    // How the poll of an open request goes on after its look: a barrier reads who has arrived; an agreement marks the declared
+    // members, if there are any, and reads its round.
+    fn ready<W: Words<P, A>>(
+        &self,
+        world: &World<W, P, A>,
+        pass: &W::Pass,
+        asked: &Call<P>,
+    ) -> Phase<P>
+        requires of { IsOf P.meld (W.name world.now.words) (W.sight pass.now) }
+        requires just { (old : Record) × (before : Sight P)
+            × JustLooked P.meld false (W.name world.now.words) asked.now old before self.now (W.sight pass.now) }
+        requires passes { Passes self.now asked.now }
+        requires polls { (rank : ℕ) × (comm : ℕ) × (asked.now ≡ PollAsked rank comm) }
+        ensures further { left result < 7 }
+        ensures nearer { steps_left (W.name world.now.words).limits self.now asked.now result
+            < after_look (W.name world.now.words).limits self.now asked.now + max 1 ((W.name world.now.words).limits.ranks - length self.now.seen) }
+        ensures turns { (group : List ℕ) (alone : Bool) (old : Record) (before : Sight P)
+            → JustLooked P.meld alone (W.name world.now.words) asked.now old before self.now (W.sight pass.now)
+            → Stands P.meld alone (W.name world.now.words) old before (record { asked = asked.now; phase = result; group = group }) self.now
+            (W.sight pass.now) }
+    {
+        let comm = comm_of(asked);
+        let x = self.held_comm(comm);
+        let seen = self.failures();
+        if let Some(round) = barrier(x.request) {
+            let arrivals = Arrivals::new(comm, round, &x.group, seen);
+            return Phase::Waiting { arrivals };
+        }
+        let Some((round, shrinks)) = agreement(x.request) else {
+            // A request is open, since the record doesn't refuse the poll.
+            unreachable!()
+        };
+        let marks = MarkAll::new(self.number(), comm, round, &x.group, seen);
+        if marks.next < seen.len() {
+            return Phase::Marking { marks, shrinks };
+        }
+        Phase::Reading {
+            reading: ReadRound::new(comm, round),
+            shrinks,
+        }
+    }
+}

@@ -1,0 +1,164 @@
+// A call that is under way.
+ghost use Rattle.std.specs.Prelude.{◌≡◌};
+ghost use Rattle.ulfm_comm.specs.Phase.{is_looking, next_step};
+
+use std::alloc::Allocator;
+use std::marker::Model;
+use ulfm_laws::ctx_mask::CtxMask;
+use ulfm_laws::meld::Packed;
+use ulfm_model::call::{Call, Request};
+use ulfm_model::contribution::Offer;
+use ulfm_model::reply::Reply;
+use ulfm_steps::{Append, Arrivals, MarkAll, Missing, ReadOn, ReadRound};
+
+/// The name of an atomic step.
+#[derive(Clone, Copy, Debug, PartialEq, Eq)]
+pub enum StepName {
+    /// A load of the list of failures.
+    List,
+    /// The exchange of a rank's own place in an agreement round.
+    Settle,
+    /// The exchange of the place of a member that is known to have failed.
+    Mark,
+    /// A load of a member's place in an agreement round.
+    Slot,
+    /// A load of the list of communicators.
+    Comm,
+    /// The exchange of that list's first empty place.
+    Spawn,
+    /// The exchange of a rank's own place in a barrier round.
+    Arrive,
+    /// A load of a member's place in a barrier round.
+    Arrival,
+    /// The exchange of a communicator's revocation.
+    Revoke,
+    /// A load of it.
+    Revocation,
+}
+
+// What a decided shrink makes: a communicator of this round, with this context id.
+#[derive(Clone, Copy)]
+pub(crate) struct Made {
+    pub round: u16,
+    pub mask: CtxMask,
+    // How many failures of the parent are left out.
+    pub count: u16,
+}
+
+// What a call does next.
+#[derive(Drop)]
+pub(crate) enum Phase<P: Packed> {
+    // Nothing: its rank was refused for good before.
+    Over,
+    // The list of failures is read, from its start.
+    Begun,
+    // It is read on.
+    Looking,
+    // The rank contributes to its next agreement round.
+    Settling {
+        request: Request,
+        offer: Offer<P>,
+    },
+    // It arrives in its next barrier round.
+    Arriving {
+        round: u16,
+    },
+    // It revokes the communicator.
+    Revoking,
+    // It asks whether the communicator is revoked.
+    Asking,
+    // The declared members of a round are marked.
+    Marking {
+        marks: MarkAll,
+        shrinks: bool,
+    },
+    // The round is read.
+    Reading {
+        reading: ReadRound<P>,
+        shrinks: bool,
+    },
+    // The list of failures is read on, as far as the decision's failed group reaches.
+    ReadingOn {
+        on: ReadOn,
+        made: Made,
+    },
+    // The list of communicators is read, and gets the new one. So many failures that were seen reach as far as that group.
+    Spawning {
+        append: Append,
+        context: u8,
+        reach: usize,
+    },
+    // Who has arrived in a barrier round is read.
+    Waiting {
+        arrivals: Arrivals,
+    },
+    // Last, whether the communicator is revoked.
+    Checking {
+        missing: Missing,
+    },
+}
+
+// What comes after a step: more of them, or the reply.
+#[derive(Drop)]
+pub(crate) enum Next<P: Packed> {
+    Goes(Phase<P>),
+    Ends(Reply<P>),
+}
+
+impl<P: Packed> Phase<P> {
+    // The name of the next step, if there is one.
+    fn next(&self) -> Option<StepName>
+        ensures { result ≡ next_step self.now }
+    {
+        match self {
+            Phase::Over => None,
+            Phase::Begun | Phase::Looking | Phase::ReadingOn { .. } => Some(StepName::List),
+            Phase::Settling { .. } => Some(StepName::Settle),
+            Phase::Arriving { .. } => Some(StepName::Arrive),
+            Phase::Revoking => Some(StepName::Revoke),
+            Phase::Asking | Phase::Checking { .. } => Some(StepName::Revocation),
+            Phase::Marking { .. } => Some(StepName::Mark),
+            Phase::Reading { .. } => Some(StepName::Slot),
+            Phase::Spawning { append, .. } if append.empty => Some(StepName::Spawn),
+            Phase::Spawning { .. } => Some(StepName::Comm),
+            Phase::Waiting { .. } => Some(StepName::Arrival),
+        }
+    }
+}
+
+/// A call of a rank that is under way: `Rank::begin` makes it, and `Rank::step` takes its steps. It is the rank's only call
+/// until its reply.
+#[derive(Drop)]
+pub struct Doing<P: Packed, A: Allocator> {
+    pub(crate) asked: Call<P>,
+    pub(crate) phase: Phase<P>,
+    // The members of a communicator that is being made.
+    pub(crate) group: Vec<u16, A>,
+}
+
+impl<P: Packed, A: Allocator> Model for Doing<P, A> {
+    ghost use Rattle.ulfm_comm.specs.Phase.{UnderWay};
+
+    ghost Value = { UnderWay P };
+
+    ghost view = { λ a. record { asked = a.asked; phase = a.phase; group = a.group.items } };
+}
+
+impl<P: Packed, A: Allocator> Doing<P, A> {
+    /// The name of the next step. There is none where the rank was refused for good before: then the reply comes without one.
+    pub fn next(&self) -> Option<StepName>
+        ensures { result ≡ next_step self.now.phase }
+    {
+        self.phase.next()
+    }
+
+    /// Whether its look goes on: that it has not ended yet. The step after which it does has ended it.
+    pub fn is_looking(&self) -> bool
+        ensures { result ≡ is_looking self.now.phase }
+    {
+        match self.phase {
+            Phase::Begun | Phase::Looking => true,
+            _ => false,
+        }
+    }
+}

@@ -1,0 +1,202 @@
+// The further steps of a shrink's poll, once its round is decided: how a rank comes by its communicator.
+ghost use Rattle.std.specs.Prelude.{Bool, ◌≡◌, ◌+◌, ◌-◌, ◌*◌, false, true, ◌⊎◌, MatchOption};
+ghost use Rattle.ulfm_model.specs.{Records.{Record}, Terms.{comm_of}};
+ghost use Rattle.ulfm_comm.specs.{Spawning.{HasReached}, Agreement.{HasReadAll}, Phase.{IsPast, NextBelow, NextIs, StillStands}};
+ghost use Rattle.ulfm_comm.specs.{StepsLeft.{FewerLeft, after_round}, Step.{TakesTurn}};
+ghost use Rattle.ulfm_comm.specs.declared.phases.phase.Phase.TheVariants.{ReadingOn as AtReadingOn, Spawning as AtSpawning};
+ghost use Rattle.ulfm_words.specs.Steps.{IsOf, Sight};
+ghost use Rattle.ulfm_steps.specs.declared.append.Appended.TheVariants.{Found as IsFound, Full as IsFull, Won as IsWon};
+
+use crate::phases::phase::{Made, Next, Phase};
+use crate::rank::Rank;
+use crate::world::World;
+use std::alloc::Allocator;
+use ulfm_laws::body::Body;
+use ulfm_laws::meld::Packed;
+use ulfm_laws::summary::Summary;
+use ulfm_model::call::{Call, comm_of};
+use ulfm_model::event::Caller;
+use ulfm_model::refusal::Refusal;
+use ulfm_model::reply::Reply;
+use ulfm_record::ids::lowest_id;
+use ulfm_steps::group::has_rank;
+use ulfm_steps::{Append, Appended, Item, ReadOn};
+use ulfm_words::Words;
+
+// That of a decided round ..
+#[derive(Drop)]
+pub(crate) enum Spawned {
+    // isn't found yet.
+    Unknown,
+    // has this number, and the rank holds it, with so many members.
+    Made { comm: u16, size: u16 },
+    // can't be made: all that there may be were made of other rounds.
+    Full,
+}
+
+// The place in the list where an appended item stands, by this appending or before.
+pub(crate) fn place_in(end: Appended) -> Option<u16>
+    ensures { MatchOption result (end ≡ IsFull) (λ index. (end ≡ IsWon index) ⊎ (end ≡ IsFound index)) }
+{
+    match end {
+        Appended::Won(index) => Some(index),
+        Appended::Found(index) => Some(index),
+        Appended::Full => None,
+    }
+}
+
+impl<P: Packed, A: Allocator + Copy> Rank<P, A> {
+    // What comes next where a shrink's round says this.
+    pub(crate) fn shrunk<W: Words<P, A>>(
+        &mut self,
+        world: &World<W, P, A>,
+        pass: &W::Pass,
+        asked: &Call<P>,
+        round: u16,
+        all: Summary<P>,
+        group: &mut Vec<u16, A>,
+    ) -> Next<P>
+        requires of { IsOf P.meld (W.name world.now.words) (W.sight pass.now) }
+        requires read { (old : Record) × (before : Sight P)
+            × HasReadAll P.meld false (W.name world.now.words) asked.now true round all old before self.old (W.sight pass.now) }
+        ensures further { NextBelow 5 result }
+        ensures sees { self.new.seen ≡ self.old.seen }
+        ensures past { IsPast result }
+        ensures nearer { FewerLeft (after_round (W.name world.now.words).limits self.old true + 1) (W.name world.now.words).limits self.new asked.now result }
+        ensures turns { (alone : Bool) (old : Record) (before : Sight P)
+            → HasReadAll P.meld alone (W.name world.now.words) asked.now true round all old before self.old (W.sight pass.now)
+            → NextIs P.meld alone (W.name world.now.words) asked.now old before result group.new.items self.new (W.sight pass.now) }
+    {
+        let comm = comm_of(asked);
+        let Body::Ctx(mask) = all.body else {
+            self.close(comm);
+            return Next::Ends(Reply::Refused(Refusal::Mismatch));
+        };
+        if mask.bits == 0 {
+            self.close(comm);
+            return Next::Ends(Reply::Refused(Refusal::NoContext));
+        }
+        let x = self.held_comm(comm);
+        let count = all.known.count;
+        let on = ReadOn::new(&x.group, count, self.failures());
+        let made = Made { round, mask, count };
+        if on.found < count {
+            return Next::Goes(Phase::ReadingOn { on, made });
+        }
+        self.reached(world, pass, asked, on.reach, made, group)
+    }
+
+    // A load of the list of failures, or all that are left, as far as the decision's failed group reaches.
+    #[inline(always)]
+    pub(crate) fn go_reading_on<W: Words<P, A>>(
+        &mut self,
+        world: &World<W, P, A>,
+        pass: &mut W::Pass,
+        asked: &Call<P>,
+        on: ReadOn,
+        made: Made,
+        whole: bool,
+        group: &mut Vec<u16, A>,
+    ) -> Next<P>
+        requires of { IsOf P.meld (W.name world.now.words) (W.sight pass.old) }
+        requires stands { StillStands P.meld (W.name world.now.words) asked.now (AtReadingOn on made) group.old.items self.old (W.sight pass.old) }
+        ensures { TakesTurn P.meld W.alone whole (W.name world.now.words) asked.now (AtReadingOn on made) group.old.items self.old (W.sight pass.old) result
+            group.new.items self.new (W.sight pass.new) }
+    {
+        let mut on = on;
+        self.read_on(
+            &world.words,
+            pass,
+            comm_of(asked),
+            &mut on,
+            made.count,
+            whole,
+        );
+        if on.found < made.count {
+            return Next::Goes(Phase::ReadingOn { on, made });
+        }
+        self.reached(world, pass, asked, on.reach, made, group)
+    }
+
+    // What comes next where the decision's whole failed group is known: so many failures that were seen reach as far as it.
+    fn reached<W: Words<P, A>>(
+        &mut self,
+        world: &World<W, P, A>,
+        pass: &W::Pass,
+        asked: &Call<P>,
+        reach: usize,
+        made: Made,
+        group: &mut Vec<u16, A>,
+    ) -> Next<P>
+        requires of { IsOf P.meld (W.name world.now.words) (W.sight pass.now) }
+        requires reached { (old : Record) × (before : Sight P)
+            × HasReached P.meld false (W.name world.now.words) asked.now made reach old before self.old (W.sight pass.now) }
+        ensures further { NextBelow 4 result }
+        ensures sees { self.new.seen ≡ self.old.seen }
+        ensures past { IsPast result }
+        ensures nearer { FewerLeft (2 * ((W.name world.now.words).limits.comms - 1) + 1) (W.name world.now.words).limits self.new asked.now result }
+        ensures turns { (alone : Bool) (old : Record) (before : Sight P)
+            → HasReached P.meld alone (W.name world.now.words) asked.now made reach old before self.old (W.sight pass.now)
+            → NextIs P.meld alone (W.name world.now.words) asked.now old before result group.new.items self.new (W.sight pass.now) }
+    {
+        let number = self.number();
+        if has_rank(&self.failures()[..reach], number) {
+            self.refuse();
+            return Next::Ends(Reply::Refused(Refusal::SelfFailed));
+        }
+        let comm = comm_of(asked);
+        if self.make_room(comm, reach, group).is_err() {
+            return Next::Ends(Reply::Refused(Refusal::OutOfMemory));
+        }
+        if world.words.limits().comms == 1 {
+            self.close(comm);
+            return Next::Ends(Reply::Refused(Refusal::NoRoom));
+        }
+        let item = Item::Comm {
+            parent: comm,
+            round: made.round,
+        };
+        Next::Goes(Phase::Spawning {
+            append: Append::new(item, Caller::Rank(number)),
+            context: lowest_id(made.mask),
+            reach,
+        })
+    }
+
+    // A load or an exchange of the list of communicators, or all that are left, until it has the round's or is full.
+    pub(crate) fn go_spawning<W: Words<P, A>>(
+        &mut self,
+        world: &World<W, P, A>,
+        pass: &mut W::Pass,
+        asked: &Call<P>,
+        append: Append,
+        context: u8,
+        reach: usize,
+        whole: bool,
+        group: &mut Vec<u16, A>,
+    ) -> Next<P>
+        requires of { IsOf P.meld (W.name world.now.words) (W.sight pass.old) }
+        requires stands { StillStands P.meld (W.name world.now.words) asked.now (AtSpawning append context reach) group.old.items self.old (W.sight pass.old) }
+        ensures { TakesTurn P.meld W.alone whole (W.name world.now.words) asked.now (AtSpawning append context reach) group.old.items self.old
+            (W.sight pass.old) result group.new.items self.new (W.sight pass.new) }
+    {
+        let comm = comm_of(asked);
+        let mut append = append;
+        match self.spawn(&world.words, pass, comm, &mut append, context, whole, group) {
+            Spawned::Unknown => Next::Goes(Phase::Spawning {
+                append,
+                context,
+                reach,
+            }),
+            Spawned::Made { comm, size } => Next::Ends(Reply::Shrunk {
+                comm,
+                context,
+                size,
+            }),
+            Spawned::Full => {
+                self.close(comm);
+                Next::Ends(Reply::Refused(Refusal::NoRoom))
+            }
+        }
+    }
+}

@@ -1,0 +1,165 @@
+// Calls, step by step and whole.
+ghost use Rattle.std.specs.Prelude.{◌≡◌, ◌+◌, Bool, false, true, None, Some, IsTrue, MatchOption, OnSome, if◌then◌else◌};
+ghost use Rattle.ulfm_model.specs.declared.{event.Caller.TheVariants.{Rank as OfRank}, call.Call.TheVariants.{Poll as AskedPoll}};
+ghost use Rattle.ulfm_model.specs.declared.{refusal.Refusal.TheVariants.{SelfFailed}, reply.Reply.TheVariants.{Pending as StillPending, Refused}};
+ghost use Rattle.ulfm_model.specs.{Answers.{traits_of, polled_by}, Records.{Fits, Record}, History.{History}, Terms.{comm_of}};
+ghost use Rattle.ulfm_comm.specs.{Step.{TakesTurn, Stepped}, Calls.{EndsReply}, Polls.{EndsInMissing, IsAgreement}};
+ghost use Rattle.ulfm_comm.specs.{Phase.{Answered, next_of, Stands, StillStands, Waits}, Barrier.{AnswersEarly, IsChecking}};
+ghost use Rattle.ulfm_words.specs.Steps.{IsOf, Name, Sight};
+ghost use Rattle.ulfm_steps.specs.declared.{arrivals.Arrivals.{Arrivals}, arrivals.Missing.{Missing}};
+ghost use Rattle.ulfm_comm.specs.declared.phases.phase.Next.TheVariants.{Ends as NextEnds, Goes as NextGoes};
+ghost use Rattle.ulfm_comm.specs.declared.phases.phase.Phase.TheVariants.{Begun as AtBegun, Checking as AtChecking, Over as AtOver, Waiting as AtWaiting};
+
+use crate::phases::phase::{Doing, Next, Phase};
+use crate::rank::Rank;
+use crate::world::World;
+use std::alloc::Allocator;
+use std::mem;
+use ulfm_laws::meld::Packed;
+use ulfm_model::call::Call;
+use ulfm_model::refusal::Refusal;
+use ulfm_model::reply::Reply;
+use ulfm_words::Words;
+
+impl<P: Packed, A: Allocator + Copy> Rank<P, A> {
+    // What a call does first.
+    fn first(&self) -> Phase<P>
+        ensures { result ≡ (if self.now.refused then AtOver else AtBegun) }
+    {
+        if self.is_refused() {
+            return Phase::Over;
+        }
+        Phase::Begun
+    }
+
+    /// Begins a call of this rank, any but a declaration, to be taken step by step. It is no step.
+    pub fn begin(&self, asked: Call<P>) -> Doing<P, A>
+        requires { (traits_of asked).by ≡ OfRank self.now.number }
+        ensures asked { result.asked ≡ asked }
+        ensures first { result.phase ≡ (if self.now.refused then AtOver else AtBegun) }
+        ensures stands { (alone : Bool) (name : Name) (before : Sight P) → IsOf P.meld name before → Fits P.meld name.limits before.seen self.now
+            → Stands P.meld alone name self.now before result self.now before }
+    {
+        Doing {
+            asked,
+            phase: self.first(),
+            group: Vec::new(self.allocator()),
+        }
+    }
+
+    // One step of a call, or all of its phase: what comes next.
+    #[inline(always)]
+    fn go<W: Words<P, A>>(
+        &mut self,
+        world: &World<W, P, A>,
+        pass: &mut W::Pass,
+        asked: &Call<P>,
+        phase: Phase<P>,
+        group: &mut Vec<u16, A>,
+        whole: bool,
+    ) -> Next<P>
+        requires of { IsOf P.meld (W.name world.now.words) (W.sight pass.old) }
+        requires stands { StillStands P.meld (W.name world.now.words) asked.now phase group.old.items self.old (W.sight pass.old) }
+        ensures turn { TakesTurn P.meld W.alone whole (W.name world.now.words) asked.now phase group.old.items self.old (W.sight pass.old) result
+            group.new.items self.new (W.sight pass.new) }
+        ensures over { phase ≡ AtOver → (result ≡ NextEnds (Refused SelfFailed)) × (self.new ≡ self.old) }
+        ensures checks { (arrivals : Arrivals) → phase ≡ AtWaiting arrivals → (missing : Missing) → result ≡ NextGoes (AtChecking missing) → (alone : Bool)
+            → (IsTrue alone → IsTrue W.alone) → (old : Record) → (before : Sight P)
+            → Stands P.meld alone (W.name world.now.words) old before (record { asked = asked.now; phase = phase; group = group.old.items }) self.old
+            (W.sight pass.old) → IsChecking P.meld (W.name world.now.words).limits alone (comm_of asked.now) missing (W.sight pass.new).seen old before.seen
+            self.new (W.sight pass.new).seen }
+        ensures early { (missing : Missing) → phase ≡ AtChecking missing → (reply : Reply P) → result ≡ NextEnds reply → (alone : Bool)
+            → (IsTrue alone → IsTrue W.alone) → (old : Record) → (before : Sight P) → Fits P.meld (W.name world.now.words).limits before.seen old
+            → asked.now ≡ AskedPoll old.number (comm_of asked.now) → (earlier : History P)
+            → IsChecking P.meld (W.name world.now.words).limits alone (comm_of asked.now) missing earlier old before.seen self.old (W.sight pass.old).seen
+            → AnswersEarly P.meld (W.name world.now.words).limits alone asked.now missing earlier old before.seen reply self.new }
+    {
+        match phase {
+            Phase::Over => Next::Ends(Reply::Refused(Refusal::SelfFailed)),
+            Phase::Begun => self.go_begun(world, pass, asked, whole),
+            Phase::Looking => self.go_looking(world, pass, asked, whole),
+            Phase::Settling { request, offer } => {
+                Next::Ends(self.go_settling(world, pass, asked, request, offer))
+            }
+            Phase::Arriving { round } => Next::Ends(self.go_arriving(world, pass, asked, round)),
+            Phase::Revoking => Next::Ends(self.go_revoking(world, pass, asked)),
+            Phase::Asking => Next::Ends(self.go_asking(world, pass, asked)),
+            Phase::Marking { marks, shrinks } => {
+                self.go_marking(world, pass, asked, marks, shrinks, whole)
+            }
+            Phase::Reading { reading, shrinks } => {
+                self.go_reading(world, pass, asked, reading, shrinks, whole, group)
+            }
+            Phase::ReadingOn { on, made } => {
+                self.go_reading_on(world, pass, asked, on, made, whole, group)
+            }
+            Phase::Spawning {
+                append,
+                context,
+                reach,
+            } => self.go_spawning(world, pass, asked, append, context, reach, whole, group),
+            Phase::Waiting { arrivals } => self.go_waiting(world, pass, asked, arrivals, whole),
+            Phase::Checking { missing } => {
+                Next::Ends(self.go_checking(world, pass, asked, missing))
+            }
+        }
+    }
+
+    /// Takes the next step of a call: the reply, in the step after which none is left. Others may step in between. After its reply the
+    /// call is over, and no step of it is named.
+    pub fn step<W: Words<P, A>>(
+        &mut self,
+        world: &World<W, P, A>,
+        pass: &mut W::Pass,
+        doing: &mut Doing<P, A>,
+    ) -> Option<Reply<P>>
+        requires of { IsOf P.meld (W.name world.now.words) (W.sight pass.old) }
+        requires stood { (old : Record) × (before : Sight P) × (stood : Sight P)
+            × Stands P.meld false (W.name world.now.words) old before doing.old self.old stood × Waits false stood (W.sight pass.old) }
+        ensures asked { doing.new.asked ≡ doing.old.asked }
+        ensures ended { OnSome result (doing.new.phase ≡ AtOver) }
+        ensures stepped { Stepped P.meld W.alone (W.name world.now.words) doing.old self.old (W.sight pass.old) (next_of result doing.new.phase) self.new
+            (W.sight pass.new) }
+        ensures stands { (alone : Bool) → (IsTrue alone → IsTrue W.alone) → (old : Record) → (before : Sight P) → (stood : Sight P)
+            → Stands P.meld alone (W.name world.now.words) old before doing.old self.old stood → Waits alone stood (W.sight pass.old)
+            → MatchOption result (Stands P.meld alone (W.name world.now.words) old before doing.new self.new (W.sight pass.new))
+            (λ reply. Answered P.meld alone (W.name world.now.words) doing.old.asked old before reply self.new (W.sight pass.new)) }
+    {
+        let phase = mem::replace(&mut doing.phase, Phase::Over);
+        match self.go(world, pass, &doing.asked, phase, &mut doing.group, false) {
+            Next::Goes(phase) => {
+                doing.phase = phase;
+                None
+            }
+            Next::Ends(reply) => Some(reply),
+        }
+    }
+
+    // A whole call: its own steps, run to the end.
+    #[inline(never)]
+    pub(crate) fn call<W: Words<P, A>>(
+        &mut self,
+        world: &World<W, P, A>,
+        pass: &mut W::Pass,
+        asked: Call<P>,
+    ) -> Reply<P>
+        requires of { IsOf P.meld (W.name world.now.words) (W.sight pass.old) }
+        requires fits { Fits P.meld (W.name world.now.words).limits (W.sight pass.old).seen self.old }
+        requires mine { (traits_of asked).by ≡ OfRank self.old.number }
+        ensures ends { EndsReply P.meld W.alone (W.name world.now.words) asked self.old (W.sight pass.old) result self.new (W.sight pass.new) }
+        ensures pending { result ≡ StillPending → IsAgreement (polled_by self.old asked)
+            → EndsInMissing P.meld W.alone (W.name world.now.words) (comm_of asked) self.old (W.sight pass.old) self.new (W.sight pass.new) }
+    {
+        if self.is_refused() {
+            return Reply::Refused(Refusal::SelfFailed);
+        }
+        let mut group = Vec::new(self.allocator());
+        let mut phase = Phase::Begun;
+        loop {
+            match self.go(world, pass, &asked, phase, &mut group, true) {
+                Next::Goes(next) => phase = next,
+                Next::Ends(reply) => return reply,
+            }
+        }
+    }
+}

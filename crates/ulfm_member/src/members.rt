@@ -1,0 +1,76 @@
+// The members of a new world.
+ghost use Rattle.std.specs.Prelude.{◌≡◌, [], map, MatchResult, IfOk};
+ghost use Rattle.std.specs.Arc.{arc_value};
+ghost use Rattle.std.specs.List.{AllByRecursion};
+ghost use Rattle.ulfm_model.specs.History.{first_ranks};
+ghost use Rattle.ulfm_model.specs.Records.{Fits, new_record};
+ghost use Rattle.ulfm_model.specs.declared.limits.OpenFault.TheVariants.{OutOfMemory};
+ghost use Rattle.ulfm_words.specs.Steps.{IsNew};
+ghost use Rattle.ulfm_member.specs.Members.{IsNewMember};
+
+use crate::member::Member;
+use crate::outside::Outside;
+use std::alloc::{AllocError, Allocator};
+use std::sync::Arc;
+use ulfm_comm::{Rank, World};
+use ulfm_laws::meld::Packed;
+use ulfm_model::limits::OpenFault;
+use ulfm_words::OpenWords;
+
+/// Opens a world over new words: its outside, and the members of all its ranks, in order, each with a pass of its own that has
+/// seen nothing. Memory is the only thing that it may lack.
+pub fn open<W, P: Packed, A: Allocator + Copy>(
+    alloc: A,
+    words: W,
+) -> Result<(Outside<W, P, A>, Vec<Member<W, P, A>, A>), OpenFault>
+where
+    W: OpenWords<P, A> + Drop,
+    ensures outside { IfOk result (λ o. IsNew P.meld (W.name words) o.0) }
+    ensures members { IfOk result (λ o. AllByRecursion (IsNewMember P.meld (W.name words)) o.1.items) }
+    ensures ranks { MatchResult result (λ o. map (λ m. m.own) o.1.items ≡ map (new_record (W.name words).limits) (first_ranks (W.name words).limits.ranks))
+        (λ fault. fault ≡ OutOfMemory) }
+{
+    let (world, ranks) = World::open(alloc, words)?;
+    match shared(alloc, world, ranks) {
+        Ok(opened) => Ok(opened),
+        Err(AllocError) => Err(OpenFault::OutOfMemory),
+    }
+}
+
+// A new world, shared by its outside and its members.
+fn shared<W, P: Packed, A: Allocator + Copy>(
+    alloc: A,
+    world: World<W, P, A>,
+    ranks: Vec<Rank<P, A>, A>,
+) -> Result<(Outside<W, P, A>, Vec<Member<W, P, A>, A>), AllocError>
+where
+    W: OpenWords<P, A> + Drop,
+    requires { AllByRecursion (Fits P.meld (W.name world.words).limits []) ranks.items }
+    ensures outside { IfOk result (λ o. IsNew P.meld (W.name world.words) o.0) }
+    ensures members { IfOk result (λ o. AllByRecursion (IsNewMember P.meld (W.name world.words)) o.1.items) }
+    ensures ranks { IfOk result (λ o. map (λ m. m.own) o.1.items ≡ ranks.items) }
+{
+    let world = Arc::new(alloc, world)?;
+    let members = members_of(alloc, &world, ranks)?;
+    Ok((Outside::new(alloc, world)?, members))
+}
+
+// A member for each rank, in order.
+fn members_of<W, P: Packed, A: Allocator + Copy>(
+    alloc: A,
+    world: &Arc<World<W, P, A>, A>,
+    ranks: Vec<Rank<P, A>, A>,
+) -> Result<Vec<Member<W, P, A>, A>, AllocError>
+where
+    W: OpenWords<P, A> + Drop,
+    requires { AllByRecursion (Fits P.meld (W.name (arc_value world.now).words).limits []) ranks.items }
+    ensures members { IfOk result (λ all. AllByRecursion (IsNewMember P.meld (W.name (arc_value world.now).words)) all.items) }
+    ensures ranks { IfOk result (λ all. map (λ m. m.own) all.items ≡ ranks.items) }
+{
+    let mut all = Vec::with_capacity(alloc, ranks.len())?;
+    for rank in ranks {
+        let pass = world.pass(alloc)?;
+        all.push(Member::new(Arc::try_clone(world)?, rank, pass))?;
+    }
+    Ok(all)
+}

@@ -1,0 +1,89 @@
+// The outside of a world, which declares ranks failed.
+ghost use Rattle.std.specs.Prelude.{◌≡◌, IfOk};
+ghost use Rattle.std.specs.Arc.{arc_value};
+ghost use Rattle.ulfm_words.specs.Steps.{IsNew, Learns, Tells};
+ghost use Rattle.ulfm_comm.specs.Calls.{reply_of};
+ghost use Rattle.ulfm_comm.specs.Fails.{Fails, declared};
+
+use std::alloc::{AllocError, Allocator};
+use std::marker::Model;
+use std::sync::Arc;
+use ulfm_comm::World;
+use ulfm_laws::meld::Packed;
+use ulfm_model::limits::Limits;
+use ulfm_model::refusal::Refusal;
+use ulfm_words::{OpenWords, Words};
+
+/// The outside of a world, with a pass of its own: a failure detector, as one may run in a thread beside those of the members.
+/// Contracts see it as its pass.
+#[derive(Drop)]
+pub struct Outside<W, P: Packed, A: Allocator>
+where
+    W: Words<P, A>,
+{
+    world: Arc<World<W, P, A>, A>,
+    pass: W::Pass,
+}
+
+impl<W, P: Packed, A: Allocator> Model for Outside<W, P, A>
+where
+    W: Words<P, A>,
+{
+    ghost use Rattle.std.specs.Arc.{arc_value};
+    ghost use Rattle.ulfm_words.specs.Steps.{IsOf, Sight};
+
+    ghost Value = { Sight P };
+
+    ghost view = { λ o. W.sight o.pass };
+
+    ghost invariant = { λ o. IsOf P.meld (W.name (arc_value o.world).words) (W.sight o.pass) };
+}
+
+impl<W, P: Packed, A: Allocator> Outside<W, P, A>
+where
+    W: OpenWords<P, A>,
+{
+    /// The outside of this world, which has seen nothing. Memory is the only thing that it may lack.
+    pub fn new(alloc: A, world: Arc<World<W, P, A>, A>) -> Result<Outside<W, P, A>, AllocError>
+    where
+        W: Drop,
+        ensures { IfOk result (λ o. IsNew P.meld (W.name (arc_value world).words) o) }
+    {
+        let pass = world.pass(alloc)?;
+        Ok(Outside { world, pass })
+    }
+
+    /// What it has seen, to be handed to a member. It is no step.
+    pub fn told(&self) -> W::Told
+        ensures { Tells W.tells_all self.now.name self.now (W.heard result) }
+    {
+        self.world.told(&self.pass)
+    }
+
+    /// From now on it has seen what was told, too. It is no step.
+    pub fn learn(&mut self, told: &W::Told)
+        requires { (W.heard told.now).name ≡ self.old.name }
+        ensures { Learns P.meld W.alone self.old.name (W.heard told.now) self.old self.new }
+    {
+        self.world.learn(&mut self.pass, told)
+    }
+}
+
+impl<W, P: Packed, A: Allocator + Copy> Outside<W, P, A>
+where
+    W: Words<P, A>,
+{
+    /// The limits that the world was opened with.
+    pub fn limits(&self) -> Limits
+        ensures { result ≡ self.now.name.limits }
+    {
+        self.world.limits()
+    }
+
+    /// Declares a rank failed, as `World::fail`.
+    pub fn fail(&mut self, rank: u16) -> Result<bool, Refusal>
+        ensures { Fails P.meld W.alone self.old.name rank self.old (reply_of declared result) self.new }
+    {
+        self.world.fail(&mut self.pass, rank)
+    }
+}
