@@ -8,10 +8,10 @@ use Rattle.ulfm_steps.specs.{Arriving.{AtArrival}, Looks.{LookIs}, ReadsOn.{AtFa
 use Rattle.ulfm_comm.specs.{Calls.{EndsReply}, Ends.{IsRefusedAgain}, Polls.{EndsInMissing, IsAgreement}, Look.{HasLooked}, Exchange.{StartsWith}}
 use Rattle.ulfm_comm.specs.{Agreement.{IsMarking, IsReading}, Spawning.{IsDecided, IsSpawning}, Barrier.{IsWaiting, IsChecking}}
 use Rattle.ulfm_comm.specs.declared.{phases.phase.Next.{Next}, phases.phase.Next.TheVariants.{Goes, Ends}, phases.phase.Phase.{Phase}}
-use Rattle.ulfm_comm.specs.declared.phases.phase.StepName.{StepName}
+use Rattle.ulfm_model.specs.declared.step_name.StepName.{StepName}
 use Rattle.ulfm_comm.specs.declared.phases.phase.Phase.TheVariants.{Over, Begun, Looking, Settling, Arriving, Revoking, Asking, Marking, Reading, ReadingOn}
 use Rattle.ulfm_comm.specs.declared.phases.phase.Phase.TheVariants.{Spawning, Waiting, Checking}
-use Rattle.ulfm_comm.specs.declared.phases.phase.StepName.TheVariants as step
+use Rattle.ulfm_model.specs.declared.step_name.StepName.TheVariants as step
 
 -- a call under way: what is asked, what it does next, and the members of a communicator that it makes
 pub record UnderWay (P : Type 0) : Type 0 where

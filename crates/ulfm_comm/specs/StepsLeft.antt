@@ -8,10 +8,10 @@ use Rattle.ulfm_model.specs.Terms.{comm_of, request_of}
 use Rattle.ulfm_words.specs.Steps.{Sight}
 use Rattle.ulfm_steps.specs.{Appends.{turns_left}, Arriving.{arrivals_left}, Marks.{marks_left}, Rounds.{reads_left}, Turns.{IsOneStep}}
 use Rattle.ulfm_comm.specs.declared.{phases.phase.Next.{Next}, phases.phase.Next.TheVariants.{Goes, Ends}, phases.phase.Phase.{Phase}}
-use Rattle.ulfm_comm.specs.declared.phases.phase.StepName.{StepName}
+use Rattle.ulfm_model.specs.declared.step_name.StepName.{StepName}
 use Rattle.ulfm_comm.specs.declared.phases.phase.Phase.TheVariants.{Over, Begun, Looking, Settling, Arriving, Revoking, Asking, Marking}
 use Rattle.ulfm_comm.specs.declared.phases.phase.Phase.TheVariants.{Reading, ReadingOn, Spawning, Waiting, Checking}
-use Rattle.ulfm_comm.specs.declared.phases.phase.StepName.TheVariants as step
+use Rattle.ulfm_model.specs.declared.step_name.StepName.TheVariants as step
 
 -- one atomic step of this name, of rank r on communicator c: its place, and whether it is a load
 abbrev pub IsStepOf : {P : Type 0} → StepName → ℕ → ℕ → Sight P → Sight P → Type 0

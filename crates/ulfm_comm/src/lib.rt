@@ -11,6 +11,6 @@ pub mod world;
 
 pub use calls::polled::Polled;
 pub use job::Job;
-pub use phases::phase::{Doing, StepName};
+pub use phases::phase::Doing;
 pub use rank::Rank;
 pub use world::World;

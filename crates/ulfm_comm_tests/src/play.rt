@@ -11,12 +11,13 @@ ghost use Rattle.ulfm_comm.specs.Phase.{Waits};
 use std::alloc::{AllocError, Allocator, Global};
 use std::marker::Model;
 use std::test::Fail;
-use ulfm_comm::{Doing, Rank, StepName, World};
+use ulfm_comm::{Doing, Rank, World};
 use ulfm_laws::flag_and::FlagAnd;
 use ulfm_laws::meld::Packed;
 use ulfm_model::call::Call;
 use ulfm_model::refusal::Refusal;
 use ulfm_model::reply::Reply;
+use ulfm_model::step_name::StepName;
 use ulfm_steps::Intruder;
 use ulfm_words::{OpenWords, Step, Words};
 

@@ -5,16 +5,16 @@ use crate::play::{Play, Verb, call_of};
 use std::alloc::{AllocError, Global};
 use std::process::Abort;
 use std::test::Fail;
-use ulfm_comm::StepName::{
-    Arrival, Arrive, Comm, List, Mark, Revocation, Revoke, Settle, Slot, Spawn,
-};
-use ulfm_comm::{Job, StepName};
+use ulfm_comm::Job;
 use ulfm_laws::flag_and::FlagAnd;
 use ulfm_model::call::Call;
 use ulfm_model::event::{Caller, Entry, Event};
 use ulfm_model::limits::Limits;
 use ulfm_model::refusal::Refusal;
 use ulfm_model::reply::Reply;
+use ulfm_model::step_name::StepName::{
+    self, Arrival, Arrive, Comm, List, Mark, Revocation, Revoke, Settle, Slot, Spawn,
+};
 use ulfm_steps::Intruder;
 use ulfm_words::{PlainWords, Words};
 

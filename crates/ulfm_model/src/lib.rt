@@ -9,6 +9,7 @@ pub mod limits;
 pub mod place;
 pub mod refusal;
 pub mod reply;
+pub mod step_name;
 
 pub use call::{Call, Request};
 pub use contribution::{Contribution, MarkCount, Offer, Slot};
@@ -17,3 +18,4 @@ pub use limits::{Limits, OpenFault};
 pub use place::Place;
 pub use refusal::{Refusal, refusal_number};
 pub use reply::Reply;
+pub use step_name::StepName;

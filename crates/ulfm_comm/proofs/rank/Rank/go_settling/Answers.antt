@@ -8,7 +8,7 @@ use Rattle.ulfm_model.specs.declared.place.Place.TheVariants.{Slot as SlotAt}
 use Rattle.ulfm_model.specs.Terms.{comm_of}
 use Rattle.ulfm_steps.specs.Turns.{IsOneStep}
 use Rattle.ulfm_comm.specs.StepsLeft.{IsStepOf}
-use Rattle.ulfm_comm.specs.declared.phases.phase.StepName.TheVariants.{Settle as AtSettle}
+use Rattle.ulfm_model.specs.declared.step_name.StepName.TheVariants.{Settle as AtSettle}
 use Rattle.ulfm_comm.proofs.{Holding.{comm_is, found_there}, Exchange.{fits_now, seen_is, start_answered, walks_settled}, Starts.{acked_known}}
 use Rattle.ulfm_comm.proofs.rank.Rank.go_settling.Goals as goal
 use Rattle.ulfm_comm.proofs.rank.Rank.go_settling.Goals.{After-end_start}
