@@ -1,0 +1,56 @@
+// The lines of a trace, typed.
+ghost use Rattle.std.specs.Prelude.{◌≡◌, Ok};
+
+use std::alloc::AllocError;
+use ulfm_model::call::Call;
+use ulfm_model::event::{Caller, Event};
+use ulfm_model::reply::Reply;
+
+/// A line behind the header. The ranks that a reply lists stand beside it.
+pub enum Line<P> {
+    /// A call begins.
+    Called(Call<P>),
+    /// The look of a rank's call has ended, and found so many failures.
+    Looked {
+        rank: u16,
+        failures: u16,
+    },
+    /// An event in its caller's name; none where no contribution and no mark has the counts that are told.
+    Happened {
+        by: Caller,
+        event: Option<Event<P>>,
+    },
+    /// The reply to a caller's call, which rests on the first `point` events; none where no communicator has the context id that is told.
+    Replied {
+        by: Caller,
+        point: u32,
+        reply: Option<Reply<P>>,
+    },
+}
+
+impl<P: Copy> Copy for Line<P> {}
+
+impl<P: Copy> Clone for Line<P> {
+    fn clone(&self) -> Result<Self, AllocError>
+        ensures { result ≡ Ok self.now }
+    {
+        Ok(*self)
+    }
+}
+
+/// Why a line may not come, in the order of testing.
+#[derive(Clone, Copy, Debug, PartialEq, Eq)]
+pub enum Why {
+    /// It isn't of the grammar.
+    Text,
+    /// A call by a caller that has one open, a look or a reply by one that has none.
+    Call,
+    /// A second look in a call, one that is not due, or one that found another number of failures than there are.
+    Look,
+    /// The event may not come next.
+    Event,
+    /// The event isn't one that its caller may add in its call.
+    Own,
+    /// The point is not within the call, no look was made though one is due, or it is no answer.
+    Reply,
+}
