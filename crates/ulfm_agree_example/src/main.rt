@@ -18,6 +18,7 @@ use ulfm_member::{Member, Outside};
 use ulfm_model::{Limits, Refusal};
 
 type Shared = BookWords<FlagAnd>;
+
 type Reply = Result<Polled<FlagAnd>, Refusal>;
 
 const LIMITS: Limits = Limits {
