@@ -1,10 +1,10 @@
 -- Polls that go on until one is answered.
-use Rattle.std.proofs.Common.{◌≡◌, ◌⊎◌, ℕ, zero, suc, Bool, true, false, List, Option, Some, None, Result, Ok, Err, IfOk, inl, inr, refl, ap, sym, ◌∙◌, subst, ◌==◌, [], append-nil}
+use Rattle.std.proofs.Common.{◌≡◌, ℕ, zero, suc, Bool, true, false, Some, Result, Ok, Err, IfOk, inl, inr, refl, ap, ◌∙◌, subst, ◌==◌, [], append-nil}
 use Rattle.std.specs.Prelude.{find}
 use mathlib.Core.List.{IsPrefix}
 use Rattle.ulfm_model.specs.declared.{call.Call.{Call}, call.Call.TheVariants.{Agree, Poll, Shrink}, call.Request.TheVariants.{Agree as OpenAgree, Shrink as OpenShrink}}
-use Rattle.ulfm_model.specs.declared.{limits.Limits.{Limits}, refusal.Refusal.{Refusal}, reply.Reply.{Reply}, reply.Reply.TheVariants.{Pending, Refused, Started}}
-use Rattle.ulfm_model.specs.{Answers.{opened}, History.{History, IsLegal}, Records.{Fits, Held, Record, change_at, held_at}, Runs.{IsCall}, Terms.{comm_of}}
+use Rattle.ulfm_model.specs.declared.{refusal.Refusal.{Refusal}, reply.Reply.{Reply}, reply.Reply.TheVariants.{Pending, Refused, Started}}
+use Rattle.ulfm_model.specs.{Answers.{opened}, History.{IsLegal}, Records.{Fits, Held, Record, change_at, held_at}, Runs.{IsCall}, Terms.{comm_of}}
 use Rattle.ulfm_model.proofs.{LeftRuns.{call_legal, call_number}, Lists.{prefix_trans}}
 use Rattle.ulfm_words.specs.Steps.{IsOf, Name, Sight}
 use Rattle.ulfm_comm.specs.{Calls.{Calls, EndsBy, is_out_of_memory}, Polls.{IsAnswer, PollIs, polled}}
