@@ -29,8 +29,10 @@ const LIMITS: Limits = Limits {
     rounds: 4,
 };
 
-/// The communicator of all ranks.
+/// The communicator of all ranks, and the first that is made.
 const WORLD: u16 = 0;
+
+const MADE: u16 = 1;
 
 /// What a survivor saw on its way, in the order of its calls.
 #[derive(Drop)]
@@ -176,13 +178,69 @@ fn print_reply<R: Print>(rt: &R, reply: &Polled<FlagAnd>) -> io::Result<()> {
     }
 }
 
-fn print_recovery<R: Print>(rt: &R, seen: &Recovery) -> io::Result<()> {
-    print_reply(rt, &seen.met)?;
-    println!(rt; "  failed {:?}", seen.failed)?;
-    println!(rt; "  acked {}", seen.acknowledged)?;
-    print_reply(rt, &seen.settled)?;
-    println!(rt; "  revoked {}", seen.is_revoked)?;
-    print_reply(rt, &seen.shrunk)
+fn print_agreed<R: Print>(rt: &R, reply: &Reply) -> io::Result<()> {
+    match reply {
+        Ok(agreed) => print_reply(rt, agreed),
+        Err(refusal) => println!(rt; "  refused {refusal}"),
+    }
+}
+
+fn print_recovery<R: Print>(rt: &R, recovery: &Result<Recovery, Refusal>) -> io::Result<()> {
+    match recovery {
+        Ok(seen) => {
+            print_reply(rt, &seen.met)?;
+            println!(rt; "  failed {:?}", seen.failed)?;
+            println!(rt; "  acked {}", seen.acknowledged)?;
+            print_reply(rt, &seen.settled)?;
+            println!(rt; "  revoked {}", seen.is_revoked)?;
+            print_reply(rt, &seen.shrunk)
+        }
+        Err(refusal) => println!(rt; "  refused {refusal}"),
+    }
+}
+
+fn print_work<R: Print>(rt: &R, worked: &[(Member, Reply)]) -> io::Result<()> {
+    for (member, reply) in worked {
+        println!(rt; "rank {} works", member.number())?;
+        print_agreed(rt, reply)?;
+    }
+    Ok(())
+}
+
+fn print_recoveries<R: Print>(
+    rt: &R,
+    recovered: &[(Member, Result<Recovery, Refusal>)],
+) -> io::Result<()> {
+    for (member, recovery) in recovered {
+        println!(rt; "rank {} recovers", member.number())?;
+        print_recovery(rt, recovery)?;
+        println!(rt; "  members {:?}", member.members(MADE))?;
+    }
+    Ok(())
+}
+
+fn print_end<R: Print>(rt: &R, gone_on: &[(Member, Reply)]) -> io::Result<()> {
+    for (member, reply) in gone_on {
+        println!(rt; "rank {} goes on", member.number())?;
+        print_agreed(rt, reply)?;
+        println!(rt; "  members {:?}", member.members(MADE))?;
+    }
+    Ok(())
+}
+
+/// The members alone, without that of a rank that stops.
+fn members_of<T: Drop>(
+    alloc: Global,
+    all: Vec<(Member, T)>,
+    stops: Option<u16>,
+) -> Result<Vec<Member>, AllocError> {
+    let mut members = Vec::with_capacity(alloc, all.len())?;
+    for (member, _) in all {
+        if Some(member.number()) != stops {
+            members.push(member)?;
+        }
+    }
+    Ok(members)
 }
 
 fn main(rt: HostRuntime) -> anyhow::Result<()> {
@@ -190,44 +248,22 @@ fn main(rt: HostRuntime) -> anyhow::Result<()> {
     let words: Shared = BookWords::open(alloc, LIMITS)?;
     let (mut outside, members) = ulfm_member::open(alloc, words)?;
 
-    let mut survivors = Vec::new(alloc);
-    for (member, reply) in work_all(&rt, members)? {
-        let rank = member.number();
-        println!(rt; "rank {rank} works")?;
-        match &reply {
-            Ok(agreed) => print_reply(&rt, agreed)?,
-            Err(refusal) => println!(rt; "  refused {refusal}")?,
-        }
-        // Rank 3 makes no call from here on: its member is dropped.
-        if rank != 3 {
-            survivors.push(member)?;
-        }
-    }
+    let worked = work_all(&rt, members)?;
+    print_work(&rt, &worked)?;
 
+    // Rank 3 makes no call from here on: its member is dropped.
+    let survivors = members_of(alloc, worked, Some(3))?;
     let (recovered, declared) = join(
         &rt,
         || recover_all(&rt, alloc, survivors),
         move || outside.fail(3),
     );
     println!(rt; "rank 3 is declared failed: {declared:?}")?;
-    let mut members = Vec::new(alloc);
-    for (member, recovery) in recovered? {
-        println!(rt; "rank {} recovers", member.number())?;
-        match &recovery {
-            Ok(seen) => print_recovery(&rt, seen)?,
-            Err(refusal) => println!(rt; "  refused {refusal}")?,
-        }
-        println!(rt; "  members {:?}", member.members(1))?;
-        members.push(member)?;
-    }
+    let recovered = recovered?;
+    print_recoveries(&rt, &recovered)?;
 
-    for (member, reply) in go_on_all(&rt, members, 1)? {
-        println!(rt; "rank {} goes on", member.number())?;
-        match &reply {
-            Ok(agreed) => print_reply(&rt, agreed)?,
-            Err(refusal) => println!(rt; "  refused {refusal}")?,
-        }
-        println!(rt; "  members {:?}", member.members(1))?;
-    }
+    let members = members_of(alloc, recovered, None)?;
+    let gone_on = go_on_all(&rt, members, MADE)?;
+    print_end(&rt, &gone_on)?;
     Ok(())
 }
