@@ -1,8 +1,9 @@
 #!/usr/bin/env python3
 """Runs the commands of docs/GUIDE.md on a copy of the repository, and compares what they print.
 
-A block ```sh has commands; the block ```text behind it, if one comes before the next commands, is what the last of them must print. The copy
-has the built program, where there is one, and nothing else that was built. Its last line is 'N passed, M failed'.
+A block ```sh has commands; the block ```text behind it, if one comes before the next commands, is what they must print. Of the blocks
+```rust the first is the program that docs/first_crate takes, and each other stands in the recovery's source. The copy has the built program,
+where there is one, and nothing else that was built. The last line is 'N passed, M failed'.
 """
 
 import os
@@ -14,6 +15,7 @@ import tempfile
 
 HERE = os.path.dirname(os.path.dirname(os.path.abspath(__file__)))
 PROGRAM = "crates/ulfm/out/ulfm"
+RECOVERY = "crates/ulfm_recovery_example/src/main.rt"
 BLOCK = re.compile(r"^```(sh|text|rust)\n(.*?)^```$", re.M | re.S)
 
 
@@ -47,15 +49,27 @@ def passes(command, wanted, copy):
     return False
 
 
+def stands_in(source, shown):
+    if shown in source:
+        return True
+    print(f"not in {RECOVERY}:\n{shown}")
+    return False
+
+
+def read(file):
+    with open(os.path.join(HERE, file), encoding="utf-8") as it:
+        return it.read()
+
+
 def main():
-    with open(os.path.join(HERE, "docs/GUIDE.md"), encoding="utf-8") as it:
-        wanted = commands_in(it.read())
+    guide, recovery = read("docs/GUIDE.md"), read(RECOVERY)
+    shown = [body for kind, body in BLOCK.findall(guide) if kind == "rust"][1:]
+    results = [stands_in(recovery, it) for it in shown]
     with tempfile.TemporaryDirectory(prefix="guide-") as folder:
         copy = laid_out(folder)
-        passed = sum(passes(command, text, copy) for command, text in wanted)
-    failed = len(wanted) - passed
-    print(f"{passed} passed, {failed} failed")
-    return int(failed > 0 or not wanted)
+        results += [passes(command, text, copy) for command, text in commands_in(guide)]
+    print(f"{results.count(True)} passed, {results.count(False)} failed")
+    return int(not results or not all(results))
 
 
 if __name__ == "__main__":

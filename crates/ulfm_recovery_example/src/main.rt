@@ -91,7 +91,9 @@ fn recover<R: Wait>(rt: &R, alloc: Global, member: &mut Member) -> Result<Recove
     let met = agree(rt, member, WORLD)?;
     let mut failed = Vec::new(alloc);
     member.get_failed(WORLD, &mut failed)?;
-    let acknowledged = member.ack_failed(WORLD, u16::MAX)?;
+    // Those that it has seen, and no others.
+    let count = u16::try_from(failed.len()).unwrap_or(u16::MAX);
+    let acknowledged = member.ack_failed(WORLD, count)?;
     let settled = agree(rt, member, WORLD)?;
     member.revoke(WORLD)?;
     let is_revoked = member.is_revoked(WORLD)?;
