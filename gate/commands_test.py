@@ -1,0 +1,228 @@
+#!/usr/bin/env python3
+"""Compares what the program's help names with its completion files, its man page, README.md and docs/FORMATS.md: commands, options,
+verbs, replies, kinds of line faults, limits, and statuses with what standard error says.
+
+    gate/commands_test.py [PROGRAM]     PROGRAM is crates/ulfm/out/ulfm, if it isn't given
+
+It prints a line for each difference, and ends with 1 where there is one.
+"""
+import os
+import re
+import subprocess
+import sys
+
+TOP = os.path.dirname(os.path.dirname(os.path.realpath(__file__)))
+OPTION = re.compile(r"(?<![\w-])(--[a-z]+|-[A-Za-z])(?![\w-])")
+TOP_LEVEL = ""
+differences = 0
+
+
+def read(name):
+    with open(os.path.join(TOP, name), encoding="utf-8") as it:
+        return it.read()
+
+
+def differs(what, where, found, wanted):
+    """Prints what differs between two pages."""
+    global differences
+    if found != wanted:
+        differences += 1
+        if isinstance(found, (set, dict)) and isinstance(wanted, (set, dict)):
+            extra = sorted(map(str, set(found) - set(wanted)))
+            missing = sorted(map(str, set(wanted) - set(found)))
+            print(f"{what}: {where} has {', '.join(extra) or 'nothing'} too much and lacks {', '.join(missing) or 'nothing'}")
+        else:
+            print(f"{what}: {where} has {found}, wanted is {wanted}")
+
+
+def answered(program, *words):
+    """What the program prints for these words, which must end with 0."""
+    done = subprocess.run([program, *words], stdin=subprocess.DEVNULL, capture_output=True, text=True, timeout=60)
+    if done.returncode != 0 or done.stderr:
+        sys.exit(f"{' '.join(('ulfm',) + words)} ended with {done.returncode}: {done.stderr}")
+    return done.stdout
+
+
+def section(text, head):
+    """The lines below a head of help, up to an empty line."""
+    lines = text.splitlines()
+    if head not in lines:
+        return []
+    below = lines[lines.index(head) + 1:]
+    return below[:below.index("")] if "" in below else below
+
+
+def options_of(text):
+    """The options that a text names."""
+    return set(OPTION.findall(text))
+
+
+def of_help(text):
+    """The options in the section of help that lists them."""
+    return {option for line in section(text, "Options:") for option in OPTION.findall(line[:line.find("  ", 8)] if "  " in line[8:] else line)}
+
+
+def of_bash(commands):
+    """What the completion for bash offers at the start, and behind each command."""
+    offered = {}
+    for command in (TOP_LEVEL, *commands):
+        words = ["ulfm", *([command] if command else []), ""]
+        script = 'source "$0"; COMP_WORDS=("$@"); COMP_CWORD=$(($# - 1)); _ulfm; printf "%s\\n" "${COMPREPLY[@]}"'
+        made = subprocess.run(["bash", "-c", script, os.path.join(TOP, "docs/completions/ulfm.bash"), *words], capture_output=True, text=True)
+        offered[command] = set(made.stdout.split())
+    return offered
+
+
+def of_zsh(commands):
+    """What the completion for zsh names in the function of each command."""
+    parts = re.split(r"^_ulfm(?:_(\w+))?\(\) \{$", read("docs/completions/_ulfm"), flags=re.M)
+    offered = {}
+    for name, body in zip(parts[1::2], parts[2::2]):
+        body = body.split("\n}\n")[0]
+        listed = set(re.findall(r"^ +'(\w+):", body, re.M)) if name is None else set(re.findall(r"(?:_values 'command'|\G) (.*)", body))
+        values = {word for line in listed for word in line.split()} if name else listed
+        offered[name or TOP_LEVEL] = values | options_of(re.sub(r"\[[^\]]*\]", "", body).replace(" -C ", " ").replace(" -t ", " "))
+    return offered
+
+
+def of_fish(commands):
+    """What the completion for fish offers."""
+    offered = {name: set() for name in (TOP_LEVEL, *commands)}
+    for line in read("docs/completions/ulfm.fish").splitlines():
+        seen = re.search(r"-n '?(__fish_use_subcommand|__fish_seen_subcommand_from (\w+))'?", line)
+        if not seen:
+            continue
+        rest = re.sub(r"-d '[^']*'", "", line[seen.end():])
+        words = offered[seen.group(2) or TOP_LEVEL]
+        words |= {f"-{name}" for name in re.findall(r"-s (\w)", rest)} | {f"--{name}" for name in re.findall(r"-l (\w+)", rest)}
+        words |= {word for names in re.findall(r"-a '?([\w ]+?)'?(?: |$)", rest) for word in names.split()}
+    return offered
+
+
+def of_man(page, commands):
+    """The options that the man page has below each command, and at the top."""
+    offered = {}
+    below = page.split(".SH COMMANDS\n")[1].split("\n.SH ")[0]
+    for part in below.split(".SS ")[1:]:
+        name, text = part.split("\n", 1)
+        offered[name] = options_of(text.replace("\\-", "-"))
+    offered[TOP_LEVEL] = options_of(page.split(".SH OPTIONS\n")[1].split("\n.SH ")[0].replace("\\-", "-")) | set(offered)
+    return offered
+
+
+def calls_of(text):
+    """The verbs that a page of plain lines lists, each with the words of its replies."""
+    lines = re.findall(r"^ *((?:fail|get|ack|agree|shrink|barrier|poll|revoke|isrevoked|free|[a-z]+)(?: [RCNF]){1,3})  +(.*(?:\n {14,}\S.*)*)$", text, re.M)
+    return {call: replies_of(replies) for call, replies in lines}
+
+
+def replies_of(text):
+    return tuple(sorted(" ".join(reply.split()) for reply in text.split(",")))
+
+
+def calls_of_formats(text):
+    """The same of the table in FORMATS."""
+    table = text.split("### Calls and replies")[1].split("\n###")[0]
+    calls = {}
+    for row in re.findall(r"^\| (`.*) \|$", table, re.M):
+        cells = row.split(" | ")
+        replies = re.findall(r"`([^`]*)`", cells[2])
+        for call in re.findall(r"`([^`]*)`", cells[0]):
+            calls[call] = tuple(sorted(replies))
+    return calls
+
+
+def statuses_of(text):
+    """The statuses that a page of plain lines lists, each with what standard error says."""
+    return set(re.findall(r"^ *([0-3])  (ulfm: [a-z]+(?: [a-zN]+)*(?:: KIND)?)(?:  |$)", text, re.M))
+
+
+def statuses_of_formats(text):
+    table = text.split("## Exit statuses and standard error")[1]
+    return set(re.findall(r"^\| ([0-3]) \| `([^`]*)` \|", table, re.M))
+
+
+def kinds_of_formats(text):
+    table = text.split("### Line faults")[1].split("\n## ")[0]
+    return [kind for kind in re.findall(r"^\| `([a-z]+)` \|", table, re.M)]
+
+
+def kinds_of(text):
+    found = re.search(r"\bcut, long(?:, [a-z]+)+", " ".join(text.split()))
+    return found.group(0).split(", ") if found else []
+
+
+def limits_of_formats(text):
+    """The ranges of FORMATS: of the header's words and the race's options, the size, ranks and communicators that are named."""
+    plain = text.replace(",", "")
+    limits = {name.lower(): span for name, span in re.findall(r"^\| (RANKS|COMMS|ROUNDS) \|.*\| (\d+ to \d+) \|$", plain, re.M)}
+    limits |= {option: span for option, span in re.findall(r"^\| `(--ranks|--rounds)`.*\| (\d+ to \d+) \|$", plain, re.M)}
+    limits["size"] = re.search(r"is at most (\d+)\.", plain).group(1)
+    limits["rank"] = re.search(r"a rank \(at most (\d+)\)", plain).group(1)
+    limits["comm"] = re.search(r"a communicator \(at most (\d+)\)", plain).group(1)
+    limits["line"] = re.search(r"the line has over (\d+) bytes", plain).group(1)
+    limits["lines"] = str(int(re.search(r"this is line (\d+)", plain).group(1)) - 1)
+    return limits
+
+
+def limits_of(text):
+    """The same of a page of plain lines."""
+    plain = " ".join(text.replace(",", "").split())
+    found = {
+        "ranks": r"ranks (1 to \d+)",
+        "comms": r"communicators (1 to \d+)",
+        "rounds": r"rounds (1 to \d+)",
+        "--ranks": r"ranks race (\d+ to \d+)",
+        "--rounds": r"they agree (\d+ to \d+)",
+        "size": r"is at most (\d+)",
+        "rank": r"a rank (?:is )?at most (\d+)",
+        "comm": r"a communicator (?:is )?at most (\d+)",
+        "line": r"at most (\d+) bytes",
+        "lines": r"at most (\d+) lines",
+    }
+    return {name: match.group(1) for name, match in ((name, re.search(form, plain)) for name, form in found.items()) if match}
+
+
+def man_as_text(page):
+    """The man page without its markup."""
+    page = re.sub(r"^\.[A-Z]+ ?", "", page, flags=re.M).replace("\\-", "-").replace('"', "")
+    return re.sub(r"\\f[A-Z]", "", page)
+
+
+def main():
+    program = os.path.abspath(sys.argv[1]) if len(sys.argv) > 1 else os.path.join(TOP, "crates/ulfm/out/ulfm")
+    top = answered(program, "--help")
+    commands = {line.split()[0] for line in section(top, "Commands:")}
+    helps = {name: answered(program, name, "--help") for name in sorted(commands - {"help"})}
+    for name, text in helps.items():
+        differs("help", f"ulfm help {name}", answered(program, "help", name), text)
+    wanted = {name: of_help(text) for name, text in helps.items()} | {TOP_LEVEL: commands | of_help(top), "help": set()}
+    page = read("docs/ulfm.1")
+    formats = read("docs/FORMATS.md")
+    for where, offered in (("ulfm.bash", of_bash(commands)), ("_ulfm", of_zsh(commands)), ("ulfm.fish", of_fish(commands)), ("ulfm.1", of_man(page, commands))):
+        for name in sorted(wanted):
+            words = offered.get(name, set()) - (commands if name == "help" else set())
+            differs(f"words behind ulfm {name}", where, words, wanted[name])
+    man = man_as_text(page)
+    version = answered(program, "--version")
+    differs("version", "ulfm.1", f"ulfm {re.search(r'ulfm ([0-9.]+)', page).group(1)}\n", version)
+    pages = {"ulfm run --help": helps["run"], "ulfm.1": man}
+    for where, text in pages.items():
+        differs("calls and replies", where, calls_of(text), calls_of_formats(formats))
+        differs("line faults", where, kinds_of(text), kinds_of_formats(formats))
+    for where, text in ({"ulfm --help": top, "ulfm.1": man}).items():
+        differs("statuses", where, statuses_of(text), statuses_of_formats(formats))
+    together = statuses_of(helps["run"]) | statuses_of(helps["race"])
+    differs("statuses", "ulfm run --help with ulfm race --help", together, statuses_of_formats(formats))
+    for where, text in {"help": helps["run"] + helps["race"], "ulfm.1": man}.items():
+        differs("limits", where, limits_of(text), limits_of_formats(formats))
+    for where in ("README.md", "docs/FORMATS.md"):
+        named = set(re.findall(r"\bulfm (run|race|[a-z]+)(?= (?:<|--)|`)", read(where)))
+        differs("commands", where, named & commands, commands - {"help"})
+        for name, rest in re.findall(r"\bulfm (run|race)((?: (?:--[a-z]+|[0-9NKR]+))+)", read(where)):
+            differs(f"options of ulfm {name}", where, options_of(rest) - wanted[name], set())
+    print("commands: all pages agree" if differences == 0 else f"commands: {differences} differences")
+    return 0 if differences == 0 else 1
+
+
+sys.exit(main())
