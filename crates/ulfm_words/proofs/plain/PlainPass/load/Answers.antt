@@ -1,6 +1,6 @@
 use Rattle.std.proofs.Common.{vec_capacity}
 use Rattle.ulfm_words.proofs.Telling.{loads_from}
-use Rattle.ulfm_words.proofs.pass.PlainPass.load.Goals as goal
+use Rattle.ulfm_words.proofs.plain.PlainPass.load.Goals as goal
 
 pub returns-clause-loads : goal.returns-clause-loads
 returns-clause-loads g c =

@@ -5,8 +5,8 @@ use Rattle.ulfm_model.specs.Words.{word_at}
 use Rattle.ulfm_model.proofs.WordRules.{word_some}
 use Rattle.ulfm_words.specs.{Pass.{IsTied, entries, sight_of}, Places.{IsWithin, key_in}, Rows.{Filled}, Steps.{MaySet, Sets}}
 use Rattle.ulfm_words.proofs.{Growing.{prefix_self}, Keys.{key_lt}, Telling.{sets_lost, sets_won, within_is}, Tied.{tied_set, entries-set, count-set}}
-use Rattle.ulfm_words.proofs.pass.PlainPass.set_once.Goals as goal
-use Rattle.ulfm_words.proofs.pass.PlainPass.set_once.Goals.{After-push}
+use Rattle.ulfm_words.proofs.plain.PlainPass.set_once.Goals as goal
+use Rattle.ulfm_words.proofs.plain.PlainPass.set_once.Goals.{After-push}
 
 pub returns-then-word-ne0 : goal.returns-then-word-ne0
 returns-then-word-ne0 g c =

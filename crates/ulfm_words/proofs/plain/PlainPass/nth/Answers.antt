@@ -2,7 +2,7 @@ use Rattle.std.proofs.Common.{arith, ◌≡◌, ◌≤◌, ◌∙◌, Some, ap, 
 use Rattle.std.specs.List.{slice_index}
 use Rattle.ulfm_words.specs.{Entries.{entry_of}, Pass.{entries}, Places.{key_in}, declared.step.Step.{Step}}
 use Rattle.ulfm_words.proofs.{Numbered.{nth_step}, Tied.{made-get, entries-get, entries-length, setting_found}}
-use Rattle.ulfm_words.proofs.pass.PlainPass.nth.Goals as goal
+use Rattle.ulfm_words.proofs.plain.PlainPass.nth.Goals as goal
 
 pub returns-in_err-setting : goal.returns-in_err-setting
 returns-in_err-setting g c =
