@@ -59,31 +59,10 @@ fn flag(rank: u16) -> FlagAnd {
     }
 }
 
-/// Polls until there is a reply or a refusal. It is never pending.
-fn answer<R: Wait>(rt: &R, member: &mut Member, comm: u16) -> Reply {
-    for _ in rt.forever() {
-        match member.poll(comm)? {
-            Polled::Pending => thread::yield_now(),
-            reply => return Ok(reply),
-        }
-    }
-    unreachable!()
-}
-
+/// Agrees on the rank's flag.
 fn agree<R: Wait>(rt: &R, member: &mut Member, comm: u16) -> Reply {
     let value = flag(member.number());
-    member.iagree(comm, value)?;
-    answer(rt, member, comm)
-}
-
-fn shrink<R: Wait>(rt: &R, member: &mut Member, comm: u16) -> Reply {
-    member.ishrink(comm)?;
-    answer(rt, member, comm)
-}
-
-fn barrier<R: Wait>(rt: &R, member: &mut Member, comm: u16) -> Reply {
-    member.ibarrier(comm)?;
-    answer(rt, member, comm)
+    ulfm_wait::agree(rt, member, comm, value)
 }
 
 /// A survivor's way from the agree that meets the failure to the new communicator.
@@ -97,7 +76,7 @@ fn recover<R: Wait>(rt: &R, alloc: Global, member: &mut Member) -> Result<Recove
     let settled = agree(rt, member, WORLD)?;
     member.revoke(WORLD)?;
     let is_revoked = member.is_revoked(WORLD)?;
-    let shrunk = shrink(rt, member, WORLD)?;
+    let shrunk = ulfm_wait::shrink(rt, member, WORLD)?;
     Ok(Recovery {
         met,
         failed,
@@ -110,7 +89,7 @@ fn recover<R: Wait>(rt: &R, alloc: Global, member: &mut Member) -> Result<Recove
 
 /// A survivor goes on with the new communicator, and gives it back.
 fn go_on<R: Wait>(rt: &R, member: &mut Member, comm: u16) -> Reply {
-    barrier(rt, member, comm)?;
+    ulfm_wait::barrier(rt, member, comm)?;
     let agreed = agree(rt, member, comm)?;
     member.free(comm)?;
     Ok(agreed)
