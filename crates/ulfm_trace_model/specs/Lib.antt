@@ -1,2 +1,3 @@
-pub mod Traces
 pub mod Follows
+pub mod Laws
+pub mod Traces
