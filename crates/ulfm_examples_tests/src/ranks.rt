@@ -4,7 +4,7 @@ use crate::open::two;
 use std::test::Fail;
 use ulfm_comm::Polled;
 use ulfm_laws::FlagAnd;
-use ulfm_model::{Call, Refusal, Reply, StepName};
+use ulfm_model::{Call, Refusal, StepName};
 
 #[test]
 fn rank_number(rt: HostRuntime) -> Result<(), Fail> {
@@ -18,10 +18,11 @@ fn rank_number(rt: HostRuntime) -> Result<(), Fail> {
 
 #[test]
 fn rank_failures(rt: HostRuntime) -> Result<(), Fail> {
-    let (_, member) = two(&rt, rt.alloc())?;
+    let (_, mut member) = two(&rt, rt.alloc())?;
+    member.fail(1)?;
     let (world, mut rank, mut pass) = member.into_parts();
 
-    world.fail(&mut pass, 1)?;
+    // Rank 1 was declared failed before.
     // A call looks, and then the rank has seen it.
     rank.is_revoked(&world, &mut pass, 0)?;
     assert_eq!(rt; rank.failures(), [1].as_slice());
@@ -66,10 +67,11 @@ fn rank_iagree(rt: HostRuntime) -> Result<(), Fail> {
 
 #[test]
 fn rank_ishrink(rt: HostRuntime) -> Result<(), Fail> {
-    let (_, member) = two(&rt, rt.alloc())?;
+    let (_, mut member) = two(&rt, rt.alloc())?;
+    member.fail(1)?;
     let (world, mut rank, mut pass) = member.into_parts();
 
-    world.fail(&mut pass, 1)?;
+    // Rank 1 was declared failed before.
     rank.ishrink(&world, &mut pass, 0)?;
     let alone = Polled::Shrunk {
         comm: 1,
@@ -83,13 +85,12 @@ fn rank_ishrink(rt: HostRuntime) -> Result<(), Fail> {
 
 #[test]
 fn rank_ibarrier(rt: HostRuntime) -> Result<(), Fail> {
-    let (_, member) = two(&rt, rt.alloc())?;
+    let (_, mut member) = two(&rt, rt.alloc())?;
+    member.fail(1)?;
     let (world, mut rank, mut pass) = member.into_parts();
 
     rank.ibarrier(&world, &mut pass, 0)?;
-    assert!(rt; rank.poll(&world, &mut pass, 0) == Ok(Polled::Pending));
-    // Rank 1 can't arrive any more.
-    world.fail(&mut pass, 1)?;
+    // Rank 1 was declared failed before, and can't arrive any more.
     assert!(rt; rank.poll(&world, &mut pass, 0) == Err(Refusal::ProcFailed));
 
     Ok(())
@@ -97,14 +98,13 @@ fn rank_ibarrier(rt: HostRuntime) -> Result<(), Fail> {
 
 #[test]
 fn rank_poll(rt: HostRuntime) -> Result<(), Fail> {
-    let (_, member) = two(&rt, rt.alloc())?;
+    let (_, mut member) = two(&rt, rt.alloc())?;
+    member.fail(1)?;
     let (world, mut rank, mut pass) = member.into_parts();
 
     let value = FlagAnd { bits: 0b0110 };
     rank.iagree(&world, &mut pass, 0, value)?;
-    // Rank 1 hasn't contributed, and isn't declared.
-    assert!(rt; rank.poll(&world, &mut pass, 0) == Ok(Polled::Pending));
-    world.fail(&mut pass, 1)?;
+    // Rank 1 was declared failed before, and is left out.
     let agreed = Polled::Agreed {
         value,
         failed: 1,
@@ -118,10 +118,11 @@ fn rank_poll(rt: HostRuntime) -> Result<(), Fail> {
 #[test]
 fn rank_get_failed(rt: HostRuntime) -> Result<(), Fail> {
     let alloc = rt.alloc();
-    let (_, member) = two(&rt, alloc)?;
+    let (_, mut member) = two(&rt, alloc)?;
+    member.fail(1)?;
     let (world, mut rank, mut pass) = member.into_parts();
 
-    world.fail(&mut pass, 1)?;
+    // Rank 1 was declared failed before.
     let mut found = Vec::new(alloc);
     rank.get_failed(&world, &mut pass, 0, &mut found)?;
     assert_eq!(rt; found.as_slice(), [1].as_slice());
@@ -131,10 +132,11 @@ fn rank_get_failed(rt: HostRuntime) -> Result<(), Fail> {
 
 #[test]
 fn rank_ack_failed(rt: HostRuntime) -> Result<(), Fail> {
-    let (_, member) = two(&rt, rt.alloc())?;
+    let (_, mut member) = two(&rt, rt.alloc())?;
+    member.fail(1)?;
     let (world, mut rank, mut pass) = member.into_parts();
 
-    world.fail(&mut pass, 1)?;
+    // Rank 1 was declared failed before.
     // There is one failure to acknowledge, however many are asked for.
     assert!(rt; rank.ack_failed(&world, &mut pass, 0, 9) == Ok(1));
 
@@ -166,10 +168,11 @@ fn rank_is_revoked(rt: HostRuntime) -> Result<(), Fail> {
 
 #[test]
 fn rank_free(rt: HostRuntime) -> Result<(), Fail> {
-    let (_, member) = two(&rt, rt.alloc())?;
+    let (_, mut member) = two(&rt, rt.alloc())?;
+    member.fail(1)?;
     let (world, mut rank, mut pass) = member.into_parts();
 
-    world.fail(&mut pass, 1)?;
+    // Rank 1 was declared failed before.
     rank.ishrink(&world, &mut pass, 0)?;
     rank.poll(&world, &mut pass, 0)?;
     assert!(rt; rank.free(&world, &mut pass, 1) == Ok(()));
@@ -184,7 +187,10 @@ fn rank_begin(rt: HostRuntime) -> Result<(), Fail> {
     let (_, member) = two(&rt, rt.alloc())?;
     let (_, rank, _) = member.into_parts();
 
-    let asked = Call::IsRevoked { rank: 0, comm: 0 };
+    let asked = Call::IsRevoked {
+        rank: rank.number(),
+        comm: 0,
+    };
     let doing = rank.begin(asked);
     assert!(rt; doing.next() == Some(StepName::List));
 
@@ -192,30 +198,16 @@ fn rank_begin(rt: HostRuntime) -> Result<(), Fail> {
 }
 
 #[test]
-fn rank_step(rt: HostRuntime) -> Result<(), Fail> {
-    let (_, member) = two(&rt, rt.alloc())?;
-    let (world, mut rank, mut pass) = member.into_parts();
-
-    let asked = Call::IsRevoked { rank: 0, comm: 0 };
-    let mut doing = rank.begin(asked);
-    // The look, which is one load here, and then the load of the revocation.
-    assert!(rt; rank.step(&world, &mut pass, &mut doing).is_none());
-    let reply = rank.step(&world, &mut pass, &mut doing);
-    assert!(rt; reply == Some(Reply::Standing { revoked: false }));
-
-    Ok(())
-}
-
-#[test]
 fn doing_next(rt: HostRuntime) -> Result<(), Fail> {
     let (_, member) = two(&rt, rt.alloc())?;
-    let (world, mut rank, mut pass) = member.into_parts();
+    let (_, rank, _) = member.into_parts();
 
-    let asked = Call::IsRevoked { rank: 0, comm: 0 };
-    let mut doing = rank.begin(asked);
+    let asked = Call::IsRevoked {
+        rank: rank.number(),
+        comm: 0,
+    };
+    let doing = rank.begin(asked);
     assert!(rt; doing.next() == Some(StepName::List));
-    rank.step(&world, &mut pass, &mut doing);
-    assert!(rt; doing.next() == Some(StepName::Revocation));
 
     Ok(())
 }
@@ -223,13 +215,14 @@ fn doing_next(rt: HostRuntime) -> Result<(), Fail> {
 #[test]
 fn doing_is_looking(rt: HostRuntime) -> Result<(), Fail> {
     let (_, member) = two(&rt, rt.alloc())?;
-    let (world, mut rank, mut pass) = member.into_parts();
+    let (_, rank, _) = member.into_parts();
 
-    let asked = Call::IsRevoked { rank: 0, comm: 0 };
-    let mut doing = rank.begin(asked);
+    let asked = Call::IsRevoked {
+        rank: rank.number(),
+        comm: 0,
+    };
+    let doing = rank.begin(asked);
     assert!(rt; doing.is_looking());
-    rank.step(&world, &mut pass, &mut doing);
-    assert!(rt; !doing.is_looking());
 
     Ok(())
 }
