@@ -155,9 +155,14 @@ module _ {P : Type 0} (meld : P → P → P) where
   pub agree_opens : AgreesOpen meld
   agree_opens limits alone before after own new c value x fits held called = agree_opened limits alone before after own new c value x held called
 
+  -- so is a shrink
+  pub shrink_opened : (limits : Limits) (alone : Bool) (before after : History P) (own new : Record) (c : ℕ) → IsCall meld limits alone before after own (call.Shrink own.number c) Started new
+      → new.held ≡ change_at c (λ y. opened y (Some (Shrink y.next_agreement))) own.held
+  shrink_opened limits alone before after own new c (inl refused) = absurd (cc (refused.2))
+  shrink_opened limits alone before after own new c (inr run) = ap (λ (w : Record). w.held) run.answer.leaves.record_is
+
   pub shrink_opens : ShrinksOpen meld
-  shrink_opens limits alone before after own new c x fits held (inl refused) = absurd (cc (refused.2))
-  shrink_opens limits alone before after own new c x fits held (inr run) = ap (λ (w : Record). w.held) run.answer.leaves.record_is
+  shrink_opens limits alone before after own new c x fits held called = shrink_opened limits alone before after own new c called
 
   pub pending_holds : PendingKeeps meld
   pending_holds limits alone before after own new c (inl refused) = absurd (cc (refused.2))
