@@ -1,14 +1,14 @@
 -- What is gathered of all workers.
-use Rattle.std.proofs.Common.{◌≡◌, ◌⊎◌, ℕ, zero, suc, ◌+◌, ◌<◌, Bool, true, false, cond, List, [], ◌∷◌, ◌++◌, length, map, Option, Some, None, inl, inr, refl, ap, sym, ◌∙◌, subst, arith, slice_get, length-append, append-nil}
+use Rattle.std.proofs.Common.{◌≡◌, ◌⊎◌, ℕ, zero, suc, ◌+◌, ◌<◌, Bool, true, false, cond, List, [], ◌∷◌, ◌++◌, length, map, Option, Some, None, Result, Ok, Err, IfOk, inl, inr, refl, ap, sym, ◌∙◌, subst, arith, slice_get, length-append, append-nil}
 use Rattle.std.specs.List.{AllByRecursion, list_any}
-use mathlib.Core.List.{IsPrefix}
+use mathlib.Core.{Bool.{◌||◌}, List.{IsPrefix}}
 use Rattle.ulfm_laws.specs.{declared.flag_and.FlagAnd.{FlagAnd}, Flags.{flag_meld}}
 use Rattle.ulfm_model.specs.declared.{limits.Limits.{Limits}, reply.Reply.{Reply}}
 use Rattle.ulfm_model.specs.{History.{Exists, History, IsLegal, first_ranks, members}, Records.{Fits, Held, Record, held_at, new_record}}
 use Rattle.ulfm_model.proofs.{Histories.{members_stay}, LeftFits.{held_fits}}
 use Rattle.ulfm_rounds.proofs.Staying.{replies_last}
 use Rattle.ulfm_race.specs.Races.{AreAnswered, IsAnswered, IsGathered, IsGroup, IsHeard, IsNewRank, Numbered, WasAnswered, flag_of, is_shrunk, limits_of}
-use Rattle.ulfm_race.specs.declared.plan.{Plan.{Plan}, RaceFault.{RaceFault}}
+use Rattle.ulfm_race.specs.declared.{gather.Heard.{Heard}, plan.Plan.{Plan}, plan.RaceFault.{RaceFault}}
 use Rattle.ulfm_race.proofs.Turns.{any_push, at_push}
 
 -- one element more, with the number that comes next
@@ -86,12 +86,23 @@ module _ (plan : Plan) (h longer : History FlagAnd) (begins : IsPrefix h longer)
       }
 
 -- nothing is gathered at first
-pub gathered_none : (plan : Plan) (h : History FlagAnd) (replies : List (List (Reply FlagAnd))) (group : List ℕ) (fault : Option RaceFault) → replies ≡ [] → group ≡ [] → IsGathered plan h 0 replies group fault
-gathered_none plan h replies group fault no nobody none =
-    subst (λ w. AreAnswered plan h 0 w group) (sym no) (record { all = refl; each = λ r said at. absurd (cc at); group_is = nobody })
+pub gathered_none : {V : Type 0} (items : V → List (Reply FlagAnd)) (plan : Plan) (h : History FlagAnd) (old : List V) (group : List ℕ) (fault : Option RaceFault) → old ≡ [] → group ≡ [] → IsGathered plan h 0 (map items old) group fault
+gathered_none items plan h old group fault nothing nobody none =
+    subst (λ w. AreAnswered plan h 0 (map items w) group) (sym nothing) (record { all = refl; each = λ r said at. absurd (cc at); group_is = nobody })
+
+-- the same by another name of the plan
+pub gathered_by : (plan other : Plan) (h : History FlagAnd) (n : ℕ) (replies : List (List (Reply FlagAnd))) (group : List ℕ) (fault : Option RaceFault) → plan ≡ other → IsGathered plan h n replies group fault → IsGathered other h n replies group fault
+gathered_by plan other h n replies group fault same is = subst (λ p. IsGathered p h n replies group fault) same is
+
+-- one element more was pushed
+pub push_numbered : {X : Type 0} (Q : ℕ → X → Type 0) (old new : List X) (x : X) (ok : Bool) (r : ℕ) → new ≡ cond ok (old ++ x ∷ []) old → ok ≡ true → Numbered Q 0 old × (length old ≡ r) → Q r x → Numbered Q 0 new × (length new ≡ r + 1)
+push_numbered Q old new x ok r is here was last =
+    let pushed = is ∙ ap (λ w. cond w (old ++ x ∷ []) old) here in
+    let count = was.1 in
+    (subst (Numbered Q 0) (sym pushed) (number_push Q 0 old x r (omega (arith, count)) was.0 last), omega (arith, ap length pushed, length-append old (x ∷ []), count))
 
 module _ (plan : Plan) (h : History FlagAnd) (r : ℕ) (replies : List (List (Reply FlagAnd))) (group : List ℕ) (was : AreAnswered plan h r replies group) (said : List (Reply FlagAnd)) where
-  group_push : (earlier made : Bool) (more : List ℕ) → IsGroup plan h earlier group → IsGroup plan h made more → IsGroup plan h (cond earlier true made) (cond made more group)
+  group_push : (earlier made : Bool) (more : List ℕ) → IsGroup plan h earlier group → IsGroup plan h made more → IsGroup plan h (earlier || made) (cond made more group)
   group_push true true more old new = new
   group_push true false more old new = old
   group_push false true more old new = new
@@ -109,6 +120,19 @@ module _ (plan : Plan) (h : History FlagAnd) (r : ℕ) (replies : List (List (Re
             let one : r ≡ i = omega (arith, count, this.0) in
             subst (λ n. WasAnswered plan h n given) one (subst (WasAnswered plan h r) this.1 heard.answered)
         ];
-        group_is = subst (λ b. IsGroup plan h b (cond made more group)) (sym (any_push (list_any is_shrunk) replies said ∙ ap (λ b. cond (list_any (list_any is_shrunk) replies) true b) (sym heard.made_is)))
+        group_is = subst (λ b. IsGroup plan h b (cond made more group)) (sym (any_push (list_any is_shrunk) replies said ∙ ap (λ b. list_any (list_any is_shrunk) replies || b) (sym heard.made_is)))
             (group_push (list_any (list_any is_shrunk) replies) made more was.group_is heard.group_is);
       }
+
+-- one rank more, pushed
+pub adds : {V : Type 0} (items : V → List (Reply FlagAnd)) (plan : Plan) (h : History FlagAnd) (r : ℕ) (old new : List V) (x : V) (group : List ℕ) (ok made : Bool) (more : List ℕ) (b : Bool)
+    → new ≡ cond ok (old ++ x ∷ []) old → ok ≡ true → made ≡ b → AreAnswered plan h r (map items old) group → IsHeard plan h r (items x) made more → AreAnswered plan h (r + 1) (map items new) (cond b more group)
+adds items plan h r old new x group ok made more b is here made_is was heard =
+    let pushed = is ∙ ap (λ w. cond w (old ++ x ∷ []) old) here in
+    subst (λ w. AreAnswered plan h (r + 1) w (cond b more group)) (sym (ap (map items) pushed ∙ map_push items old x))
+    (subst (λ w. AreAnswered plan h (r + 1) (map items old ++ items x ∷ []) (cond w more group)) made_is (answered_push plan h r (map items old) group was (items x) made more heard))
+
+-- what was heard of a rank, by another name of its plan and number
+pub heard_if : (plan other : Plan) (h : History FlagAnd) (r n : ℕ) → plan ≡ other → r ≡ n → (o : Result Heard RaceFault) → IfOk o (λ x. IsHeard plan h r x.replies.items x.made x.group.items) → IfOk o (λ x. IsHeard other h n x.replies.items x.made x.group.items)
+heard_if plan other h r n same is (Ok x) heard = subst (λ m. IsHeard other h m x.replies.items x.made x.group.items) is (subst (λ p. IsHeard p h r x.replies.items x.made x.group.items) same heard)
+heard_if plan other h r n same is (Err e) heard = tt

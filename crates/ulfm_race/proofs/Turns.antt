@@ -2,7 +2,7 @@
 use Rattle.std.proofs.Common.{◌≡◌, ◌⊎◌, ℕ, zero, suc, ◌+◌, ◌-◌, ◌<◌, ◌≤◌, ◌==◌, Bool, true, false, cond, List, [], ◌∷◌, ◌++◌, length, Option, Some, None, Result, Ok, Err, inl, inr, refl, ap, sym, ◌∙◌, subst, arith, slice_get, is_some, nat_le, IsTrue, IsFalse, length-append, IfOk}
 use Rattle.std.specs.Prelude.{find}
 use Rattle.std.specs.List.{list_any}
-use mathlib.Core.List.{IsPrefix}
+use mathlib.Core.{Bool.{◌||◌}, List.{IsPrefix}}
 use Rattle.ulfm_laws.specs.{declared.flag_and.FlagAnd.{FlagAnd}, Flags.{flag_meld}}
 use Rattle.ulfm_model.specs.declared.{call.Call.{Call}, call.Call.TheVariants.{Agree, Poll, Shrink}, call.Request.{Request}, call.Request.TheVariants.{Agree as OpenAgree, Shrink as OpenShrink}, limits.Limits.{Limits}, refusal.Refusal.{Refusal}, refusal.Refusal.TheVariants.{Busy, RoundsUsedUp, ShrinkOpen}, reply.Reply.{Reply}, reply.Reply.TheVariants.{Refused, Started}}
 use Rattle.ulfm_model.specs.{Answers.{first_refusal, opened, refusal_of, refusal_on}, History.{History, IsLegal, first_ranks, spawns}, Records.{Fits, Held, Record, change_at, held_at, is_shrink, new_held, new_record}, Runs.{IsCall}}
@@ -28,18 +28,18 @@ at_push (z ∷ xs) x y (suc n) e = elim (at_push xs x y n e) [ inl h ↦ inl h |
 -- no element passes a test, if none at any index does
 pub any_none : {X : Type 0} (p : X → Bool) (xs : List X) → ((n : ℕ) (x : X) → slice_get xs n ≡ Some x → p x ≡ false) → list_any p xs ≡ false
 any_none p [] none = refl
-any_none p (x ∷ xs) none = ap (λ b. cond b true (list_any p xs)) (none 0 x refl) ∙ any_none p xs (λ n y at. none (suc n) y at)
+any_none p (x ∷ xs) none = ap (λ b. b || list_any p xs) (none 0 x refl) ∙ any_none p xs (λ n y at. none (suc n) y at)
 
 -- the same with one more element
-pub any_push : {X : Type 0} (p : X → Bool) (xs : List X) (x : X) → list_any p (xs ++ x ∷ []) ≡ cond (list_any p xs) true (p x)
+pub any_push : {X : Type 0} (p : X → Bool) (xs : List X) (x : X) → list_any p (xs ++ x ∷ []) ≡ (list_any p xs || p x)
 any_push p [] x = go (p x)
   where
-    go : (b : Bool) → cond b true false ≡ b
+    go : (b : Bool) → (b || false) ≡ b
     go true = refl
     go false = refl
-any_push p (y ∷ xs) x = ap (λ b. cond (p y) true b) (any_push p xs x) ∙ go (p y)
+any_push p (y ∷ xs) x = ap (λ b. p y || b) (any_push p xs x) ∙ go (p y)
   where
-    go : (b : Bool) → cond b true (cond (list_any p xs) true (p x)) ≡ cond (cond b true (list_any p xs)) true (p x)
+    go : (b : Bool) → (b || (list_any p xs || p x)) ≡ ((b || list_any p xs) || p x)
     go true = refl
     go false = refl
 
@@ -92,7 +92,7 @@ module _ (plan : Plan) (name : Name) (same : name.limits ≡ limits_of plan) (k 
       let rounds = rounds_are in
       let next = ready.next in
       let late : nat_le own.limits.rounds x.next_agreement ≡ false = late_not own.limits.rounds x.next_agreement (omega (arith, rounds, next, in_time)) in
-      let none_open : list_any (λ y. is_shrink y.request) own.held ≡ false = ap (λ h. list_any (λ y. is_shrink y.request) h) ready.held ∙ ap (λ q. cond (is_shrink q) true false) ready.request in
+      let none_open : list_any (λ y. is_shrink y.request) own.held ≡ false = ap (λ h. list_any (λ y. is_shrink y.request) h) ready.held ∙ ap (λ q. is_shrink q || false) ready.request in
       subst (λ o. refusal_on {P = FlagAnd} own o (Shrink own.number 0) ≡ None) (sym held_now)
       (subst (λ b. first_refusal ((is_some x.request, Busy) ∷ (list_any (λ y. is_shrink y.request) own.held, ShrinkOpen) ∷ (b, RoundsUsedUp) ∷ []) ≡ None) (sym late)
       (subst (λ b. first_refusal ((is_some x.request, Busy) ∷ (b, ShrinkOpen) ∷ (false, RoundsUsedUp) ∷ []) ≡ None) (sym none_open)
@@ -110,7 +110,7 @@ module _ (plan : Plan) (name : Name) (same : name.limits ≡ limits_of plan) (k 
   ended refusal new after new_of begins reason =
       let count = ready.count in
       let agreed = before_last after new_of begins in
-      let none : list_any is_shrunk (said ++ Refused refusal ∷ []) ≡ false = any_push is_shrunk said (Refused refusal) ∙ ap (λ b. cond b true false) (agreed_plain plan after.seen r said agreed) in
+      let none : list_any is_shrunk (said ++ Refused refusal ∷ []) ≡ false = any_push is_shrunk said (Refused refusal) ∙ ap (λ b. b || false) (agreed_plain plan after.seen r said agreed) in
       record {
         answered = record {
           agreed = said;
@@ -137,29 +137,23 @@ module _ (plan : Plan) (name : Name) (same : name.limits ≡ limits_of plan) (k 
   pub shrink_refused : (refusal : Refusal) (new : Record) (after : Sight FlagAnd) → Calls flag_meld false name (Shrink own.number 0) own at (Refused refusal) new after → IsAnswered plan after.seen r new (said ++ Refused refusal ∷ [])
   shrink_refused refusal new after calls = start_refused (Shrink own.number 0) (inr refl) shrink_not_refused refusal new after calls
 
-  -- a start that started, and polls of it that go on until one is answered
-  module _ (asked : Call FlagAnd) (wanted : Request) (mid : Record) (then : Sight FlagAnd) (starts : Calls flag_meld false name asked own at Started mid then) (opens : mid.held ≡ change_at 0 (λ y. opened y (Some wanted)) own.held) (new : Record) (after : Sight FlagAnd) where
-    abbrev y : Held
-    y = opened x (Some wanted)
-
-    mid_held : mid.held ≡ y ∷ []
-    mid_held = opens ∙ changed (λ y. opened y (Some wanted))
-
+  -- a start that started, as whose request communicator 0 is held so, and polls of it that go on until one is answered
+  module _ (asked : Call FlagAnd) (y : Held) (comm : y.comm ≡ 0) (mid : Record) (then : Sight FlagAnd) (starts : Calls flag_meld false name asked own at Started mid then) (opens : mid.held ≡ y ∷ []) (new : Record) (after : Sight FlagAnd) where
     from_start : IsPrefix at.seen then.seen
     from_start = goes_on flag_meld false name 0 asked own at Started mid then of starts
 
     module _ (answer : Result (Polled FlagAnd) Refusal) (last : IsLast flag_meld false name 0 mid then answer new after) where
       last_held : last.own.held ≡ y ∷ []
-      last_held = last.held ∙ mid_held
+      last_held = last.held ∙ opens
 
       there : held_at last.own 0 ≡ Some y
-      there = ap (λ h. find (λ y. y.comm == 0) h) last_held ∙ ap (λ n. cond (n == 0) (Some y) None) ready.comm
+      there = ap (λ h. find (λ y. y.comm == 0) h) last_held ∙ ap (λ n. cond (n == 0) (Some y) None) comm
 
       number_is : last.own.number ≡ r
       number_is = last.number ∙ call_number flag_meld limits false at.seen then.seen own asked Started mid (called_run flag_meld false name asked own at Started mid then starts)
 
       last_closed : change_at 0 (λ z. record z { request = None }) last.own.held ≡ record y { request = None } ∷ []
-      last_closed = ap (change_at 0 (λ z. record z { request = None })) last_held ∙ ap (λ n. cond (n == 0) (record y { request = None } ∷ []) (y ∷ [])) ready.comm
+      last_closed = ap (change_at 0 (λ z. record z { request = None })) last_held ∙ ap (λ n. cond (n == 0) (record y { request = None } ∷ []) (y ∷ [])) comm
 
       seen_from : (reply : Reply FlagAnd) → Calls flag_meld false name (Poll last.own.number 0) last.own last.at reply new after → IsPrefix then.seen after.seen
       seen_from reply calls = prefix_trans then.seen last.at.seen after.seen last.begins (goes_on flag_meld false name 0 (Poll last.own.number 0) last.own last.at reply new after last.of calls)
@@ -168,11 +162,10 @@ module _ (plan : Plan) (name : Name) (same : name.limits ≡ limits_of plan) (k 
       all_from reply calls = prefix_trans at.seen then.seen after.seen from_start (seen_from reply calls)
 
     -- a poll that is refused
-    poll_refused : (refusal : Refusal) → (wanted ≡ OpenAgree k) ⊎ (wanted ≡ OpenShrink k) → IsFalse (is_out_of_memory refusal) → IsPolledOn flag_meld false name 0 mid then (Err refusal) new after → IsAnswered plan after.seen r new (said ++ Refused refusal ∷ [])
-    poll_refused refusal kind kept polls =
+    poll_refused : (refusal : Refusal) → (y.request ≡ Some (OpenAgree k)) ⊎ (y.request ≡ Some (OpenShrink k)) → IsFalse (is_out_of_memory refusal) → IsPolledOn flag_meld false name 0 mid then (Err refusal) new after → IsAnswered plan after.seen r new (said ++ Refused refusal ∷ [])
+    poll_refused refusal which kept polls =
         let last = last_poll flag_meld false name 0 polls.0 mid then (Err refusal) new after starts.of starts.fits polls.1 in
         let calls = subst (λ b. EndsBy flag_meld false name (Poll last.own.number 0) last.own last.at refusal b new after) kept last.poll in
-        let which : (y.request ≡ Some (OpenAgree k)) ⊎ (y.request ≡ Some (OpenShrink k)) = elim kind [ inl is ↦ inl (ap Some is) | inr is ↦ inr (ap Some is) ] in
         let reason = polls_refused flag_meld limits false last.at.seen after.seen last.own new 0 k y refusal last.fits (there (Err refusal) last) which (called_run flag_meld false name (Poll last.own.number 0) last.own last.at (Refused refusal) new after calls) in
         ended refusal new after calls.of (all_from (Err refusal) last (Refused refusal) calls)
         (reason_is after.seen k refusal refl (subst (λ n. IsReason flag_meld limits after.seen 0 k n refusal) (number_is (Err refusal) last) reason))
@@ -191,8 +184,8 @@ module _ (plan : Plan) (name : Name) (same : name.limits ≡ limits_of plan) (k 
     agree_starts : (mid.held ≡ change_at 0 (λ y. opened y (Some (OpenAgree y.next_agreement))) own.held) × Gave then.seen 0 x.next_agreement own.number (flag_of r k)
     agree_starts = agree_opens flag_meld limits false at.seen then.seen own mid 0 (flag_of r k) x fits held_now (called_run flag_meld false name (Agree own.number 0 (flag_of r k)) own at Started mid then starts)
 
-    agree_is_open : mid.held ≡ change_at 0 (λ y. opened y (Some (OpenAgree k))) own.held
-    agree_is_open = agree_starts.0 ∙ (changed (λ y. opened y (Some (OpenAgree y.next_agreement))) ∙ (ap (λ n. opened x (Some (OpenAgree n)) ∷ []) ready.next ∙ sym (changed (λ y. opened y (Some (OpenAgree k))))))
+    agree_is_open : mid.held ≡ opened x (Some (OpenAgree k)) ∷ []
+    agree_is_open = agree_starts.0 ∙ (changed (λ y. opened y (Some (OpenAgree y.next_agreement))) ∙ ap (λ n. opened x (Some (OpenAgree n)) ∷ []) ready.next)
 
     -- the reply of an agree that was answered
     agreed_says : (reply : Polled FlagAnd) (last : IsLast flag_meld false name 0 mid then (Ok reply) new after) → IsFalse (is_refused (polled reply)) × IsReady plan r (k + 1) new after.seen (said ++ polled reply ∷ [])
@@ -200,18 +193,18 @@ module _ (plan : Plan) (name : Name) (same : name.limits ≡ limits_of plan) (k 
         let asked : Call FlagAnd = Agree own.number 0 (flag_of r k) in
         let y : Held = opened x (Some (OpenAgree k)) in
         let run = called_run flag_meld false name (Poll last.own.number 0) last.own last.at (polled reply) new after last.poll in
-        let told = agree_tells flag_meld limits false last.at.seen after.seen last.own new 0 k y (polled reply) last.fits (there asked (OpenAgree k) mid then starts agree_is_open new after (Ok reply) last) refl (answer_ends reply last.answered) run in
-        let later = seen_from asked (OpenAgree k) mid then starts agree_is_open new after (Ok reply) last (polled reply) last.poll in
+        let told = agree_tells flag_meld limits false last.at.seen after.seen last.own new 0 k y (polled reply) last.fits (there asked y ready.comm mid then starts agree_is_open new after (Ok reply) last) refl (answer_ends reply last.answered) run in
+        let later = seen_from asked y ready.comm mid then starts agree_is_open new after (Ok reply) last (polled reply) last.poll in
         let decided = subst (λ l. IsDecision flag_meld l after.seen 0 k (polled reply)) same told.0 in
         let gave = subst (λ n. Gave after.seen 0 n r (flag_of r k)) ready.next (gave_lasts flag_meld limits then.seen after.seen later last.poll.of.legal 0 x.next_agreement r (flag_of r k) agree_starts.1) in
-        let before = before_last after last.poll.of (all_from asked (OpenAgree k) mid then starts agree_is_open new after (Ok reply) last (polled reply) last.poll) in
+        let before = before_last after last.poll.of (all_from asked y ready.comm mid then starts agree_is_open new after (Ok reply) last (polled reply) last.poll) in
         let count = ready.count in
         (ap is_refused decided.reply_is, record {
-          number = call_number flag_meld limits false last.at.seen after.seen last.own (Poll last.own.number 0) (polled reply) new run ∙ number_is asked (OpenAgree k) mid then starts agree_is_open new after (Ok reply) last;
+          number = call_number flag_meld limits false last.at.seen after.seen last.own (Poll last.own.number 0) (polled reply) new run ∙ number_is asked y ready.comm mid then starts agree_is_open new after (Ok reply) last;
           x = record y { request = None };
-          held = told.1 ∙ last_closed asked (OpenAgree k) mid then starts agree_is_open new after (Ok reply) last;
+          held = told.1 ∙ last_closed asked y ready.comm mid then starts agree_is_open new after (Ok reply) last;
           comm = ready.comm;
-          next = ap (λ n. n + 1) ready.next;
+          next = refl;
           request = refl;
           count = omega (arith, length-append said (polled reply ∷ []), count);
           agreed = agreed_push after.seen (polled reply) before decided gave;
@@ -221,11 +214,13 @@ module _ (plan : Plan) (name : Name) (same : name.limits ≡ limits_of plan) (k 
     agree_answered (Ok answer) reply polls kept =
         inr (subst (λ w. IsFalse (is_refused w) × IsReady plan r (k + 1) new after.seen (said ++ w ∷ [])) (sym kept) (agreed_says answer (last_poll flag_meld false name 0 polls.0 mid then (Ok answer) new after starts.of starts.fits polls.1)))
     agree_answered (Err refusal) reply polls kept =
-        subst (λ w. SaysAgree plan r k said new after.seen w) (sym kept.0) (inl (refl, poll_refused (Agree own.number 0 (flag_of r k)) (OpenAgree k) mid then starts agree_is_open new after refusal (inl refl) kept.1 polls))
+        subst (λ w. SaysAgree plan r k said new after.seen w) (sym kept.0) (inl (refl, poll_refused (Agree own.number 0 (flag_of r k)) (opened x (Some (OpenAgree k))) ready.comm mid then starts agree_is_open new after refusal (inl refl) kept.1 polls))
 
   module _ (all : k ≡ plan.rounds) (mid : Record) (then : Sight FlagAnd) (starts : Calls flag_meld false name (Shrink own.number 0) own at Started mid then) (new : Record) (after : Sight FlagAnd) where
-    shrink_is_open : mid.held ≡ change_at 0 (λ y. opened y (Some (OpenShrink k))) own.held
-    shrink_is_open = shrink_opens flag_meld limits false at.seen then.seen own mid 0 x fits held_now (called_run flag_meld false name (Shrink own.number 0) own at Started mid then starts) ∙ (changed (λ y. opened y (Some (OpenShrink y.next_agreement))) ∙ (ap (λ n. opened x (Some (OpenShrink n)) ∷ []) ready.next ∙ sym (changed (λ y. opened y (Some (OpenShrink k))))))
+    shrink_is_open : mid.held ≡ opened x (Some (OpenShrink k)) ∷ []
+    shrink_is_open =
+        shrink_opens flag_meld limits false at.seen then.seen own mid 0 x fits held_now (called_run flag_meld false name (Shrink own.number 0) own at Started mid then starts)
+        ∙ (changed (λ y. opened y (Some (OpenShrink y.next_agreement))) ∙ ap (λ n. opened x (Some (OpenShrink n)) ∷ []) ready.next)
 
     -- the only communicator that may be made is number 1
     first_made : (n : ℕ) → 0 < n → slice_get (spawns after.seen) (n - 1) ≡ Some (0, k) → IsLegal flag_meld (limits_of plan) after.seen → n ≡ 1
@@ -240,20 +235,20 @@ module _ (plan : Plan) (name : Name) (same : name.limits ≡ limits_of plan) (k 
         let asked : Call FlagAnd = Shrink own.number 0 in
         let y : Held = opened x (Some (OpenShrink k)) in
         let run = called_run flag_meld false name (Poll last.own.number 0) last.own last.at (polled reply) new after last.poll in
-        let told = shrink_tells flag_meld limits false last.at.seen after.seen last.own new 0 k y (polled reply) last.fits (there asked (OpenShrink k) mid then starts shrink_is_open new after (Ok reply) last) refl (answer_ends reply last.answered) run in
+        let told = shrink_tells flag_meld limits false last.at.seen after.seen last.own new 0 k y (polled reply) last.fits (there asked y ready.comm mid then starts shrink_is_open new after (Ok reply) last) refl (answer_ends reply last.answered) run in
         let legal = subst (λ l. IsLegal flag_meld l after.seen) same last.poll.of.legal in
         let count = ready.count in
-        let made = subst (λ n. IsMadeOf flag_meld (limits_of plan) after.seen 0 k n (polled reply)) (number_is asked (OpenShrink k) mid then starts shrink_is_open new after (Ok reply) last) (subst (λ l. IsMadeOf flag_meld l after.seen 0 k last.own.number (polled reply)) same told.0) in
+        let made = subst (λ n. IsMadeOf flag_meld (limits_of plan) after.seen 0 k n (polled reply)) (number_is asked y ready.comm mid then starts shrink_is_open new after (Ok reply) last) (subst (λ l. IsMadeOf flag_meld l after.seen 0 k last.own.number (polled reply)) same told.0) in
         let z = told.1.0 in
         let number : z.comm ≡ 1 = told.1.1 ∙ first_made told.0.comm told.0.above told.0.made legal in
-        let held : new.held ≡ record y { request = None } ∷ z ∷ [] = told.1.2 ∙ ap (λ h. h ++ z ∷ []) (last_closed asked (OpenShrink k) mid then starts shrink_is_open new after (Ok reply) last) in
+        let held : new.held ≡ record y { request = None } ∷ z ∷ [] = told.1.2 ∙ ap (λ h. h ++ z ∷ []) (last_closed asked y ready.comm mid then starts shrink_is_open new after (Ok reply) last) in
         record {
           answered = record {
             agreed = said;
             last = polled reply;
             all = refl;
             few = omega (arith, count, in_time);
-            each = before_last after last.poll.of (all_from asked (OpenShrink k) mid then starts shrink_is_open new after (Ok reply) last (polled reply) last.poll);
+            each = before_last after last.poll.of (all_from asked y ready.comm mid then starts shrink_is_open new after (Ok reply) last (polled reply) last.poll);
             ends = inr (count ∙ all, subst (λ n. IsMadeOf flag_meld (limits_of plan) after.seen 0 n r (polled reply)) all made);
           };
           holds = λ some. (z, ap (λ h. find (λ w. w.comm == 1) h) held ∙ (ap (λ n. cond (n == 1) (Some (record y { request = None })) (cond (z.comm == 1) (Some z) None)) ready.comm ∙ ap (λ n. cond (n == 1) (Some z) None) number));
@@ -263,7 +258,7 @@ module _ (plan : Plan) (name : Name) (same : name.limits ≡ limits_of plan) (k 
     shrink_answered (Ok answer) reply polls kept =
         subst (λ w. IsAnswered plan after.seen r new (said ++ w ∷ [])) (sym kept) (shrunk_says answer (last_poll flag_meld false name 0 polls.0 mid then (Ok answer) new after starts.of starts.fits polls.1))
     shrink_answered (Err refusal) reply polls kept =
-        subst (λ w. IsAnswered plan after.seen r new (said ++ w ∷ [])) (sym kept.0) (poll_refused (Shrink own.number 0) (OpenShrink k) mid then starts shrink_is_open new after refusal (inr refl) kept.1 polls)
+        subst (λ w. IsAnswered plan after.seen r new (said ++ w ∷ [])) (sym kept.0) (poll_refused (Shrink own.number 0) (opened x (Some (OpenShrink k))) ready.comm mid then starts shrink_is_open new after refusal (inr refl) kept.1 polls)
 
 -- by whether an agree was refused
 pub says_true : (plan : Plan) (r k : ℕ) (said : List (Reply FlagAnd)) (new : Record) (h : History FlagAnd) (reply : Reply FlagAnd) → is_refused reply ≡ true → SaysAgree plan r k said new h reply → IsAnswered plan h r new (said ++ reply ∷ [])

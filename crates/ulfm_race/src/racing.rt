@@ -52,6 +52,30 @@ pub fn race<R: Threads + Wait + Sync, G: Gate + Sync>(
     requires { IsPlan plan }
     ensures { IfOk result (λ o. IsOutcome plan o.seen.seen (map (λ v. v.items) o.replies.items) o.group.items) }
 {
+    let (world, ranks) = open_world(alloc, plan)?;
+    let said = boxcar::Vec::new(alloc)?;
+    let world = &world;
+    let said = &said;
+    thread::scope(
+        thread::scope_env(),
+        rt,
+        |scope|
+            requires plan { IsPlan plan }
+            requires limits { world.now.words.limits ≡ limits_of plan }
+            requires ranks { Numbered (IsNewRank plan) 0 ranks.items }
+            requires all { length ranks.items ≡ plan.ranks }
+        { race_in(scope, rt, gate, alloc, world, said, plan, ranks) },
+    )
+}
+
+// The world of a plan, and its ranks.
+#[tactic(auto, using(crate::proofs::Gathering::new_ranks))]
+fn open_world(alloc: Global, plan: Plan) -> Result<(Shared, Vec<Own>), RaceFault>
+    requires { IsPlan plan }
+    ensures limits { IfOk result (λ o. o.0.words.limits ≡ limits_of plan) }
+    ensures ranks { IfOk result (λ o. Numbered (IsNewRank plan) 0 o.1.items) }
+    ensures all { IfOk result (λ o. length o.1.items ≡ plan.ranks) }
+{
     let limits = Limits {
         ranks: plan.ranks,
         comms: 2,
@@ -61,17 +85,10 @@ pub fn race<R: Threads + Wait + Sync, G: Gate + Sync>(
     let Ok(words) = BookWords::open(alloc, limits) else {
         return Err(RaceFault::Memory);
     };
-    let Ok((world, ranks)) = World::open(alloc, words) else {
-        return Err(RaceFault::Memory);
-    };
-    let said = boxcar::Vec::new(alloc)?;
-    let world = &world;
-    let said = &said;
-    thread::scope(
-        thread::scope_env(),
-        rt,
-        |scope| race_in(scope, rt, gate, alloc, world, said, plan, ranks),
-    )
+    match World::open(alloc, words) {
+        Ok(opened) => Ok(opened),
+        Err(_) => Err(RaceFault::Memory),
+    }
 }
 
 // The race, once there are a world and its ranks.

@@ -60,24 +60,29 @@ pub(crate) fn work<G: Gate, R: Wait>(
     let mut pass = pass;
     let mut tokens = Vec::new(alloc);
     let ended = take_turns(rt, gate, world, said, plan, &mut rank, &mut pass, &mut tokens);
-    let stopped = !matches!(ended, Ok(true));
-    declare(world, &rank, &mut pass, stopped);
+    let fault = fault_in(&ended);
+    declare(world, &rank, &mut pass, is_stopped(&ended));
     let told = world.told(&pass);
     Report {
         rank,
         told,
         tokens,
-        fault: fault_in(ended),
+        fault,
     }
 }
 
+// Whether a worker stopped before it was answered all.
+fn is_stopped(ended: &Result<bool, RaceFault>) -> bool {
+    !matches!(ended, Ok(true))
+}
+
 // The fault that a worker met, if any.
-fn fault_in(ended: Result<bool, RaceFault>) -> Option<RaceFault>
-    ensures { result ≡ None → (whole : Bool) × (ended ≡ Ok whole) }
+fn fault_in(ended: &Result<bool, RaceFault>) -> Option<RaceFault>
+    ensures { result ≡ None → (whole : Bool) × (ended.now ≡ Ok whole) }
 {
     match ended {
         Ok(_) => None,
-        Err(fault) => Some(fault),
+        Err(fault) => Some(*fault),
     }
 }
 

@@ -32,7 +32,7 @@ fn four_answers(alloc: Global) -> Result<Vec<Reply<FlagAnd>>, AllocError> {
         context: 1,
         size: 4,
     };
-    vec![in alloc; clean(0xffff_fff0), clean(0xffff_ffe1), made]
+    Ok(vec![in alloc; clean(0xffff_fff0), clean(0xffff_ffe1), made]?)
 }
 
 #[test]
