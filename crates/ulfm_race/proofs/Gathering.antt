@@ -42,8 +42,7 @@ both_new plan n (own ∷ ranks) are fit = (record { record_is = are.0; fits = fi
 pub new_ranks : (plan : Plan) (limits : Limits) → limits ≡ limits_of plan → (ranks : List Record) → ranks ≡ map (new_record limits) (first_ranks limits.ranks) → AllByRecursion (Fits flag_meld limits []) ranks
     → Numbered (IsNewRank plan) 0 ranks × (length ranks ≡ plan.ranks)
 new_ranks plan limits same ranks are fit =
-    let mine : ranks ≡ map (new_record (limits_of plan)) (first_ranks plan.ranks) = subst (λ l. ranks ≡ map (new_record l) (first_ranks l.ranks)) same are in
-    (
+    let mine : ranks ≡ map (new_record (limits_of plan)) (first_ranks plan.ranks) = subst (λ l. ranks ≡ map (new_record l) (first_ranks l.ranks)) same are in (
       both_new plan 0 ranks (subst (Numbered (λ i own. own ≡ new_record (limits_of plan) i) 0) (sym mine) (number_first (new_record (limits_of plan)) plan.ranks)) (subst (λ l. AllByRecursion (Fits flag_meld l []) ranks) same fit),
       ap length mine ∙ (count_map (new_record (limits_of plan)) (first_ranks plan.ranks) ∙ count_first plan.ranks),
     )
@@ -117,8 +116,8 @@ module _ (plan : Plan) (h : History FlagAnd) (r : ℕ) (replies : List (List (Re
         each = λ i given here. elim (at_push replies said given i here) [
           | inl old ↦ was.each i given old
           | inr this ↦
-            let one : r ≡ i = omega (arith, count, this.0) in
-            subst (λ n. WasAnswered plan h n given) one (subst (WasAnswered plan h r) this.1 heard.answered)
+              let one : r ≡ i = omega (arith, count, this.0) in
+              subst (λ n. WasAnswered plan h n given) one (subst (WasAnswered plan h r) this.1 heard.answered)
         ];
         group_is = subst (λ b. IsGroup plan h b (cond made more group)) (sym (any_push (list_any is_shrunk) replies said ∙ ap (λ b. list_any (list_any is_shrunk) replies || b) (sym heard.made_is)))
             (group_push (list_any (list_any is_shrunk) replies) made more was.group_is heard.group_is);

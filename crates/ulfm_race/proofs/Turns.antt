@@ -175,9 +175,9 @@ module _ (plan : Plan) (name : Name) (same : name.limits ≡ limits_of plan) (k 
   agreed_push h reply before decided gave i given here = elim (at_push said reply given i here) [
     | inl old ↦ before i given old
     | inr this ↦
-      let count = ready.count in
-      let one : k ≡ i = omega (arith, count, this.0) in
-      subst (λ n. IsDecision flag_meld (limits_of plan) h 0 n given × Gave h 0 n r (flag_of r n)) one (subst (IsDecision flag_meld (limits_of plan) h 0 k) this.1 decided, gave)
+        let count = ready.count in
+        let one : k ≡ i = omega (arith, count, this.0) in
+        subst (λ n. IsDecision flag_meld (limits_of plan) h 0 n given × Gave h 0 n r (flag_of r n)) one (subst (IsDecision flag_meld (limits_of plan) h 0 k) this.1 decided, gave)
   ]
 
   module _ (early : k < plan.rounds) (mid : Record) (then : Sight FlagAnd) (starts : Calls flag_meld false name (Agree own.number 0 (flag_of r k)) own at Started mid then) (new : Record) (after : Sight FlagAnd) where
@@ -198,17 +198,19 @@ module _ (plan : Plan) (name : Name) (same : name.limits ≡ limits_of plan) (k 
         let decided = subst (λ l. IsDecision flag_meld l after.seen 0 k (polled reply)) same told.0 in
         let gave = subst (λ n. Gave after.seen 0 n r (flag_of r k)) ready.next (gave_lasts flag_meld limits then.seen after.seen later last.poll.of.legal 0 x.next_agreement r (flag_of r k) agree_starts.1) in
         let before = before_last after last.poll.of (all_from asked y ready.comm mid then starts agree_is_open new after (Ok reply) last (polled reply) last.poll) in
-        let count = ready.count in
-        (ap is_refused decided.reply_is, record {
-          number = call_number flag_meld limits false last.at.seen after.seen last.own (Poll last.own.number 0) (polled reply) new run ∙ number_is asked y ready.comm mid then starts agree_is_open new after (Ok reply) last;
-          x = record y { request = None };
-          held = told.1 ∙ last_closed asked y ready.comm mid then starts agree_is_open new after (Ok reply) last;
-          comm = ready.comm;
-          next = refl;
-          request = refl;
-          count = omega (arith, length-append said (polled reply ∷ []), count);
-          agreed = agreed_push after.seen (polled reply) before decided gave;
-        })
+        let count = ready.count in (
+          ap is_refused decided.reply_is,
+          record {
+            number = call_number flag_meld limits false last.at.seen after.seen last.own (Poll last.own.number 0) (polled reply) new run ∙ number_is asked y ready.comm mid then starts agree_is_open new after (Ok reply) last;
+            x = record y { request = None };
+            held = told.1 ∙ last_closed asked y ready.comm mid then starts agree_is_open new after (Ok reply) last;
+            comm = ready.comm;
+            next = refl;
+            request = refl;
+            count = omega (arith, length-append said (polled reply ∷ []), count);
+            agreed = agreed_push after.seen (polled reply) before decided gave;
+          },
+        )
 
     pub agree_answered : (answer : Result (Polled FlagAnd) Refusal) (reply : Reply FlagAnd) → IsPolledOn flag_meld false name 0 mid then answer new after → IsKept answer reply → SaysAgree plan r k said new after.seen reply
     agree_answered (Ok answer) reply polls kept =

@@ -249,7 +249,11 @@ fn is_shrunk(reply: &Reply<FlagAnd>) -> bool
 }
 
 // What a worker was answered, read at its tokens.
-fn read(alloc: Global, said: &Replies, tokens: &Vec<Token>) -> Result<Vec<Reply<FlagAnd>>, AllocError>
+fn read(
+    alloc: Global,
+    said: &Replies,
+    tokens: &Vec<Token>,
+) -> Result<Vec<Reply<FlagAnd>>, AllocError>
     requires { AllByRecursion (Shows said.now) tokens.now.items }
     ensures { IfOk result (λ v. v.items ≡ map (λ t. t.value) tokens.now.items) }
 {

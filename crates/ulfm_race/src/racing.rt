@@ -111,7 +111,18 @@ fn race_in<'s, E, R: Threads + Wait + Sync, G: Gate + Sync>(
     let gathered = Gathered::new(alloc, plan)?;
     let mut handles = Vec::with_capacity(alloc, ranks.len())?;
     let mut outside = world.pass(alloc)?;
-    let fault = start_all(scope, rt, gate, alloc, world, said, plan, ranks, &mut outside, &mut handles);
+    let fault = start_all(
+        scope,
+        rt,
+        gate,
+        alloc,
+        world,
+        said,
+        plan,
+        ranks,
+        &mut outside,
+        &mut handles,
+    );
     declare(world, plan, &mut outside);
     hear_all(rt, alloc, world, said, handles, outside, gathered, fault)
 }
@@ -195,7 +206,10 @@ fn start<'s, E, G: Gate + Sync, R: Wait + Sync>(
             return Err(RaceFault::Memory);
         }
     };
-    let started = scope.spawn_with(promised, move || work(rt, gate, alloc, world, said, plan, rank, pass));
+    let started = scope.spawn_with(
+        promised,
+        move || work(rt, gate, alloc, world, said, plan, rank, pass),
+    );
     match started {
         Ok(handle) => Ok(handle),
         Err(_) => {

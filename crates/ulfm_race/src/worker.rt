@@ -59,7 +59,16 @@ pub(crate) fn work<G: Gate, R: Wait>(
     let mut rank = rank;
     let mut pass = pass;
     let mut tokens = Vec::new(alloc);
-    let ended = take_turns(rt, gate, world, said, plan, &mut rank, &mut pass, &mut tokens);
+    let ended = take_turns(
+        rt,
+        gate,
+        world,
+        said,
+        plan,
+        &mut rank,
+        &mut pass,
+        &mut tokens,
+    );
     let fault = fault_in(&ended);
     declare(world, &rank, &mut pass, is_stopped(&ended));
     let told = world.told(&pass);

@@ -46,7 +46,11 @@ fn one_reply(outcome: &Outcome, round: usize) -> Option<Reply<FlagAnd>> {
     let first = *outcome.replies.get(0)?.get(round)?;
     let second = *outcome.replies.get(1)?.get(round)?;
     let last = *outcome.replies.get(3)?.get(round)?;
-    if first == second && first == last { Some(first) } else { None }
+    if first == second && first == last {
+        Some(first)
+    } else {
+        None
+    }
 }
 
 /// Whether all rounds may be answered so, and whether rank 2 is left out at last.
@@ -67,16 +71,20 @@ fn rounds(outcome: &Outcome) -> Option<bool> {
 fn ends(outcome: &Outcome, left_out: bool) -> bool {
     let group = outcome.group.as_slice();
     match one_reply(outcome, 20) {
-        Some(Reply::Shrunk {
-            comm: 1,
-            context: 1,
-            size: 4,
-        }) => !left_out && group == [0, 1, 2, 3].as_slice(),
-        Some(Reply::Shrunk {
-            comm: 1,
-            context: 1,
-            size: 3,
-        }) => group == [0, 1, 3].as_slice(),
+        Some(
+            Reply::Shrunk {
+                comm: 1,
+                context: 1,
+                size: 4,
+            },
+        ) => !left_out && group == [0, 1, 2, 3].as_slice(),
+        Some(
+            Reply::Shrunk {
+                comm: 1,
+                context: 1,
+                size: 3,
+            },
+        ) => group == [0, 1, 3].as_slice(),
         _ => false,
     }
 }

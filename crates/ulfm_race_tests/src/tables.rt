@@ -54,7 +54,9 @@ impl Rule {
         match self {
             Rule::Meet => {
                 let together = table.first.asked_to_poll && table.second.asked_to_poll;
-                let follows = rank == 1 || table.first.starts < 2 || table.second.answers >= table.first.starts;
+                let follows = rank == 1
+                    || table.first.starts < 2
+                    || table.second.answers >= table.first.starts;
                 turn == Turn::Contribute || together && follows
             }
             Rule::Second => rank == 0 || table.first.answers >= 2,

@@ -8,8 +8,7 @@ use Rattle.ulfm_race.proofs.gather.hear_all.Goals as goal
 pub loop-handle-init : goal.loop-handle-init
 loop-handle-init g c =
     let items = c.into_iter-handle-iterator.ensures.into_iter_gives.0 in
-    let all = c.requires.all c.in_default.is in
-    (
+    let all = c.requires.all c.in_default.is in (
       refl,
       refl,
       refl,
@@ -34,8 +33,7 @@ loop-handle-preserved g c =
     let seen = c.hear-heard.new.outside.seen in
     let legal = subst (λ l. IsLegal flag_meld l seen) c.requires.limits c.hear-heard.ensures.of.legal in
     let was = gathered_stays plan c.loop-handle.outside.seen seen c.hear-heard.ensures.seen legal r _ _ _ inv.3 in
-    let heard = heard_if c.in-Some-handle.handle.promise.plan here seen c.in-Some-handle.handle.promise.number r (rest.0.plan_is ∙ sym same) rest.0.number_is c.hear-heard.result c.hear-heard.ensures.answered in
-    (
+    let heard = heard_if c.in-Some-handle.handle.promise.plan here seen c.in-Some-handle.handle.promise.number r (rest.0.plan_is ∙ sym same) rest.0.number_is c.hear-heard.result c.hear-heard.ensures.answered in (
       refl,
       refl,
       c.take_in.ensures.plan ∙ same,

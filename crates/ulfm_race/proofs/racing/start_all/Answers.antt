@@ -6,8 +6,7 @@ use Rattle.ulfm_race.proofs.racing.start_all.Goals as goal
 
 pub loop-rank-init : goal.loop-rank-init
 loop-rank-init g c =
-    let items = c.into_iter-rank-iterator.ensures.into_iter_gives.0 in
-    (
+    let items = c.into_iter-rank-iterator.ensures.into_iter_gives.0 in (
       refl,
       refl,
       c.requires.of,
@@ -29,8 +28,7 @@ loop-rank-preserved-else-is_err g c =
     let steps = c.in-Some.ensures.steps.0 in
     let rest = subst (Numbered (IsNewRank c.args.plan) r) steps inv.2 in
     let number = ap (λ (w : Record). w.number) rest.0.record_is in
-    let started = subst (λ n. IsStarted c.args.world.now.words c.args.said.now c.args.plan n c.in-Ok.handle.promise) number c.in-Ok.ensures.started in
-    (
+    let started = subst (λ n. IsStarted c.args.world.now.words c.args.said.now c.args.plan n c.in-Ok.handle.promise) number c.in-Ok.ensures.started in (
       refl,
       refl,
       c.start.ensures.of,

@@ -21,6 +21,6 @@ returns g c =
       fits = subst (λ h. Fits flag_meld limits h rank) (sym here) c.declare.ensures.fits;
       shown = c.take_turns-ended.ensures.shown;
       answered = λ none.
-        let is = ok_holds (IsAnswered plan c.take_turns-ended.new.pass.seen number rank said) c.take_turns-ended.result c.take_turns-ended.ensures.answered (c.fault_in-fault.ensures none) in
-        subst (λ h. IsAnswered plan h number rank said) (sym here) (answered_lasts plan c.take_turns-ended.new.pass.seen seen c.declare.ensures.seen legal number rank said is);
+          let is = ok_holds (IsAnswered plan c.take_turns-ended.new.pass.seen number rank said) c.take_turns-ended.result c.take_turns-ended.ensures.answered (c.fault_in-fault.ensures none) in
+          subst (λ h. IsAnswered plan h number rank said) (sym here) (answered_lasts plan c.take_turns-ended.new.pass.seen seen c.declare.ensures.seen legal number rank said is);
     }
