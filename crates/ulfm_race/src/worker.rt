@@ -251,7 +251,9 @@ fn agree<G: Gate, R: Wait>(
     requires fits { Fits flag_meld world.now.words.limits pass.old.seen rank.old }
     ensures of { IsOf flag_meld world.now.words pass.new }
     ensures fits { Fits flag_meld world.now.words.limits pass.new.seen rank.new }
-    ensures says { IfOk result (λ reply. (plan : PlanOf) → (said : List (ReplyOf _)) → world.now.words.limits ≡ limits_of plan → round < plan.rounds → IsReady plan rank.old.number round rank.old pass.old.seen said → SaysAgree plan rank.old.number round said rank.new pass.new.seen reply) }
+    ensures says { IfOk result (λ reply. (plan : PlanOf) → (said : List (ReplyOf _))
+        → world.now.words.limits ≡ limits_of plan → round < plan.rounds → IsReady plan rank.old.number round rank.old pass.old.seen said
+        → SaysAgree plan rank.old.number round said rank.new pass.new.seen reply) }
 {
     let number = rank.number();
     if !gate.go(number, Turn::Contribute) {
@@ -322,7 +324,9 @@ pub(crate) fn agree_all<G: Gate, R: Wait>(
     ensures of { IsOf flag_meld world.now.words pass.new }
     ensures fits { Fits flag_meld world.now.words.limits pass.new.seen rank.new }
     ensures shown { AllByRecursion (Shows said.now) tokens.new.items }
-    ensures says { IfOk result (λ goes. MatchBool goes (IsReady plan rank.old.number plan.rounds rank.new pass.new.seen (map (λ t. t.value) tokens.new.items)) (IsAnswered plan pass.new.seen rank.old.number rank.new (map (λ t. t.value) tokens.new.items))) }
+    ensures says { IfOk result (λ goes. MatchBool goes
+        (IsReady plan rank.old.number plan.rounds rank.new pass.new.seen (map (λ t. t.value) tokens.new.items))
+        (IsAnswered plan pass.new.seen rank.old.number rank.new (map (λ t. t.value) tokens.new.items))) }
 {
     for round in 0..plan.rounds {
         match agree(rt, gate, world, rank, pass, round) {
