@@ -1,0 +1,69 @@
+// Races whose gate lets all run as they like.
+use std::alloc::{AllocError, Global};
+use std::test::Fail;
+use ulfm_laws::flag_and::FlagAnd;
+use ulfm_model::reply::Reply;
+use ulfm_race::{Gate, Plan, Turn, race};
+
+/// Always says true.
+pub(crate) struct Free;
+
+impl Gate for Free {
+    fn go(&self, _rank: u16, _turn: Turn) -> bool {
+        true
+    }
+
+    fn answered(&self, _rank: u16) {}
+}
+
+/// An agree of these bits that nobody failed in.
+fn clean(bits: u32) -> Reply<FlagAnd> {
+    Reply::Agreed {
+        value: FlagAnd { bits },
+        failed: 0,
+        raised: false,
+    }
+}
+
+/// What each of four ranks is answered in two rounds, where nobody is declared.
+fn four_answers(alloc: Global) -> Result<Vec<Reply<FlagAnd>>, AllocError> {
+    let made = Reply::Shrunk {
+        comm: 1,
+        context: 1,
+        size: 4,
+    };
+    Ok(vec![in alloc; clean(0xffff_fff0), clean(0xffff_ffe1), made]?)
+}
+
+#[test]
+fn race_of_four(rt: HostRuntime) -> Result<(), Fail> {
+    let plan = Plan {
+        ranks: 4,
+        rounds: 2,
+        fail: None,
+    };
+    let outcome = race(&rt, rt.alloc(), plan, &Free)?;
+    let wanted = four_answers(rt.alloc())?;
+    assert_eq!(rt; outcome.replies.len(), 4);
+    for replies in &outcome.replies {
+        assert_eq!(rt; replies.as_slice(), wanted.as_slice());
+    }
+    assert_eq!(rt; outcome.group.as_slice(), [0, 1, 2, 3].as_slice());
+    Ok(())
+}
+
+#[test]
+fn race_of_sixty_four(rt: HostRuntime) -> Result<(), Fail> {
+    let plan = Plan {
+        ranks: 64,
+        rounds: 100,
+        fail: None,
+    };
+    let outcome = race(&rt, rt.alloc(), plan, &Free)?;
+    assert_eq!(rt; outcome.replies.len(), 64);
+    for replies in &outcome.replies {
+        assert_eq!(rt; replies.len(), 101);
+    }
+    assert_eq!(rt; outcome.group.len(), 64);
+    Ok(())
+}
