@@ -1,0 +1,73 @@
+-- What a reply tells of its round, in a history; and the replies of a rank that agrees round after round and then shrinks.
+use Rattle.std.specs.Prelude.{◌≡◌, ◌⊎◌, ℕ, ◌+◌, ◌-◌, ◌<◌, ◌≤◌, List, [], ◌∷◌, ◌++◌, length, slice_get, Some, IsTrue}
+use Rattle.ulfm_laws.specs.declared.{body.Body.{Body}, ctx_mask.CtxMask.{CtxMask}}
+use Rattle.ulfm_model.specs.declared.{contribution.Contribution.{Contribution}, contribution.Offer.{Offer}, contribution.Slot.{Slot}}
+use Rattle.ulfm_model.specs.declared.{limits.Limits.{Limits}, refusal.Refusal.{Refusal}, reply.Reply.{Reply}}
+use Rattle.ulfm_model.specs.History.{History, decision, failures, has, is_decided, members, slot, spawns}
+use Rattle.ulfm_model.specs.Records.{IsContext}
+
+-- rank r contributed this flag to round k of communicator c
+pub record Gave {P : Type 0} (h : History P) (c k r : ℕ) (flag : P) : Type 0 where
+  pub given : Contribution P
+  pub stands : slot h c k r ≡ Some (Slot.Given given)
+  pub flag_is : given.offer ≡ Offer.Flag flag
+
+-- the reply is what round k decided: the flags combined, the size of the failed group, and the error
+pub record IsDecision {P : Type 0} (meld : P → P → P) (limits : Limits) (h : History P) (c k : ℕ) (reply : Reply P) : Type 0 where
+  pub decided : IsTrue (is_decided limits.ranks h c k)
+  pub value : P
+  pub body : (decision meld limits.ranks h c k).body ≡ Body.Flag value
+  pub reply_is : reply ≡ Reply.Agreed value (length (decision meld limits.ranks h c k).failed) (decision meld limits.ranks h c k).raised
+
+-- the reply is the communicator that was made of round k, with its context id and its size, and rank r is a member of it
+pub record IsMadeOf {P : Type 0} (meld : P → P → P) (limits : Limits) (h : History P) (c k r : ℕ) (reply : Reply P) : Type 0 where
+  pub decided : IsTrue (is_decided limits.ranks h c k)
+  pub comm : ℕ
+  pub above : 0 < comm
+  pub made : slice_get (spawns h) (comm - 1) ≡ Some (c, k)
+  pub context : ℕ
+  pub context_is : IsContext meld limits.ranks h comm context
+  pub member : IsTrue (has (members limits.ranks h comm) r)
+  pub reply_is : reply ≡ Reply.Shrunk comm context (length (members limits.ranks h comm))
+
+-- what a refusal of an agree or a shrink in round k means: rank r is declared; its place has another contribution; some agreed and
+-- others shrank; no context id was free at all; there is no room for a communicator. No other refusal ends either
+abbrev pub IsReason : {P : Type 0} → (P → P → P) → Limits → History P → ℕ → ℕ → ℕ → Refusal → Type 0
+IsReason meld limits h c k r Refusal.SelfFailed = IsTrue (has (failures h) r)
+IsReason {P} meld limits h c k r Refusal.Twice = (given : Contribution P) × (slot h c k r ≡ Some (Slot.Given given))
+IsReason meld limits h c k r Refusal.Mismatch = IsTrue (is_decided limits.ranks h c k) × ((decision meld limits.ranks h c k).body ≡ Body.Clash)
+IsReason meld limits h c k r Refusal.NoContext =
+    IsTrue (is_decided limits.ranks h c k) × ((mask : CtxMask) × ((decision meld limits.ranks h c k).body ≡ Body.Ctx mask) × (mask.bits ≡ 0))
+IsReason meld limits h c k r Refusal.NoRoom = length (spawns h) + 1 ≡ limits.comms
+IsReason meld limits h c k r Refusal.NoSuchComm = ⊥
+IsReason meld limits h c k r Refusal.Busy = ⊥
+IsReason meld limits h c k r Refusal.ShrinkOpen = ⊥
+IsReason meld limits h c k r Refusal.RoundsUsedUp = ⊥
+IsReason meld limits h c k r Refusal.Idle = ⊥
+IsReason meld limits h c k r Refusal.IsRevoked = ⊥
+IsReason meld limits h c k r Refusal.ProcFailed = ⊥
+IsReason meld limits h c k r Refusal.WorldKept = ⊥
+IsReason meld limits h c k r Refusal.NoSuchRank = ⊥
+IsReason meld limits h c k r Refusal.OutOfMemory = ⊥
+
+-- the reply is a refusal, and there is its reason
+pub record IsRefusal {P : Type 0} (meld : P → P → P) (limits : Limits) (h : History P) (c k r : ℕ) (reply : Reply P) : Type 0 where
+  pub refusal : Refusal
+  pub reply_is : reply ≡ Reply.Refused refusal
+  pub reason : IsReason meld limits h c k r refusal
+
+-- the replies to agrees, one for each round from the first: each is its round's decision, and rank r contributed its flag
+abbrev pub AreAgreed : {P : Type 0} → (P → P → P) → Limits → History P → ℕ → (ℕ → P) → ℕ → List (Reply P) → Type 0
+AreAgreed {P} meld limits h c flag r agreed =
+    (k : ℕ) (reply : Reply P) → slice_get agreed k ≡ Some reply → IsDecision meld limits h c k reply × Gave h c k r (flag k)
+
+-- What rank r was answered in so many agrees and then a shrink: the replies to the agrees, and last the shrink's; or a beginning of
+-- these, and last a refusal.
+pub record AreReplies {P : Type 0} (meld : P → P → P) (limits : Limits) (h : History P) (c rounds : ℕ) (flag : ℕ → P) (r : ℕ) (replies : List (Reply P))
+    : Type 0 where
+  pub agreed : List (Reply P)
+  pub last : Reply P
+  pub all : replies ≡ agreed ++ last ∷ []
+  pub few : length agreed ≤ rounds
+  pub each : AreAgreed meld limits h c flag r agreed
+  pub ends : IsRefusal meld limits h c (length agreed) r last ⊎ ((length agreed ≡ rounds) × IsMadeOf meld limits h c rounds r last)

@@ -1,0 +1,116 @@
+// Calls that start a request and poll until it is answered.
+ghost use Rattle.std.specs.Prelude.{IfOk};
+ghost use Rattle.ulfm_model.specs.declared.call.Call.TheVariants.{Agree, Shrink, Barrier};
+ghost use Rattle.ulfm_wait.specs.Waits.{MemberPollsOn, MemberWaits, TellsAgree, TellsShrink};
+
+use std::alloc::Allocator;
+use std::sync::Wait;
+use std::thread;
+use ulfm_comm::Polled;
+use ulfm_laws::meld::Packed;
+use ulfm_member::Member;
+use ulfm_model::refusal::Refusal;
+use ulfm_words::Words;
+
+/// Contributes a flag to the member's next agreement round of a communicator, and polls until there is a reply, which is never
+/// `Pending`: the flags combined, the size of the failed group and the error, as the round decided them, with this flag among
+/// those combined.
+///
+/// It may wait for as long as some member neither contributes nor is declared. Between two polls it yields to other threads.
+/// A refusal is that of the start, as `Member::iagree`, or of the poll that ended the wait, as `Member::poll`, and leaves what
+/// that leaves.
+///
+/// ```
+/// let reply = ulfm_wait::agree(rt, &mut member, 0, FlagAnd { bits: 6 })?;
+/// ```
+pub fn agree<W, P: Packed, A: Allocator + Copy, R: Wait>(
+    rt: &R,
+    member: &mut Member<W, P, A>,
+    comm: u16,
+    value: P,
+) -> Result<Polled<P>, Refusal>
+where
+    W: Words<P, A>,
+    ensures waits { MemberWaits P.meld W.alone comm (Agree member.old.own.number comm value) member.old result member.new }
+    ensures tells { IfOk result (TellsAgree P.meld member.old.name.limits member.new.pass.seen comm value member.old.own) }
+{
+    match member.iagree(comm, value) {
+        Ok(()) => poll_on(rt, member, comm),
+        Err(refusal) => Err(refusal),
+    }
+}
+
+/// Starts a shrink of a communicator, and polls until there is a reply, which is never `Pending`: the new communicator, its
+/// context id, 0 to 31, and its size. The member holds it from then on.
+///
+/// It may wait for as long as some member neither starts a shrink nor is declared, and yields between two polls. A refusal is
+/// that of the start, as `Member::ishrink`, or of the poll that ended the wait, as `Member::poll`, and leaves what that leaves:
+/// after `OutOfMemory` of a poll the request is open as before, and may be polled.
+///
+/// ```
+/// if let Polled::Shrunk { comm, .. } = ulfm_wait::shrink(rt, &mut member, 0)? {
+///     let reply = ulfm_wait::barrier(rt, &mut member, comm)?;
+/// }
+/// ```
+pub fn shrink<W, P: Packed, A: Allocator + Copy, R: Wait>(
+    rt: &R,
+    member: &mut Member<W, P, A>,
+    comm: u16,
+) -> Result<Polled<P>, Refusal>
+where
+    W: Words<P, A>,
+    ensures waits { MemberWaits P.meld W.alone comm (Shrink member.old.own.number comm) member.old result member.new }
+    ensures tells { IfOk result (TellsShrink P.meld member.old.name.limits member.new.pass.seen comm member.old.own) }
+{
+    match member.ishrink(comm) {
+        Ok(()) => poll_on(rt, member, comm),
+        Err(refusal) => Err(refusal),
+    }
+}
+
+/// Arrives in the member's next barrier round of a communicator, and polls until there is a reply, which is never `Pending`:
+/// `Done`, where all members have arrived.
+///
+/// It may wait for as long as some member neither arrives nor is declared and the communicator isn't revoked, and yields
+/// between two polls. A refusal is that of the start, as `Member::ibarrier`, or of the poll that ended the wait, as
+/// `Member::poll`, and leaves what that leaves.
+///
+/// ```
+/// assert_eq!(rt; ulfm_wait::barrier(rt, &mut member, 0), Ok(Polled::Done));
+/// ```
+pub fn barrier<W, P: Packed, A: Allocator + Copy, R: Wait>(
+    rt: &R,
+    member: &mut Member<W, P, A>,
+    comm: u16,
+) -> Result<Polled<P>, Refusal>
+where
+    W: Words<P, A>,
+    ensures { MemberWaits P.meld W.alone comm (Barrier member.old.own.number comm) member.old result member.new }
+{
+    match member.ibarrier(comm) {
+        Ok(()) => poll_on(rt, member, comm),
+        Err(refusal) => Err(refusal),
+    }
+}
+
+// Polls until there is an answer.
+fn poll_on<W, P: Packed, A: Allocator + Copy, R: Wait>(
+    rt: &R,
+    member: &mut Member<W, P, A>,
+    comm: u16,
+) -> Result<Polled<P>, Refusal>
+where
+    W: Words<P, A>,
+    ensures { MemberPollsOn P.meld W.alone comm member.old result member.new }
+{
+    for _ in rt.forever() {
+        match member.poll(comm) {
+            Ok(reply) => match reply {
+                Polled::Pending => thread::yield_now(),
+                answer => return Ok(answer),
+            },
+            Err(refusal) => return Err(refusal),
+        }
+    }
+    unreachable!()
+}

@@ -1,0 +1,131 @@
+// An agree as a future.
+ghost use Rattle.std.specs.Prelude.{◌≡◌, true, false, IfOk, IfSome, IsSomeAnd, Ok};
+ghost use Rattle.ulfm_model.specs.Records.{Fits};
+ghost use Rattle.ulfm_model.specs.declared.call.Call.TheVariants.{Agree};
+ghost use Rattle.ulfm_words.specs.Steps.{IsOf};
+ghost use Rattle.ulfm_comm.specs.declared.calls.polled.Polled.TheVariants.{Pending as StillPending};
+ghost use Rattle.ulfm_wait.specs.Waits.{FutureGives, StepIs, TellsAgree, Waits};
+
+use futures::Future;
+use futures::task::{Context, Poll};
+use std::alloc::Allocator;
+use ulfm_comm::{Polled, Rank, World};
+use ulfm_laws::meld::Packed;
+use ulfm_model::refusal::Refusal;
+use ulfm_words::Words;
+
+/// An agree that starts at its first poll, and polls at that and at each later one. Its output is the pass, the rank and the
+/// reply, which is never `Pending`; a refusal is that of the start or of the last poll.
+///
+/// While it is pending it wakes its own waker, so that an executor polls it again; so it does too when it is polled after its
+/// output. It makes no step before its first poll, and no return is promised.
+///
+/// ```
+/// let (pass, rank, reply) = block_on(rt, AgreeFuture::new(&world, pass, rank, 0, FlagAnd { bits: 6 }))?;
+/// ```
+#[derive(Drop)]
+pub struct AgreeFuture<'a, W: Words<P, A>, P: Packed, A: Allocator> {
+    world: &'a World<W, P, A>,
+    comm: u16,
+    value: P,
+    started: bool,
+    // Until the output was given.
+    held: Option<(W::Pass, Rank<P, A>)>,
+}
+
+impl<'a, W: Words<P, A>, P: Packed, A: Allocator + Copy> AgreeFuture<'a, W, P, A> {
+    /// The future of an agree on a flag, over a pass of this world's words which has seen what the rank has.
+    pub fn new(
+        world: &'a World<W, P, A>,
+        pass: W::Pass,
+        rank: Rank<P, A>,
+        comm: u16,
+        value: P,
+    ) -> AgreeFuture<'a, W, P, A>
+        requires of { IsOf P.meld (W.name world.now.words) (W.sight pass) }
+        requires fits { Fits P.meld (W.name world.now.words).limits (W.sight pass).seen rank }
+        ensures may { ⟦<AgreeFuture<'a, W, P, A> as Future>⟧.can_poll result }
+        ensures gives { (out : _) → ⟦<AgreeFuture<'a, W, P, A> as Future>⟧.gives result out
+            → Waits P.meld W.alone (W.name world.now.words) comm (Agree rank.number comm value) rank (W.sight pass) out.2 out.1 (W.sight out.0) }
+        ensures tells { (out : _) → ⟦<AgreeFuture<'a, W, P, A> as Future>⟧.gives result out
+            → IfOk out.2 (TellsAgree P.meld (W.name world.now.words).limits (W.sight out.0).seen comm value rank) }
+    {
+        AgreeFuture {
+            world,
+            comm,
+            value,
+            started: false,
+            held: Some((pass, rank)),
+        }
+    }
+}
+
+impl<'a, W: Words<P, A>, P: Packed, A: Allocator + Copy> Future for AgreeFuture<'a, W, P, A> {
+    type Output = (W::Pass, Rank<P, A>, Result<Polled<P>, Refusal>);
+
+    ghost can_poll = { λ f. IfSome f.held (λ s. IsOf P.meld (W.name f.world.now.words) (W.sight s.0)
+        × Fits P.meld (W.name f.world.now.words).limits (W.sight s.0).seen s.1) };
+
+    ghost gives = { λ f out. IsSomeAnd f.held (λ s. FutureGives P.meld W.alone (W.name f.world.now.words) f.comm f.value f.started s.1 (W.sight s.0)
+        out.2 out.1 (W.sight out.0)) };
+
+    fn poll(
+        &mut self,
+        cx: &mut Context<'_>,
+    ) -> Poll<(W::Pass, Rank<P, A>, Result<Polled<P>, Refusal>)> {
+        let Some((mut pass, mut rank)) = self.held.take() else {
+            return cx.yield_now();
+        };
+        let reply = step(
+            self.world,
+            &mut rank,
+            &mut pass,
+            self.comm,
+            self.value,
+            self.started,
+        );
+        if is_pending(&reply) {
+            self.started = true;
+            self.held = Some((pass, rank));
+            return cx.yield_now();
+        }
+        Poll::Ready((pass, rank, reply))
+    }
+}
+
+// Whether a poll's reply is that it is pending.
+fn is_pending<P>(reply: &Result<Polled<P>, Refusal>) -> bool
+    ensures yes { result ≡ true → reply.now ≡ Ok StillPending }
+    ensures no { result ≡ false → reply.now ≡ Ok StillPending → ⊥ }
+{
+    match reply {
+        Ok(reply) => match reply {
+            Polled::Pending => true,
+            _ => false,
+        },
+        Err(_) => false,
+    }
+}
+
+// Starts the agree, if it isn't started, and polls once.
+fn step<W: Words<P, A>, P: Packed, A: Allocator + Copy>(
+    world: &World<W, P, A>,
+    rank: &mut Rank<P, A>,
+    pass: &mut W::Pass,
+    comm: u16,
+    value: P,
+    started: bool,
+) -> Result<Polled<P>, Refusal>
+    requires of { IsOf P.meld (W.name world.now.words) (W.sight pass.old) }
+    requires fits { Fits P.meld (W.name world.now.words).limits (W.sight pass.old).seen rank.old }
+    ensures { StepIs P.meld W.alone (W.name world.now.words) comm value started rank.old (W.sight pass.old) result rank.new
+        (W.sight pass.new) }
+{
+    if started {
+        return rank.poll(world, pass, comm);
+    }
+    match rank.iagree(world, pass, comm, value) {
+        Ok(()) => rank.poll(world, pass, comm),
+        Err(refusal) => Err(refusal),
+    }
+}
