@@ -1,0 +1,10 @@
+//! A race of ranks, each in a thread of its own: all agree round after round, and then shrink.
+#![tactic(auto)]
+
+mod gather;
+mod plan;
+mod race;
+mod worker;
+
+pub use plan::{Gate, Outcome, Plan, RaceFault, Turn};
+pub use race::race;

@@ -1,0 +1,65 @@
+use std::alloc::AllocError;
+use thiserror::Error;
+use ulfm_book::BookTold;
+use ulfm_laws::flag_and::FlagAnd;
+use ulfm_model::reply::Reply;
+
+/// How many ranks race for how many rounds, and which of them is declared failed.
+///
+/// A race of three ranks and two rounds, in which rank 2 is declared: `Plan { ranks: 3, rounds: 2, fail: Some(2) }`.
+#[derive(Clone, Copy, Debug, PartialEq, Eq)]
+pub struct Plan {
+    /// How many ranks race, 1 to 64. Each has a thread of its own.
+    pub ranks: u16,
+    /// How often each agrees before it shrinks, 1 to 1000.
+    pub rounds: u16,
+    /// Which rank is declared from outside once all workers are started, if one is. It is below `ranks`.
+    pub fail: Option<u16>,
+}
+
+/// What a worker is about to do.
+#[derive(Clone, Copy, Debug, PartialEq, Eq)]
+pub enum Turn {
+    /// It starts an agree or a shrink.
+    Contribute,
+    /// It polls what it has started.
+    Poll,
+}
+
+/// Lets workers take their turns, each on its own thread. A gate that always says true lets all run as they like.
+pub trait Gate {
+    /// Whether the rank may take this turn. It may wait. Where it says false, the worker stops, its rank is declared, and the race
+    /// answers `Held`.
+    fn go(&self, rank: u16, turn: Turn) -> bool;
+
+    /// The rank was answered: it has a reply that isn't pending, or a refusal.
+    fn answered(&self, rank: u16);
+}
+
+/// Why a race has no outcome. Each worker has ended, and the rank of each that stopped was declared.
+#[derive(Clone, Copy, Debug, PartialEq, Eq, Error)]
+pub enum RaceFault {
+    /// Memory was refused, or a thread.
+    #[error("out of memory")]
+    Memory,
+    /// The gate said false.
+    #[error("held by the gate")]
+    Held,
+}
+
+impl From<AllocError> for RaceFault {
+    fn from(_: AllocError) -> RaceFault {
+        RaceFault::Memory
+    }
+}
+
+/// What the ranks were answered.
+#[derive(Drop)]
+pub struct Outcome {
+    /// For each rank, in order, its replies in order: the agreed ones, and then what its shrink made, or a refusal.
+    pub replies: Vec<Vec<Reply<FlagAnd>>>,
+    /// The members of communicator 1, in order, where some rank was answered that it was made; else none.
+    pub group: Vec<u16>,
+    /// All that any rank had seen, as a value of no bytes. It ties the replies to the history of a real book.
+    pub seen: BookTold<FlagAnd>,
+}

@@ -1,0 +1,175 @@
+ghost use Rattle.std.specs.Prelude.{◌≡◌, [], IfOk, map, vec_len};
+ghost use Rattle.std.specs.List.{AllByRecursion};
+ghost use mathlib.Core.List.{IsPrefix};
+ghost use Rattle.ulfm_laws.specs.Flags.{flag_meld};
+ghost use Rattle.ulfm_model.specs.Records.{Fits, new_record};
+ghost use Rattle.ulfm_words.specs.Steps.{IsOf};
+ghost use Rattle.ulfm_race.specs.Races.{AreNew, AreStarted, IsOutcome, IsPlan, IsReported, IsStarted, limits_of};
+
+use crate::gather::{Gathered, hear_all};
+use crate::plan::{Gate, Outcome, Plan, RaceFault};
+use crate::worker::{Own, Replies, Report, Shared, work};
+use std::alloc::Global;
+use std::sync::Wait;
+use std::thread::{self, Promise, PromisedHandle, Scope, Threads};
+use ulfm_book::{BookPass, BookWords};
+use ulfm_comm::World;
+use ulfm_laws::flag_and::FlagAnd;
+use ulfm_model::limits::Limits;
+
+/// What the worker of this rank promises of its report.
+#[derive(Clone, Copy)]
+pub(crate) struct Promised<'a> {
+    pub(crate) world: &'a Shared,
+    pub(crate) said: &'a Replies,
+    pub(crate) plan: Plan,
+    pub(crate) number: u16,
+}
+
+impl<'a> Promise<Report> for Promised<'a> {
+    ghost kept_by = { λ p r. IsReported p.world.now.words p.said.now p.plan p.number r.rank r.told r.tokens.items r.fault };
+}
+
+/// A worker's thread.
+pub(crate) type Handle<'a> = PromisedHandle<Report, Promised<'a>>;
+
+/// Races the ranks of a new world, whose words threads share: each agrees round after round, and then shrinks, on a thread of its own.
+/// In round k rank r contributes all ones but bit (r + k) mod 32.
+///
+/// The plan has 1 to 64 ranks and 1 to 1000 rounds, and the rank that it declares, if any, is below its ranks. Each turn is taken once the
+/// gate lets it, and the gate is told of each answer. A worker that stops, by a fault or a refusal, has its rank declared, and so has one
+/// whose thread can't be made; so the others don't wait for it.
+///
+/// `Ok` says for each rank what it was answered, all in one history. `Memory` where memory or a thread was refused, `Held` where the gate
+/// said false; of the faults of several ranks it is that of the first. Whatever it answers, all its threads have ended. It answers only if
+/// they end: each polls until it is answered, and yields in between.
+///
+/// With a gate that always says true, `race(rt, alloc, Plan { ranks: 4, rounds: 2, fail: None }, &gate)` answers, for each of the four
+/// ranks, fffffff0 and ffffffe1 agreed, nobody failed, and communicator 1 of four members.
+pub fn race<R: Threads + Wait + Sync, G: Gate + Sync>(
+    rt: &R,
+    alloc: Global,
+    plan: Plan,
+    gate: &G,
+) -> Result<Outcome, RaceFault>
+    requires { IsPlan plan }
+    ensures { IfOk result (λ o. IsOutcome plan o.seen.seen (map (λ v. v.items) o.replies.items) o.group.items) }
+{
+    let limits = Limits {
+        ranks: plan.ranks,
+        comms: 2,
+        rounds: plan.rounds + 1,
+    };
+    // The limits are in their ranges, so memory is all that may be lacking.
+    let Ok(words) = BookWords::open(alloc, limits) else {
+        return Err(RaceFault::Memory);
+    };
+    let Ok((world, ranks)) = World::open(alloc, words) else {
+        return Err(RaceFault::Memory);
+    };
+    let said = boxcar::Vec::new(alloc)?;
+    let world = &world;
+    let said = &said;
+    thread::scope(
+        thread::scope_env(),
+        rt,
+        |scope| race_in(scope, rt, gate, alloc, world, said, plan, ranks),
+    )
+}
+
+// The race, once there are a world and its ranks.
+fn race_in<'s, E, R: Threads + Wait + Sync, G: Gate + Sync>(
+    scope: &Scope<'s, E>,
+    rt: &'s R,
+    gate: &'s G,
+    alloc: Global,
+    world: &'s Shared,
+    said: &'s Replies,
+    plan: Plan,
+    ranks: Vec<Own>,
+) -> Result<Outcome, RaceFault>
+    requires plan { IsPlan plan }
+    requires limits { world.now.words.limits ≡ limits_of plan }
+    requires ranks { AreNew (limits_of plan) 0 ranks.items }
+    ensures { IfOk result (λ o. IsOutcome plan o.seen.seen (map (λ v. v.items) o.replies.items) o.group.items) }
+{
+    let mut gathered = Gathered::new(alloc, plan.ranks)?;
+    let mut handles = Vec::with_capacity(alloc, ranks.len())?;
+    let mut outside = world.pass(alloc)?;
+    gathered.fault = start_all(scope, rt, gate, alloc, world, said, plan, ranks, &mut outside, &mut handles);
+    if let Some(rank) = plan.fail {
+        let _ = world.fail(&mut outside, rank);
+    }
+    hear_all(rt, alloc, world, said, handles, outside, gathered)
+}
+
+// A worker is started for each rank, in order: the fault of one that wasn't, if any.
+fn start_all<'s, E, G: Gate + Sync, R: Wait + Sync>(
+    scope: &Scope<'s, E>,
+    rt: &'s R,
+    gate: &'s G,
+    alloc: Global,
+    world: &'s Shared,
+    said: &'s Replies,
+    plan: Plan,
+    ranks: Vec<Own>,
+    outside: &mut BookPass<FlagAnd>,
+    handles: &mut Vec<Handle<'s>>,
+) -> Option<RaceFault> {
+    let mut fault = None;
+    for rank in ranks {
+        match start(scope, rt, gate, alloc, world, said, plan, rank, outside) {
+            Ok(handle) => {
+                if handles.push(handle).is_err() {
+                    fault = Some(RaceFault::Memory);
+                }
+            }
+            Err(stopped) => fault = Some(stopped),
+        }
+    }
+    fault
+}
+
+// One worker is started, on a thread of its own. Where none can be made, its rank is declared.
+fn start<'s, E, G: Gate + Sync, R: Wait + Sync>(
+    scope: &Scope<'s, E>,
+    rt: &'s R,
+    gate: &'s G,
+    alloc: Global,
+    world: &'s Shared,
+    said: &'s Replies,
+    plan: Plan,
+    rank: Own,
+    outside: &mut BookPass<FlagAnd>,
+) -> Result<Handle<'s>, RaceFault>
+    requires plan { IsPlan plan }
+    requires limits { world.now.words.limits ≡ limits_of plan }
+    requires new { rank ≡ new_record (limits_of plan) rank.number }
+    requires fits { Fits flag_meld world.now.words.limits [] rank }
+    requires of { IsOf flag_meld world.now.words outside.old }
+    ensures of { IsOf flag_meld world.now.words outside.new }
+    ensures started { IfOk result (λ h. IsStarted world.now.words said.now plan rank.number h) }
+{
+    let number = rank.number();
+    let promised = Promised {
+        world,
+        said,
+        plan,
+        number,
+    };
+    let pass = match world.pass(alloc) {
+        Ok(pass) => pass,
+        Err(_) => {
+            let _ = world.fail(outside, number);
+            return Err(RaceFault::Memory);
+        }
+    };
+    let started = scope.spawn_with(promised, move || work(rt, gate, alloc, world, said, plan, rank, pass));
+    match started {
+        Ok(handle) => Ok(handle),
+        Err(_) => {
+            let _ = world.fail(outside, number);
+            Err(RaceFault::Memory)
+        }
+    }
+}

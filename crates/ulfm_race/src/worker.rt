@@ -1,0 +1,291 @@
+// The part of one rank.
+ghost use Rattle.std.specs.Prelude.{◌≡◌, ◌<◌, List, [], ◌∷◌, ◌++◌, false, map, IfOk, MatchBool};
+ghost use Rattle.std.specs.List.{AllByRecursion};
+ghost use Rattle.boxcar.specs.Table.{Shows};
+ghost use Rattle.ulfm_model.specs.Records.{Fits, new_record};
+ghost use Rattle.ulfm_laws.specs.Flags.{flag_meld};
+ghost use Rattle.ulfm_words.specs.Steps.{IsOf};
+ghost use Rattle.ulfm_model.specs.declared.reply.Reply.{Reply as ReplyOf};
+ghost use Rattle.ulfm_wait.specs.Waits.{IsPolledOn};
+ghost use Rattle.ulfm_race.specs.declared.plan.Plan.{Plan as PlanOf};
+ghost use Rattle.ulfm_race.specs.Races.{IsKept, IsPlan, IsReady, IsReported, SaysAgree, WasAnswered, flag_of, is_refused, limits_of};
+
+use crate::plan::{Gate, Plan, RaceFault, Turn};
+use std::alloc::Global;
+use std::sync::Wait;
+use std::thread;
+use ulfm_book::{BookPass, BookTold, BookWords};
+use ulfm_comm::{Polled, Rank, World};
+use ulfm_laws::flag_and::FlagAnd;
+use ulfm_model::refusal::Refusal;
+use ulfm_model::reply::Reply;
+
+pub(crate) type Shared = World<BookWords<FlagAnd>, FlagAnd, Global>;
+
+pub(crate) type Replies = boxcar::Vec<Reply<FlagAnd>>;
+
+pub(crate) type Token = boxcar::Pushed<Reply<FlagAnd>>;
+
+pub(crate) type Own = Rank<FlagAnd, Global>;
+
+/// What a worker gives back.
+#[derive(Drop)]
+pub(crate) struct Report {
+    pub rank: Own,
+    pub told: BookTold<FlagAnd>,
+    pub tokens: Vec<Token>,
+    pub fault: Option<RaceFault>,
+}
+
+/// Agrees round after round, and then shrinks. Where it stops before it is answered all, its rank is declared.
+pub(crate) fn work<G: Gate, R: Wait>(
+    rt: &R,
+    gate: &G,
+    alloc: Global,
+    world: &Shared,
+    said: &Replies,
+    plan: Plan,
+    rank: Own,
+    pass: BookPass<FlagAnd>,
+) -> Report
+    requires plan { IsPlan plan }
+    requires limits { world.now.words.limits ≡ limits_of plan }
+    requires of { IsOf flag_meld world.now.words pass }
+    requires new { rank ≡ new_record (limits_of plan) rank.number }
+    requires fits { Fits flag_meld world.now.words.limits pass.seen rank }
+    ensures { IsReported world.now.words said.now plan rank.number result.rank result.told result.tokens.items result.fault }
+{
+    let number = rank.number();
+    let mut rank = rank;
+    let mut pass = pass;
+    let mut tokens = Vec::new(alloc);
+    let ended = take_turns(rt, gate, world, said, plan, &mut rank, &mut pass, &mut tokens);
+    if ended != Ok(true) {
+        let _ = world.fail(&mut pass, number);
+    }
+    let told = world.told(&pass);
+    let fault = ended.err();
+    Report {
+        rank,
+        told,
+        tokens,
+        fault,
+    }
+}
+
+// All its turns: whether it was answered without a refusal.
+fn take_turns<G: Gate, R: Wait>(
+    rt: &R,
+    gate: &G,
+    world: &Shared,
+    said: &Replies,
+    plan: Plan,
+    rank: &mut Own,
+    pass: &mut BookPass<FlagAnd>,
+    tokens: &mut Vec<Token>,
+) -> Result<bool, RaceFault> {
+    match agree_all(rt, gate, world, said, plan, rank, pass, tokens) {
+        Ok(true) => {}
+        Ok(false) => return Ok(false),
+        Err(fault) => return Err(fault),
+    }
+    match shrink(rt, gate, world, rank, pass) {
+        Ok(reply) => match keep(rt, said, tokens, reply) {
+            Ok(()) => {
+                gate.answered(rank.number());
+                Ok(!is_refused(&reply))
+            }
+            Err(fault) => Err(fault),
+        },
+        Err(fault) => Err(fault),
+    }
+}
+
+// A reply is pushed, and its token kept.
+fn keep<R: Wait>(
+    rt: &R,
+    said: &Replies,
+    tokens: &mut Vec<Token>,
+    reply: Reply<FlagAnd>,
+) -> Result<(), RaceFault>
+    requires { AllByRecursion (Shows said.now) tokens.old.items }
+    ensures shown { AllByRecursion (Shows said.now) tokens.new.items }
+    ensures kept { IfOk result (λ _. map (λ t. t.value) tokens.new.items ≡ map (λ t. t.value) tokens.old.items ++ reply ∷ []) }
+{
+    match said.push_shown(rt, reply) {
+        Ok(token) => match tokens.push(token) {
+            Ok(()) => Ok(()),
+            Err(_) => Err(RaceFault::Memory),
+        },
+        Err(_) => Err(RaceFault::Memory),
+    }
+}
+
+// The bits of a rank's flag in a round.
+fn flag(rank: u16, round: u16) -> FlagAnd
+    ensures { result ≡ flag_of rank round }
+{
+    FlagAnd {
+        bits: u32::MAX - (1 << ((u32::from(rank) + u32::from(round)) % 32)),
+    }
+}
+
+// Polls until there is an answer, or the gate says no.
+fn polled<G: Gate, R: Wait>(
+    rt: &R,
+    gate: &G,
+    world: &Shared,
+    rank: &mut Own,
+    pass: &mut BookPass<FlagAnd>,
+) -> Result<Result<Polled<FlagAnd>, Refusal>, RaceFault>
+    requires of { IsOf flag_meld world.now.words pass.old }
+    requires fits { Fits flag_meld world.now.words.limits pass.old.seen rank.old }
+    ensures of { IsOf flag_meld world.now.words pass.new }
+    ensures fits { Fits flag_meld world.now.words.limits pass.new.seen rank.new }
+    ensures polls { IfOk result (λ answer. IsPolledOn flag_meld false world.now.words 0 rank.old pass.old answer rank.new pass.new) }
+{
+    for _ in rt.forever() {
+        if !gate.go(rank.number(), Turn::Poll) {
+            return Err(RaceFault::Held);
+        }
+        match rank.poll(world, pass, 0) {
+            Ok(reply) => match reply {
+                Polled::Pending => thread::yield_now(),
+                answer => return Ok(Ok(answer)),
+            },
+            Err(refusal) => return Ok(Err(refusal)),
+        }
+    }
+    unreachable!()
+}
+
+// An answer as a reply, unless it wants memory.
+fn reply_from(answer: Result<Polled<FlagAnd>, Refusal>) -> Result<Reply<FlagAnd>, RaceFault>
+    ensures { IfOk result (IsKept answer) }
+{
+    match answer {
+        Ok(reply) => Ok(match reply {
+            Polled::Pending => Reply::Pending,
+            Polled::Agreed {
+                value,
+                failed,
+                raised,
+            } => Reply::Agreed {
+                value,
+                failed,
+                raised,
+            },
+            Polled::Shrunk {
+                comm,
+                context,
+                size,
+            } => Reply::Shrunk {
+                comm,
+                context,
+                size,
+            },
+            Polled::Done => Reply::Done,
+        }),
+        Err(refusal) => match refusal {
+            Refusal::OutOfMemory => Err(RaceFault::Memory),
+            refusal => Ok(Reply::Refused(refusal)),
+        },
+    }
+}
+
+// The agree of one round.
+fn agree<G: Gate, R: Wait>(
+    rt: &R,
+    gate: &G,
+    world: &Shared,
+    rank: &mut Own,
+    pass: &mut BookPass<FlagAnd>,
+    round: u16,
+) -> Result<Reply<FlagAnd>, RaceFault>
+    requires of { IsOf flag_meld world.now.words pass.old }
+    requires fits { Fits flag_meld world.now.words.limits pass.old.seen rank.old }
+    ensures of { IsOf flag_meld world.now.words pass.new }
+    ensures fits { Fits flag_meld world.now.words.limits pass.new.seen rank.new }
+    ensures says { IfOk result (λ reply. (plan : PlanOf) → (said : List (ReplyOf _)) → world.now.words.limits ≡ limits_of plan → round < plan.rounds → IsReady plan rank.old.number round rank.old pass.old.seen said → SaysAgree plan rank.old.number round said rank.new pass.new.seen reply) }
+{
+    let number = rank.number();
+    if !gate.go(number, Turn::Contribute) {
+        return Err(RaceFault::Held);
+    }
+    match rank.iagree(world, pass, 0, flag(number, round)) {
+        Ok(()) => match polled(rt, gate, world, rank, pass) {
+            Ok(answer) => reply_from(answer),
+            Err(fault) => Err(fault),
+        },
+        Err(refusal) => Ok(Reply::Refused(refusal)),
+    }
+}
+
+// The shrink.
+fn shrink<G: Gate, R: Wait>(
+    rt: &R,
+    gate: &G,
+    world: &Shared,
+    rank: &mut Own,
+    pass: &mut BookPass<FlagAnd>,
+) -> Result<Reply<FlagAnd>, RaceFault> {
+    if !gate.go(rank.number(), Turn::Contribute) {
+        return Err(RaceFault::Held);
+    }
+    match rank.ishrink(world, pass, 0) {
+        Ok(()) => match polled(rt, gate, world, rank, pass) {
+            Ok(answer) => reply_from(answer),
+            Err(fault) => Err(fault),
+        },
+        Err(refusal) => Ok(Reply::Refused(refusal)),
+    }
+}
+
+// Whether a reply is a refusal.
+fn is_refused(reply: &Reply<FlagAnd>) -> bool
+    ensures { result ≡ is_refused reply.now }
+{
+    match reply {
+        Reply::Refused(_) => true,
+        _ => false,
+    }
+}
+
+// All agrees, round after round: whether the rank is ready for the shrink.
+pub(crate) fn agree_all<G: Gate, R: Wait>(
+    rt: &R,
+    gate: &G,
+    world: &Shared,
+    said: &Replies,
+    plan: Plan,
+    rank: &mut Own,
+    pass: &mut BookPass<FlagAnd>,
+    tokens: &mut Vec<Token>,
+) -> Result<bool, RaceFault>
+    requires limits { world.now.words.limits ≡ limits_of plan }
+    requires of { IsOf flag_meld world.now.words pass.old }
+    requires fits { Fits flag_meld world.now.words.limits pass.old.seen rank.old }
+    requires shown { AllByRecursion (Shows said.now) tokens.old.items }
+    requires ready { IsReady plan rank.old.number 0 rank.old pass.old.seen (map (λ t. t.value) tokens.old.items) }
+    ensures of { IsOf flag_meld world.now.words pass.new }
+    ensures fits { Fits flag_meld world.now.words.limits pass.new.seen rank.new }
+    ensures shown { AllByRecursion (Shows said.now) tokens.new.items }
+    ensures says { IfOk result (λ goes. MatchBool goes (IsReady plan rank.old.number plan.rounds rank.new pass.new.seen (map (λ t. t.value) tokens.new.items)) (WasAnswered plan pass.new.seen rank.old.number (map (λ t. t.value) tokens.new.items))) }
+{
+    for round in 0..plan.rounds {
+        match agree(rt, gate, world, rank, pass, round) {
+            Ok(reply) => {
+                match keep(rt, said, tokens, reply) {
+                    Ok(()) => {}
+                    Err(fault) => return Err(fault),
+                }
+                gate.answered(rank.number());
+                if is_refused(&reply) {
+                    return Ok(false);
+                }
+            }
+            Err(fault) => return Err(fault),
+        }
+    }
+    Ok(true)
+}

@@ -1,0 +1,5 @@
+//! Tests of races.
+#![tactic(auto)]
+
+#[cfg(test)]
+mod free;
