@@ -283,7 +283,9 @@ fn reasons_are_explained(rt: HostRuntime) -> Result<(), Fail> {
         &["ulfm"],
         &["ulfm", "walk"],
         &["ulfm", "race", "--ranks", "65", "--rounds", "1"],
-        &["ulfm", "race", "--ranks", "4", "--rounds", "1", "--fail", "4"],
+        &[
+            "ulfm", "race", "--ranks", "4", "--rounds", "1", "--fail", "4",
+        ],
     ];
     for words in rows {
         let mut input = SCRIPT.as_bytes();
@@ -412,7 +414,13 @@ fn count_lines(text: &[u8]) -> usize {
 }
 
 /// One read after another fails, and the output is that of the lines that were given whole before.
-fn fail_each_read<T: Threads + Wait + Sync>(rt: &T, alloc: Global, script: &[u8], output: &[u8], most: usize) -> Result<(), Fail> {
+fn fail_each_read<T: Threads + Wait + Sync>(
+    rt: &T,
+    alloc: Global,
+    script: &[u8],
+    output: &[u8],
+    most: usize,
+) -> Result<(), Fail> {
     for failing in 1..20_000u32 {
         let mut input = Pieces {
             text: script,
@@ -577,7 +585,12 @@ fn errors_fail(rt: HostRuntime) -> Result<(), Fail> {
 }
 
 /// What a run in a heap of some bytes writes, and its status; a refusal is told.
-fn run_in<T: Threads + Wait + Sync>(rt: &T, alloc: Global, size: usize, script: &[u8]) -> Result<(Vec<u8>, u8), Fail> {
+fn run_in<T: Threads + Wait + Sync>(
+    rt: &T,
+    alloc: Global,
+    size: usize,
+    script: &[u8],
+) -> Result<(Vec<u8>, u8), Fail> {
     let heap = LocalHeap::new(alloc, size)?;
     let mut input = script;
     let mut output = Vec::new(alloc);

@@ -126,10 +126,16 @@ fn bad_races(rt: HostRuntime) -> Result<(), Fail> {
         &["ulfm", "race", "--ranks", "4", "--rounds", "1001"],
         &["ulfm", "race", "--ranks", "-4", "--rounds", "2"],
         &["ulfm", "race", "--ranks", "four", "--rounds", "2"],
-        &["ulfm", "race", "--ranks", "4", "--ranks", "4", "--rounds", "2"],
+        &[
+            "ulfm", "race", "--ranks", "4", "--ranks", "4", "--rounds", "2",
+        ],
         &["ulfm", "race", "--ranks", "4", "--rounds", "2", "again"],
-        &["ulfm", "race", "--ranks", "4", "--rounds", "2", "--fail", "4"],
-        &["ulfm", "race", "--ranks", "64", "--rounds", "2", "--fail", "64"],
+        &[
+            "ulfm", "race", "--ranks", "4", "--rounds", "2", "--fail", "4",
+        ],
+        &[
+            "ulfm", "race", "--ranks", "64", "--rounds", "2", "--fail", "64",
+        ],
         &["ulfm", "race", "--ranks", "4", "--rounds", "2", "--fail"],
     ];
     for words in rows {
