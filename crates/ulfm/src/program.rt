@@ -33,6 +33,7 @@ impl Gate for AlwaysOpen {
 ///
 /// `alloc` serves the run of a script and the lines of a race, `global` the reading of the words and the race itself. A race starts
 /// threads, and returns once they have ended.
+#[tactic(auto, using(crate::proofs::OneAnswer::run_is_no_race, crate::proofs::Ends::raced_as, crate::proofs::Ends::ran_out))]
 pub fn answer<T: Threads + Wait + Sync, A: Allocator + Copy + Drop, R: Read, W: Write, E: Write>(
     rt: &T,
     alloc: A,
@@ -101,6 +102,7 @@ fn print_text<W: Write, E: Write>(text: &[u8], output: &mut W, errors: &mut E) -
 }
 
 /// Runs a race, and prints its lines.
+#[tactic(auto, using(crate::proofs::Plans::plan_is, crate::proofs::Ends::raced))]
 fn run_race<T: Threads + Wait + Sync, A: Allocator + Copy + Drop, W: Write, E: Write>(
     rt: &T,
     alloc: A,
