@@ -1,5 +1,5 @@
 -- What the words of a command line ask for, they ask for alone.
-use Rattle.std.proofs.Common.{◌≡◌, ◌∙◌, ℕ, List, [], ◌∷◌, Option, Some, ap, sym, subst, codes, slice_index, arith}
+use Rattle.std.proofs.Common.{◌≡◌, ◌∙◌, ℕ, List, [], ◌∷◌, ◌==◌, true, false, Option, Some, ap, sym, subst, codes, slice_index}
 use Rattle.std.specs.Prelude.{option_map}
 use Rattle.std.proofs.lemmas.Option.{same_Some, some_pair_parts}
 use Rattle.clap.specs.Words.{Row, Text, fault_of, subcommand_of}
@@ -17,8 +17,8 @@ pub run_is_no_race : (words : Words) (options : RaceOptions) → AsksRun words �
 run_is_no_race words options run race =
     let same : Some (codes "race") ≡ Some (codes "run") = sym (ap name_of race.1.1) ∙ run.1 in
     let texts : codes "race" ≡ codes "run" = same_Some {A = List ℕ} _ _ same in
-    let bad : 97 ≡ 117 = ap (λ (t : List ℕ). slice_index t 1) texts in
-    absurd (omega arith)
+    let bad : true ≡ false = ap (λ (t : List ℕ). slice_index t 1 == 97) texts in
+    cc
 
 -- they ask for one race
 pub same_asked : (words : Words) (o p : RaceOptions) → AsksRace words o → AsksRace words p → o ≡ p

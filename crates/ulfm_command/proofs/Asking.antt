@@ -1,5 +1,5 @@
 -- What the command lines of the program ask for.
-use Rattle.std.proofs.Common.{◌≡◌, refl, codes, true, List, [], ◌∷◌, ℕ, Some, arith}
+use Rattle.std.proofs.Common.{◌≡◌, refl, codes, true, List, [], ◌∷◌, ℕ}
 use Rattle.clap.specs.Words.{fault_of, is_simple_and_free, is_simple}
 use Rattle.clap.specs.declared.error.kind.ErrorKind.TheVariants.{MissingRequiredArgument, MissingSubcommand, UnknownArgument, InvalidSubcommand, ValueValidation}
 use Rattle.clap.proofs.OnLiterals.{clap_on_literals}
