@@ -27,9 +27,11 @@ def differs(what, where, found, wanted):
     global differences
     if found != wanted:
         differences += 1
-        if isinstance(found, (set, dict)) and isinstance(wanted, (set, dict)):
-            extra = sorted(map(str, set(found) - set(wanted)))
-            missing = sorted(map(str, set(wanted) - set(found)))
+        if isinstance(found, dict):
+            found, wanted = set(found.items()), set(wanted.items())
+        if isinstance(found, set):
+            extra = sorted(map(str, found - wanted))
+            missing = sorted(map(str, wanted - found))
             print(f"{what}: {where} has {', '.join(extra) or 'nothing'} too much and lacks {', '.join(missing) or 'nothing'}")
         else:
             print(f"{what}: {where} has {found}, wanted is {wanted}")
@@ -75,13 +77,11 @@ def of_bash(commands):
 
 def of_zsh(commands):
     """What the completion for zsh names in the function of each command."""
-    parts = re.split(r"^_ulfm(?:_(\w+))?\(\) \{$", read("docs/completions/_ulfm"), flags=re.M)
     offered = {}
-    for name, body in zip(parts[1::2], parts[2::2]):
-        body = body.split("\n}\n")[0]
-        listed = set(re.findall(r"^ +'(\w+):", body, re.M)) if name is None else set(re.findall(r"(?:_values 'command'|\G) (.*)", body))
-        values = {word for line in listed for word in line.split()} if name else listed
-        offered[name or TOP_LEVEL] = values | options_of(re.sub(r"\[[^\]]*\]", "", body).replace(" -C ", " ").replace(" -t ", " "))
+    for name, body in re.findall(r"^_ulfm(?:_(\w+))?\(\) \{\n(.*?)^\}$", read("docs/completions/_ulfm"), flags=re.M | re.S):
+        listed = re.findall(r"^ +'([a-z]+):", body, re.M) + " ".join(re.findall(r"_values 'command' (.*)", body)).split()
+        options = re.findall(r"^ +'(?:\([^)]*\)'\{([-\w,]+)\}|(--\w+)\[)", body, re.M)
+        offered[name or TOP_LEVEL] = set(listed) | {option for pair in options for option in (pair[0] or pair[1]).split(",")}
     return offered
 
 

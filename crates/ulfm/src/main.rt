@@ -1,9 +1,10 @@
-//! Runs call scripts of the agreement object on standard input and output.
+//! Runs call scripts of the agreement object on standard input and output, and races of threads.
 #![tactic(auto)]
 
 mod program;
 
 use program::answer;
+use std::io::IsTerminal;
 use std::process::ExitCode;
 use std::{env, io};
 
@@ -17,6 +18,16 @@ fn main(rt: HostRuntime) -> io::Result<ExitCode> {
     let mut input = rt.stdin();
     let mut output = rt.stdout();
     let mut errors = rt.stderr();
-    let status = answer(alloc, alloc, &words, &mut input, &mut output, &mut errors);
+    let explains = errors.is_terminal();
+    let status = answer(
+        &rt,
+        alloc,
+        alloc,
+        &words,
+        &mut input,
+        &mut output,
+        &mut errors,
+        explains,
+    );
     Ok(ExitCode::from(status))
 }

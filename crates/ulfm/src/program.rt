@@ -1,55 +1,57 @@
-//! What a command line asks for, and the exit status that it ends with.
-ghost use Rattle.std.specs.Prelude.{◌≡◌, ◌≤◌, ◌⊎◌, map};
+//! Does what a command line asks for, and gives the exit status that it ends with.
+ghost use Rattle.std.specs.Prelude.{◌≡◌, ◌≤◌, ◌⊎◌, map, true};
 ghost use Rattle.std.specs.Io.KnownBytes.{Appends, Keeps};
-ghost use Rattle.clap.specs.Words.{FailsBy, fault_of};
-ghost use Rattle.ulfm.specs.CommandLines.{AsksHelp, AsksRun, IsAskedBy, IsBad, ulfm};
-ghost use Rattle.ulfm.specs.Statuses.{RanWith};
+ghost use Rattle.ulfm_command.specs.CommandLines.{AsksHelp, AsksRace, AsksRun, AsksVersion, IsBad, is_in_range};
+ghost use Rattle.ulfm_command.specs.declared.asked.RaceOptions.{RaceOptions as OptionsOf};
+ghost use Rattle.ulfm.specs.Statuses.{RacedWith, RanWith, plan_of, status_of};
 
-use clap::error::ErrorKind;
-use clap::{ArgMatches, Command, Error};
 use std::alloc::{Allocator, Global};
 use std::io::{Read, Write};
+use std::sync::Wait;
+use std::thread::Threads;
+use ulfm_command::{Asked, RaceOptions, Reason, read_words};
+use ulfm_race::{Gate, Plan, RaceFault, Turn, race};
+use ulfm_race_text::race_lines;
 use ulfm_run::run_calls;
 use ulfm_script::RunFault;
 
-/// The example that help shows.
-const EXAMPLE: &str =
-    "Example: in a world of one rank, the rank contributes a flag and asks for the reply.
+/// The gate of the program, which lets every rank take every turn.
+struct AlwaysOpen;
 
-    printf 'ulfm 1 1 1 2\\nagree 0 0 000000ff\\npoll 0 0\\n' | ulfm run
+impl Gate for AlwaysOpen {
+    fn go(&self, _rank: u16, _turn: Turn) -> bool {
+        true
+    }
 
-prints
-
-    started
-    agreed 000000ff failed 0 clean";
-
-/// What a command line asks for.
-enum Asked {
-    Run,
-    Help(String),
-    Bad,
-    Memory,
+    fn answered(&self, _rank: u16) {}
 }
 
 /// Does what the words of a command line ask for, the program's own name first, and gives the exit status: 0 at success and
-/// after help, 1 for a line fault, 2 for a bad command line, 3 where memory, reading or writing failed. What went wrong is
-/// told on `errors`, whose own faults are passed over.
+/// after help or the version, 1 for a line fault, 2 for a bad command line, 3 where memory, reading or writing failed, or a race was
+/// held. What went wrong is told on `errors`, whose own faults are passed over, in one line. `explains` says that `errors` is a
+/// terminal: there the reason why a command line is bad stands above that line.
 ///
-/// `alloc` serves the run of a script, `global` the reading of the words.
-pub fn answer<A: Allocator + Copy + Drop, R: Read, W: Write, E: Write>(
+/// `alloc` serves the run of a script and the lines of a race, `global` the reading of the words and the race itself. A race starts
+/// threads, and returns once they have ended.
+#[tactic(auto, using(crate::proofs::OneAnswer::run_is_no_race, crate::proofs::Ends::raced_as, crate::proofs::Ends::ran_out))]
+pub fn answer<T: Threads + Wait + Sync, A: Allocator + Copy + Drop, R: Read, W: Write, E: Write>(
+    rt: &T,
     alloc: A,
     global: Global,
     words: &[&str],
     input: &mut R,
     output: &mut W,
     errors: &mut E,
+    explains: bool,
 ) -> u8
     ensures status { result ≤ 3 }
     ensures run { AsksRun (map (λ word. word.now) words.now) → RanWith (R.remaining input.old) (R.remaining input.new)
         (W.contents output.old) (W.contents output.new) result }
+    ensures race { (options : OptionsOf) → AsksRace (map (λ word. word.now) words.now) options → RacedWith (plan_of options)
+        (W.contents output.old) (W.contents output.new) result }
     // Nothing else reads the input.
     ensures other { (AsksRun (map (λ word. word.now) words.now) → ⊥) → Keeps (R.remaining input.old) (R.remaining input.new) }
-    ensures help { AsksHelp (map (λ word. word.now) words.now) → (result ≡ 0) ⊎ (result ≡ 3) }
+    ensures help { AsksHelp (map (λ word. word.now) words.now) ⊎ AsksVersion (map (λ word. word.now) words.now) → (result ≡ 0) ⊎ (result ≡ 3) }
     // 3 where memory was refused.
     ensures bad { IsBad (map (λ word. word.now) words.now) → ((result ≡ 2) ⊎ (result ≡ 3))
         × Keeps (W.contents output.old) (W.contents output.new) }
@@ -57,66 +59,75 @@ pub fn answer<A: Allocator + Copy + Drop, R: Read, W: Write, E: Write>(
     match read_words(global, words) {
         Asked::Run => match run_calls(alloc, input, output) {
             Ok(()) => 0,
-            Err(fault) => {
-                let _ = writeln!(errors, "ulfm: {fault}");
-                match fault {
-                    RunFault::Line { .. } => 1,
-                    RunFault::Memory | RunFault::Read | RunFault::Write => 3,
-                }
-            }
+            Err(fault) => tell_fault(fault, errors),
         },
-        Asked::Help(text) => print_help(&text, output, errors),
-        Asked::Bad => {
-            let _ = writeln!(errors, "ulfm: bad command line");
-            2
-        }
-        Asked::Memory => {
-            let _ = writeln!(errors, "ulfm: {}", RunFault::Memory);
-            3
-        }
+        Asked::Race(options) => run_race(rt, alloc, global, options, output, errors),
+        Asked::Shown(text) => print_text(text.as_bytes(), output, errors),
+        Asked::Bad(reason) => tell_bad(&reason, errors, explains),
+        Asked::Memory => tell_fault(RunFault::Memory, errors),
     }
 }
 
-/// Prints the text of help. At 0 all of it was written.
-fn print_help<W: Write, E: Write>(text: &str, output: &mut W, errors: &mut E) -> u8
+/// Tells why a run stopped, and gives its status.
+fn tell_fault<E: Write>(fault: RunFault, errors: &mut E) -> u8
+    ensures { result ≡ status_of (Err fault) }
+{
+    let _ = writeln!(errors, "ulfm: {fault}");
+    match fault {
+        RunFault::Line { .. } => 1,
+        RunFault::Memory | RunFault::Read | RunFault::Write => 3,
+    }
+}
+
+/// Tells that a command line is bad, and before that why, where that is wanted.
+fn tell_bad<E: Write>(reason: &Reason, errors: &mut E, explains: bool) -> u8
+    ensures { result ≡ 2 }
+{
+    if explains {
+        let _ = write!(errors, "{reason}");
+    }
+    let _ = writeln!(errors, "ulfm: bad command line");
+    2
+}
+
+/// Prints a text. At 0 all of it was written.
+fn print_text<W: Write, E: Write>(text: &[u8], output: &mut W, errors: &mut E) -> u8
     ensures status { (result ≡ 0) ⊎ (result ≡ 3) }
     ensures shown { result ≡ 0 → Appends (W.contents output.old) (W.contents output.new) text.now }
 {
-    if output.write_all(text.as_bytes()).is_err() || output.flush().is_err() {
-        let _ = writeln!(errors, "ulfm: {}", RunFault::Write);
-        return 3;
+    if output.write_all(text).is_err() || output.flush().is_err() {
+        return tell_fault(RunFault::Write, errors);
     }
     0
 }
 
-/// What the words ask for.
-fn read_words<'a>(global: Global, words: &'a [&'a str]) -> Asked
-    ensures { IsAskedBy (map (λ word. word.now) words.now) result }
+/// Runs a race, and prints its lines.
+#[tactic(auto, using(crate::proofs::Plans::plan_is, crate::proofs::Ends::raced))]
+fn run_race<T: Threads + Wait + Sync, A: Allocator + Copy + Drop, W: Write, E: Write>(
+    rt: &T,
+    alloc: A,
+    global: Global,
+    options: RaceOptions,
+    output: &mut W,
+    errors: &mut E,
+) -> u8
+    requires { is_in_range options ≡ true }
+    ensures { RacedWith (plan_of options) (W.contents output.old) (W.contents output.new) result }
 {
-    match parse(global, words) {
-        Ok(_) => Asked::Run,
-        Err(error) => match error.kind() {
-            ErrorKind::DisplayHelp => match format!(in global; "{error}") {
-                Ok(text) => Asked::Help(text),
-                Err(_) => Asked::Memory,
-            },
-            ErrorKind::OutOfMemory => Asked::Memory,
-            _ => Asked::Bad,
+    let plan = Plan {
+        ranks: options.ranks,
+        rounds: options.rounds,
+        fail: options.fail,
+    };
+    match race(rt, global, plan, &AlwaysOpen) {
+        Ok(outcome) => match race_lines(alloc, plan.rounds, &outcome.replies, &outcome.group) {
+            Ok(text) => print_text(&text, output, errors),
+            Err(_) => tell_fault(RunFault::Memory, errors),
         },
+        Err(RaceFault::Memory) => tell_fault(RunFault::Memory, errors),
+        Err(RaceFault::Held) => {
+            let _ = writeln!(errors, "ulfm: held");
+            3
+        }
     }
-}
-
-/// Reads the words as those of a run, the one thing that can be asked for beside help.
-fn parse<'a>(global: Global, words: &'a [&'a str]) -> Result<ArgMatches<'a>, Error>
-    ensures { FailsBy (fault_of ulfm (map (λ word. word.now) words.now)) result }
-{
-    let run = Command::new(global, "run")
-        .about("Runs the call script on standard input, and prints a line for each call")
-        .after_help(EXAMPLE);
-    let command = Command::new(global, "ulfm")
-        .about("A fault tolerant agreement core, driven by scripts")
-        .after_help(EXAMPLE)
-        .subcommand_required(true)
-        .subcommand(run)?;
-    command.try_get_matches_from(words)
 }

@@ -4,7 +4,11 @@ use linked_list_allocator::LocalHeap;
 use std::alloc::Global;
 use std::io;
 use std::io::{ErrorKind, Read, Write};
+use std::sync::Wait;
 use std::test::Fail;
+use std::thread::Threads;
+
+mod races;
 
 /// A script, and what the program gives.
 struct Row {
@@ -186,12 +190,14 @@ fn worked_rows(rt: HostRuntime) -> Result<(), Fail> {
         let mut output = Vec::new(rt.alloc());
         let mut errors = Vec::new(rt.alloc());
         let status = answer(
+            &rt,
             rt.alloc(),
             rt.alloc(),
             &["ulfm", "run"],
             &mut input,
             &mut output,
             &mut errors,
+            false,
         );
         assert_eq!(rt; output.as_slice(), row.output.as_bytes(), "{}", row.name);
         assert_eq!(rt; errors.as_slice(), row.errors.as_bytes(), "{}", row.name);
@@ -203,10 +209,13 @@ fn worked_rows(rt: HostRuntime) -> Result<(), Fail> {
 /// Nothing is read where only help is asked for or the command line is bad.
 #[test]
 fn command_lines(rt: HostRuntime) -> Result<(), Fail> {
-    let rows: [(&[&str], u8); 8] = [
+    let rows: [(&[&str], u8); 11] = [
         (&["ulfm", "--help"], 0),
         (&["ulfm", "run", "--help"], 0),
         (&["ulfm", "help", "run"], 0),
+        (&["ulfm", "race", "--help"], 0),
+        (&["ulfm", "help", "race"], 0),
+        (&["ulfm", "run", "--version"], 2),
         (&["ulfm"], 2),
         (&["ulfm", "check"], 2),
         (&["ulfm", "run", "--steps"], 2),
@@ -218,12 +227,14 @@ fn command_lines(rt: HostRuntime) -> Result<(), Fail> {
         let mut output = Vec::new(rt.alloc());
         let mut errors = Vec::new(rt.alloc());
         let status = answer(
+            &rt,
             rt.alloc(),
             rt.alloc(),
             words,
             &mut input,
             &mut output,
             &mut errors,
+            false,
         );
         assert_eq!(rt; status, wanted);
         assert_eq!(rt; input.len(), SCRIPT.len());
@@ -235,10 +246,65 @@ fn command_lines(rt: HostRuntime) -> Result<(), Fail> {
         assert_eq!(rt; errors.as_slice(), told);
         assert_eq!(rt; output.is_empty(), wanted == 2);
         let text = str::from_utf8(&output).unwrap_or("");
-        assert_eq!(rt;
-            text.contains("agreed 000000ff failed 0 clean"),
-            wanted == 0
+        assert_eq!(rt; text.contains("ulfm: bad command line"), wanted == 0);
+        assert_eq!(rt; text.contains("Usage: ulfm"), wanted == 0);
+    }
+    Ok(())
+}
+
+/// The version is one line.
+#[test]
+fn version_is_told(rt: HostRuntime) -> Result<(), Fail> {
+    for word in ["--version", "-V"] {
+        let mut input = SCRIPT.as_bytes();
+        let mut output = Vec::new(rt.alloc());
+        let mut errors = Vec::new(rt.alloc());
+        let status = answer(
+            &rt,
+            rt.alloc(),
+            rt.alloc(),
+            &["ulfm", word],
+            &mut input,
+            &mut output,
+            &mut errors,
+            false,
         );
+        assert_eq!(rt; output.as_slice(), b"ulfm 0.1.0\n".as_slice());
+        assert_eq!(rt; errors.as_slice(), b"".as_slice());
+        assert_eq!(rt; status, 0);
+    }
+    Ok(())
+}
+
+/// On a terminal the reason why a command line is bad stands above the one line.
+#[test]
+fn reasons_are_explained(rt: HostRuntime) -> Result<(), Fail> {
+    let rows: [&[&str]; 4] = [
+        &["ulfm"],
+        &["ulfm", "walk"],
+        &["ulfm", "race", "--ranks", "65", "--rounds", "1"],
+        &[
+            "ulfm", "race", "--ranks", "4", "--rounds", "1", "--fail", "4",
+        ],
+    ];
+    for words in rows {
+        let mut input = SCRIPT.as_bytes();
+        let mut output = Vec::new(rt.alloc());
+        let mut errors = Vec::new(rt.alloc());
+        let status = answer(
+            &rt,
+            rt.alloc(),
+            rt.alloc(),
+            words,
+            &mut input,
+            &mut output,
+            &mut errors,
+            true,
+        );
+        assert!(rt; errors.starts_with(b"error: "));
+        assert!(rt; errors.ends_with(b"\nulfm: bad command line\n"));
+        assert!(rt; output.is_empty());
+        assert_eq!(rt; status, 2);
     }
     Ok(())
 }
@@ -348,7 +414,13 @@ fn count_lines(text: &[u8]) -> usize {
 }
 
 /// One read after another fails, and the output is that of the lines that were given whole before.
-fn fail_each_read(alloc: Global, script: &[u8], output: &[u8], most: usize) -> Result<(), Fail> {
+fn fail_each_read<T: Threads + Wait + Sync>(
+    rt: &T,
+    alloc: Global,
+    script: &[u8],
+    output: &[u8],
+    most: usize,
+) -> Result<(), Fail> {
     for failing in 1..20_000u32 {
         let mut input = Pieces {
             text: script,
@@ -359,12 +431,14 @@ fn fail_each_read(alloc: Global, script: &[u8], output: &[u8], most: usize) -> R
         let mut written = Vec::new(alloc);
         let mut errors = Vec::new(alloc);
         let status = answer(
+            rt,
             alloc,
             alloc,
             &["ulfm", "run"],
             &mut input,
             &mut written,
             &mut errors,
+            false,
         );
         if input.calls < failing {
             require(written.as_slice() == output)?;
@@ -385,14 +459,15 @@ fn each_read_fails(rt: HostRuntime) -> Result<(), Fail> {
     let alloc = rt.alloc();
     let (script, output) = long_texts(alloc)?;
     for most in [1, 7, 10_000] {
-        fail_each_read(alloc, SCRIPT.as_bytes(), OUTPUT.as_bytes(), most)?;
-        fail_each_read(alloc, &script, &output, most)?;
+        fail_each_read(&rt, alloc, SCRIPT.as_bytes(), OUTPUT.as_bytes(), most)?;
+        fail_each_read(&rt, alloc, &script, &output, most)?;
     }
     Ok(())
 }
 
 /// One write after another fails, and what was taken before is a beginning of the output.
-fn fail_each_write(
+fn fail_each_write<T: Threads + Wait + Sync>(
+    rt: &T,
     alloc: Global,
     script: &[u8],
     output: &[u8],
@@ -410,12 +485,14 @@ fn fail_each_write(
         };
         let mut errors = Vec::new(alloc);
         let status = answer(
+            rt,
             alloc,
             alloc,
             &["ulfm", "run"],
             &mut input,
             &mut taken,
             &mut errors,
+            false,
         );
         if taken.calls < failing {
             require(taken.bytes.as_slice() == output)?;
@@ -435,13 +512,13 @@ fn each_write_fails(rt: HostRuntime) -> Result<(), Fail> {
     let (script, output) = long_texts(alloc)?;
     for how in [Failing::ByError, Failing::ByNothing] {
         for most in [1, 7, 10_000] {
-            fail_each_write(alloc, SCRIPT.as_bytes(), OUTPUT.as_bytes(), most, how)?;
+            fail_each_write(&rt, alloc, SCRIPT.as_bytes(), OUTPUT.as_bytes(), most, how)?;
         }
         for most in [7, 10_000] {
-            fail_each_write(alloc, &script, &output, most, how)?;
+            fail_each_write(&rt, alloc, &script, &output, most, how)?;
         }
     }
-    fail_each_write(alloc, &script, &output, 1, Failing::ByError)
+    fail_each_write(&rt, alloc, &script, &output, 1, Failing::ByError)
 }
 
 /// A flush that fails is a failing write, at the end of a run, at a line fault, and after help.
@@ -463,12 +540,14 @@ fn flush_fails(rt: HostRuntime) -> Result<(), Fail> {
         };
         let mut errors = Vec::new(rt.alloc());
         let status = answer(
+            &rt,
             rt.alloc(),
             rt.alloc(),
             &["ulfm", word],
             &mut input,
             &mut output,
             &mut errors,
+            false,
         );
         assert_eq!(rt; errors.as_slice(), b"ulfm: write failed\n".as_slice());
         assert_eq!(rt; status, 3);
@@ -491,12 +570,14 @@ fn errors_fail(rt: HostRuntime) -> Result<(), Fail> {
             how: Failing::ByError,
         };
         let status = answer(
+            &rt,
             rt.alloc(),
             rt.alloc(),
             &["ulfm", word],
             &mut input,
             &mut output,
             &mut errors,
+            false,
         );
         assert_eq!(rt; status, wanted);
     }
@@ -504,18 +585,25 @@ fn errors_fail(rt: HostRuntime) -> Result<(), Fail> {
 }
 
 /// What a run in a heap of some bytes writes, and its status; a refusal is told.
-fn run_in(alloc: Global, size: usize, script: &[u8]) -> Result<(Vec<u8>, u8), Fail> {
+fn run_in<T: Threads + Wait + Sync>(
+    rt: &T,
+    alloc: Global,
+    size: usize,
+    script: &[u8],
+) -> Result<(Vec<u8>, u8), Fail> {
     let heap = LocalHeap::new(alloc, size)?;
     let mut input = script;
     let mut output = Vec::new(alloc);
     let mut errors = Vec::new(alloc);
     let status = answer(
+        rt,
         &heap,
         alloc,
         &["ulfm", "run"],
         &mut input,
         &mut output,
         &mut errors,
+        false,
     );
     let told: &[u8] = if status == 3 {
         b"ulfm: out of memory\n"
@@ -533,7 +621,7 @@ fn each_growth_is_refused(rt: HostRuntime) -> Result<(), Fail> {
     let mut furthest = 0;
     for step in 1..4000usize {
         let size = step.wrapping_mul(16);
-        let (output, status) = run_in(rt.alloc(), size, SCRIPT.as_bytes())?;
+        let (output, status) = run_in(&rt, rt.alloc(), size, SCRIPT.as_bytes())?;
         if status == 0 {
             assert_eq!(rt; output.as_slice(), OUTPUT.as_bytes());
             assert!(rt; furthest > 5);
@@ -544,12 +632,12 @@ fn each_growth_is_refused(rt: HostRuntime) -> Result<(), Fail> {
         assert!(rt; output.as_slice() == first_lines(OUTPUT.as_bytes(), calls));
         furthest = furthest.max(calls);
         let with = first_lines(SCRIPT.as_bytes(), calls.wrapping_add(2));
-        let (same, status) = run_in(rt.alloc(), size, with)?;
+        let (same, status) = run_in(&rt, rt.alloc(), size, with)?;
         assert_eq!(rt; status, 3);
         assert_eq!(rt; same.as_slice(), output.as_slice());
         if calls > 0 {
             let before = first_lines(SCRIPT.as_bytes(), calls.wrapping_add(1));
-            let (same, status) = run_in(rt.alloc(), size, before)?;
+            let (same, status) = run_in(&rt, rt.alloc(), size, before)?;
             assert_eq!(rt; status, 0);
             assert_eq!(rt; same.as_slice(), output.as_slice());
         }
@@ -583,12 +671,14 @@ fn each_kind_is_told(rt: HostRuntime) -> Result<(), Fail> {
         let mut output = Vec::new(rt.alloc());
         let mut errors = Vec::new(rt.alloc());
         let status = answer(
+            &rt,
             rt.alloc(),
             rt.alloc(),
             &["ulfm", "run"],
             &mut input,
             &mut output,
             &mut errors,
+            false,
         );
         assert_eq!(rt; errors.as_slice(), wanted);
         assert_eq!(rt; status, 1);

@@ -1,1 +1,3 @@
-pub mod Commands
+pub mod Asking
+pub mod Entered
+pub mod Numbers

@@ -1,35 +1,147 @@
 -- The command lines of the program, and what each of them asks for.
-use Rattle.std.specs.Prelude.{◌≡◌, ℕ, List, [], ◌∷◌, ⊤, codes, true}
-use Rattle.clap.specs.Words.{App, IsAmong, fault_of, new_app, with_subcommand}
-use Rattle.clap.specs.declared.error.kind.ErrorKind.TheVariants.{DisplayHelp}
-use Rattle.ulfm.specs.declared.program.Asked.{Asked}
-use Rattle.ulfm.specs.declared.program.Asked.TheVariants.{Run, Help, Bad, Memory}
+use Rattle.std.specs.Prelude.{◌≡◌, ◌⊎◌, ◌<◌, ◌^◌, ◌&&◌, ℕ, Bool, List, [], ◌∷◌, ⊤, codes, true, false, pos, nat_le, nat_lt, Option, Some, None, option_map, Result, Ok, Err}
+use Rattle.std.specs.Str.Parse.{IsNumeral, digits_value, without_leading_plus}
+use Rattle.clap.specs.Words.{App, IsAmong, Row, Rule, Text, app_of, fault_of, new_app, new_rule, one_of, subcommand_of, with_rule, with_subcommand}
+use Rattle.clap.specs.declared.builder.command.Command.{Command}
+use Rattle.clap.specs.declared.builder.command.Command.TheViews.{out-Command}
+use Rattle.clap.specs.declared.builder.value_parser.ValueParser.{ValueParser}
+use Rattle.clap.specs.declared.builder.value_parser.ValueParser.TheVariants as vp
+use Rattle.clap.specs.declared.error.kind.ErrorKind.TheVariants.{DisplayHelp, DisplayVersion}
+use Rattle.ulfm_command.specs.declared.asked.Asked.{Asked}
+use Rattle.ulfm_command.specs.declared.asked.Asked.TheVariants.{Run, Race, Shown, Bad, Memory}
+use Rattle.ulfm_command.specs.declared.asked.RaceOptions.{RaceOptions}
 
 -- the words of a command line, the program's own name first
 abbrev pub Words : Type 0
-Words = List (List ℕ)
+Words = List Text
 
--- the program as a command that has one subcommand, which must be given
+-- an option of this name, whose value passes the parser
+abbrev pub number_rule : Text → ValueParser → Rule
+number_rule name parser = record (new_rule name) { long = Some name; value_names = 1; parser = Some parser }
+
+-- the option that says how many ranks race, which must be given
+abbrev pub ranks_rule : Rule
+ranks_rule = record (number_rule (codes "ranks") (vp.Signed (pos 1) (pos 64))) { required = true }
+
+-- the option that says how often they agree, which must be given
+abbrev pub rounds_rule : Rule
+rounds_rule = record (number_rule (codes "rounds") (vp.Signed (pos 1) (pos 1000))) { required = true }
+
+-- the option that says which rank is declared
+abbrev pub fail_rule : Rule
+fail_rule = number_rule (codes "fail") (vp.Signed (pos 0) (pos 63))
+
+-- the command that runs a script
+abbrev pub run : App
+run = new_app (codes "run")
+
+-- the command that runs a race
+abbrev pub race : App
+race = with_rule (with_rule (with_rule (new_app (codes "race")) ranks_rule) rounds_rule) fail_rule
+
+-- the program as a command that has a version and two subcommands, of which one must be given
 abbrev pub ulfm : App
 ulfm =
     let named = new_app (codes "ulfm") in
-    with_subcommand (record named { top = record named.top { subcommand_required = true } }) (new_app (codes "run")).top
+    let top = record named { top = record named.top { has_version = true; subcommand_required = true } } in
+    with_subcommand (with_subcommand top run.top) race.top
 
--- the command line crate finds no fault in the words
+-- the command is this one, and has no global option
+abbrev pub IsCommand : App → Command → Type 0
+IsCommand app command = (app_of command ≡ app) × ((out-Command command).has_globals ≡ false)
+
+-- a text is a number of 16 bits in decimal, perhaps behind a plus
+abbrev pub IsNumber : Text → ℕ → Type 0
+IsNumber text n =
+    IsNumeral 10 (without_leading_plus text) × (digits_value 10 (without_leading_plus text) < 2 ^ 16) × (n ≡ digits_value 10 (without_leading_plus text))
+
+-- an option that isn't given, or that has this number
+abbrev pub IsOptional : Option Text → Option ℕ → Type 0
+IsOptional None number = number ≡ None
+IsOptional (Some text) None = ⊥
+IsOptional (Some text) (Some n) = IsNumber text n
+
+-- the same as it is read, where a text that is no number is an error
+abbrev pub IsNumberRead : {E : Type 0} → Option Text → Result (Option ℕ) E → Type 0
+IsNumberRead given (Ok number) = IsOptional given number
+IsNumberRead given (Err error) = (number : Option ℕ) → IsOptional given number → ⊥
+
+-- a rank of the race is declared, or none
+abbrev pub fail_is_in : ℕ → Option ℕ → Bool
+fail_is_in ranks None = true
+fail_is_in ranks (Some rank) = nat_lt rank ranks
+
+-- each option of a race is in its range
+abbrev pub is_in_range : RaceOptions → Bool
+is_in_range options =
+    nat_le 1 options.ranks && (nat_le options.ranks 64 && (nat_le 1 options.rounds && (nat_le options.rounds 1000 && fail_is_in options.ranks options.fail)))
+
+-- the options of a race, as they are given
+pub record IsRaceOf (rows : List Row) (options : RaceOptions) : Type 0 where
+  pub ranks : IsOptional (one_of (codes "ranks") rows) (Some options.ranks)
+  pub rounds : IsOptional (one_of (codes "rounds") rows) (Some options.rounds)
+  pub fail : IsOptional (one_of (codes "fail") rows) options.fail
+  pub in_range : is_in_range options ≡ true
+
+-- the options of a race as they are read: none where there are none that are in their ranges
+abbrev pub IsRaceRead : List Row → Option RaceOptions → Type 0
+IsRaceRead rows None = (options : RaceOptions) → IsRaceOf rows options → ⊥
+IsRaceRead rows (Some options) = IsRaceOf rows options
+
+-- the command that was named, with its options' values
+abbrev pub Named : Type 0
+Named = Option (Text × List Row)
+
+-- a run of a script was named
+abbrev pub NamesRun : Named → Type 0
+NamesRun named = option_map (λ p. p.0) named ≡ Some (codes "run")
+
+-- a race with these options was named
+abbrev pub NamesRace : Named → RaceOptions → Type 0
+NamesRace named options = (rows : List Row) × (named ≡ Some (codes "race", rows)) × IsRaceOf rows options
+
+-- the command that was named asks for this
+abbrev pub IsEntered : Named → Asked → Type 0
+IsEntered named Run = NamesRun named
+IsEntered named (Race options) = NamesRace named options
+IsEntered named (Bad reason) = (NamesRun named → ⊥) × ((options : RaceOptions) → NamesRace named options → ⊥)
+IsEntered named (Shown text) = ⊥
+IsEntered named Memory = ⊥
+
+-- the command line crate finds no fault in the words, and they name a run of a script
 abbrev pub AsksRun : Words → Type 0
-AsksRun words = fault_of ulfm words ≡ []
+AsksRun words = (fault_of ulfm words ≡ []) × NamesRun (subcommand_of ulfm words)
+
+-- it finds no fault in them, and they name a race with these options
+abbrev pub AsksRace : Words → RaceOptions → Type 0
+AsksRace words options = (fault_of ulfm words ≡ []) × NamesRace (subcommand_of ulfm words) options
 
 -- it finds that help is asked for, and nothing else
 abbrev pub AsksHelp : Words → Type 0
 AsksHelp words = fault_of ulfm words ≡ DisplayHelp ∷ []
 
--- it finds a fault, and no help is asked for
-abbrev pub IsBad : Words → Type 0
-IsBad words = (AsksRun words → ⊥) × (IsAmong DisplayHelp (fault_of ulfm words) → ⊥)
+-- it finds that the version is asked for, and nothing else
+abbrev pub AsksVersion : Words → Type 0
+AsksVersion words = fault_of ulfm words ≡ DisplayVersion ∷ []
+
+-- there is nothing that the words ask for
+pub record IsBad (words : Words) : Type 0 where
+  pub no_run : AsksRun words → ⊥
+  pub no_race : (options : RaceOptions) → AsksRace words options → ⊥
+  pub no_help : IsAmong DisplayHelp (fault_of ulfm words) → ⊥
+  pub no_version : IsAmong DisplayVersion (fault_of ulfm words) → ⊥
+
+-- the words were read as bad: there is nothing that they ask for alone
+pub record IsRefused (words : Words) : Type 0 where
+  pub no_run : AsksRun words → ⊥
+  pub no_race : (options : RaceOptions) → AsksRace words options → ⊥
+  pub no_help : AsksHelp words → ⊥
+  pub no_version : AsksVersion words → ⊥
 
 -- the words were read as asking for this
 abbrev pub IsAskedBy : Words → Asked → Type 0
 IsAskedBy words Run = AsksRun words
-IsAskedBy words (Help text) = IsAmong DisplayHelp (fault_of ulfm words)
-IsAskedBy words Bad = (AsksRun words → ⊥) × (AsksHelp words → ⊥)
+IsAskedBy words (Race options) = AsksRace words options
+IsAskedBy words (Shown text) = IsAmong DisplayHelp (fault_of ulfm words) ⊎ IsAmong DisplayVersion (fault_of ulfm words)
+IsAskedBy words (Bad reason) = IsRefused words
 IsAskedBy words Memory = ⊤

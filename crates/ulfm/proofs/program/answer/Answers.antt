@@ -1,8 +1,7 @@
-use Rattle.std.proofs.Common.{Err, refl}
-use Rattle.ulfm_script.specs.declared.fault.RunFault.TheVariants.{Memory}
-use Rattle.ulfm_script.proofs.RunLemmas.{ran_none}
 use Rattle.ulfm.proofs.program.answer.Goals as goal
 
-pub returns-in-Memory-clause-run : goal.returns-in-Memory-clause-run
-returns-in-Memory-clause-run g c asked =
-    let read = g.R.Read.remaining c.args.input.now in (Err Memory, refl, ran_none read (g.W.Write.contents c.args.output.now))
+pub returns-in-Race-clause-bad : goal.returns-in-Race-clause-bad
+returns-in-Race-clause-bad g c bad = absurd (bad.no_race c.in-Race.options c.in-Race.ensures)
+
+pub returns-in-Bad-clause-race : goal.returns-in-Bad-clause-race
+returns-in-Bad-clause-race g c options asks = absurd (c.in-Bad.ensures.no_race options asks)

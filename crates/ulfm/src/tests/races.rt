@@ -1,0 +1,208 @@
+//! Races through the program.
+use crate::program::answer;
+use crate::tests::{Failing, Taken, require};
+use linked_list_allocator::LocalHeap;
+use std::alloc::Global;
+use std::sync::Wait;
+use std::test::Fail;
+use std::thread::Threads;
+
+/// What a race of these words writes.
+fn run_race<T: Threads + Wait + Sync>(
+    rt: &T,
+    alloc: Global,
+    words: &[&str],
+) -> Result<Vec<u8>, Fail> {
+    let mut input = b"not read".as_slice();
+    let mut output = Vec::new(alloc);
+    let mut errors = Vec::new(alloc);
+    let status = answer(
+        rt,
+        alloc,
+        alloc,
+        words,
+        &mut input,
+        &mut output,
+        &mut errors,
+        false,
+    );
+    require(status == 0)?;
+    require(errors.is_empty())?;
+    require(input == b"not read".as_slice())?;
+    Ok(output)
+}
+
+#[test]
+fn race_of_four(rt: HostRuntime) -> Result<(), Fail> {
+    let words = ["ulfm", "race", "--ranks", "4", "--rounds", "2"];
+    let output = run_race(&rt, rt.alloc(), &words)?;
+    let wanted: &[u8] = b"round 0 agreed fffffff0 failed 0 clean
+round 1 agreed ffffffe1 failed 0 clean
+shrunk 1 context 1 members 0 1 2 3
+";
+    assert_eq!(rt; output.as_slice(), wanted);
+    Ok(())
+}
+
+/// The least race, and one in which each value stands behind `=`.
+#[test]
+fn small_races(rt: HostRuntime) -> Result<(), Fail> {
+    let rows: [(&[&str], &[u8]); 2] = [
+        (
+            &["ulfm", "race", "--ranks=1", "--rounds=1"],
+            b"round 0 agreed fffffffe failed 0 clean\nshrunk 1 context 1 members 0\n",
+        ),
+        (
+            &["ulfm", "race", "--rounds", "1", "--ranks", "2"],
+            b"round 0 agreed fffffffc failed 0 clean\nshrunk 1 context 1 members 0 1\n",
+        ),
+    ];
+    for (words, wanted) in rows {
+        let output = run_race(&rt, rt.alloc(), words)?;
+        assert_eq!(rt; output.as_slice(), wanted);
+    }
+    Ok(())
+}
+
+/// The flags that ranks contribute to a round, combined.
+fn combined(round: u32, ranks: &[u32]) -> u32 {
+    let mut bits = u32::MAX;
+    for rank in ranks {
+        bits &= !(1 << (rank.wrapping_add(round) % 32));
+    }
+    bits
+}
+
+/// Whether the lines are those of a race of 4 ranks and 20 rounds in which rank 2 was declared at some point.
+fn tells_failure(alloc: Global, output: &[u8]) -> Result<bool, Fail> {
+    let Ok(text) = str::from_utf8(output) else {
+        return Ok(false);
+    };
+    let mut lines = text.lines();
+    let mut failed = false;
+    for round in 0..20u32 {
+        let Some(line) = lines.next() else {
+            return Ok(false);
+        };
+        let with = combined(round, &[0, 1, 2, 3]);
+        let without = combined(round, &[0, 1, 3]);
+        let clean = format!(in alloc; "round {round} agreed {with:08x} failed 0 clean")?;
+        let raised = format!(in alloc; "round {round} agreed {with:08x} failed 1 raised")?;
+        let alone = format!(in alloc; "round {round} agreed {without:08x} failed 1 raised")?;
+        if line == raised.as_str() || line == alone.as_str() {
+            failed = true;
+        } else if failed || line != clean.as_str() {
+            return Ok(false);
+        }
+    }
+    let last = lines.next();
+    let survivors = last == Some("shrunk 1 context 1 members 0 1 3");
+    let all = last == Some("shrunk 1 context 1 members 0 1 2 3");
+    Ok((survivors || (all && !failed)) && lines.next().is_none())
+}
+
+#[test]
+fn race_with_failure(rt: HostRuntime) -> Result<(), Fail> {
+    let words = [
+        "ulfm", "race", "--ranks", "4", "--rounds", "20", "--fail", "2",
+    ];
+    for _ in 0..50 {
+        let output = run_race(&rt, rt.alloc(), &words)?;
+        assert!(rt; tells_failure(rt.alloc(), &output)?);
+    }
+    Ok(())
+}
+
+/// A value out of its range, and one that is missing, given twice or no number, are bad.
+#[test]
+fn bad_races(rt: HostRuntime) -> Result<(), Fail> {
+    let rows: [&[&str]; 14] = [
+        &["ulfm", "race"],
+        &["ulfm", "race", "--ranks", "4"],
+        &["ulfm", "race", "--rounds", "2"],
+        &["ulfm", "race", "--ranks", "0", "--rounds", "2"],
+        &["ulfm", "race", "--ranks", "65", "--rounds", "2"],
+        &["ulfm", "race", "--ranks", "4", "--rounds", "0"],
+        &["ulfm", "race", "--ranks", "4", "--rounds", "1001"],
+        &["ulfm", "race", "--ranks", "-4", "--rounds", "2"],
+        &["ulfm", "race", "--ranks", "four", "--rounds", "2"],
+        &[
+            "ulfm", "race", "--ranks", "4", "--ranks", "4", "--rounds", "2",
+        ],
+        &["ulfm", "race", "--ranks", "4", "--rounds", "2", "again"],
+        &[
+            "ulfm", "race", "--ranks", "4", "--rounds", "2", "--fail", "4",
+        ],
+        &[
+            "ulfm", "race", "--ranks", "64", "--rounds", "2", "--fail", "64",
+        ],
+        &["ulfm", "race", "--ranks", "4", "--rounds", "2", "--fail"],
+    ];
+    for words in rows {
+        let mut input = b"not read".as_slice();
+        let mut output = Vec::new(rt.alloc());
+        let mut errors = Vec::new(rt.alloc());
+        let status = answer(
+            &rt,
+            rt.alloc(),
+            rt.alloc(),
+            words,
+            &mut input,
+            &mut output,
+            &mut errors,
+            false,
+        );
+        assert_eq!(rt; status, 2);
+        assert_eq!(rt; errors.as_slice(), b"ulfm: bad command line\n".as_slice());
+        assert!(rt; output.is_empty());
+        assert_eq!(rt; input, b"not read".as_slice());
+    }
+    Ok(())
+}
+
+/// A writer that fails, takes nothing or can't be flushed is told, and so is memory that is refused to the lines.
+#[test]
+fn races_that_fail(rt: HostRuntime) -> Result<(), Fail> {
+    let words = ["ulfm", "race", "--ranks", "2", "--rounds", "1"];
+    for how in [Failing::ByNothing, Failing::AtFlush] {
+        let mut output = Taken {
+            bytes: Vec::new(rt.alloc()),
+            most: 10_000,
+            calls: 0,
+            failing: 1,
+            how,
+        };
+        let mut errors = Vec::new(rt.alloc());
+        let mut input = b"".as_slice();
+        let status = answer(
+            &rt,
+            rt.alloc(),
+            rt.alloc(),
+            &words,
+            &mut input,
+            &mut output,
+            &mut errors,
+            false,
+        );
+        assert_eq!(rt; errors.as_slice(), b"ulfm: write failed\n".as_slice());
+        assert_eq!(rt; status, 3);
+    }
+    let heap = LocalHeap::new(rt.alloc(), 32)?;
+    let mut output = Vec::new(rt.alloc());
+    let mut errors = Vec::new(rt.alloc());
+    let mut input = b"".as_slice();
+    let status = answer(
+        &rt,
+        &heap,
+        rt.alloc(),
+        &words,
+        &mut input,
+        &mut output,
+        &mut errors,
+        false,
+    );
+    assert_eq!(rt; errors.as_slice(), b"ulfm: out of memory\n".as_slice());
+    assert!(rt; output.is_empty());
+    assert_eq!(rt; status, 3);
+    Ok(())
+}

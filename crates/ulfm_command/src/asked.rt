@@ -1,0 +1,68 @@
+//! What a command line asks for.
+ghost use Rattle.std.specs.Prelude.{◌≡◌};
+ghost use Rattle.ulfm_command.specs.CommandLines.{is_in_range};
+
+use clap::Error;
+use std::fmt;
+
+/// The options of a race, as `ulfm race --ranks 4 --rounds 20 --fail 2` gives them.
+#[derive(Clone, Copy, Debug, PartialEq, Eq)]
+pub struct RaceOptions {
+    /// How many ranks race, 1 to 64.
+    pub ranks: u16,
+    /// How often they agree, 1 to 1000.
+    pub rounds: u16,
+    /// The rank that is declared, if one is, below `ranks`.
+    pub fail: Option<u16>,
+}
+
+impl RaceOptions {
+    /// Whether each option is in its range.
+    pub(crate) fn is_in_range(&self) -> bool
+        ensures { result ≡ is_in_range self.now }
+    {
+        let fail_is = match self.fail {
+            Some(rank) => rank < self.ranks,
+            None => true,
+        };
+        1 <= self.ranks && self.ranks <= 64 && 1 <= self.rounds && self.rounds <= 1000 && fail_is
+    }
+}
+
+/// Why a command line is bad.
+#[derive(Drop)]
+pub enum Reason {
+    /// The command line crate refused the words.
+    Words(Error),
+    /// They name no command.
+    NoCommand,
+    /// The rank that is to be declared isn't one of the race's.
+    NoSuchRank,
+}
+
+impl fmt::Display for Reason {
+    fn fmt<W: fmt::Write>(&self, f: &mut fmt::Formatter<W>) -> Result<(), fmt::Error> {
+        match self {
+            Reason::Words(error) => write!(f, "{error}"),
+            Reason::NoCommand => f.write_str("error: no command is named\n"),
+            Reason::NoSuchRank => f.write_str(
+                "error: the rank of '--fail <R>' must be below '--ranks <N>'\n",
+            ),
+        }
+    }
+}
+
+/// What a command line asks for.
+#[derive(Drop)]
+pub enum Asked {
+    /// A script is to be run.
+    Run,
+    /// A race is to be run, whose options are in their ranges.
+    Race(RaceOptions),
+    /// This text is to be shown: of help, or the version.
+    Shown(String),
+    /// Nothing, since the line is bad.
+    Bad(Reason),
+    /// Memory was refused before that was known.
+    Memory,
+}

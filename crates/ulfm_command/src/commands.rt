@@ -1,0 +1,103 @@
+//! The program's commands and their options, as the command line crate takes them.
+ghost use Rattle.std.specs.Prelude.{◌≡◌, IfOk, false};
+ghost use Rattle.clap.specs.Words.{rule_of};
+ghost use Rattle.ulfm_command.specs.CommandLines.{IsCommand, fail_rule, number_rule, race, ranks_rule, rounds_rule, run, ulfm};
+
+use crate::texts::{RACE_HELP, RUN_HELP, ULFM_HELP, VERSION};
+use clap::builder::ValueParser;
+use clap::{Arg, Command, value_parser};
+use std::alloc::{AllocError, Global};
+
+/// An option that takes a number which this parser reads.
+fn number_option<'a>(
+    global: Global,
+    name: &'a str,
+    value: &'a str,
+    help: &'a str,
+    parser: ValueParser<'a>,
+) -> Arg<'a>
+    ensures rule { rule_of result ≡ number_rule name.now parser.entry }
+    ensures local { result.global ≡ false }
+{
+    Arg::new(global, name)
+        .long(name)
+        .value_name(value)
+        .help(help)
+        .value_parser(parser)
+}
+
+/// How many ranks race.
+fn ranks_option<'a>(global: Global) -> Arg<'a>
+    ensures rule { rule_of result ≡ ranks_rule }
+    ensures local { result.global ≡ false }
+{
+    let parser = value_parser!(u16).range(1..=64);
+    number_option(global, "ranks", "N", "How many ranks race, 1 to 64", parser).required(true)
+}
+
+/// How often they agree.
+fn rounds_option<'a>(global: Global) -> Arg<'a>
+    ensures rule { rule_of result ≡ rounds_rule }
+    ensures local { result.global ≡ false }
+{
+    let parser = value_parser!(u16).range(1..=1000);
+    number_option(
+        global,
+        "rounds",
+        "K",
+        "How often they agree, 1 to 1000",
+        parser,
+    )
+    .required(true)
+}
+
+/// Which rank is declared.
+fn fail_option<'a>(global: Global) -> Arg<'a>
+    ensures rule { rule_of result ≡ fail_rule }
+    ensures local { result.global ≡ false }
+{
+    let parser = value_parser!(u16).range(0..=63);
+    number_option(
+        global,
+        "fail",
+        "R",
+        "The rank that is declared failed, below N",
+        parser,
+    )
+}
+
+/// `ulfm race`.
+fn race_command<'a>(global: Global) -> Result<Command<'a>, AllocError>
+    ensures { IfOk result (IsCommand race) }
+{
+    Command::new(global, "race")
+        .about(
+            "Lets ranks agree and shrink, each on a thread of its own, and prints what they agreed on",
+        )
+        .after_help(RACE_HELP)
+        .arg(ranks_option(global))?
+        .arg(rounds_option(global))?
+        .arg(fail_option(global))
+}
+
+/// `ulfm run`.
+fn run_command<'a>(global: Global) -> Command<'a>
+    ensures { IsCommand run result }
+{
+    Command::new(global, "run")
+        .about("Runs the call script on standard input, and prints a line for each call")
+        .after_help(RUN_HELP)
+}
+
+/// `ulfm`, which wants a subcommand.
+pub(crate) fn ulfm_command<'a>(global: Global) -> Result<Command<'a>, AllocError>
+    ensures { IfOk result (IsCommand ulfm) }
+{
+    Command::new(global, "ulfm")
+        .about("A fault tolerant agreement core, driven by scripts and by races of threads")
+        .after_help(ULFM_HELP)
+        .version(VERSION)
+        .subcommand_required(true)
+        .subcommand(run_command(global))?
+        .subcommand(race_command(global)?)
+}

@@ -1,0 +1,11 @@
+//! What the command lines of the program ask for.
+#![tactic(auto)]
+
+pub mod asked;
+mod commands;
+pub mod reading;
+mod texts;
+
+pub use asked::{Asked, RaceOptions, Reason};
+pub use reading::read_words;
+pub use texts::VERSION;

@@ -1,0 +1,89 @@
+//! What the words of a command line ask for.
+ghost use Rattle.std.specs.Prelude.{◌≡◌, IfOk, map};
+ghost use Rattle.clap.specs.Words.{FailsBy, fault_of, found_of, one_of, rows_of, subcommand_of, subcommand_rows_of};
+ghost use Rattle.ulfm_command.specs.CommandLines.{IsAskedBy, IsEntered, IsNumberRead, IsRaceRead, ulfm};
+
+use crate::asked::{Asked, RaceOptions, Reason};
+use crate::commands::ulfm_command;
+use clap::error::ErrorKind;
+use clap::{ArgMatches, Error};
+use std::alloc::Global;
+use std::num::ParseIntError;
+
+/// What the words of a command line ask for, the program's own name first.
+///
+/// `ulfm race --ranks 4 --rounds 2` asks for a race of 4 ranks and 2 rounds. Nothing is read or written.
+pub fn read_words<'a>(global: Global, words: &'a [&'a str]) -> Asked
+    ensures { IsAskedBy (map (λ word. word.now) words.now) result }
+{
+    match parse(global, words) {
+        Ok(matches) => read_command(&matches),
+        Err(error) => match error.kind() {
+            ErrorKind::DisplayHelp | ErrorKind::DisplayVersion => match format!(in global;
+                "{error}"
+            ) {
+                Ok(text) => Asked::Shown(text),
+                Err(_) => Asked::Memory,
+            },
+            ErrorKind::OutOfMemory => Asked::Memory,
+            _ => Asked::Bad(Reason::Words(error)),
+        },
+    }
+}
+
+/// Reads the words by the command line crate.
+fn parse<'a>(global: Global, words: &'a [&'a str]) -> Result<ArgMatches<'a>, Error>
+    ensures fails { FailsBy (fault_of ulfm (map (λ word. word.now) words.now)) result }
+    ensures found { IfOk result (λ m. subcommand_rows_of m ≡ subcommand_of ulfm (map (λ word. word.now) words.now)) }
+{
+    ulfm_command(global)?.try_get_matches_from(words)
+}
+
+/// What the command asks for that the words name.
+fn read_command(matches: &ArgMatches<'_>) -> Asked
+    ensures { IsEntered (subcommand_rows_of matches.now) result }
+{
+    match matches.subcommand() {
+        Some((name, options)) => {
+            if name == "run" {
+                Asked::Run
+            } else if name == "race" {
+                match read_race(options) {
+                    Some(race) => Asked::Race(race),
+                    None => Asked::Bad(Reason::NoSuchRank),
+                }
+            } else {
+                Asked::Bad(Reason::NoCommand)
+            }
+        }
+        None => Asked::Bad(Reason::NoCommand),
+    }
+}
+
+/// The options of a race, if they are in their ranges.
+fn read_race(matches: &ArgMatches<'_>) -> Option<RaceOptions>
+    ensures { IsRaceRead (rows_of (found_of matches.now)) result }
+{
+    let Ok(Some(ranks)) = read_number(matches, "ranks") else {
+        return None;
+    };
+    let Ok(Some(rounds)) = read_number(matches, "rounds") else {
+        return None;
+    };
+    let Ok(fail) = read_number(matches, "fail") else {
+        return None;
+    };
+    let race = RaceOptions {
+        ranks,
+        rounds,
+        fail,
+    };
+    if race.is_in_range() { Some(race) } else { None }
+}
+
+/// The number of an option, if it is given.
+fn read_number(matches: &ArgMatches<'_>, name: &str) -> Result<Option<u16>, ParseIntError>
+    ensures { IsNumberRead (one_of name.now (rows_of (found_of matches.now))) result }
+{
+    matches.try_get_one::<u16>(name)
+}
