@@ -48,6 +48,11 @@ impl<P: Packed, A: Allocator> Model for BookWords<P, A> {
 impl<P: Packed, A: Allocator> BookWords<P, A> {
     /// Words of these limits, each 0. `OutOfRange` and `TooLarge` are the first fault that the limits have, found before any
     /// memory is asked for; `OutOfMemory` comes where the limits have none and eight bytes a word were refused.
+    ///
+    /// ```
+    /// let words: BookWords<FlagAnd> = BookWords::open(alloc, limits)?;
+    /// let (outside, members) = ulfm_member::open(alloc, words)?;
+    /// ```
     pub fn open(alloc: A, limits: Limits) -> Result<BookWords<P, A>, OpenFault>
         ensures opened { IfOk result (λ w. w.limits ≡ limits) }
         ensures may_open { IfOk result (λ w. MayOpen limits) }

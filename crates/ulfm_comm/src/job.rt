@@ -52,6 +52,12 @@ where
     W: Words<P, A>,
 {
     /// A world over new words, its ranks, and a pass that has seen nothing. Memory is the only thing that it may lack.
+    ///
+    /// ```
+    /// let words: PlainWords<FlagAnd> = PlainWords::open(limits)?;
+    /// let job = Job::open(alloc, words)?;
+    /// assert!(rt; job.rank(1).is_some());
+    /// ```
     pub fn open(alloc: A, words: W) -> Result<Job<W, P, A>, OpenFault>
     where
         W: OpenWords<P, A> + Drop,
@@ -64,7 +70,11 @@ where
         Ok(Job { world, pass, ranks })
     }
 
-    /// The pass that all calls are made over, to be read.
+    /// The pass that all calls are made over, to be read. It is no step.
+    ///
+    /// ```
+    /// assert!(rt; job.pass().nth(0).is_none());
+    /// ```
     pub fn pass(&self) -> &W::Pass
         ensures of { IsOf P.meld (W.sight result.now).name (W.sight result.now) }
         ensures seen { (W.sight result.now).seen ≡ self.now.history }
@@ -72,7 +82,12 @@ where
         &self.pass
     }
 
-    /// A rank of the world, if there is one of this number.
+    /// A rank of the world, if there is one of this number. It is no step.
+    ///
+    /// ```
+    /// assert!(rt; job.rank(1).is_some());
+    /// assert!(rt; job.rank(2).is_none());
+    /// ```
     pub fn rank(&self, number: u16) -> Option<&Rank<P, A>>
         ensures { MatchOption result (self.now.limits.ranks ≤ number) (λ own. find (λ x. x.number == number) self.now.records ≡ Some own.now) }
     {
@@ -87,6 +102,15 @@ where
     /// put into the vector, in the order of the failures, and so are the members of a communicator that a shrink made, in their
     /// order. Memory alone can be refused, to a query of the failed group and to the poll of a shrink. The group's memory for that
     /// poll is taken before it, so that its reply isn't lost: after a refusal the call can be made again.
+    ///
+    /// ```
+    /// let mut group = Vec::new(alloc);
+    /// let failed = job.apply(&Call::Fail { rank: 1 }, &mut group)?;
+    /// assert!(rt; failed == Reply::Declared);
+    /// let found = job.apply(&Call::GetFailed { rank: 0, comm: 0 }, &mut group)?;
+    /// assert!(rt; found == Reply::FailedGroup { count: 1 });
+    /// assert_eq!(rt; group.as_slice(), [1].as_slice());
+    /// ```
     pub fn apply(
         &mut self,
         asked: &Call<P>,

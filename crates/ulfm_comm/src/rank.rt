@@ -31,6 +31,11 @@ use ulfm_words::Words;
 const ROOM: usize = 32;
 
 /// A rank of a world. Contracts see it as its record.
+///
+/// Each of its calls begins with a look: loads of the list of failures, from its start to the first empty place, so with N
+/// ranks N steps at most, and f + 1 where f < N have failed. A communicator is any number: one that the rank doesn't hold is
+/// refused as `NoSuchComm`. A refusal leaves the rank as it was, but for what the look has seen, and where a call says more; a
+/// rank that was refused as `SelfFailed` is refused so for good, without a step. Examples are of rank 0 in a world of two.
 #[derive(Drop)]
 pub struct Rank<P: Packed, A: Allocator> {
     number: u16,
@@ -82,7 +87,11 @@ impl<P: Packed, A: Allocator + Copy> Rank<P, A> {
 }
 
 impl<P: Packed, A: Allocator> Rank<P, A> {
-    /// Its number, from 0.
+    /// Its number, 0 to 1023. It is no step.
+    ///
+    /// ```
+    /// assert!(rt; rank.number() == 0);
+    /// ```
     pub fn number(&self) -> u16
         ensures { result ≡ self.now.number }
     {
@@ -90,6 +99,13 @@ impl<P: Packed, A: Allocator> Rank<P, A> {
     }
 
     /// All failures that it has seen, in order. It is no step.
+    ///
+    /// ```
+    /// // Rank 1 was declared failed before.
+    /// // A call looks, and then the rank has seen it.
+    /// rank.is_revoked(&world, &mut pass, 0)?;
+    /// assert_eq!(rt; rank.failures(), [1].as_slice());
+    /// ```
     pub fn failures(&self) -> &[u16]
         ensures { result.now ≡ self.now.seen }
     {
@@ -119,7 +135,12 @@ impl<P: Packed, A: Allocator> Rank<P, A> {
         }
     }
 
-    /// The members of a communicator that it holds, in order. It is no step.
+    /// The members of a communicator that it holds, in order; none where it doesn't hold it. It is no step.
+    ///
+    /// ```
+    /// assert!(rt; rank.members(0) == Some([0, 1].as_slice()));
+    /// assert!(rt; rank.members(1).is_none());
+    /// ```
     pub fn members(&self, comm: u16) -> Option<&[u16]>
         ensures { MatchOption result (held_at self.now comm ≡ None) (λ group. (x : Held) × (held_at self.now comm ≡ Some x) × (group.now ≡ x.group)) }
     {
@@ -127,7 +148,13 @@ impl<P: Packed, A: Allocator> Rank<P, A> {
         Some(&x.group)
     }
 
-    /// The context id of a communicator that it holds, 0 to 31. No two that it holds have the same. It is no step.
+    /// The context id of a communicator that it holds, 0 to 31; none where it doesn't hold it. No two that it holds have the same.
+    /// It is no step.
+    ///
+    /// ```
+    /// assert!(rt; rank.context(0) == Some(0));
+    /// assert!(rt; rank.context(1).is_none());
+    /// ```
     pub fn context(&self, comm: u16) -> Option<u8>
         ensures distinct { IsDistinct nat_eq (map (λ x. x.context) self.now.held) }
         ensures id { MatchOption result (held_at self.now comm ≡ None) (λ id. (x : Held) × (held_at self.now comm ≡ Some x) × (id ≡ x.context)) }

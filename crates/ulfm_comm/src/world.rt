@@ -14,7 +14,7 @@ use ulfm_model::limits::{Limits, OpenFault};
 use ulfm_steps::group::first_ranks;
 use ulfm_words::{OpenWords, Words};
 
-/// A world over words. Its ranks are given out once, when it is opened.
+/// A world over words. Its ranks are given out once, when it is opened. Examples are of a world of two ranks.
 #[derive(Drop)]
 pub struct World<W, P, A> {
     // Each atomic step of a call is one of theirs. Nobody outside gets at them: nobody opens a second world over the same words.
@@ -28,6 +28,12 @@ where
     W: Words<P, A>,
 {
     /// A world over new words, and one rank of each number, in order. Memory is the only thing that it may lack.
+    ///
+    /// ```
+    /// let words: PlainWords<FlagAnd> = PlainWords::open(limits)?;
+    /// let (world, ranks) = World::open(alloc, words)?;
+    /// assert!(rt; world.limits() == limits && ranks.len() == 2);
+    /// ```
     pub fn open(alloc: A, words: W) -> Result<(World<W, P, A>, Vec<Rank<P, A>, A>), OpenFault>
     where
         W: Drop,
@@ -50,7 +56,11 @@ where
         }
     }
 
-    /// The limits that it was opened with.
+    /// The limits that it was opened with. It is no step.
+    ///
+    /// ```
+    /// assert!(rt; world.limits().ranks == 2);
+    /// ```
     pub fn limits(&self) -> Limits
         ensures { result ≡ (W.name self.now.words).limits }
     {
@@ -62,7 +72,12 @@ impl<W, P: Packed, A: Allocator> World<W, P, A>
 where
     W: OpenWords<P, A>,
 {
-    /// A pass that has seen nothing.
+    /// A pass that has seen nothing. Memory is the only thing that it may lack. It is no step.
+    ///
+    /// ```
+    /// let mut pass = world.pass(alloc)?;
+    /// assert!(rt; world.fail(&mut pass, 1) == Ok(true));
+    /// ```
     pub fn pass(&self, alloc: A) -> Result<W::Pass, AllocError>
         ensures { IfOk result (λ p. IsNew P.meld (W.name self.now.words) (W.sight p)) }
     {
@@ -70,6 +85,13 @@ where
     }
 
     /// What a pass has seen, to be handed to another. It is no step.
+    ///
+    /// ```
+    /// let mut pass = world.pass(alloc)?;
+    /// let mut other = world.pass(alloc)?;
+    /// world.fail(&mut pass, 1)?;
+    /// world.learn(&mut other, &world.told(&pass));
+    /// ```
     pub fn told(&self, pass: &W::Pass) -> W::Told
         requires of { IsOf P.meld (W.name self.now.words) (W.sight pass.now) }
         ensures { Tells W.tells_all (W.name self.now.words) (W.sight pass.now) (W.heard result) }
@@ -78,6 +100,14 @@ where
     }
 
     /// From now on the pass has seen what was told, too. It is no step.
+    ///
+    /// ```
+    /// let mut pass = world.pass(alloc)?;
+    /// let mut other = world.pass(alloc)?;
+    /// world.fail(&mut pass, 1)?;
+    /// let told = world.told(&pass);
+    /// world.learn(&mut other, &told);
+    /// ```
     pub fn learn(&self, pass: &mut W::Pass, told: &W::Told)
         requires of { IsOf P.meld (W.name self.now.words) (W.sight pass.old) }
         requires told { (W.heard told.now).name ≡ W.name self.now.words }

@@ -26,15 +26,7 @@ use ulfm_words::{OpenWords, Words};
 ///
 /// Its calls are those of `Rank`, which tells what each does, how many steps it makes, what it refuses and what a refusal
 /// leaves. Members see one another where their words are shared, as `ulfm_book` has them.
-///
-/// ```
-/// let words: BookWords<FlagAnd> = BookWords::open(alloc, limits)?;
-/// let (outside, mut members) = ulfm_member::open(alloc, words)?;
-/// for member in members.iter_mut() {
-///     member.iagree(0, FlagAnd { bits: 6 })?;
-/// }
-/// let reply = members[0].poll(0)?;
-/// ```
+/// Examples are of rank 0 in a world of two, whose words are plain; `ulfm_member::open` gives the members.
 #[derive(Drop)]
 pub struct Member<W, P: Packed, A: Allocator>
 where
@@ -65,6 +57,12 @@ where
     W: Words<P, A>,
 {
     /// A rank of this world and a pass of its words, which has seen what the rank has.
+    ///
+    /// ```
+    /// let (world, rank, pass) = member.into_parts();
+    /// let mut member = Member::new(world, rank, pass);
+    /// member.iagree(0, FlagAnd { bits: 0b0110 })?;
+    /// ```
     pub fn new(world: Arc<World<W, P, A>, A>, rank: Rank<P, A>, pass: W::Pass) -> Member<W, P, A>
         requires { IsMember P.meld (record { name = W.name (arc_value world).words; own = rank; pass = W.sight pass }) }
         ensures { result ≡ record { name = W.name (arc_value world).words; own = rank; pass = W.sight pass } }
@@ -73,6 +71,11 @@ where
     }
 
     /// The world, the rank and the pass, each by itself, to drive steps by hand.
+    ///
+    /// ```
+    /// let (world, mut rank, mut pass) = member.into_parts();
+    /// rank.iagree(&world, &mut pass, 0, FlagAnd { bits: 0b0110 })?;
+    /// ```
     pub fn into_parts(self) -> (Arc<World<W, P, A>, A>, Rank<P, A>, W::Pass)
         ensures of { IsMember P.meld self }
         ensures parts { self ≡ record { name = W.name (arc_value result.0).words; own = result.1; pass = W.sight result.2 } }
@@ -80,14 +83,25 @@ where
         (self.world, self.rank, self.pass)
     }
 
-    /// The pass that it calls with, to be read.
+    /// The pass that it calls with, to be read. It is no step.
+    ///
+    /// ```
+    /// // A pass of plain words tells which steps were set.
+    /// assert!(rt; member.pass().nth(0).is_none());
+    /// member.iagree(0, FlagAnd { bits: 0b0110 })?;
+    /// assert!(rt; member.pass().nth(0).is_some());
+    /// ```
     pub fn pass(&self) -> &W::Pass
         ensures { W.sight result.now ≡ self.now.pass }
     {
         &self.pass
     }
 
-    /// Its number, from 0.
+    /// Its number, 0 to 1023. It is no step.
+    ///
+    /// ```
+    /// assert!(rt; member.number() == 0);
+    /// ```
     pub fn number(&self) -> u16
         ensures { result ≡ self.now.own.number }
     {
@@ -95,13 +109,25 @@ where
     }
 
     /// All failures that it has seen, in order. It is no step.
+    ///
+    /// ```
+    /// member.fail(1)?;
+    /// // A call looks, and then the member has seen it.
+    /// member.is_revoked(0)?;
+    /// assert_eq!(rt; member.failures(), [1].as_slice());
+    /// ```
     pub fn failures(&self) -> &[u16]
         ensures { result.now ≡ self.now.own.seen }
     {
         self.rank.failures()
     }
 
-    /// The members of a communicator that it holds, in order. It is no step.
+    /// The members of a communicator that it holds, in order; none where it doesn't hold it. It is no step.
+    ///
+    /// ```
+    /// assert!(rt; member.members(0) == Some([0, 1].as_slice()));
+    /// assert!(rt; member.members(1).is_none());
+    /// ```
     pub fn members(&self, comm: u16) -> Option<&[u16]>
         ensures { MatchOption result (held_at self.now.own comm ≡ None)
             (λ group. (x : Held) × (held_at self.now.own comm ≡ Some x) × (group.now ≡ x.group)) }
@@ -109,7 +135,13 @@ where
         self.rank.members(comm)
     }
 
-    /// The context id of a communicator that it holds, 0 to 31. No two that it holds have the same. It is no step.
+    /// The context id of a communicator that it holds, 0 to 31; none where it doesn't hold it. No two that it holds have the same.
+    /// It is no step.
+    ///
+    /// ```
+    /// assert!(rt; member.context(0) == Some(0));
+    /// assert!(rt; member.context(1).is_none());
+    /// ```
     pub fn context(&self, comm: u16) -> Option<u8>
         ensures { MatchOption result (held_at self.now.own comm ≡ None)
             (λ id. (x : Held) × (held_at self.now.own comm ≡ Some x) × (id ≡ x.context)) }
@@ -123,6 +155,13 @@ where
     W: Words<P, A>,
 {
     /// Starts an agree on a flag, as `Rank::iagree`.
+    ///
+    /// ```
+    /// let flag = FlagAnd { bits: 0b0110 };
+    /// assert!(rt; member.iagree(0, flag) == Ok(()));
+    /// // A communicator has one request of a rank at a time.
+    /// assert!(rt; member.iagree(0, flag) == Err(Refusal::Busy));
+    /// ```
     pub fn iagree(&mut self, comm: u16, value: P) -> Result<(), Refusal>
         ensures { MemberCalls P.meld W.alone (AgreeAsked self.old.own.number comm value) self.old (reply_of (λ _. Started) result) self.new }
     {
@@ -130,6 +169,17 @@ where
     }
 
     /// Starts a shrink, as `Rank::ishrink`.
+    ///
+    /// ```
+    /// member.fail(1)?;
+    /// member.ishrink(0)?;
+    /// let alone = Polled::Shrunk {
+    ///     comm: 1,
+    ///     context: 1,
+    ///     size: 1,
+    /// };
+    /// assert!(rt; member.poll(0) == Ok(alone));
+    /// ```
     pub fn ishrink(&mut self, comm: u16) -> Result<(), Refusal>
         ensures calls { MemberCalls P.meld W.alone (ShrinkAsked self.old.own.number comm) self.old (reply_of (λ _. Started) result) self.new }
         ensures excludes { IfOk result (λ _. Excludes P.meld self.old.name.limits self.old.pass.seen self.new.pass.seen self.old.own comm) }
@@ -138,6 +188,14 @@ where
     }
 
     /// Starts a barrier, as `Rank::ibarrier`.
+    ///
+    /// ```
+    /// member.ibarrier(0)?;
+    /// assert!(rt; member.poll(0) == Ok(Polled::Pending));
+    /// // Rank 1 can't arrive any more.
+    /// member.fail(1)?;
+    /// assert!(rt; member.poll(0) == Err(Refusal::ProcFailed));
+    /// ```
     pub fn ibarrier(&mut self, comm: u16) -> Result<(), Refusal>
         ensures { MemberCalls P.meld W.alone (BarrierAsked self.old.own.number comm) self.old (reply_of (λ _. Started) result) self.new }
     {
@@ -145,6 +203,20 @@ where
     }
 
     /// Asks for the reply to the open request, as `Rank::poll`.
+    ///
+    /// ```
+    /// let value = FlagAnd { bits: 0b0110 };
+    /// member.iagree(0, value)?;
+    /// // Rank 1 hasn't contributed, and isn't declared.
+    /// assert!(rt; member.poll(0) == Ok(Polled::Pending));
+    /// member.fail(1)?;
+    /// let agreed = Polled::Agreed {
+    ///     value,
+    ///     failed: 1,
+    ///     raised: true,
+    /// };
+    /// assert!(rt; member.poll(0) == Ok(agreed));
+    /// ```
     pub fn poll(&mut self, comm: u16) -> Result<Polled<P>, Refusal>
         ensures { MemberPolls P.meld W.alone comm self.old result self.new }
     {
@@ -152,6 +224,13 @@ where
     }
 
     /// Puts the failed group of a communicator into a vector, as `Rank::get_failed`.
+    ///
+    /// ```
+    /// member.fail(1)?;
+    /// let mut found = Vec::new(alloc);
+    /// member.get_failed(0, &mut found)?;
+    /// assert_eq!(rt; found.as_slice(), [1].as_slice());
+    /// ```
     pub fn get_failed<B: Allocator>(
         &mut self,
         comm: u16,
@@ -166,6 +245,12 @@ where
     }
 
     /// Acknowledges the first `count` failures of a communicator, as `Rank::ack_failed`.
+    ///
+    /// ```
+    /// member.fail(1)?;
+    /// // There is one failure to acknowledge, however many are asked for.
+    /// assert!(rt; member.ack_failed(0, 9) == Ok(1));
+    /// ```
     pub fn ack_failed(&mut self, comm: u16, count: u16) -> Result<u16, Refusal>
         ensures { MemberCalls P.meld W.alone (AckAsked self.old.own.number comm count) self.old (reply_of Acked result) self.new }
     {
@@ -174,6 +259,11 @@ where
     }
 
     /// Revokes a communicator, as `Rank::revoke`.
+    ///
+    /// ```
+    /// assert!(rt; member.revoke(0) == Ok(true));
+    /// assert!(rt; member.revoke(0) == Ok(false));
+    /// ```
     pub fn revoke(&mut self, comm: u16) -> Result<bool, Refusal>
         ensures { MemberCalls P.meld W.alone (RevokeAsked self.old.own.number comm) self.old (reply_of revoked result) self.new }
     {
@@ -181,6 +271,12 @@ where
     }
 
     /// Whether a communicator is revoked, as `Rank::is_revoked`.
+    ///
+    /// ```
+    /// assert!(rt; member.is_revoked(0) == Ok(false));
+    /// member.revoke(0)?;
+    /// assert!(rt; member.is_revoked(0) == Ok(true));
+    /// ```
     pub fn is_revoked(&mut self, comm: u16) -> Result<bool, Refusal>
         ensures { MemberCalls P.meld W.alone (StandingAsked self.old.own.number comm) self.old (reply_of Standing result) self.new }
     {
@@ -188,6 +284,15 @@ where
     }
 
     /// Gives a communicator back, as `Rank::free`.
+    ///
+    /// ```
+    /// member.fail(1)?;
+    /// member.ishrink(0)?;
+    /// member.poll(0)?;
+    /// assert!(rt; member.free(1) == Ok(()));
+    /// assert!(rt; member.members(1).is_none());
+    /// assert!(rt; member.free(0) == Err(Refusal::WorldKept));
+    /// ```
     pub fn free(&mut self, comm: u16) -> Result<(), Refusal>
         ensures { MemberCalls P.meld W.alone (FreeAsked self.old.own.number comm) self.old (reply_of (λ _. Freed) result) self.new }
     {
@@ -195,6 +300,12 @@ where
     }
 
     /// Declares a rank failed, as `World::fail`: in the name of the outside, but seen by this member from then on.
+    ///
+    /// ```
+    /// assert!(rt; member.fail(1) == Ok(true));
+    /// assert!(rt; member.fail(1) == Ok(false));
+    /// assert!(rt; member.fail(2) == Err(Refusal::NoSuchRank));
+    /// ```
     pub fn fail(&mut self, rank: u16) -> Result<bool, Refusal>
         ensures { MemberFails P.meld W.alone rank self.old (reply_of declared result) self.new }
     {
@@ -207,6 +318,11 @@ where
     W: OpenWords<P, A>,
 {
     /// What it has seen, to be handed to another member or to the outside. It is no step.
+    ///
+    /// ```
+    /// member.revoke(0)?;
+    /// outside.learn(&member.told());
+    /// ```
     pub fn told(&self) -> W::Told
         ensures { Tells W.tells_all self.now.name self.now.pass (W.heard result) }
     {
@@ -214,6 +330,11 @@ where
     }
 
     /// From now on it has seen what was told, too. It is no step.
+    ///
+    /// ```
+    /// outside.fail(1)?;
+    /// member.learn(&outside.told());
+    /// ```
     pub fn learn(&mut self, told: &W::Told)
         requires { (W.heard told.now).name ≡ self.old.name }
         ensures { MemberLearns P.meld W.alone (W.heard told.now) self.old self.new }

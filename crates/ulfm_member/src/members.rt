@@ -19,6 +19,15 @@ use ulfm_words::OpenWords;
 
 /// Opens a world over new words: its outside, and the members of all its ranks, in order, each with a pass of its own that has
 /// seen nothing. Memory is the only thing that it may lack.
+///
+/// ```
+/// let words: PlainWords<FlagAnd> = PlainWords::open(limits)?;
+/// let (mut outside, members) = ulfm_member::open(alloc, words)?;
+/// for member in &members {
+///     assert!(rt; member.failures().is_empty());
+/// }
+/// assert!(rt; outside.fail(1) == Ok(true));
+/// ```
 pub fn open<W, P: Packed, A: Allocator + Copy>(
     alloc: A,
     words: W,

@@ -44,6 +44,12 @@ where
     W: OpenWords<P, A>,
 {
     /// The outside of this world, which has seen nothing. Memory is the only thing that it may lack.
+    ///
+    /// ```
+    /// let (world, _, _) = member.into_parts();
+    /// let mut detector = Outside::new(alloc, world)?;
+    /// assert!(rt; detector.fail(1) == Ok(true));
+    /// ```
     pub fn new(alloc: A, world: Arc<World<W, P, A>, A>) -> Result<Outside<W, P, A>, AllocError>
     where
         W: Drop,
@@ -54,6 +60,11 @@ where
     }
 
     /// What it has seen, to be handed to a member. It is no step.
+    ///
+    /// ```
+    /// outside.fail(1)?;
+    /// member.learn(&outside.told());
+    /// ```
     pub fn told(&self) -> W::Told
         ensures { Tells W.tells_all self.now.name self.now (W.heard result) }
     {
@@ -61,6 +72,11 @@ where
     }
 
     /// From now on it has seen what was told, too. It is no step.
+    ///
+    /// ```
+    /// member.revoke(0)?;
+    /// outside.learn(&member.told());
+    /// ```
     pub fn learn(&mut self, told: &W::Told)
         requires { (W.heard told.now).name ≡ self.old.name }
         ensures { Learns P.meld W.alone self.old.name (W.heard told.now) self.old self.new }
@@ -73,7 +89,11 @@ impl<W, P: Packed, A: Allocator + Copy> Outside<W, P, A>
 where
     W: Words<P, A>,
 {
-    /// The limits that the world was opened with.
+    /// The limits that the world was opened with. It is no step.
+    ///
+    /// ```
+    /// assert!(rt; outside.limits().ranks == 2);
+    /// ```
     pub fn limits(&self) -> Limits
         ensures { result ≡ self.now.name.limits }
     {
@@ -81,6 +101,12 @@ where
     }
 
     /// Declares a rank failed, as `World::fail`.
+    ///
+    /// ```
+    /// assert!(rt; outside.fail(1) == Ok(true));
+    /// assert!(rt; outside.fail(1) == Ok(false));
+    /// assert!(rt; outside.fail(2) == Err(Refusal::NoSuchRank));
+    /// ```
     pub fn fail(&mut self, rank: u16) -> Result<bool, Refusal>
         ensures { Fails P.meld W.alone self.old.name rank self.old (reply_of declared result) self.new }
     {

@@ -20,6 +20,12 @@ impl<P: Packed, A: Allocator + Copy> Rank<P, A> {
     /// Functions, `MPI_COMM_ACK_FAILED`).
     ///
     /// `SelfFailed` where the rank is declared, `NoSuchComm` where it doesn't hold the communicator.
+    ///
+    /// ```
+    /// // Rank 1 was declared failed before.
+    /// // There is one failure to acknowledge, however many are asked for.
+    /// assert!(rt; rank.ack_failed(&world, &mut pass, 0, 9) == Ok(1));
+    /// ```
     #[inline(never)]
     pub fn ack_failed<W: Words<P, A>>(
         &mut self,

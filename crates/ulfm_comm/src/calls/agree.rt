@@ -22,6 +22,13 @@ impl<P: Packed, A: Allocator + Copy> Rank<P, A> {
     /// is open on it, `RoundsUsedUp` where no round is left but the last, which is kept for a shrink. Then `SelfFailed`
     /// where another rank's mark came before the contribution, and `Twice` where another contribution stands at the rank's
     /// place. After a refusal no request was started.
+    ///
+    /// ```
+    /// let flag = FlagAnd { bits: 0b0110 };
+    /// assert!(rt; rank.iagree(&world, &mut pass, 0, flag) == Ok(()));
+    /// // A communicator has one request of a rank at a time.
+    /// assert!(rt; rank.iagree(&world, &mut pass, 0, flag) == Err(Refusal::Busy));
+    /// ```
     #[inline(never)]
     pub fn iagree<W: Words<P, A>>(
         &mut self,

@@ -21,6 +21,12 @@ impl<P: Packed, A: Allocator + Copy> Rank<P, A> {
     /// `SelfFailed` where the rank is declared, `NoSuchComm` where it doesn't hold the communicator, `Busy` where a request
     /// is open on it, `RoundsUsedUp` where no round is left. Then `Twice` where the rank has arrived in this round before.
     /// After a refusal no request was started.
+    ///
+    /// ```
+    /// rank.ibarrier(&world, &mut pass, 0)?;
+    /// // Rank 1 was declared failed before, and can't arrive any more.
+    /// assert!(rt; rank.poll(&world, &mut pass, 0) == Err(Refusal::ProcFailed));
+    /// ```
     #[inline(never)]
     pub fn ibarrier<W: Words<P, A>>(
         &mut self,

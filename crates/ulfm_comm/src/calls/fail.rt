@@ -19,6 +19,12 @@ where
     /// declared before. Where the world has N ranks, it makes 2N steps at most.
     ///
     /// `NoSuchRank` where the world doesn't have the rank.
+    ///
+    /// ```
+    /// assert!(rt; world.fail(&mut pass, 1) == Ok(true));
+    /// assert!(rt; world.fail(&mut pass, 1) == Ok(false));
+    /// assert!(rt; world.fail(&mut pass, 2) == Err(Refusal::NoSuchRank));
+    /// ```
     pub fn fail(&self, pass: &mut W::Pass, rank: u16) -> Result<bool, Refusal>
         requires of { IsOf P.meld (W.name self.now.words) (W.sight pass.old) }
         ensures { Fails P.meld W.alone (W.name self.now.words) rank (W.sight pass.old) (reply_of declared result) (W.sight pass.new) }

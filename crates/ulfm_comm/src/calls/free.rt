@@ -20,6 +20,15 @@ impl<P: Packed, A: Allocator + Copy> Rank<P, A> {
     ///
     /// `SelfFailed` where the rank is declared, `NoSuchComm` where it doesn't hold the communicator, `WorldKept` where it is
     /// the world's own, `Busy` where a request is open on it.
+    ///
+    /// ```
+    /// // Rank 1 was declared failed before.
+    /// rank.ishrink(&world, &mut pass, 0)?;
+    /// rank.poll(&world, &mut pass, 0)?;
+    /// assert!(rt; rank.free(&world, &mut pass, 1) == Ok(()));
+    /// assert!(rt; rank.members(1).is_none());
+    /// assert!(rt; rank.free(&world, &mut pass, 0) == Err(Refusal::WorldKept));
+    /// ```
     #[inline(never)]
     pub fn free<W: Words<P, A>>(
         &mut self,

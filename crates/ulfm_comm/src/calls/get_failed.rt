@@ -22,6 +22,13 @@ impl<P: Packed, A: Allocator + Copy> Rank<P, A> {
     ///
     /// `SelfFailed` where the rank is declared, `NoSuchComm` where it doesn't hold the communicator, `OutOfMemory` where
     /// the vector has too little room and its growth is refused. After a refusal the vector is as it was.
+    ///
+    /// ```
+    /// // Rank 1 was declared failed before.
+    /// let mut found = Vec::new(alloc);
+    /// rank.get_failed(&world, &mut pass, 0, &mut found)?;
+    /// assert_eq!(rt; found.as_slice(), [1].as_slice());
+    /// ```
     #[inline(never)]
     pub fn get_failed<W: Words<P, A>, B: Allocator>(
         &mut self,

@@ -18,6 +18,12 @@ impl<P: Packed, A: Allocator + Copy> Rank<P, A> {
     /// Communicator Functions, `MPI_COMM_IS_REVOKED`).
     ///
     /// `SelfFailed` where the rank is declared, `NoSuchComm` where it doesn't hold the communicator.
+    ///
+    /// ```
+    /// assert!(rt; rank.is_revoked(&world, &mut pass, 0) == Ok(false));
+    /// rank.revoke(&world, &mut pass, 0)?;
+    /// assert!(rt; rank.is_revoked(&world, &mut pass, 0) == Ok(true));
+    /// ```
     #[inline(never)]
     pub fn is_revoked<W: Words<P, A>>(
         &mut self,

@@ -42,6 +42,18 @@ impl<P: Packed, A: Allocator + Copy> Rank<P, A> {
     ///
     /// With N ranks, n members and M communicators, the poll of an agree makes N + 2n steps at most, that of a shrink
     /// N + 2n + 2M, and that of a barrier N + n + 1.
+    ///
+    /// ```
+    /// let value = FlagAnd { bits: 0b0110 };
+    /// rank.iagree(&world, &mut pass, 0, value)?;
+    /// // Rank 1 was declared failed before, and is left out.
+    /// let agreed = Polled::Agreed {
+    ///     value,
+    ///     failed: 1,
+    ///     raised: true,
+    /// };
+    /// assert!(rt; rank.poll(&world, &mut pass, 0) == Ok(agreed));
+    /// ```
     #[inline(never)]
     pub fn poll<W: Words<P, A>>(
         &mut self,

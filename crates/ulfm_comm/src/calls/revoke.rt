@@ -19,6 +19,11 @@ impl<P: Packed, A: Allocator + Copy> Rank<P, A> {
     /// and give it back. It makes the steps of a look and one more (ULFM: Communicator Functions, `MPI_COMM_REVOKE`).
     ///
     /// `SelfFailed` where the rank is declared, `NoSuchComm` where it doesn't hold the communicator.
+    ///
+    /// ```
+    /// assert!(rt; rank.revoke(&world, &mut pass, 0) == Ok(true));
+    /// assert!(rt; rank.revoke(&world, &mut pass, 0) == Ok(false));
+    /// ```
     #[inline(never)]
     pub fn revoke<W: Words<P, A>>(
         &mut self,

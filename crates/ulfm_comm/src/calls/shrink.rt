@@ -26,6 +26,17 @@ impl<P: Packed, A: Allocator + Copy> Rank<P, A> {
     /// ids to one shrink at a time, `RoundsUsedUp` where no round is left. Then `SelfFailed` where another rank's mark came
     /// before the contribution, and `Twice` where another contribution stands at the rank's place. After a refusal no
     /// request was started.
+    ///
+    /// ```
+    /// // Rank 1 was declared failed before.
+    /// rank.ishrink(&world, &mut pass, 0)?;
+    /// let alone = Polled::Shrunk {
+    ///     comm: 1,
+    ///     context: 1,
+    ///     size: 1,
+    /// };
+    /// assert!(rt; rank.poll(&world, &mut pass, 0) == Ok(alone));
+    /// ```
     #[inline(never)]
     pub fn ishrink<W: Words<P, A>>(
         &mut self,

@@ -122,6 +122,15 @@ impl<P: Packed, A: Allocator> Model for Doing<P, A> {
 
 impl<P: Packed, A: Allocator> Doing<P, A> {
     /// The name of the next step. There is none where the rank was refused for good before: then the reply comes without one.
+    ///
+    /// ```
+    /// let asked = Call::IsRevoked {
+    ///     rank: rank.number(),
+    ///     comm: 0,
+    /// };
+    /// let doing = rank.begin(asked);
+    /// assert!(rt; doing.next() == Some(StepName::List));
+    /// ```
     pub fn next(&self) -> Option<StepName>
         ensures { result ≡ next_step self.now.phase }
     {
@@ -129,6 +138,15 @@ impl<P: Packed, A: Allocator> Doing<P, A> {
     }
 
     /// Whether its look goes on: that it has not ended yet. The step after which it does has ended it.
+    ///
+    /// ```
+    /// let asked = Call::IsRevoked {
+    ///     rank: rank.number(),
+    ///     comm: 0,
+    /// };
+    /// let doing = rank.begin(asked);
+    /// assert!(rt; doing.is_looking());
+    /// ```
     pub fn is_looking(&self) -> bool
         ensures { result ≡ is_looking self.now.phase }
     {

@@ -33,6 +33,15 @@ impl<P: Packed, A: Allocator + Copy> Rank<P, A> {
     }
 
     /// Begins a call of this rank, any but a declaration, to be taken step by step. It is no step.
+    ///
+    /// ```
+    /// let asked = Call::IsRevoked {
+    ///     rank: rank.number(),
+    ///     comm: 0,
+    /// };
+    /// let doing = rank.begin(asked);
+    /// assert!(rt; doing.next() == Some(StepName::List));
+    /// ```
     pub fn begin(&self, asked: Call<P>) -> Doing<P, A>
         requires { (traits_of asked).by ≡ OfRank self.now.number }
         ensures asked { result.asked ≡ asked }
