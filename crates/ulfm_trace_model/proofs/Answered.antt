@@ -1,15 +1,15 @@
 -- Each reply of a legal trace is an answer of the sequential object.
-use Rattle.std.proofs.Common.{◌≡◌, ◌⊎◌, ℕ, zero, suc, ◌≤◌, ◌==◌, Bool, true, false, List, [], ◌∷◌, ◌++◌, length, take, find, Option, Some, None, is_some, refl, ap, ap₂, sym, ◌∙◌, subst, append-nil, append_assoc, arith, IsTrue, IsFalse, inl, inr, if◌then◌else◌}
+use Rattle.std.proofs.Common.{◌≡◌, ◌⊎◌, ℕ, zero, suc, ◌≤◌, ◌==◌, Bool, true, false, List, [], ◌∷◌, ◌++◌, length, take, Option, Some, None, is_some, refl, ap, ap₂, sym, ◌∙◌, subst, append-nil, append_assoc, arith, IsTrue, IsFalse, inl, inr, if◌then◌else◌}
 use Rattle.std.specs.{Prelude.{drop}, List.{AllByRecursion}}
 use Rattle.std.proofs.Math.Seq.{take-append_seam}
 use Rattle.std.proofs.lemmas.{Bool.{eqb-true}, List.{take-append-drop}}
 use mathlib.Core.List.{IsPrefix}
 use Rattle.ulfm_model.specs.declared.{call.Call.{Call}, event.Caller.{Caller}, limits.Limits.{Limits}, refusal.Refusal.{Refusal}, reply.Reply.{Reply}}
 use Rattle.ulfm_model.specs.Answers.{Effect, IsReply, IsSelfFailed, MayOwn, Sees, View, left_by, left_with, polled_by, printed, comm_of}
-use Rattle.ulfm_model.specs.{History.{History, entries_by, failures}, Records.{Record, is_shrink}, Runs.{IsFailRun, IsRun, IsSpan, StandsIn}}
+use Rattle.ulfm_model.specs.{History.{History, entries_by, failures}, Records.{Record, is_shrink}, Runs.{IsRun, IsSpan, StandsIn}}
 use Rattle.ulfm_model.proofs.{Histories.{failures_begin}, Lists.{each_always, find_holds}}
 use Rattle.ulfm_trace_model.specs.declared.line.Line.{Line}
-use Rattle.ulfm_trace_model.specs.{Laws.{IsAnswer, IsRanksAnswer}, Traces.{AnswersCall, AnswersRank, AreLegalAfter, IsLegalTrace, MayReply, Traced, Told, Under, call_by, caller_of, found_by, nothing, record_of, said_by, same_caller, taken_in, view_at}}
+use Rattle.ulfm_trace_model.specs.{Laws.{IsAnswer, IsRanksAnswer}, Traces.{AnswersCall, AnswersRank, IsLegalTrace, MayReply, Traced, Told, Under, call_by, caller_of, found_by, nothing, record_of, said_by, same_caller, taken_in, view_at}}
 use Rattle.ulfm_trace_model.proofs.{Callers.{same_is}, Kept.{IsKept, Spans, found_sees, kept_along, kept_nothing}, Parts.{legal_parts}}
 
 -- a reply leaves what the record has seen

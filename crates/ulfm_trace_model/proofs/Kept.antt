@@ -1,15 +1,15 @@
 -- What the lines of a legal trace keep of each call under way.
-use Rattle.std.proofs.Common.{◌≡◌, ◌⊎◌, ℕ, ◌≤◌, ◌==◌, Bool, true, false, List, [], ◌∷◌, ◌++◌, length, take, map, find, filter, not, unwrap_or, Option, Some, None, is_some, refl, ap, ap₂, sym, ◌∙◌, subst, append-nil, append_assoc, IsTrue, IsFalse, inl, inr, if◌then◌else◌}
+use Rattle.std.proofs.Common.{◌≡◌, ◌⊎◌, ℕ, ◌==◌, Bool, true, false, List, [], ◌∷◌, ◌++◌, length, take, map, find, filter, not, unwrap_or, Option, Some, None, is_some, refl, ap, sym, ◌∙◌, subst, append-nil, append_assoc, IsTrue, IsFalse, inl, inr, if◌then◌else◌}
 use Rattle.std.proofs.Math.Seq.{take-append_seam}
 use Rattle.std.proofs.lemmas.List.{map-append}
 use Rattle.std.proofs.lemmas.Bool.{eqb-false, eqb-true, ne_eqb}
 use Rattle.std.specs.List.{AllByRecursion}
 use Rattle.ulfm_model.specs.declared.{call.Call.{Call}, event.Caller.{Caller}, event.Entry.{Entry}, event.Event.{Event}, limits.Limits.{Limits}, reply.Reply.{Reply}}
-use Rattle.ulfm_model.specs.{Answers.{MayOwn}, History.{History, IsLegal, MayFollow, entries_by, failures}, Records.{Record}, Runs.{StandsIn}}
-use Rattle.ulfm_model.proofs.{Histories.{failures_begin, legal_push}, LeftRuns.{left_number}, Lists.{each_filter, each_from, each_push}}
+use Rattle.ulfm_model.specs.{Answers.{MayOwn}, History.{History, IsLegal, entries_by, failures}, Records.{Record}, Runs.{StandsIn}}
+use Rattle.ulfm_model.proofs.{Histories.{failures_begin, legal_push}, LeftRuns.{left_number}, Lists.{each_push}}
 use Rattle.ulfm_trace_model.specs.declared.line.Line.{Line}
-use Rattle.ulfm_trace_model.specs.Traces.{AreLegalAfter, MayAdd, MayAddBy, MayCome, Told, Traced, Under, after, after_reply, call_by, caller_of, found_by, is_owned, nothing, record_of, records_after, said_by, same_caller, taken_in, with_event}
-use Rattle.ulfm_trace_model.proofs.Callers.{each_change, same_is, same_rank}
+use Rattle.ulfm_trace_model.specs.Traces.{AreLegalAfter, MayAddBy, MayCome, Told, Traced, Under, after, after_reply, call_by, caller_of, found_by, is_owned, nothing, record_of, records_after, said_by, same_caller, taken_in, with_event}
+use Rattle.ulfm_trace_model.proofs.Callers.{each_change, same_is}
 
 -- A call under way: the history when it began, what came up to its look, or up to now where it made none, and what came since. It found
 -- what had failed at its look; its own events have come since then, each as its look allowed it.

@@ -3,7 +3,7 @@ use Rattle.std.proofs.Common.{◌≡◌, ℕ, List, Some, None, is_some, refl, s
 use Rattle.ulfm_model.specs.{declared.event.Caller.{Caller}, History.{MayFollow}}
 use Rattle.ulfm_trace_model.specs.declared.line.{Line.{Line}, Why.{Why}}
 use Rattle.ulfm_trace_model.specs.Laws.{IsBadForOne}
-use Rattle.ulfm_trace_model.specs.Traces.{FailsAt, IsBad, IsOpen, MayAddBy, MayCome, Traced}
+use Rattle.ulfm_trace_model.specs.Traces.{FailsAt, IsOpen, MayAddBy, MayCome, Traced}
 
 module _ (one other : Why) (First Second Both : Type 0) (parts : Both → First × Second) (both : First → Second → Both) where
   tests_apart : (reason : Why) → FailsAt one First other Second reason → ¬ Both

@@ -1,0 +1,10 @@
+pub mod Failing
+pub mod Nexts
+pub mod Swapping
+pub mod Replying
+pub mod Stepped
+pub mod LookedAt
+pub mod LooksOn
+pub mod Early
+pub mod Others
+pub mod Beginning

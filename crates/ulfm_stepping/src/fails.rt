@@ -1,0 +1,25 @@
+// A whole declaration.
+ghost use Rattle.std.specs.Prelude.{◌≡◌};
+ghost use Rattle.ulfm_words.specs.{Pass.{plain_name}, Steps.{IsOf}};
+ghost use Rattle.ulfm_comm.specs.{Calls.{reply_of}, Fails.{declared}};
+ghost use Rattle.ulfm_stepping.specs.Failing.{TellsFail};
+
+use std::alloc::Allocator;
+use ulfm_comm::World;
+use ulfm_laws::meld::Packed;
+use ulfm_model::refusal::Refusal;
+use ulfm_words::{PlainPass, PlainWords};
+
+/// The outside declares a rank, whole: where the lines so far say what the pass has seen, the lines of its call, its event and its reply
+/// may come, and are the piece of a line `fail R`.
+pub fn fail_whole<P: Packed, A: Allocator + Copy + Drop>(
+    world: &World<PlainWords<P>, P, A>,
+    pass: &mut PlainPass<P, A>,
+    rank: u16,
+) -> Result<bool, Refusal>
+    requires of { IsOf P.meld (plain_name world.now.words.limits) pass.old }
+    ensures of { IsOf P.meld (plain_name world.now.words.limits) pass.new }
+    ensures tells { TellsFail P.meld (plain_name world.now.words.limits) rank pass.old (reply_of declared result) pass.new }
+{
+    world.fail(pass, rank)
+}
