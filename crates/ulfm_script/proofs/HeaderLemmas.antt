@@ -41,9 +41,9 @@ limits_found fields limits e =
           )
       | inr that ↦ absurd (let k : (let r : Result Limits LineKind = Err Header in r) ≡ Ok limits = that.1 in cc)
     ]
-    where
-      if_version : List ℕ × List ℕ × List ℕ × List ℕ → Result Limits LineKind
-      if_version w = cond (bytes_eq w.0 (codes "1")) (numbers_of (w.1, w.2, w.3)) (Err Header)
+  where
+    if_version : List ℕ × List ℕ × List ℕ × List ℕ → Result Limits LineKind
+    if_version w = cond (bytes_eq w.0 (codes "1")) (numbers_of (w.1, w.2, w.3)) (Err Header)
 
 opened : (b : Bool) (x y : Limits) → cond b (done x) (Err BadLimits) ≡ Ok y → x ≡ y
 opened true x y e = same_done x y e

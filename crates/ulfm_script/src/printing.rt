@@ -188,10 +188,7 @@ fn verb(call: &Call<FlagAnd>) -> &'static [u8]
 }
 
 /// What stands behind the verb.
-fn print_fields<A: Allocator>(
-    text: &mut Vec<u8, A>,
-    call: &Call<FlagAnd>,
-) -> Result<(), AllocError>
+fn print_fields<A: Allocator>(text: &mut Vec<u8, A>, call: &Call<FlagAnd>) -> Result<(), AllocError>
     ensures { OnOk result (text.new.items ≡ text.old.items ++ fields_text call.now) }
 {
     match *call {
