@@ -1,0 +1,4 @@
+pub mod LineTexts
+pub mod StepLines
+pub mod StepNames
+pub mod Stepped
