@@ -137,8 +137,8 @@ pub writes_more : (a b c : Option (List ℕ)) (bytes : List ℕ) (i n : ℕ) →
 writes_more a b c bytes i n h k = (take (i + n) bytes, (drop (i + n) bytes, take-append-drop (i + n) bytes), appends_more a b c bytes i n h k)
 
 -- a line that the reader broke off
-pub failed_line : (a b c : Option (List ℕ)) (bytes kept done : List ℕ) (fault : RunFault) → HasNoNewline done → Consumes a b done → Keeps b c × (bytes ≡ []) × (fault ≡ Read) → TakesLine a c bytes kept (Err fault)
-failed_line a b c bytes kept done fault free h k = rw k.2 (done, free, k.1, consumes_keeps a b c done h k.0)
+pub failed_line : (most : ℕ) (a b c : Option (List ℕ)) (bytes kept done : List ℕ) (fault : RunFault) → HasNoNewline done → Consumes a b done → Keeps b c × (bytes ≡ []) × (fault ≡ Read) → TakesLine most a c bytes kept (Err fault)
+failed_line most a b c bytes kept done fault free h k = rw k.2 (done, free, k.1, consumes_keeps a b c done h k.0)
 
 -- nothing is left behind what is pending
 pub end_behind : (bytes : List ℕ) (known : Option (List ℕ)) → IsAtEnd (prepend_known bytes known) → IsAtEnd known

@@ -1,4 +1,5 @@
 pub mod ByteLemmas
+pub mod HeaderLemmas
 pub mod Hexadecimal
 pub mod Numerals
 pub mod RunLemmas

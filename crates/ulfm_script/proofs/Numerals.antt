@@ -4,7 +4,7 @@ use Rattle.std.specs.{Prelude.{◌⊎◌, ◌==◌, nat_lt}, Int.{IsInRange}, Fm
 use Rattle.std.proofs.lemmas.{Bool.{cases_lt, lt-leb, le-leb, le-ltb, ltb-false}, Bool.Decides.{nat_tests}, Str.Parse.{IsNumeralModel, numerals_by_fold, digits_value_short}, Fmt.{decimal-digits_value, digits_decimal, digits_value-decimal, length-decimal-le, decimal_nonempty, decimal_digit, first_decimal}}
 use Rattle.ulfm_script.specs.declared.line_kind.LineKind.{LineKind}
 use Rattle.ulfm_script.specs.declared.line_kind.LineKind.TheVariants.{Number}
-use Rattle.ulfm_script.specs.Digits.{digit_of, digits_after, number_of, number_to}
+use Rattle.ulfm_script.specs.Digits.{digit_of, digits_after, number_in, number_of, number_to, point_of}
 
 -- all are decimal digits
 abbrev pub AreDigits : List ℕ → Type 0
@@ -49,31 +49,44 @@ passed true kind y z e = absurd cc
 passed false kind y z e = (refl, e)
 
 -- the test of a number's length and first digit
-abbrev is_bad : ℕ → ℕ → Bool
-is_bad n first = (n == 0) || nat_lt 4 n || (nat_lt 1 n && (first == 48))
+abbrev is_bad : ℕ → ℕ → ℕ → Bool
+is_bad most n first = (n == 0) || nat_lt most n || (nat_lt 1 n && (first == 48))
 
-not_empty : (n first : ℕ) → is_bad n first ≡ false → 0 < n
-not_empty n first e = grind (arith, nat_tests, e)
+not_empty : (most n first : ℕ) → is_bad most n first ≡ false → 0 < n
+not_empty most n first e = grind (arith, nat_tests, e)
 
-not_long : (n first : ℕ) → is_bad n first ≡ false → n ≤ 4
-not_long n first e = grind (arith, nat_tests, e)
+not_long : (most n first : ℕ) → is_bad most n first ≡ false → n ≤ most
+not_long most n first e = grind (arith, nat_tests, e)
 
-zero_alone : (n first : ℕ) → is_bad n first ≡ false → first ≡ 48 → n ≡ 1
-zero_alone n first e z = grind (arith, nat_tests, e, z)
+zero_alone : (most n first : ℕ) → is_bad most n first ≡ false → first ≡ 48 → n ≡ 1
+zero_alone most n first e z = grind (arith, nat_tests, e, z)
 
-is_good : (n first : ℕ) → 0 < n → n ≤ 4 → (first ≡ 48 → n ≡ 1) → is_bad n first ≡ false
-is_good n first some short alone = grind (arith, nat_tests, some, short, alone)
+is_good : (most n first : ℕ) → 0 < n → n ≤ most → (first ≡ 48 → n ≡ 1) → is_bad most n first ≡ false
+is_good most n first some short alone = grind (arith, nat_tests, some, short, alone)
+
+-- a number of at most so many digits that was read is printed so
+in_found : (most : ℕ) (w : List ℕ) (n : ℕ) → 10 ^ most < 2 ^ 64 → number_in most w ≡ Ok n → (n < 10 ^ most) × (w ≡ decimal n)
+unfolding number_in
+in_found most w n wide e =
+    let h = passed (is_bad most (length w) (get_or w 0 0)) Number (digits_after Number 10 digit_of 0 w) n e in
+    let t = digits_read 0 n w h.1 in
+    let some = not_empty most (length w) (get_or w 0 0) h.0 in
+    let short = not_long most (length w) (get_or w 0 0) h.0 in
+    let small : read_on 0 w < 10 ^ most = digits_value_short own w most t.0 short in
+    let is : decimal (read_on 0 w) ≡ w = decimal-digits_value own w t.0 some (zero_alone most (length w) (get_or w 0 0) h.0) (omega (arith, small, wide)) in
+    (omega (arith, small, t.1), sym (ap decimal t.1 ∙ is))
 
 -- a number that was read is printed so
 pub number_found : (w : List ℕ) (n : ℕ) → number_of w ≡ Ok n → (n < 10000) × (w ≡ decimal n)
-unfolding number_of
-number_found w n e =
-    let h = passed (is_bad (length w) (get_or w 0 0)) Number (digits_after Number 10 digit_of 0 w) n e in
-    let t = digits_read 0 n w h.1 in
-    let some = not_empty (length w) (get_or w 0 0) h.0 in
-    let short = not_long (length w) (get_or w 0 0) h.0 in
-    let small : read_on 0 w < 10 ^ 4 = digits_value_short own w 4 t.0 short in
-    (omega (arith, small, t.1), sym (ap decimal t.1 ∙ decimal-digits_value own w t.0 some (zero_alone (length w) (get_or w 0 0) h.0) (omega (arith, small))))
+number_found w n e = in_found 4 w n (omega arith) e
+
+-- and so is a count of events
+pub point_found : (w : List ℕ) (n : ℕ) → point_of w ≡ Ok n → (n < 10000000) × (w ≡ decimal n)
+point_found w n e = in_found 7 w n (omega arith) e
+
+-- what was read is in its range
+pub number_fits : (r : Result ℕ LineKind) (w : List ℕ) (n : ℕ) → r ≡ number_of w → r ≡ Ok n → n < 10000
+number_fits r w n e f = (number_found w n (sym e ∙ f)).0
 
 one_zero : (n : ℕ) → n < 2 ^ 64 → get_or (decimal n) 0 0 ≡ 48 → length (decimal n) ≡ 1
 one_zero n wide e = elim (cases_lt 0 n) [
@@ -81,13 +94,20 @@ one_zero n wide e = elim (cases_lt 0 n) [
   | inr none ↦ ap (λ (ds : List ℕ). length ds) (decimal_digit n (omega arith))
 ]
 
+in_again : (most n : ℕ) → 0 < most → 10 ^ most < 2 ^ 64 → n < 10 ^ most → number_in most (decimal n) ≡ Ok n
+unfolding number_in
+in_again most n some small h =
+    let wide : n < 2 ^ 64 = omega (arith, h, small) in
+    let good = is_good most (length (decimal n)) (get_or (decimal n) 0 0) (decimal_nonempty n wide) (length-decimal-le most n some h wide) (one_zero n wide) in
+    rw (good, digits_again 0 (decimal n) (digits_decimal own n wide)) (ap (λ (k : ℕ). Ok k) (digits_value-decimal own n wide))
+
 -- a number that was printed is read
 pub number_again : (n : ℕ) → n < 10000 → number_of (decimal n) ≡ Ok n
-unfolding number_of
-number_again n h =
-    let wide : n < 2 ^ 64 = omega (arith, h) in
-    let good = is_good (length (decimal n)) (get_or (decimal n) 0 0) (decimal_nonempty n wide) (length-decimal-le 4 n (omega arith) h wide) (one_zero n wide) in
-    rw (good, digits_again 0 (decimal n) (digits_decimal own n wide)) (ap (λ (k : ℕ). Ok k) (digits_value-decimal own n wide))
+number_again n h = in_again 4 n (omega arith) (omega arith) (omega (arith, h))
+
+-- and so is a count of events
+pub point_again : (n : ℕ) → n < 10000000 → point_of (decimal n) ≡ Ok n
+point_again n h = in_again 7 n (omega arith) (omega arith) (omega (arith, h))
 
 -- the same up to a greatest number
 pub number_to_again : (most n : ℕ) → most < 10000 → n ≤ most → number_to most (decimal n) ≡ Ok n

@@ -6,6 +6,7 @@ use Rattle.std.proofs.lemmas.List.{append-nil}
 use Rattle.ulfm_model.specs.declared.limits.Limits.{Limits}
 use Rattle.ulfm_model.specs.Runs.{new_state}
 use Rattle.ulfm_model.specs.Answers.{traits_of}
+use Rattle.ulfm_script.specs.declared.header_kind.HeaderKind.TheVariants.{Calls}
 use Rattle.ulfm_script.specs.declared.line_kind.LineKind.{LineKind}
 use Rattle.ulfm_script.specs.declared.line_kind.LineKind.TheVariants.{Cut, Header, Long}
 use Rattle.ulfm_script.specs.declared.fault.RunFault.{RunFault}
@@ -139,7 +140,7 @@ ended_by_writer known b left old mid v ahead t n i new w k =
 
 -- a line couldn't be read
 pub ended_by_read : (known b left old mid : Known) (v ahead kept : List ℕ) (t : ScriptState) (n : ℕ) (fault : RunFault)
-    → Going known b old mid v t n → TakesLine b (prepend_known ahead left) ahead kept (Err fault) → RunsUpTo known left ahead old mid v (Err fault)
+    → Going known b old mid v t n → TakesLine 65 b (prepend_known ahead left) ahead kept (Err fault) → RunsUpTo known left ahead old mid v (Err fault)
 ended_by_read known b left old mid v ahead kept t n Read i k =
     (stops_inside known b left old mid mid v v k.0 t n HasNoNewline i (taken_of_reader b left ahead k.0 k.2 k.3) k.1 (holds_still mid v), k.2)
 ended_by_read known b left old mid v ahead kept t n Memory i k =
@@ -271,7 +272,7 @@ ended_unopened state ahead known left old w (Line m kind) e k = record {
 
 -- the first line couldn't be read
 pub unopened_read : {M : Type 0} (state : M → ScriptState) (old new : Known) (bytes kept : List ℕ) (fault : RunFault)
-    → TakesLine old new bytes kept (Err fault) → Opens state old new bytes (Err fault)
+    → TakesLine 65 old new bytes kept (Err fault) → Opens state old new bytes (Err fault)
 unopened_read state old new bytes kept Memory h = (h.0, of_line h.0 h.1, h.2)
 unopened_read state old new bytes kept Read h = h
 unopened_read state old new bytes kept Write h = h
@@ -304,8 +305,8 @@ unopened_line a b line kind free q h =
     ((line ++ 10 ∷ []) ++ x.0, x.1, comes_unopened line x.0 kind free h)
 
 -- what the first line gives, by what is kept of it
-pub header_read : (line kept shown : List ℕ) (read : Result Limits LineKind) → kept ≡ take 65 line → length kept ≤ 64 → shown ≡ kept → read ≡ header_of shown → header_at line ≡ read
-header_read line kept shown read e short same h = sym (kept_header line) ∙ ap header_at (sym e) ∙ short_header kept short ∙ ap header_of (sym same) ∙ sym h
+pub header_read : (line kept shown : List ℕ) (read : Result Limits LineKind) → kept ≡ take 65 line → length kept ≤ 64 → shown ≡ kept → read ≡ header_of Calls shown → header_at line ≡ read
+header_read line kept shown read e short same h = sym (kept_header line) ∙ ap header_at (sym e) ∙ short_header kept short ∙ ap (header_of Calls) (sym same) ∙ sym h
 
 -- a line of which more than 64 bytes are kept is no header
 pub header_long : (line kept : List ℕ) → kept ≡ take 65 line → 64 < length kept → header_at line ≡ Err Long

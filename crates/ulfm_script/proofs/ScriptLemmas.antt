@@ -2,6 +2,7 @@
 use Rattle.std.proofs.Common.{◌≡◌, ◌⊎◌, ℕ, Bool, true, false, ◌==◌, if◌then◌else◌, ◌+◌, ◌<◌, ◌≤◌, List, [], ◌∷◌, ◌++◌, length, take, Some, None, Result, Ok, Err, refl, sym, ap, ◌∙◌, append_assoc, arith, inl, inr}
 use Rattle.std.proofs.lemmas.{Bool.{ne_eqb, lt-ltb, le-ltb, cases_lt}, List.{append-nil, take_all, length-take}}
 use Rattle.ulfm_model.specs.declared.limits.Limits.{Limits}
+use Rattle.ulfm_script.specs.declared.header_kind.HeaderKind.TheVariants.{Calls}
 use Rattle.ulfm_script.specs.declared.line_kind.LineKind.{LineKind}
 use Rattle.ulfm_script.specs.declared.line_kind.LineKind.TheVariants.{Cut, Header, Long}
 use Rattle.ulfm_script.specs.{Buffers.{HasNoNewline}, Calls.{ScriptCall, call_of}, Headers.{header_of}, Scripts.{Asked, Script, asked_by, asked_last, asked_then, call_at, header_at, lines_from, no_lines, rest_from, script_by, script_of, stopped, with_header, without_header}, Written.{Begins}}
@@ -48,7 +49,7 @@ pub long_header : (line : List ℕ) → 64 < length line → header_at line ≡ 
 long_header line h = rw (lt-ltb 64 (length line) h) refl
 
 -- a line that is not too long gives what its words give
-pub short_header : (line : List ℕ) → length line ≤ 64 → header_at line ≡ header_of line
+pub short_header : (line : List ℕ) → length line ≤ 64 → header_at line ≡ header_of Calls line
 short_header line h = rw (le-ltb 64 (length line) h) refl
 
 -- the same of a call, within the lines that a script may have

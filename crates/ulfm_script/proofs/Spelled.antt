@@ -9,13 +9,16 @@ use Rattle.ulfm_script.specs.declared.line_kind.LineKind.TheVariants.{Verb}
 use Rattle.ulfm_script.specs.{Calls.{ScriptCall, place_of, fail_of, ack_of, agree_of, plain_of, call_from, call_of}, Digits.{rank_of, comm_of, number_of, flag_of, flag_text}, Spelling.{IsOnComm, Spells}, Steps.{◌>>=◌}, Words.{word_of, one_of, two_of, three_of}}
 use Rattle.ulfm_script.proofs.{Hexadecimal.{flag_again, flag_found}, Numerals.{number_again, number_found, number_to_again, number_to_found}, WordLemmas.{IsWord, decimal_is_word, flag_is_word, joined, joined_word, one_again, one_found, same_done, step_found, three_again, three_found, two_again, two_found}}
 
-rank_again : (rank : ℕ) → rank < 1024 → rank_of (decimal rank) ≡ Ok rank
+-- a rank that was printed is read
+pub rank_again : (rank : ℕ) → rank < 1024 → rank_of (decimal rank) ≡ Ok rank
 rank_again rank h = number_to_again 1023 rank (omega arith) (omega (arith, h))
 
-comm_again : (comm : ℕ) → comm < 256 → comm_of (decimal comm) ≡ Ok comm
+-- and so is a communicator
+pub comm_again : (comm : ℕ) → comm < 256 → comm_of (decimal comm) ≡ Ok comm
 comm_again comm h = number_to_again 255 comm (omega arith) (omega (arith, h))
 
-number_is_word : (n : ℕ) → n < 10000 → IsWord (decimal n)
+-- a number can be a word
+pub number_is_word : (n : ℕ) → n < 10000 → IsWord (decimal n)
 number_is_word n h = decimal_is_word n (omega (arith, h))
 
 fail_again : (rank : ℕ) → rank < 1024 → call_of (codes "fail " ++ decimal rank) ≡ Ok (Fail rank)
@@ -157,7 +160,7 @@ agree_found fields call e =
     (three_line (codes "agree") fields w.0.0 w.0.1 w.0.2 (flag_text n.0) p.rank p.comm (three_found fields w.0 w.1) p.rank_fits p.comm_fits p.a_is p.b_is (flag_found w.0.2 n.0 n.1))
 
 -- one of two ways
-chosen : {A : Type 0} (b : Bool) (x y z : A) → cond b x y ≡ z → ((b ≡ true) × (x ≡ z)) ⊎ ((b ≡ false) × (y ≡ z))
+pub chosen : {A : Type 0} (b : Bool) (x y z : A) → cond b x y ≡ z → ((b ≡ true) × (x ≡ z)) ⊎ ((b ≡ false) × (y ≡ z))
 chosen true x y z e = inl (refl, e)
 chosen false x y z e = inr (refl, e)
 

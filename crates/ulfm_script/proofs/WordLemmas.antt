@@ -5,7 +5,7 @@ use Rattle.std.proofs.lemmas.{Bool.{ne_eqb, cases_eq, eq-eqb}, List.{append-nil}
 use Rattle.ulfm_laws.specs.declared.flag_and.FlagAnd.{FlagAnd}
 use Rattle.ulfm_script.specs.declared.line_kind.LineKind.{LineKind}
 use Rattle.ulfm_script.specs.declared.line_kind.LineKind.TheVariants.{Words}
-use Rattle.ulfm_script.specs.{Digits.{flag_text}, Steps.{◌>>=◌}, Words.{word_from, word_of, next_word, ended, one_of, two_of, three_of}}
+use Rattle.ulfm_script.specs.{Digits.{flag_text}, Steps.{◌>>=◌}, Words.{word_from, word_of, next_word, ended, one_of, two_of, three_of, four_of}}
 use Rattle.ulfm_script.proofs.{Hexadecimal.{flag_free, length-flag_text}, Numerals.{AreDigits, own}}
 
 -- a text that can be a word
@@ -39,11 +39,13 @@ word_alone front (x ∷ xs) h = rw (ne_eqb x 32 h.0) (word_alone (front ++ x ∷
 not_empty : (word : List ℕ) → IsWord word → length word ≢ 0
 not_empty word h e = omega (arith, h.some, e)
 
-next_before : (word rest : List ℕ) → IsWord word → next_word (Some (word ++ 32 ∷ rest)) ≡ Ok (word, Some rest)
+-- the next word, where more stand behind it
+pub next_before : (word rest : List ℕ) → IsWord word → next_word (Some (word ++ 32 ∷ rest)) ≡ Ok (word, Some rest)
 unfolding next_word
 next_before word rest h = rw (word_before [] word rest h.free, ne_eqb (length word) 0 (not_empty word h)) refl
 
-next_alone : (word : List ℕ) → IsWord word → next_word (Some word) ≡ Ok (word, None)
+-- the next word, where it is the last
+pub next_alone : (word : List ℕ) → IsWord word → next_word (Some word) ≡ Ok (word, None)
 unfolding next_word
 next_alone word h = rw (word_alone [] word h.free, ne_eqb (length word) 0 (not_empty word h)) refl
 
@@ -61,6 +63,11 @@ two_again a b h k = rw (next_before a b h, one_again b k) refl
 pub three_again : (a b c : List ℕ) → IsWord a → IsWord b → IsWord c → three_of (Some (a ++ 32 ∷ (b ++ 32 ∷ c))) ≡ Ok (a, b, c)
 unfolding three_of
 three_again a b c h k l = rw (next_before a (b ++ 32 ∷ c) h, two_again b c k l) refl
+
+-- so are four words
+pub four_again : (a b c d : List ℕ) → IsWord a → IsWord b → IsWord c → IsWord d → four_of (Some (a ++ 32 ∷ (b ++ 32 ∷ (c ++ 32 ∷ d)))) ≡ Ok (a, b, c, d)
+unfolding four_of
+four_again a b c d h k l m = rw (next_before a (b ++ 32 ∷ (c ++ 32 ∷ d)) h, three_again b c d k l m) refl
 
 -- a word and the text behind it, put together again
 abbrev pub joined : List ℕ → Option (List ℕ) → List ℕ
@@ -83,7 +90,8 @@ pub step_found : {A B : Type 0} (r : Result A LineKind) (f : A → Result B Line
 step_found (Ok x) f y e = (x, refl, e)
 step_found (Err kind) f y e = absurd cc
 
-abbrev done : {A : Type 0} → A → Result A LineKind
+-- what was read
+abbrev pub done : {A : Type 0} → A → Result A LineKind
 done x = Ok x
 
 -- two values that were both read are one
@@ -94,14 +102,16 @@ passed_word : (b : Bool) (x y : List ℕ × Option (List ℕ)) → cond b (Err W
 passed_word true x y e = absurd cc
 passed_word false x y e = same_done x y e
 
-next_found : (text : Option (List ℕ)) (x : List ℕ × Option (List ℕ)) → next_word text ≡ Ok x → text ≡ Some (joined x.0 x.1)
+-- the next word that was read stands there
+pub next_found : (text : Option (List ℕ)) (x : List ℕ × Option (List ℕ)) → next_word text ≡ Ok x → text ≡ Some (joined x.0 x.1)
 unfolding next_word
 next_found None x e = absurd cc
 next_found (Some text) x e =
     let is = passed_word (length (word_of text).0 == 0) (word_of text) x e in
     ap (λ (t : List ℕ). Some t) (sym (joined_word text) ∙ ap (λ (y : List ℕ × Option (List ℕ)). joined y.0 y.1) is)
 
-ended_found : {A : Type 0} (text : Option (List ℕ)) (x y : A) → ended text x ≡ Ok y → (text ≡ None) × (x ≡ y)
+-- nothing stands behind what was read
+pub ended_found : {A : Type 0} (text : Option (List ℕ)) (x y : A) → ended text x ≡ Ok y → (text ≡ None) × (x ≡ y)
 ended_found None x y e = (refl, same_done x y e)
 ended_found (Some text) x y e = absurd cc
 
@@ -130,3 +140,12 @@ three_found text x e =
     let rest = step_found (two_of first.0.1) (λ b. done (first.0.0, b.0, b.1)) x first.2 in
     let is = same_done (first.0.0, rest.0.0, rest.0.1) x rest.2 in
     next_found text first.0 first.1 ∙ ap (λ (o : Option (List ℕ)). Some (joined first.0.0 o)) (two_found first.0.1 rest.0 rest.1) ∙ ap (λ (y : List ℕ × List ℕ × List ℕ). Some (y.0 ++ 32 ∷ (y.1 ++ 32 ∷ y.2))) is
+
+-- so do four words
+pub four_found : (text : Option (List ℕ)) (x : List ℕ × List ℕ × List ℕ × List ℕ) → four_of text ≡ Ok x → text ≡ Some (x.0 ++ 32 ∷ (x.1 ++ 32 ∷ (x.2 ++ 32 ∷ x.3)))
+unfolding four_of
+four_found text x e =
+    let first = step_found (next_word text) (λ a. three_of a.1 >>= λ b. Ok (a.0, b.0, b.1, b.2)) x e in
+    let rest = step_found (three_of first.0.1) (λ b. done (first.0.0, b.0, b.1, b.2)) x first.2 in
+    let is = same_done (first.0.0, rest.0.0, rest.0.1, rest.0.2) x rest.2 in
+    next_found text first.0 first.1 ∙ ap (λ (o : Option (List ℕ)). Some (joined first.0.0 o)) (three_found first.0.1 rest.0 rest.1) ∙ ap (λ (y : List ℕ × List ℕ × List ℕ × List ℕ). Some (y.0 ++ 32 ∷ (y.1 ++ 32 ∷ (y.2 ++ 32 ∷ y.3)))) is

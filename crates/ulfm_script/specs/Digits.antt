@@ -20,11 +20,19 @@ abbrev pub digits_after : LineKind → ℕ → (ℕ → Option ℕ) → ℕ → 
 digits_after kind base digit value [] = Ok value
 digits_after kind base digit value (x ∷ xs) = or_fault kind (digit x) >>= λ d. digits_after kind base digit (value * base + d) xs
 
--- a number has one to four decimal digits, and no zero before others
-unfoldable pub number_of : List ℕ → Result ℕ LineKind
-number_of word =
-    if (length word == 0) || nat_lt 4 (length word) || (nat_lt 1 (length word) && (slice_index word 0 == 48)) then Err Number
+-- a number has one to so many decimal digits, and no zero before others
+unfoldable pub number_in : ℕ → List ℕ → Result ℕ LineKind
+number_in most word =
+    if (length word == 0) || nat_lt most (length word) || (nat_lt 1 (length word) && (slice_index word 0 == 48)) then Err Number
     else digits_after Number 10 digit_of 0 word
+
+-- most numbers have at most four digits
+abbrev pub number_of : List ℕ → Result ℕ LineKind
+number_of word = number_in 4 word
+
+-- a count of events has at most seven
+abbrev pub point_of : List ℕ → Result ℕ LineKind
+point_of word = number_in 7 word
 
 -- a number up to a greatest one
 unfoldable pub number_to : ℕ → List ℕ → Result ℕ LineKind

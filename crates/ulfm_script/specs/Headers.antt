@@ -1,13 +1,25 @@
--- The first line of a script, which gives the limits of its world.
-use Rattle.std.specs.Prelude.{ℕ, List, codes, Option, Bool, ◌&&◌, nat_lt, nat_le, Result, Ok, Err, if◌then◌else◌}
-use Rattle.std.specs.Str.{bytes_eq}
+-- The first line of a script or a trace, which gives the limits of its world.
+use Rattle.std.specs.Prelude.{ℕ, List, ◌∷◌, ◌++◌, codes, Option, Bool, ◌&&◌, nat_lt, nat_le, Result, Ok, Err, if◌then◌else◌}
+use Rattle.std.specs.{Fmt.{decimal}, Str.{bytes_eq}}
 use Rattle.ulfm_model.specs.declared.limits.Limits.{Limits}
 use Rattle.ulfm_model.specs.Words.{size_of}
+use Rattle.ulfm_script.specs.declared.header_kind.HeaderKind.{HeaderKind}
+use Rattle.ulfm_script.specs.declared.header_kind.HeaderKind.TheVariants.{Calls, Steps, Trace}
 use Rattle.ulfm_script.specs.declared.line_kind.LineKind.{LineKind}
 use Rattle.ulfm_script.specs.declared.line_kind.LineKind.TheVariants.{Header, Limits as BadLimits}
 use Rattle.ulfm_script.specs.Digits.{number_of}
 use Rattle.ulfm_script.specs.Steps.{◌>>=◌, with_fault}
 use Rattle.ulfm_script.specs.Words.{word_of, four_of}
+
+-- the first word of each kind
+abbrev pub kind_text : HeaderKind → List ℕ
+kind_text Calls = codes "ulfm"
+kind_text Steps = codes "ulfm-steps"
+kind_text Trace = codes "ulfm-trace"
+
+-- the header of these limits
+abbrev pub header_text : HeaderKind → Limits → List ℕ
+header_text kind limits = kind_text kind ++ (codes " 1 " ++ (decimal limits.ranks ++ 32 ∷ (decimal limits.comms ++ 32 ∷ decimal limits.rounds)))
 
 -- a number from 1 to a greatest one
 abbrev pub is_up_to : ℕ → ℕ → Bool
@@ -33,9 +45,9 @@ limits_of fields = do
   if bytes_eq words.0 (codes "1") then numbers_of (words.1, words.2, words.3) else Err Header
 
 -- a name, and the text behind it; whatever is wrong with its form is the one fault
-abbrev pub form_from : List ℕ × Option (List ℕ) → Result Limits LineKind
-form_from first = if bytes_eq first.0 (codes "ulfm") then with_fault Header (limits_of first.1) else Err Header
+abbrev pub form_from : HeaderKind → List ℕ × Option (List ℕ) → Result Limits LineKind
+form_from kind first = if bytes_eq first.0 (kind_text kind) then with_fault Header (limits_of first.1) else Err Header
 
--- the limits that a header gives
-unfoldable pub header_of : List ℕ → Result Limits LineKind
-header_of line = form_from (word_of line) >>= λ limits. if may_open limits then Ok limits else Err BadLimits
+-- the limits that a header of this kind gives
+unfoldable pub header_of : HeaderKind → List ℕ → Result Limits LineKind
+header_of kind line = form_from kind (word_of line) >>= λ limits. if may_open limits then Ok limits else Err BadLimits

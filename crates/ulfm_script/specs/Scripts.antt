@@ -1,6 +1,7 @@
 -- What the text of a script asks for.
 use Rattle.std.specs.Prelude.{ℕ, ◌+◌, List, [], ◌∷◌, ◌++◌, length, Option, Some, None, Result, Ok, Err, ◌==◌, nat_lt, if◌then◌else◌}
 use Rattle.ulfm_model.specs.declared.limits.Limits.{Limits}
+use Rattle.ulfm_script.specs.declared.header_kind.HeaderKind.TheVariants.{Calls}
 use Rattle.ulfm_script.specs.declared.line_kind.LineKind.{LineKind}
 use Rattle.ulfm_script.specs.declared.line_kind.LineKind.TheVariants.{Cut, Long, Lines, Header}
 use Rattle.ulfm_script.specs.{Calls.{ScriptCall, call_of}, Headers.{header_of}}
@@ -32,7 +33,7 @@ call_at number line = if nat_lt 64 (length line) then Err Long else (if nat_lt 1
 
 -- the limits of the first line, or its first fault
 abbrev pub header_at : List ℕ → Result Limits LineKind
-header_at line = if nat_lt 64 (length line) then Err Long else header_of line
+header_at line = if nat_lt 64 (length line) then Err Long else header_of Calls line
 
 -- a fault in the line of this number
 abbrev pub stopped : ℕ → LineKind → Asked

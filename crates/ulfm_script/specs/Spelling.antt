@@ -11,18 +11,52 @@ pub record IsOnComm (line verb : List ℕ) (rank comm : ℕ) (behind : List ℕ)
   pub comm_fits : comm < 256
   pub line_is : line ≡ verb ++ (decimal rank ++ 32 ∷ (decimal comm ++ behind))
 
+-- the verb of each call, and a space
+abbrev pub verb_text : ScriptCall → List ℕ
+verb_text (Fail rank) = codes "fail "
+verb_text (GetFailed rank comm) = codes "get "
+verb_text (Ack rank comm count) = codes "ack "
+verb_text (Agree rank comm flag) = codes "agree "
+verb_text (Shrink rank comm) = codes "shrink "
+verb_text (Barrier rank comm) = codes "barrier "
+verb_text (Poll rank comm) = codes "poll "
+verb_text (Revoke rank comm) = codes "revoke "
+verb_text (IsRevoked rank comm) = codes "isrevoked "
+verb_text (Free rank comm) = codes "free "
+
 -- the line spells the call
 abbrev pub Spells : List ℕ → ScriptCall → Type 0
-Spells line (Fail rank) = (rank < 1024) × (line ≡ codes "fail " ++ decimal rank)
-Spells line (GetFailed rank comm) = IsOnComm line (codes "get ") rank comm []
-Spells line (Ack rank comm count) = (count < 10000) × IsOnComm line (codes "ack ") rank comm (32 ∷ decimal count)
-Spells line (Agree rank comm flag) = IsOnComm line (codes "agree ") rank comm (32 ∷ flag_text flag)
-Spells line (Shrink rank comm) = IsOnComm line (codes "shrink ") rank comm []
-Spells line (Barrier rank comm) = IsOnComm line (codes "barrier ") rank comm []
-Spells line (Poll rank comm) = IsOnComm line (codes "poll ") rank comm []
-Spells line (Revoke rank comm) = IsOnComm line (codes "revoke ") rank comm []
-Spells line (IsRevoked rank comm) = IsOnComm line (codes "isrevoked ") rank comm []
-Spells line (Free rank comm) = IsOnComm line (codes "free ") rank comm []
+Spells line (Fail rank) = (rank < 1024) × (line ≡ verb_text (Fail rank) ++ decimal rank)
+Spells line (GetFailed rank comm) = IsOnComm line (verb_text (GetFailed rank comm)) rank comm []
+Spells line (Ack rank comm count) = (count < 10000) × IsOnComm line (verb_text (Ack rank comm count)) rank comm (32 ∷ decimal count)
+Spells line (Agree rank comm flag) = IsOnComm line (verb_text (Agree rank comm flag)) rank comm (32 ∷ flag_text flag)
+Spells line (Shrink rank comm) = IsOnComm line (verb_text (Shrink rank comm)) rank comm []
+Spells line (Barrier rank comm) = IsOnComm line (verb_text (Barrier rank comm)) rank comm []
+Spells line (Poll rank comm) = IsOnComm line (verb_text (Poll rank comm)) rank comm []
+Spells line (Revoke rank comm) = IsOnComm line (verb_text (Revoke rank comm)) rank comm []
+Spells line (IsRevoked rank comm) = IsOnComm line (verb_text (IsRevoked rank comm)) rank comm []
+Spells line (Free rank comm) = IsOnComm line (verb_text (Free rank comm)) rank comm []
+
+-- a rank and a communicator, and what follows them
+abbrev pub on_comm_text : ℕ → ℕ → List ℕ → List ℕ
+on_comm_text rank comm behind = decimal rank ++ 32 ∷ (decimal comm ++ behind)
+
+-- what stands behind the verb of a call
+abbrev pub fields_text : ScriptCall → List ℕ
+fields_text (Fail rank) = decimal rank
+fields_text (GetFailed rank comm) = on_comm_text rank comm []
+fields_text (Ack rank comm count) = on_comm_text rank comm (32 ∷ decimal count)
+fields_text (Agree rank comm flag) = on_comm_text rank comm (32 ∷ flag_text flag)
+fields_text (Shrink rank comm) = on_comm_text rank comm []
+fields_text (Barrier rank comm) = on_comm_text rank comm []
+fields_text (Poll rank comm) = on_comm_text rank comm []
+fields_text (Revoke rank comm) = on_comm_text rank comm []
+fields_text (IsRevoked rank comm) = on_comm_text rank comm []
+fields_text (Free rank comm) = on_comm_text rank comm []
+
+-- the line of a call, as it is printed
+abbrev pub call_text : ScriptCall → List ℕ
+call_text call = verb_text call ++ fields_text call
 
 -- a call that some line spells
 abbrev pub IsSpelled : ScriptCall → Type 0

@@ -8,6 +8,7 @@ ghost use Rattle.ulfm_script.specs.Spelling.{IsSpelled};
 use crate::calls::read_call;
 use crate::fault::RunFault;
 use crate::header::read_header;
+use crate::header_kind::HeaderKind;
 use crate::input::{Input, LineEnd};
 use crate::last_group::LastGroup;
 use crate::line_kind::LineKind;
@@ -93,7 +94,7 @@ fn run_lines<M: Machine<A>, A: Allocator + Copy, R: Read, W: Write>(
     let mut last = LastGroup::new(alloc);
     let mut machine: M = open_machine(alloc, reader, input, &mut line)?;
     'lines: for number in 2..LAST_LINE + 2 {
-        match input.read_line(reader, &mut line)? {
+        match input.read_line(reader, &mut line, LONGEST + 1)? {
             LineEnd::Done => return Ok(()),
             LineEnd::Cut => {
                 let kind = LineKind::Cut;
@@ -125,14 +126,14 @@ fn open_machine<M: Machine<A>, A: Allocator + Copy, R: Read>(
     ensures { Opens M.state (unread R.remaining input.old reader.old) (unread R.remaining input.new reader.new) (pending input.new) result }
 {
     let number = 1;
-    let kind = match input.read_line(reader, line)? {
+    let kind = match input.read_line(reader, line, LONGEST + 1)? {
         LineEnd::Done => LineKind::Header,
         LineEnd::Cut => LineKind::Cut,
         LineEnd::Newline => {
             if line.len() > LONGEST {
                 LineKind::Long
             } else {
-                match read_header(line) {
+                match read_header(HeaderKind::Calls, line) {
                     Ok(limits) => return Ok(M::open(alloc, limits)?),
                     Err(kind) => kind,
                 }

@@ -1,22 +1,36 @@
-//! The first line of a script.
-ghost use Rattle.std.specs.Prelude.{◌≡◌, IfOk};
+//! The first line of a script or a trace.
+ghost use Rattle.std.specs.Prelude.{◌≡◌, ◌++◌, Ok, IfOk, OnOk};
+ghost use Rattle.ulfm_model.specs.declared.limits.Limits.{Limits};
 ghost use Rattle.ulfm_model.specs.Words.{MayOpen};
-ghost use Rattle.ulfm_script.specs.Headers.{header_of, limits_of};
+ghost use Rattle.ulfm_script.specs.Headers.{header_of, header_text, limits_of};
 ghost use Rattle.ulfm_script.specs.Words.{rest_at};
 
+use crate::header_kind::HeaderKind;
 use crate::line_kind::LineKind;
+use crate::printing::print_number;
 use crate::words::{four_words, read_number, split_word};
+use std::alloc::{AllocError, Allocator};
 use ulfm_model::Limits;
 
-/// The limits that a header gives: the line `ulfm 1 RANKS COMMS ROUNDS`, without its newline. The fault is `Header` where
-/// the line isn't in this form, and `Limits` where no world of these limits may be opened.
+/// The limits that a header gives: the line `ulfm 1 RANKS COMMS ROUNDS`, `ulfm-steps 1 ..` or `ulfm-trace 1 ..`, as the kind says,
+/// without its newline. The fault is `Header` where the line isn't in this form, and `Limits` where no world of these limits may be
+/// opened.
+pub fn read_header(kind: HeaderKind, line: &[u8]) -> Result<Limits, LineKind>
+    ensures exact { result ≡ header_of kind line.now }
+    ensures opens { IfOk result (λ limits. MayOpen limits) }
+    ensures found { IfOk result (λ limits. line.now ≡ header_text kind limits) }
+    ensures only { (limits : Limits) → MayOpen limits → line.now ≡ header_text kind limits → result ≡ Ok limits }
+{
+    parse_header(kind, line)
+}
+
 #[tactic(auto, unfolding(crate::specs::Headers::header_of))]
-pub fn read_header(line: &[u8]) -> Result<Limits, LineKind>
-    ensures exact { result ≡ header_of line.now }
+fn parse_header(kind: HeaderKind, line: &[u8]) -> Result<Limits, LineKind>
+    ensures exact { result ≡ header_of kind line.now }
     ensures opens { IfOk result (λ limits. MayOpen limits) }
 {
     let (name, fields) = split_word(line);
-    if name != b"ulfm".as_slice() {
+    if name != kind.word() {
         return Err(LineKind::Header);
     }
     let Ok(limits) = read_limits(fields) else {
@@ -44,4 +58,21 @@ fn read_limits(fields: Option<&[u8]>) -> Result<Limits, LineKind>
         comms,
         rounds,
     })
+}
+
+/// Appends a header, as `ulfm-trace 1 3 2 4`, without a newline. After an error nothing is said of the text.
+pub fn print_header<A: Allocator>(
+    text: &mut Vec<u8, A>,
+    kind: HeaderKind,
+    limits: Limits,
+) -> Result<(), AllocError>
+    ensures { OnOk result (text.new.items ≡ text.old.items ++ header_text kind limits) }
+{
+    text.extend_from_slice(kind.word())?;
+    text.extend_from_slice(b" 1 ")?;
+    print_number(text, limits.ranks)?;
+    text.push(b' ')?;
+    print_number(text, limits.comms)?;
+    text.push(b' ')?;
+    print_number(text, limits.rounds)
 }

@@ -8,9 +8,6 @@ use std::io::Read;
 /// How many bytes are read at once.
 const SIZE: usize = 8192;
 
-/// How much of a line is kept: one byte more than a line may have.
-const KEPT: usize = 65;
-
 /// A buffer over a reader: the bytes that were read, from `start` to `end` those that are not yet taken.
 #[derive(Drop)]
 pub struct Input<A: Allocator> {
@@ -25,7 +22,7 @@ pub struct Input<A: Allocator> {
 
 /// How a line ends.
 #[derive(Clone, Copy, PartialEq, Eq)]
-pub(crate) enum LineEnd {
+pub enum LineEnd {
     /// With a newline, which is taken too.
     Newline,
     /// With the end of the text, inside the line.
@@ -90,13 +87,18 @@ impl<A: Allocator> Input<A> {
         Ok(Some(byte))
     }
 
-    /// Takes a line up to its newline, and keeps the first 65 bytes of it.
-    pub(crate) fn read_line<R: Read>(
+    /// Takes a line up to its newline, and keeps as many of its first bytes as `kept` says, in place of what the vector held: one more
+    /// than a line may have shows whether it is too long.
+    ///
+    /// A fault is `Read`, where the reader failed, or `Memory`; a part of the line was taken then.
+    pub fn read_line<R: Read>(
         &mut self,
         reader: &mut R,
         line: &mut Vec<u8, A>,
+        kept: usize,
     ) -> Result<LineEnd, RunFault>
-        ensures { TakesLine (unread R.remaining self.old reader.old) (unread R.remaining self.new reader.new) (pending self.new)
+        requires { 0 < kept }
+        ensures { TakesLine kept (unread R.remaining self.old reader.old) (unread R.remaining self.new reader.new) (pending self.new)
             line.new.items result }
     {
         line.clear();
@@ -106,7 +108,7 @@ impl<A: Allocator> Input<A> {
                 Err(fault) => return Err(fault),
                 Ok(Some(b'\n')) => return Ok(LineEnd::Newline),
                 Ok(Some(byte)) => {
-                    if line.len() < KEPT {
+                    if line.len() < kept {
                         if line.push(byte).is_err() {
                             return Err(RunFault::Memory);
                         }

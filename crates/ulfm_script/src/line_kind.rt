@@ -1,6 +1,7 @@
 use thiserror::Error;
 
-/// What is wrong with a line of a script. The kinds are tested in this order, the fields of a call from left to right.
+/// What is wrong with a line of a script. The kinds are tested in this order, the fields of a line (`Number`, `Flag` and `Step`)
+/// from left to right.
 #[derive(Clone, Copy, Debug, PartialEq, Eq, Error)]
 pub enum LineKind {
     /// The text ends inside the line.
@@ -30,4 +31,10 @@ pub enum LineKind {
     /// A field isn't a flag in its form.
     #[error("flag")]
     Flag,
+    /// A field isn't the name of an atomic step. Only scripts of steps have such fields.
+    #[error("step")]
+    Step,
+    /// A call of a rank whose call is still under way. Only scripts of steps have it, and no line alone shows it.
+    #[error("open")]
+    Open,
 }

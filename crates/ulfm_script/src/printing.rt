@@ -1,6 +1,7 @@
-//! The lines that replies are printed as.
-ghost use Rattle.std.specs.Prelude.{◌≡◌, ◌++◌, OnOk};
+//! The lines that replies and calls are printed as.
+ghost use Rattle.std.specs.Prelude.{◌≡◌, ◌++◌, [], OnOk};
 ghost use Rattle.std.specs.Fmt.{decimal};
+ghost use Rattle.ulfm_script.specs.Spelling.{call_text, fields_text, on_comm_text, verb_text};
 ghost use Rattle.ulfm_script.specs.Printed.{acked_text, agreed_text, failed_text, ranks_text, refused_text, reply_text, shrunk_text, standing_text};
 
 use crate::last_group::LastGroup;
@@ -8,7 +9,7 @@ use crate::words::flag_digits;
 use itoa::Buffer;
 use std::alloc::{AllocError, Allocator};
 use ulfm_laws::FlagAnd;
-use ulfm_model::{Refusal, Reply, refusal_number};
+use ulfm_model::{Call, Refusal, Reply, refusal_number};
 
 /// Appends a reply as scripts print it, without a newline.
 ///
@@ -45,9 +46,17 @@ pub fn print_reply<A: Allocator>(
     }
 }
 
-/// A number in decimal, digit by digit: it has few.
+/// Appends a number in decimal. After an error nothing is said of the text.
 #[inline(always)]
-fn print_number<A: Allocator>(text: &mut Vec<u8, A>, number: u16) -> Result<(), AllocError>
+pub fn print_number<A: Allocator>(text: &mut Vec<u8, A>, number: u16) -> Result<(), AllocError>
+    ensures { OnOk result (text.new.items ≡ text.old.items ++ decimal number) }
+{
+    print_point(text, u32::from(number))
+}
+
+/// Appends a count of events in decimal, digit by digit: it has few. After an error nothing is said of the text.
+#[inline(always)]
+pub fn print_point<A: Allocator>(text: &mut Vec<u8, A>, number: u32) -> Result<(), AllocError>
     ensures { OnOk result (text.new.items ≡ text.old.items ++ decimal number) }
 {
     let mut buffer = Buffer::new();
@@ -147,4 +156,68 @@ fn print_refusal<A: Allocator>(text: &mut Vec<u8, A>, refusal: Refusal) -> Resul
     print_number(text, u16::from(refusal_number(refusal)))?;
     text.push(b' ')?;
     text.extend_from_slice(refusal.name().as_bytes())
+}
+
+/// Appends a call as scripts write it, as `agree 0 0 0000000f`, without a newline. After an error nothing is said of the text.
+pub fn print_call<A: Allocator>(
+    text: &mut Vec<u8, A>,
+    call: &Call<FlagAnd>,
+) -> Result<(), AllocError>
+    ensures { OnOk result (text.new.items ≡ text.old.items ++ call_text call.now) }
+{
+    text.extend_from_slice(verb(call))?;
+    print_fields(text, call)
+}
+
+/// The verb of a call, and a space.
+fn verb(call: &Call<FlagAnd>) -> &'static [u8]
+    ensures { result.now ≡ verb_text call.now }
+{
+    match *call {
+        Call::Fail { .. } => b"fail ",
+        Call::GetFailed { .. } => b"get ",
+        Call::Ack { .. } => b"ack ",
+        Call::Agree { .. } => b"agree ",
+        Call::Shrink { .. } => b"shrink ",
+        Call::Barrier { .. } => b"barrier ",
+        Call::Poll { .. } => b"poll ",
+        Call::Revoke { .. } => b"revoke ",
+        Call::IsRevoked { .. } => b"isrevoked ",
+        Call::Free { .. } => b"free ",
+    }
+}
+
+/// What stands behind the verb.
+fn print_fields<A: Allocator>(text: &mut Vec<u8, A>, call: &Call<FlagAnd>) -> Result<(), AllocError>
+    ensures { OnOk result (text.new.items ≡ text.old.items ++ fields_text call.now) }
+{
+    match *call {
+        Call::Fail { rank } => print_number(text, rank),
+        Call::Ack { rank, comm, count } => {
+            print_place(text, rank, comm)?;
+            text.push(b' ')?;
+            print_number(text, count)
+        }
+        Call::Agree { rank, comm, value } => {
+            print_place(text, rank, comm)?;
+            text.push(b' ')?;
+            text.extend_from_slice(&flag_digits(value))
+        }
+        Call::GetFailed { rank, comm } => print_place(text, rank, comm),
+        Call::Shrink { rank, comm } => print_place(text, rank, comm),
+        Call::Barrier { rank, comm } => print_place(text, rank, comm),
+        Call::Poll { rank, comm } => print_place(text, rank, comm),
+        Call::Revoke { rank, comm } => print_place(text, rank, comm),
+        Call::IsRevoked { rank, comm } => print_place(text, rank, comm),
+        Call::Free { rank, comm } => print_place(text, rank, comm),
+    }
+}
+
+/// A rank and a communicator.
+fn print_place<A: Allocator>(text: &mut Vec<u8, A>, rank: u16, comm: u16) -> Result<(), AllocError>
+    ensures { OnOk result (text.new.items ≡ text.old.items ++ on_comm_text rank comm []) }
+{
+    print_number(text, rank)?;
+    text.push(b' ')?;
+    print_number(text, comm)
 }

@@ -1,19 +1,19 @@
 //! The words of a line, and the numbers and flags that they are.
 ghost use Rattle.std.specs.Prelude.{◌≡◌, ◌<◌, ◌≤◌};
-ghost use Rattle.ulfm_script.specs.Digits.{digit_of, hex_of, number_of, number_to, flag_of, hex_digit, flag_text};
+ghost use Rattle.ulfm_script.specs.Digits.{digit_of, hex_of, number_in, number_of, point_of, number_to, flag_of, hex_digit, flag_text};
 ghost use Rattle.ulfm_script.specs.Words.{word_of, next_word, one_of, two_of, three_of, four_of, rest_at, word_at, two_at, three_at, four_at, Gives};
 
 use crate::line_kind::LineKind;
 use ulfm_laws::FlagAnd;
 
 /// The greatest rank that a script may name.
-pub(crate) const LAST_RANK: u16 = 1023;
+pub const LAST_RANK: u16 = 1023;
 
 /// The greatest communicator that a script may name.
-pub(crate) const LAST_COMM: u16 = 255;
+pub const LAST_COMM: u16 = 255;
 
 /// The first word, and the text behind the space after it.
-pub(crate) fn split_word(text: &[u8]) -> (&[u8], Option<&[u8]>)
+pub fn split_word(text: &[u8]) -> (&[u8], Option<&[u8]>)
     ensures { word_at result ≡ word_of text.now }
 {
     for (i, byte) in text.iter().enumerate() {
@@ -26,7 +26,7 @@ pub(crate) fn split_word(text: &[u8]) -> (&[u8], Option<&[u8]>)
 
 /// One more word, which is not empty, and the text behind it.
 #[tactic(auto, unfolding(crate::specs::Words::next_word))]
-fn next_word(text: Option<&[u8]>) -> Result<(&[u8], Option<&[u8]>), LineKind>
+pub fn next_word(text: Option<&[u8]>) -> Result<(&[u8], Option<&[u8]>), LineKind>
     ensures { Gives word_at result (next_word (rest_at text.entry)) }
 {
     let Some(text) = text else {
@@ -41,7 +41,7 @@ fn next_word(text: Option<&[u8]>) -> Result<(&[u8], Option<&[u8]>), LineKind>
 
 /// Exactly one word.
 #[tactic(auto, unfolding(crate::specs::Words::one_of))]
-pub(crate) fn one_word(text: Option<&[u8]>) -> Result<&[u8], LineKind>
+pub fn one_word(text: Option<&[u8]>) -> Result<&[u8], LineKind>
     ensures { Gives (λ a. a.now) result (one_of (rest_at text.entry)) }
 {
     let (a, rest) = next_word(text)?;
@@ -53,7 +53,7 @@ pub(crate) fn one_word(text: Option<&[u8]>) -> Result<&[u8], LineKind>
 
 /// Exactly two words.
 #[tactic(auto, unfolding(crate::specs::Words::two_of))]
-pub(crate) fn two_words(text: Option<&[u8]>) -> Result<(&[u8], &[u8]), LineKind>
+pub fn two_words(text: Option<&[u8]>) -> Result<(&[u8], &[u8]), LineKind>
     ensures { Gives two_at result (two_of (rest_at text.entry)) }
 {
     let (a, rest) = next_word(text)?;
@@ -63,7 +63,7 @@ pub(crate) fn two_words(text: Option<&[u8]>) -> Result<(&[u8], &[u8]), LineKind>
 
 /// Exactly three words.
 #[tactic(auto, unfolding(crate::specs::Words::three_of))]
-pub(crate) fn three_words(text: Option<&[u8]>) -> Result<(&[u8], &[u8], &[u8]), LineKind>
+pub fn three_words(text: Option<&[u8]>) -> Result<(&[u8], &[u8], &[u8]), LineKind>
     ensures { Gives three_at result (three_of (rest_at text.entry)) }
 {
     let (a, rest) = next_word(text)?;
@@ -73,7 +73,7 @@ pub(crate) fn three_words(text: Option<&[u8]>) -> Result<(&[u8], &[u8], &[u8]), 
 
 /// Exactly four words.
 #[tactic(auto, unfolding(crate::specs::Words::four_of))]
-pub(crate) fn four_words(text: Option<&[u8]>) -> Result<(&[u8], &[u8], &[u8], &[u8]), LineKind>
+pub fn four_words(text: Option<&[u8]>) -> Result<(&[u8], &[u8], &[u8], &[u8]), LineKind>
     ensures { Gives four_at result (four_of (rest_at text.entry)) }
 {
     let (a, rest) = next_word(text)?;
@@ -82,11 +82,27 @@ pub(crate) fn four_words(text: Option<&[u8]>) -> Result<(&[u8], &[u8], &[u8], &[
 }
 
 /// A decimal number of at most four digits, without leading zeros.
-#[tactic(auto, unfolding(crate::specs::Digits::number_of))]
-pub(crate) fn read_number(word: &[u8]) -> Result<u16, LineKind>
+pub fn read_number(word: &[u8]) -> Result<u16, LineKind>
     ensures { result ≡ number_of word.now }
 {
-    if word.is_empty() || word.len() > 4 || (word.len() > 1 && word[0] == b'0') {
+    let value = read_digits(4, word)?;
+    Ok(value as u16)
+}
+
+/// A decimal number of at most seven digits, without leading zeros: a count of events.
+pub fn read_point(word: &[u8]) -> Result<u32, LineKind>
+    ensures { result ≡ point_of word.now }
+{
+    read_digits(7, word)
+}
+
+/// A decimal number of at most so many digits, without leading zeros.
+#[tactic(auto, unfolding(crate::specs::Digits::number_in))]
+fn read_digits(most: usize, word: &[u8]) -> Result<u32, LineKind>
+    requires { most ≤ 7 }
+    ensures { result ≡ number_in most word.now }
+{
+    if word.is_empty() || word.len() > most || (word.len() > 1 && word[0] == b'0') {
         return Err(LineKind::Number);
     }
     let mut value = 0;
@@ -101,7 +117,7 @@ pub(crate) fn read_number(word: &[u8]) -> Result<u16, LineKind>
 
 /// A number that is at most `most`.
 #[tactic(auto, unfolding(crate::specs::Digits::number_to))]
-pub(crate) fn read_number_to(most: u16, word: &[u8]) -> Result<u16, LineKind>
+pub fn read_number_to(most: u16, word: &[u8]) -> Result<u16, LineKind>
     ensures { result ≡ number_to most word.now }
 {
     let value = read_number(word)?;
@@ -111,11 +127,11 @@ pub(crate) fn read_number_to(most: u16, word: &[u8]) -> Result<u16, LineKind>
     Ok(value)
 }
 
-fn digit_value(byte: u8) -> Option<u16>
+fn digit_value(byte: u8) -> Option<u32>
     ensures { result ≡ digit_of byte }
 {
     if byte >= b'0' && byte <= b'9' {
-        Some(u16::from(byte - b'0'))
+        Some(u32::from(byte - b'0'))
     } else {
         None
     }
@@ -123,7 +139,7 @@ fn digit_value(byte: u8) -> Option<u16>
 
 /// Eight lower case hexadecimal digits.
 #[tactic(auto, unfolding(crate::specs::Digits::flag_of))]
-pub(crate) fn read_flag(word: &[u8]) -> Result<FlagAnd, LineKind>
+pub fn read_flag(word: &[u8]) -> Result<FlagAnd, LineKind>
     ensures { result ≡ flag_of word.now }
 {
     if word.len() != 8 {
@@ -153,7 +169,7 @@ fn hex_value(byte: u8) -> Option<u32>
 
 /// A flag as eight lower case hexadecimal digits.
 #[tactic(auto, unfolding(crate::specs::Digits::flag_text))]
-pub(crate) fn flag_digits(flag: FlagAnd) -> [u8; 8]
+pub fn flag_digits(flag: FlagAnd) -> [u8; 8]
     ensures { result ≡ flag_text flag }
 {
     let mut digits = [b'0'; 8];

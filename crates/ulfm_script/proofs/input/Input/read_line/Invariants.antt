@@ -5,5 +5,5 @@ use Rattle.ulfm_script.proofs.input.Input.read_line.Given as goal
 
 abbrev pub invariant-bytes : goal.invariant-bytes
 invariant-bytes g l =
-    (done : List ℕ) × HasNoNewline done × (l.line.items ≡ take 65 done)
+    (done : List ℕ) × HasNoNewline done × (l.line.items ≡ take l.kept done)
     × Consumes (unread g.R.Read.remaining l.fn.self l.fn.reader) (unread g.R.Read.remaining l.self l.reader) done

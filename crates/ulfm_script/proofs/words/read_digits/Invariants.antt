@@ -1,7 +1,7 @@
 use Rattle.std.proofs.Common.{◌≡◌, ◌<◌, ◌≤◌, drop}
 use Rattle.ulfm_script.specs.declared.line_kind.LineKind.TheVariants.{Number}
 use Rattle.ulfm_script.specs.Digits.{digits_after, digit_of}
-use Rattle.ulfm_script.proofs.words.read_number.Given as goal
+use Rattle.ulfm_script.proofs.words.read_digits.Given as goal
 
 abbrev pub invariant-loop-byte : goal.invariant-loop-byte
 invariant-loop-byte l =
@@ -12,4 +12,7 @@ invariant-loop-byte l =
       two : l.byte-index ≤ 2 → l.value < 100;
       three : l.byte-index ≤ 3 → l.value < 1000;
       four : l.byte-index ≤ 4 → l.value < 10000;
+      five : l.byte-index ≤ 5 → l.value < 100000;
+      six : l.byte-index ≤ 6 → l.value < 1000000;
+      seven : l.byte-index ≤ 7 → l.value < 10000000;
     }

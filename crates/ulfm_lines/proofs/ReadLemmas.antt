@@ -1,0 +1,124 @@
+-- What reading a line of a trace gives.
+use Rattle.std.proofs.Common.{◌≡◌, ℕ, ◌+◌, ◌<◌, ◌≤◌, List, [], ◌∷◌, ◌++◌, length, Option, Some, None, Result, Ok, Err, Bool, true, false, refl, sym, ap, subst, ◌∙◌, arith, length-append}
+use Rattle.std.specs.{Prelude.{codes}, Fmt.{decimal}}
+use Rattle.ulfm_model.specs.declared.call.Call.TheVariants.{Fail, GetFailed, Ack, Agree, Shrink, Barrier, Poll, Revoke, IsRevoked, Free}
+use Rattle.ulfm_model.specs.declared.reply.Reply.TheVariants as reply
+use Rattle.ulfm_script.specs.declared.line_kind.LineKind.{LineKind}
+use Rattle.ulfm_script.specs.{Calls.{ScriptCall}, Printed.{ranks_text, reply_text, shrunk_text}, Spelling.{Spells, call_text}}
+use Rattle.ulfm_lines.specs.{Fields.{Field}, LineReading.{SomeReply, line_head, line_listing}, LineTexts.{TraceLine, caller_text, event_text, line_text}, Telling.{AreRanks, LineFits, ListsRanks, Tells, TellsLine, TellsReply, behind_ranks}}
+use Rattle.ulfm_trace_model.specs.declared.line.Line.TheVariants.{Called, Looked, Happened, Replied}
+use Rattle.ulfm_lines.proofs.{FieldLemmas.{same_field}, LineLemmas.{line_again, line_found}, RankLemmas.{ranks_few, ranks_once}}
+
+-- what was read is told
+pub found_line : (text group : List ℕ) (head : TraceLine) (rest : Option (List ℕ)) → line_head text ≡ Ok (head, rest) → ListsRanks rest group true → length text ≤ 8192
+    → Tells text group (line_listing (length group) head)
+found_line text group head rest read lists short = (short, line_found text head rest read group lists.0 lists.1)
+
+-- a line that is told is read, with its ranks
+pub only_line : (text group : List ℕ) (head : TraceLine) (rest : Option (List ℕ)) (told : TraceLine) (ranks : List ℕ) → line_head text ≡ Ok (head, rest) → ListsRanks rest group true → Tells text ranks told
+    → (line_listing (length group) head ≡ told) × (group ≡ ranks)
+only_line text group head rest told ranks read lists tells =
+    let r = line_again text ranks told tells.1 in
+    let same = same_field head r.head rest r.rest (sym read ∙ r.read) in
+    let one : group ≡ ranks = ranks_once group ranks lists.0 r.ranks (lists.1 ∙ same.1 ∙ sym r.behind) in
+    (ap (λ (n : ℕ). line_listing n head) (ap length one) ∙ ap (line_listing (length ranks)) same.0 ∙ r.listed, one)
+
+-- a line that couldn't be read tells nothing
+pub no_head : (text : List ℕ) (kind : LineKind) (told : TraceLine) (ranks : List ℕ) → line_head text ≡ Err kind → Tells text ranks told → ⊥
+no_head text kind told ranks read tells =
+    let r = line_again text ranks told tells.1 in
+    let k : (let x : Field TraceLine = Err kind in x) ≡ Ok (r.head, r.rest) = sym read ∙ r.read in cc
+
+-- nor does one with something else behind it
+pub no_ranks : (text group : List ℕ) (head : TraceLine) (rest : Option (List ℕ)) (told : TraceLine) (ranks : List ℕ) → line_head text ≡ Ok (head, rest) → ListsRanks rest group false → Tells text ranks told → ⊥
+no_ranks text group head rest told ranks read lists tells =
+    let r = line_again text ranks told tells.1 in
+    let same = same_field head r.head rest r.rest (sym read ∙ r.read) in
+    lists ranks r.ranks (r.behind ∙ sym same.1)
+
+-- one text tells one line
+pub one_line : (text g h : List ℕ) (a b : TraceLine) → Tells text g a → Tells text h b → (a ≡ b) × (g ≡ h)
+one_line text g h a b x y =
+    let r = line_again text g a x.1 in
+    let o = only_line text g r.head r.rest b h r.read (r.ranks, r.behind) y in
+    (sym r.listed ∙ o.0, o.1)
+
+nobody_few : (g : List ℕ) (n : ℕ) → g ≡ [] → length g ≤ n
+nobody_few g n e = omega (arith, ap length e)
+
+members_few : (text g : List ℕ) (comm context : ℕ) → text ≡ shrunk_text comm context g → length g ≤ length text
+members_few text g comm context e =
+    omega (arith, ap length e, ranks_few g, length-append (decimal comm) (codes " context " ++ (decimal context ++ (codes " members" ++ ranks_text g))), length-append (decimal context) (codes " members" ++ ranks_text g))
+
+failed_few : (text g : List ℕ) → text ≡ codes "failed" ++ ranks_text g → length g ≤ length text
+failed_few text g e = omega (arith, ap length e, ranks_few g)
+
+reply_few : (text g : List ℕ) (told : SomeReply) → TellsReply text g told → length g ≤ length text
+reply_few text g None h = members_few text g h.comm h.context h.text_is
+reply_few text g (Some reply.Started) h = nobody_few g (length text) h.0
+reply_few text g (Some reply.Pending) h = nobody_few g (length text) h.0
+reply_few text g (Some (reply.Agreed value count raised)) h = nobody_few g (length text) h.0.1
+reply_few text g (Some (reply.Shrunk comm context size)) h = members_few text g comm context h.1
+reply_few text g (Some reply.Done) h = nobody_few g (length text) h.0
+reply_few text [] (Some (reply.FailedGroup count)) h = omega arith
+reply_few text (r ∷ g) (Some (reply.FailedGroup count)) h = failed_few text (r ∷ g) h.1
+reply_few text g (Some (reply.Acked count)) h = nobody_few g (length text) h.0.1
+reply_few text g (Some reply.Declared) h = nobody_few g (length text) h.0
+reply_few text g (Some reply.AlreadyFailed) h = nobody_few g (length text) h.0
+reply_few text g (Some reply.Revoked) h = nobody_few g (length text) h.0
+reply_few text g (Some reply.AlreadyRevoked) h = nobody_few g (length text) h.0
+reply_few text g (Some (reply.Standing revoked)) h = nobody_few g (length text) h.0
+reply_few text g (Some reply.Freed) h = nobody_few g (length text) h.0
+reply_few text g (Some (reply.Refused refusal)) h = nobody_few g (length text) h.0.1
+
+lists_few : (text g : List ℕ) (told : TraceLine) → TellsLine text g told → length g ≤ length text
+lists_few text g (Called asked) h = nobody_few g (length text) h.3
+lists_few text g (Looked r count) h = nobody_few g (length text) h.3
+lists_few text g (Happened by event) h = nobody_few g (length text) h.4
+lists_few text g (Replied by point told) h =
+    omega (arith, ap length h.3, reply_few h.0 g told h.4, length-append (caller_text by) (32 ∷ (decimal point ++ 32 ∷ h.0)), length-append (decimal point) (32 ∷ h.0))
+
+-- a line lists fewer ranks than it has bytes
+pub few_ranks : (text group : List ℕ) (head : TraceLine) (rest : Option (List ℕ)) → line_head text ≡ Ok (head, rest) → ListsRanks rest group true → length text ≤ 8192 → length group ≤ 8192
+few_ranks text group head rest read lists short =
+    omega (arith, lists_few text group (line_listing (length group) head) (line_found text head rest read group lists.0 lists.1), short)
+
+-- a call that is spelled is spelled by its text
+call_spelled : (text : List ℕ) (asked : ScriptCall) → Spells text asked → text ≡ call_text asked
+call_spelled text (Fail rank) h = h.1
+call_spelled text (GetFailed rank comm) h = h.line_is
+call_spelled text (Ack rank comm count) h = h.1.line_is
+call_spelled text (Agree rank comm flag) h = h.line_is
+call_spelled text (Shrink rank comm) h = h.line_is
+call_spelled text (Barrier rank comm) h = h.line_is
+call_spelled text (Poll rank comm) h = h.line_is
+call_spelled text (Revoke rank comm) h = h.line_is
+call_spelled text (IsRevoked rank comm) h = h.line_is
+call_spelled text (Free rank comm) h = h.line_is
+
+printed_line : (group : List ℕ) (line : TraceLine) → LineFits group line → TellsLine (line_text group line) group line
+printed_line group (Called asked) h = (call_text asked, refl, subst (λ (t : List ℕ). Spells t asked) (call_spelled h.0.0 asked h.0.1) h.0.1, h.1)
+printed_line group (Looked r count) h = (h.0, h.1, refl, h.2)
+printed_line group (Happened by None) h = absurd h
+printed_line group (Happened by (Some event)) h = (event_text event, h.0, refl, (h.1, refl), h.2)
+printed_line group (Replied by point None) h = absurd h
+printed_line group (Replied by point (Some told)) h = (reply_text group told, h.0, h.1, refl, (h.2, refl))
+
+-- what is printed is told
+pub printed_told : (group : List ℕ) (line : TraceLine) → LineFits group line → length (line_text group line) ≤ 8192 → Tells (line_text group line) group line
+printed_told group line h short = (short, printed_line group line h)
+
+-- the same, by whether the ranks were read
+pub only_read : (text group : List ℕ) (head : TraceLine) (rest : Option (List ℕ)) (read : Bool) → read ≡ true → line_head text ≡ Ok (head, rest) → ListsRanks rest group read → (told : TraceLine) (ranks : List ℕ) → Tells text ranks told
+    → (line_listing (length group) head ≡ told) × (group ≡ ranks)
+only_read text group head rest read is is_head lists told ranks tells = only_line text group head rest told ranks is_head (subst (ListsRanks rest group) is lists) tells
+
+pub found_read : (text group : List ℕ) (head : TraceLine) (rest : Option (List ℕ)) (read : Bool) → read ≡ true → line_head text ≡ Ok (head, rest) → ListsRanks rest group read → length text ≤ 8192
+    → Tells text group (line_listing (length group) head)
+found_read text group head rest read is is_head lists short = found_line text group head rest is_head (subst (ListsRanks rest group) is lists) short
+
+pub few_read : (text group : List ℕ) (head : TraceLine) (rest : Option (List ℕ)) (read : Bool) → read ≡ true → line_head text ≡ Ok (head, rest) → ListsRanks rest group read → length text ≤ 8192 → length group ≤ 8192
+few_read text group head rest read is is_head lists short = few_ranks text group head rest is_head (subst (ListsRanks rest group) is lists) short
+
+pub none_read : (text group : List ℕ) (head : TraceLine) (rest : Option (List ℕ)) (read : Bool) → read ≡ false → line_head text ≡ Ok (head, rest) → ListsRanks rest group read → (told : TraceLine) (ranks : List ℕ) → Tells text ranks told → ⊥
+none_read text group head rest read is is_head lists told ranks tells = no_ranks text group head rest told ranks is_head (subst (ListsRanks rest group) is lists) tells

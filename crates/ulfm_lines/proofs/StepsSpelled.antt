@@ -1,0 +1,224 @@
+-- What is read of a line of a step script is spelled so, and what is spelled so is read.
+use Rattle.std.proofs.Common.{◌≡◌, ◌≢◌, ℕ, ◌<◌, List, [], ◌∷◌, ◌++◌, length, Option, Some, None, Result, Ok, Err, Bool, true, false, cond, if◌then◌else◌, refl, sym, ap, subst, ◌∙◌, inl, inr, arith, rules}
+use Rattle.std.specs.{Prelude.{◌⊎◌, ◌==◌, codes, IfOk}, Fmt.{decimal}, Str.{bytes_eq}}
+use Rattle.std.proofs.lemmas.{Bool.{eqb-false, ne_eqb}, Slice.Eq.{bytes_eq-Decides}}
+use Rattle.ulfm_model.specs.declared.call.Call.TheVariants.{Fail, GetFailed, Ack, Agree, Shrink, Barrier, Poll, Revoke, IsRevoked, Free}
+use Rattle.ulfm_model.specs.declared.step_name.StepName.{StepName}
+use Rattle.ulfm_model.specs.declared.step_name.StepName.TheVariants as name
+use Rattle.ulfm_trace_model.specs.declared.step_line.StepLine.TheVariants.{Called, Stepped, Before, Finished, Failed}
+use Rattle.ulfm_script.specs.declared.line_kind.LineKind.{LineKind}
+use Rattle.ulfm_script.specs.declared.line_kind.LineKind.TheVariants.{Number, Step, Verb, Words}
+use Rattle.ulfm_script.specs.{Calls.{ScriptCall, call_of}, Digits.{number_of, rank_of}, Spelling.{Spells}, Steps.{◌>>=◌}, Words.{one_of, two_of, word_of}}
+use Rattle.ulfm_script.proofs.{Numerals.{number_again, number_found, number_to_found}, Spelled.{chosen, number_is_word, rank_again, read_is_spelled, spelled_again}, WordLemmas.{IsWord, joined, joined_word, one_again, one_found, same_done, step_found, two_again, two_found}}
+use Rattle.ulfm_lines.specs.{StepLines.{IsByRank, ScriptStep, SpellsStep, asked_in, asked_of, before_of, failed_of, finished_of, step_from, step_line_of, stepped_of}, StepNames.{name_of, or_name, step_text}}
+use Rattle.ulfm_lines.proofs.Literals.{literal}
+
+-- names
+
+tested : (word : List ℕ) (one found : StepName) (other : Result StepName LineKind) → (other ≡ Ok found → word ≡ step_text found)
+    → or_name word one other ≡ Ok found → word ≡ step_text found
+tested word one found other rest e = elim (chosen (bytes_eq word (step_text one)) (Ok one) other (Ok found) e) [
+  | inl this ↦ (bytes_eq-Decides word (step_text one)).0 this.0 ∙ ap step_text (same_done one found this.1)
+  | inr that ↦ rest that.1
+]
+
+no_name : (word : List ℕ) (found : StepName) → (let r : Result StepName LineKind = Err Step in r) ≡ Ok found → word ≡ step_text found
+no_name word found e = absurd cc
+
+-- a name that was read stands there
+pub name_found : (word : List ℕ) (found : StepName) → name_of word ≡ Ok found → word ≡ step_text found
+unfolding name_of
+name_found word found e = tested word name.List found _ (tested word name.Settle found _ (tested word name.Mark found _ (tested word name.Slot found _
+    (tested word name.Comm found _ (tested word name.Spawn found _ (tested word name.Arrive found _ (tested word name.Arrival found _
+    (tested word name.Revoke found _ (tested word name.Revocation found _ (no_name word found)))))))))) e
+
+-- the same at a result
+pub names_found : (word : List ℕ) (r : Result StepName LineKind) → r ≡ name_of word → IfOk r (λ name. word ≡ step_text name)
+names_found word (Ok found) e = name_found word found (sym e)
+names_found word (Err kind) e = tt
+
+-- a name that stands there is read
+pub name_again : (found : StepName) → name_of (step_text found) ≡ Ok found
+unfolding name_of
+name_again name.List = refl
+name_again name.Settle = refl
+name_again name.Mark = refl
+name_again name.Slot = refl
+name_again name.Comm = refl
+name_again name.Spawn = refl
+name_again name.Arrive = refl
+name_again name.Arrival = refl
+name_again name.Revoke = refl
+name_again name.Revocation = refl
+
+name_is_word : (found : StepName) → IsWord (step_text found)
+name_is_word name.List = literal _ refl
+name_is_word name.Settle = literal _ refl
+name_is_word name.Mark = literal _ refl
+name_is_word name.Slot = literal _ refl
+name_is_word name.Comm = literal _ refl
+name_is_word name.Spawn = literal _ refl
+name_is_word name.Arrive = literal _ refl
+name_is_word name.Arrival = literal _ refl
+name_is_word name.Revoke = literal _ refl
+name_is_word name.Revocation = literal _ refl
+
+-- lines
+
+-- the first word of a call's line is there, and is not the outside's verb
+by_rank : (line : List ℕ) (asked : ScriptCall) → Spells line asked → IsByRank asked
+    → ((length (word_of line).0 == 0) ≡ false) × (bytes_eq (word_of line).0 (codes "fail") ≡ false)
+by_rank line (Fail rank) h k = absurd (k rank refl)
+by_rank line (GetFailed rank comm) h k = rw h.line_is (refl, refl)
+by_rank line (Ack rank comm count) h k = rw h.1.line_is (refl, refl)
+by_rank line (Agree rank comm flag) h k = rw h.line_is (refl, refl)
+by_rank line (Shrink rank comm) h k = rw h.line_is (refl, refl)
+by_rank line (Barrier rank comm) h k = rw h.line_is (refl, refl)
+by_rank line (Poll rank comm) h k = rw h.line_is (refl, refl)
+by_rank line (Revoke rank comm) h k = rw h.line_is (refl, refl)
+by_rank line (IsRevoked rank comm) h k = rw h.line_is (refl, refl)
+by_rank line (Free rank comm) h k = rw h.line_is (refl, refl)
+
+asked_again : (line : List ℕ) (asked : ScriptCall) → Spells line asked → IsByRank asked → asked_of (Some line) ≡ Ok (Called asked)
+unfolding asked_of
+asked_again line asked h k =
+    let w = by_rank line asked h k in
+    rw (w.0, w.1, spelled_again line asked h) refl
+
+nonzero : (n : ℕ) → 0 < n → (n == 0) ≡ false
+nonzero n h = ne_eqb n 0 (λ e. omega (arith, h, e))
+
+stepped_again : (rank count : ℕ) → rank < 1024 → 0 < count → count < 10000 → stepped_of (Some (decimal rank ++ 32 ∷ decimal count)) ≡ Ok (Stepped rank count)
+unfolding stepped_of
+stepped_again rank count h some k =
+    rw (two_again (decimal rank) (decimal count) (number_is_word rank (omega (arith, h))) (number_is_word count k), rank_again rank h, number_again count k, nonzero count some) refl
+
+before_again : (rank : ℕ) (name : StepName) → rank < 1024 → before_of (Some (decimal rank ++ 32 ∷ step_text name)) ≡ Ok (Before rank name)
+unfolding before_of
+before_again rank name h =
+    rw (two_again (decimal rank) (step_text name) (number_is_word rank (omega (arith, h))) (name_is_word name), rank_again rank h, name_again name) refl
+
+finished_again : (rank : ℕ) → rank < 1024 → finished_of (Some (decimal rank)) ≡ Ok (Finished rank)
+unfolding finished_of
+finished_again rank h = rw (one_again (decimal rank) (number_is_word rank (omega (arith, h))), rank_again rank h) refl
+
+failed_again : (rank : ℕ) → rank < 1024 → failed_of (Some (decimal rank)) ≡ Ok (Failed rank)
+unfolding failed_of
+failed_again rank h = rw (one_again (decimal rank) (number_is_word rank (omega (arith, h))), rank_again rank h) refl
+
+-- what is spelled so is read
+pub step_again : (line : List ℕ) (step : ScriptStep) → SpellsStep line step → step_line_of line ≡ Ok step
+unfolding step_line_of
+step_again line (Called asked) h = ap step_line_of h.3 ∙ asked_again h.0 asked h.1 h.2
+step_again line (Stepped rank count) h = ap step_line_of h.3 ∙ stepped_again rank count h.0 h.1 h.2
+step_again line (Before rank name) h = ap step_line_of h.1 ∙ before_again rank name h.0
+step_again line (Finished rank) h = ap step_line_of h.1 ∙ finished_again rank h.0
+step_again line (Failed rank) h = ap step_line_of h.1 ∙ failed_again rank h.0
+
+-- a verb whose fields were read stands at the line's beginning
+abbrev Reads : (verb : List ℕ) → (Option (List ℕ) → Result ScriptStep LineKind) → Type 0
+Reads verb fields_of = (fields : Option (List ℕ)) (step : ScriptStep) → fields_of fields ≡ Ok step → SpellsStep (joined verb fields) step
+
+not_fail : (text : List ℕ) (asked : ScriptCall) → bytes_eq (word_of text).0 (codes "fail") ≡ false → Spells text asked → IsByRank asked
+not_fail text asked e h rank is =
+    let spelled = subst (λ (x : ScriptCall). Spells text x) is h in
+    let first : bytes_eq (word_of text).0 (codes "fail") ≡ true = rw spelled.1 refl in
+    let wrong : true ≡ false = sym first ∙ e in
+    cc
+
+asked_found : Reads (codes "call") asked_of
+unfolding asked_of
+asked_found None step e = absurd cc
+asked_found (Some text) step e =
+    elim (chosen (length (word_of text).0 == 0) (Err Words) (cond (bytes_eq (word_of text).0 (codes "fail")) (Err Verb) (call_of text >>= λ asked. Ok (Called asked))) (Ok step) e) [
+      | inl none ↦ absurd (let k : (let r : Result ScriptStep LineKind = Err Words in r) ≡ Ok step = none.1 in cc)
+      | inr some ↦ elim (chosen (bytes_eq (word_of text).0 (codes "fail")) (Err Verb) (call_of text >>= λ asked. Ok (Called asked)) (Ok step) some.1) [
+        | inl fail ↦ absurd (let k : (let r : Result ScriptStep LineKind = Err Verb in r) ≡ Ok step = fail.1 in cc)
+        | inr rank ↦ (
+            let x = step_found (call_of text) (λ asked. Ok (Called asked)) step rank.1 in
+            let spelled = read_is_spelled text x.0 x.1 in
+            subst (SpellsStep (joined (codes "call") (Some text))) (same_done (Called x.0) step x.2) (text, spelled, not_fail text x.0 rank.0 spelled, refl)
+            )
+      ]
+    ]
+
+count_found : (count : ℕ) (made step : ScriptStep) → (if count == 0 then Err Number else Ok made) ≡ Ok step → (0 < count) × (made ≡ step)
+count_found count made step e = elim (chosen (count == 0) (Err Number) (Ok made) (Ok step) e) [
+  | inl none ↦ absurd (let k : (let r : Result ScriptStep LineKind = Err Number in r) ≡ Ok step = none.1 in cc)
+  | inr some ↦ (omega (arith, eqb-false count 0 some.0), same_done made step some.1)
+]
+
+stepped_found : Reads (codes "step") stepped_of
+unfolding stepped_of
+stepped_found fields step e =
+    let w = step_found (two_of fields) (λ w. rank_of w.0 >>= λ rank. number_of w.1 >>= λ count. if count == 0 then Err Number else Ok (Stepped rank count)) step e in
+    let r = step_found (rank_of w.0.0) (λ rank. number_of w.0.1 >>= λ count. if count == 0 then Err Number else Ok (Stepped rank count)) step w.2 in
+    let n = step_found (number_of w.0.1) (λ count. if count == 0 then Err Number else Ok (Stepped r.0 count)) step r.2 in
+    let some = count_found n.0 (Stepped r.0 n.0) step n.2 in
+    let rank = number_to_found 1023 r.0 w.0.0 r.1 in
+    let count = number_found w.0.1 n.0 n.1 in
+    subst (SpellsStep (joined (codes "step") fields)) some.1 (
+      omega (arith, rank.0),
+      some.0,
+      count.0,
+      ap (joined (codes "step")) (two_found fields w.0 w.1) ∙ ap (λ (t : List ℕ). codes "step" ++ 32 ∷ (t ++ 32 ∷ w.0.1)) rank.1
+          ∙ ap (λ (t : List ℕ). codes "step" ++ 32 ∷ (decimal r.0 ++ 32 ∷ t)) count.1,
+    )
+
+before_found : Reads (codes "before") before_of
+unfolding before_of
+before_found fields step e =
+    let w = step_found (two_of fields) (λ w. rank_of w.0 >>= λ rank. name_of w.1 >>= λ name. Ok (Before rank name)) step e in
+    let r = step_found (rank_of w.0.0) (λ rank. name_of w.0.1 >>= λ name. Ok (Before rank name)) step w.2 in
+    let n = step_found (name_of w.0.1) (λ name. Ok (Before r.0 name)) step r.2 in
+    let rank = number_to_found 1023 r.0 w.0.0 r.1 in
+    subst (SpellsStep (joined (codes "before") fields)) (same_done (Before r.0 n.0) step n.2) (
+      omega (arith, rank.0),
+      ap (joined (codes "before")) (two_found fields w.0 w.1) ∙ ap (λ (t : List ℕ). codes "before" ++ 32 ∷ (t ++ 32 ∷ w.0.1)) rank.1
+          ∙ ap (λ (t : List ℕ). codes "before" ++ 32 ∷ (decimal r.0 ++ 32 ∷ t)) (name_found w.0.1 n.0 n.1),
+    )
+
+finished_found : Reads (codes "finish") finished_of
+unfolding finished_of
+finished_found fields step e =
+    let w = step_found (one_of fields) (λ w. rank_of w >>= λ rank. Ok (Finished rank)) step e in
+    let r = step_found (rank_of w.0) (λ rank. Ok (Finished rank)) step w.2 in
+    let rank = number_to_found 1023 r.0 w.0 r.1 in
+    subst (SpellsStep (joined (codes "finish") fields)) (same_done (Finished r.0) step r.2)
+    (omega (arith, rank.0), ap (joined (codes "finish")) (one_found fields w.0 w.1) ∙ ap (λ (t : List ℕ). codes "finish" ++ 32 ∷ t) rank.1)
+
+failed_found : Reads (codes "fail") failed_of
+unfolding failed_of
+failed_found fields step e =
+    let w = step_found (one_of fields) (λ w. rank_of w >>= λ rank. Ok (Failed rank)) step e in
+    let r = step_found (rank_of w.0) (λ rank. Ok (Failed rank)) step w.2 in
+    let rank = number_to_found 1023 r.0 w.0 r.1 in
+    subst (SpellsStep (joined (codes "fail") fields)) (same_done (Failed r.0) step r.2)
+    (omega (arith, rank.0), ap (joined (codes "fail")) (one_found fields w.0 w.1) ∙ ap (λ (t : List ℕ). codes "fail" ++ 32 ∷ t) rank.1)
+
+-- a first word that is tested for one verb after another
+verb_found : (word verb : List ℕ) (fields : Option (List ℕ)) (fields_of : Option (List ℕ) → Result ScriptStep LineKind) (other : Result ScriptStep LineKind) (step : ScriptStep) → Reads verb fields_of
+    → (other ≡ Ok step → SpellsStep (joined word fields) step) → cond (bytes_eq word verb) (fields_of fields) other ≡ Ok step → SpellsStep (joined word fields) step
+verb_found word verb fields fields_of other step reads rest e = elim (chosen (bytes_eq word verb) (fields_of fields) other (Ok step) e) [
+  | inl this ↦ subst (λ (w : List ℕ). SpellsStep (joined w fields) step) (sym ((bytes_eq-Decides word verb).0 this.0)) (reads fields step this.1)
+  | inr that ↦ rest that.1
+]
+
+no_verb : (line : List ℕ) (step : ScriptStep) → (let r : Result ScriptStep LineKind = Err Verb in r) ≡ Ok step → SpellsStep line step
+no_verb line step e = absurd cc
+
+read_from : (word : List ℕ) (fields : Option (List ℕ)) (step : ScriptStep) → step_from (word, fields) ≡ Ok step → SpellsStep (joined word fields) step
+read_from word fields step e = verb_found word (codes "call") fields asked_of _ step asked_found
+    (verb_found word (codes "step") fields stepped_of _ step stepped_found
+    (verb_found word (codes "before") fields before_of _ step before_found
+    (verb_found word (codes "finish") fields finished_of _ step finished_found
+    (verb_found word (codes "fail") fields failed_of _ step failed_found (no_verb (joined word fields) step))))) e
+
+read_is_step : (line : List ℕ) (step : ScriptStep) → step_line_of line ≡ Ok step → SpellsStep line step
+unfolding step_line_of
+read_is_step line step e = subst (λ (t : List ℕ). SpellsStep t step) (joined_word line) (read_from (word_of line).0 (word_of line).1 step e)
+
+-- what is read is spelled so
+pub steps_found : (line : List ℕ) (r : Result ScriptStep LineKind) → r ≡ step_line_of line → IfOk r (λ step. SpellsStep line step)
+steps_found line (Ok step) e = read_is_step line step (sym e)
+steps_found line (Err kind) e = tt

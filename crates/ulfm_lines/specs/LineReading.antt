@@ -1,0 +1,141 @@
+-- What the text of a trace's line tells. Where it lists ranks, they stand behind what is read here.
+use Rattle.std.specs.Prelude.{ℕ, nat_lt, ◌&&◌, ◌==◌, Bool, true, false, List, [], codes, Option, Some, None, Result, Ok, Err, if◌then◌else◌}
+use Rattle.std.specs.Str.{bytes_eq}
+use Rattle.ulfm_laws.specs.declared.flag_and.FlagAnd.{FlagAnd}
+use Rattle.ulfm_model.specs.declared.{refusal.Refusal.{Refusal}, reply.Reply.{Reply}}
+use Rattle.ulfm_model.specs.declared.refusal.Refusal.TheVariants as refusal
+use Rattle.ulfm_model.specs.declared.reply.Reply.TheVariants as reply
+use Rattle.ulfm_model.specs.Answers.{printed}
+use Rattle.ulfm_script.specs.declared.line_kind.LineKind.{LineKind}
+use Rattle.ulfm_script.specs.declared.line_kind.LineKind.TheVariants.{Words}
+use Rattle.ulfm_script.specs.{Calls.{call_of}, Printed.{reply_text}, Steps.{◌>>=◌}, Words.{next_word, word_of}}
+use Rattle.ulfm_lines.specs.{EventReading.{event_of}, Fields.{Field, both, caller_field, comm_field, error_field, flag_field, label_field, labelled, number_field, over, point_field, rank_field, whole}, LineTexts.{TraceLine}}
+use Rattle.ulfm_trace_model.specs.declared.line.Line.TheVariants.{Called, Looked, Happened, Replied}
+
+-- a reply, or none where it tells a context id that no communicator has
+abbrev pub SomeReply : Type 0
+SomeReply = Option (Reply FlagAnd)
+
+-- a reply that is read whole, and nothing behind it
+abbrev pub alone : {A : Type 0} → (A → Reply FlagAnd) → Result A LineKind → Field SomeReply
+alone make read = read >>= λ x. Ok (Some (make x), None)
+
+-- this refusal, where it has the number and the name
+abbrev pub or_refusal : ℕ → List ℕ → Refusal → Result Refusal LineKind → Result Refusal LineKind
+or_refusal number name one other = if (number == (printed one).0) && bytes_eq name (printed one).1 then Ok one else other
+
+-- the refusal of a number and a name; want of memory is never told
+unfoldable pub refusal_of : ℕ → List ℕ → Result Refusal LineKind
+refusal_of number name =
+    or_refusal number name refusal.SelfFailed (or_refusal number name refusal.NoSuchComm (or_refusal number name refusal.Busy
+    (or_refusal number name refusal.ShrinkOpen (or_refusal number name refusal.RoundsUsedUp (or_refusal number name refusal.Idle
+    (or_refusal number name refusal.Mismatch (or_refusal number name refusal.NoContext (or_refusal number name refusal.NoRoom
+    (or_refusal number name refusal.IsRevoked (or_refusal number name refusal.ProcFailed (or_refusal number name refusal.WorldKept
+    (or_refusal number name refusal.NoSuchRank (or_refusal number name refusal.Twice (Err Words))))))))))))))
+
+-- a number and a name
+unfoldable pub refusal_field : Option (List ℕ) → Field Refusal
+refusal_field text = number_field text >>= λ number. next_word number.1 >>= λ name. refusal_of number.0 name.0 >>= λ one. Ok (one, name.1)
+
+-- this reply, where the word is its text
+abbrev pub or_reply : List ℕ → Reply FlagAnd → Result (Reply FlagAnd) LineKind → Result (Reply FlagAnd) LineKind
+or_reply word one other = if bytes_eq word (reply_text [] one) then Ok one else other
+
+-- the replies of one word
+unfoldable pub plain_of : List ℕ → Result (Reply FlagAnd) LineKind
+plain_of word =
+    or_reply word reply.Started (or_reply word reply.Pending (or_reply word reply.Done (or_reply word reply.Declared
+    (or_reply word reply.AlreadyFailed (or_reply word reply.Revoked (or_reply word reply.AlreadyRevoked
+    (or_reply word (reply.Standing true) (or_reply word (reply.Standing false) (or_reply word reply.Freed (Err Words))))))))))
+
+-- what was agreed on
+unfoldable pub agreed_reply : Option (List ℕ) → Field SomeReply
+agreed_reply text =
+    alone (λ x. reply.Agreed x.0 x.1.0 x.1.1) (whole (both flag_field (both (labelled (codes "failed")) error_field)) text)
+
+-- how many failures are acknowledged
+unfoldable pub acked_reply : Option (List ℕ) → Field SomeReply
+acked_reply text = alone reply.Acked (whole number_field text)
+
+-- a refusal
+unfoldable pub refused_reply : Option (List ℕ) → Field SomeReply
+refused_reply text = alone reply.Refused (whole refusal_field text)
+
+-- a failed group: nobody, or ranks that are to be read
+unfoldable pub failed_reply : Option (List ℕ) → Field SomeReply
+failed_reply None = Err Words
+failed_reply (Some text) = if bytes_eq text (codes "none") then Ok (Some (reply.FailedGroup 0), None) else Ok (Some (reply.FailedGroup 0), Some text)
+
+-- ranks are to be read behind what was read
+abbrev pub listing : {A : Type 0} → A → Option (List ℕ) → Field A
+listing x None = Err Words
+listing x (Some text) = Ok (x, Some text)
+
+-- a communicator with this context id, if there is one
+abbrev pub made : ℕ → ℕ → SomeReply
+made comm context = if nat_lt 255 context then None else Some (reply.Shrunk comm context 0)
+
+-- a new communicator, whose members are to be read
+unfoldable pub shrunk_reply : Option (List ℕ) → Field SomeReply
+shrunk_reply text =
+    both comm_field (both (labelled (codes "context")) (label_field (codes "members"))) text >>= λ x. listing (made x.0.0 x.0.1.0) x.1
+
+-- a reply's first word, and the text behind it
+abbrev pub reply_from : List ℕ × Option (List ℕ) → Field SomeReply
+reply_from first =
+    if bytes_eq first.0 (codes "agreed") then agreed_reply first.1
+    else (if bytes_eq first.0 (codes "shrunk") then shrunk_reply first.1
+    else (if bytes_eq first.0 (codes "failed") then failed_reply first.1
+    else (if bytes_eq first.0 (codes "acked") then acked_reply first.1
+    else (if bytes_eq first.0 (codes "refused") then refused_reply first.1
+    else (over first.1 >>= λ last. alone (λ one. one) (plain_of first.0))))))
+
+-- a reply
+unfoldable pub some_reply_of : Option (List ℕ) → Field SomeReply
+some_reply_of text = next_word text >>= reply_from
+
+-- a call that begins
+unfoldable pub called_line : Option (List ℕ) → Field TraceLine
+called_line None = Err Words
+called_line (Some text) = call_of text >>= λ asked. Ok (Called asked, None)
+
+-- a look
+unfoldable pub looked_line : Option (List ℕ) → Field TraceLine
+looked_line text = whole (both rank_field number_field) text >>= λ x. Ok (Looked x.0 x.1, None)
+
+-- an event
+unfoldable pub happened_line : Option (List ℕ) → Field TraceLine
+happened_line text = caller_field text >>= λ by. event_of by.1 >>= λ event. Ok (Happened by.0 event, None)
+
+-- a reply's line
+unfoldable pub replied_line : Option (List ℕ) → Field TraceLine
+replied_line text = both caller_field point_field text >>= λ x. some_reply_of x.1 >>= λ told. Ok (Replied x.0.0 x.0.1 told.0, told.1)
+
+-- a line's first word, and the text behind it
+abbrev pub line_from : List ℕ × Option (List ℕ) → Field TraceLine
+line_from first =
+    if bytes_eq first.0 (codes "call") then called_line first.1
+    else (if bytes_eq first.0 (codes "look") then looked_line first.1
+    else (if bytes_eq first.0 (codes "event") then happened_line first.1
+    else (if bytes_eq first.0 (codes "reply") then replied_line first.1
+    else Err Words)))
+
+-- a line, but for the ranks that it lists
+unfoldable pub line_head : List ℕ → Field TraceLine
+line_head text = line_from (word_of text)
+
+-- a reply with the number of ranks that it lists
+abbrev pub reply_listing : ℕ → Reply FlagAnd → Reply FlagAnd
+reply_listing count (reply.FailedGroup none) = reply.FailedGroup count
+reply_listing count (reply.Shrunk comm context none) = reply.Shrunk comm context count
+reply_listing count other = other
+
+-- the same, where there is a reply
+abbrev pub told_listing : ℕ → SomeReply → SomeReply
+told_listing count None = None
+told_listing count (Some told) = Some (reply_listing count told)
+
+-- a line with the number of ranks that it lists
+abbrev pub line_listing : ℕ → TraceLine → TraceLine
+line_listing count (Replied by point told) = Replied by point (told_listing count told)
+line_listing count other = other

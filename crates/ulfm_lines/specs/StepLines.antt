@@ -1,0 +1,81 @@
+-- What a line of a step script asks for, or the first fault in it from the left; and the lines that spell it.
+use Rattle.std.specs.Prelude.{◌≡◌, ◌≢◌, ℕ, ◌<◌, List, ◌∷◌, ◌++◌, codes, length, Option, Some, None, Result, Ok, Err, ◌==◌, if◌then◌else◌}
+use Rattle.std.specs.{Fmt.{decimal}, Str.{bytes_eq}}
+use Rattle.ulfm_laws.specs.declared.flag_and.FlagAnd.{FlagAnd}
+use Rattle.ulfm_model.specs.declared.call.Call.TheVariants as call
+use Rattle.ulfm_trace_model.specs.declared.step_line.StepLine.{StepLine}
+use Rattle.ulfm_trace_model.specs.declared.step_line.StepLine.TheVariants.{Called, Stepped, Before, Finished, Failed}
+use Rattle.ulfm_script.specs.declared.line_kind.LineKind.{LineKind}
+use Rattle.ulfm_script.specs.declared.line_kind.LineKind.TheVariants.{Number, Verb, Words}
+use Rattle.ulfm_script.specs.{Calls.{ScriptCall, call_of}, Digits.{number_of, rank_of}, Spelling.{Spells}, Steps.{◌>>=◌}, Words.{one_of, two_of, word_of}}
+use Rattle.ulfm_lines.specs.StepNames.{name_of, step_text}
+
+-- a line of a step script
+abbrev pub ScriptStep : Type 0
+ScriptStep = StepLine FlagAnd
+
+-- a call behind its line's verb; the outside's declarations are no calls of ranks
+abbrev pub asked_in : List ℕ → Result ScriptStep LineKind
+asked_in text =
+    if length (word_of text).0 == 0 then Err Words
+    else (if bytes_eq (word_of text).0 (codes "fail") then Err Verb else (call_of text >>= λ asked. Ok (Called asked)))
+
+-- the same, where there is one
+unfoldable pub asked_of : Option (List ℕ) → Result ScriptStep LineKind
+asked_of None = Err Words
+asked_of (Some text) = asked_in text
+
+-- a rank, and how many steps it makes at most
+unfoldable pub stepped_of : Option (List ℕ) → Result ScriptStep LineKind
+stepped_of fields = do
+  words ← two_of fields
+  rank ← rank_of words.0
+  count ← number_of words.1
+  if count == 0 then Err Number else Ok (Stepped rank count)
+
+-- a rank, and the step before which it stops
+unfoldable pub before_of : Option (List ℕ) → Result ScriptStep LineKind
+before_of fields = do
+  words ← two_of fields
+  rank ← rank_of words.0
+  name ← name_of words.1
+  Ok (Before rank name)
+
+-- a rank alone
+unfoldable pub finished_of : Option (List ℕ) → Result ScriptStep LineKind
+finished_of fields = do
+  word ← one_of fields
+  rank ← rank_of word
+  Ok (Finished rank)
+
+unfoldable pub failed_of : Option (List ℕ) → Result ScriptStep LineKind
+failed_of fields = do
+  word ← one_of fields
+  rank ← rank_of word
+  Ok (Failed rank)
+
+-- a verb, and the text behind it
+abbrev pub step_from : List ℕ × Option (List ℕ) → Result ScriptStep LineKind
+step_from first =
+    if bytes_eq first.0 (codes "call") then asked_of first.1
+    else (if bytes_eq first.0 (codes "step") then stepped_of first.1
+    else (if bytes_eq first.0 (codes "before") then before_of first.1
+    else (if bytes_eq first.0 (codes "finish") then finished_of first.1
+    else (if bytes_eq first.0 (codes "fail") then failed_of first.1
+    else Err Verb))))
+
+-- what a line asks for
+unfoldable pub step_line_of : List ℕ → Result ScriptStep LineKind
+step_line_of line = step_from (word_of line)
+
+-- a call of a rank, and not of the outside
+abbrev pub IsByRank : ScriptCall → Type 0
+IsByRank asked = (rank : ℕ) → asked ≢ call.Fail rank
+
+-- the line spells this; each has at most one spelling
+abbrev pub SpellsStep : List ℕ → ScriptStep → Type 0
+SpellsStep line (Called asked) = (rest : List ℕ) × Spells rest asked × IsByRank asked × (line ≡ codes "call " ++ rest)
+SpellsStep line (Stepped rank count) = (rank < 1024) × (0 < count) × (count < 10000) × (line ≡ codes "step " ++ (decimal rank ++ 32 ∷ decimal count))
+SpellsStep line (Before rank name) = (rank < 1024) × (line ≡ codes "before " ++ (decimal rank ++ 32 ∷ step_text name))
+SpellsStep line (Finished rank) = (rank < 1024) × (line ≡ codes "finish " ++ decimal rank)
+SpellsStep line (Failed rank) = (rank < 1024) × (line ≡ codes "fail " ++ decimal rank)

@@ -1,0 +1,147 @@
+//! Events, read of a trace's line.
+ghost use Rattle.std.specs.Prelude.{◌≡◌};
+ghost use Rattle.ulfm_script.specs.Words.{rest_at};
+ghost use Rattle.ulfm_lines.specs.EventReading.{arrive_event, event_of, fail_event, mark_event, marked, revoke_event, settle_event, settled, spawn_event};
+
+use crate::fields::{
+    comm_field, labelled, number_field, offer_field, over, place_field, rank_field,
+};
+use ulfm_laws::{Acked, FlagAnd, Known};
+use ulfm_model::contribution::{Contribution, MarkCount, Offer};
+use ulfm_model::event::Event;
+use ulfm_script::LineKind;
+use ulfm_script::words::next_word;
+
+/// An event, behind its caller; none where no contribution and no mark has its counts.
+#[tactic(auto, unfolding(crate::specs::EventReading::event_of))]
+pub(crate) fn read_event(text: Option<&[u8]>) -> Result<Option<Event<FlagAnd>>, LineKind>
+    ensures { result ≡ event_of (rest_at text.entry) }
+{
+    let (verb, fields) = next_word(text)?;
+    if verb == b"fail".as_slice() {
+        read_fail(fields)
+    } else if verb == b"settle".as_slice() {
+        read_settle(fields)
+    } else if verb == b"mark".as_slice() {
+        read_mark(fields)
+    } else if verb == b"arrive".as_slice() {
+        read_arrive(fields)
+    } else if verb == b"revoke".as_slice() {
+        read_revoke(fields)
+    } else if verb == b"spawn".as_slice() {
+        read_spawn(fields)
+    } else {
+        Err(LineKind::Words)
+    }
+}
+
+#[tactic(auto, unfolding(crate::specs::EventReading::fail_event))]
+fn read_fail(text: Option<&[u8]>) -> Result<Option<Event<FlagAnd>>, LineKind>
+    ensures { result ≡ fail_event (rest_at text.entry) }
+{
+    let (rank, rest) = rank_field(text)?;
+    over(rest)?;
+    Ok(Some(Event::Fail { rank }))
+}
+
+#[tactic(auto, unfolding(crate::specs::EventReading::settle_event))]
+fn read_settle(text: Option<&[u8]>) -> Result<Option<Event<FlagAnd>>, LineKind>
+    ensures { result ≡ settle_event (rest_at text.entry) }
+{
+    let (place, rest) = place_field(text)?;
+    let (offer, rest) = offer_field(rest)?;
+    let (known, rest) = labelled(b"known", rest)?;
+    let (acked, rest) = labelled(b"acked", rest)?;
+    over(rest)?;
+    Ok(settled(place, offer, known, acked))
+}
+
+#[tactic(auto, unfolding(crate::specs::EventReading::mark_event))]
+fn read_mark(text: Option<&[u8]>) -> Result<Option<Event<FlagAnd>>, LineKind>
+    ensures { result ≡ mark_event (rest_at text.entry) }
+{
+    let (place, rest) = place_field(text)?;
+    let (known, rest) = labelled(b"known", rest)?;
+    over(rest)?;
+    Ok(marked(place, known))
+}
+
+#[tactic(auto, unfolding(crate::specs::EventReading::arrive_event))]
+fn read_arrive(text: Option<&[u8]>) -> Result<Option<Event<FlagAnd>>, LineKind>
+    ensures { result ≡ arrive_event (rest_at text.entry) }
+{
+    let ((comm, (round, rank)), rest) = place_field(text)?;
+    over(rest)?;
+    Ok(Some(Event::Arrive { comm, round, rank }))
+}
+
+#[tactic(auto, unfolding(crate::specs::EventReading::revoke_event))]
+fn read_revoke(text: Option<&[u8]>) -> Result<Option<Event<FlagAnd>>, LineKind>
+    ensures { result ≡ revoke_event (rest_at text.entry) }
+{
+    let (comm, rest) = comm_field(text)?;
+    over(rest)?;
+    Ok(Some(Event::Revoke { comm }))
+}
+
+#[tactic(auto, unfolding(crate::specs::EventReading::spawn_event))]
+fn read_spawn(text: Option<&[u8]>) -> Result<Option<Event<FlagAnd>>, LineKind>
+    ensures { result ≡ spawn_event (rest_at text.entry) }
+{
+    let (comm, rest) = comm_field(text)?;
+    let (parent, rest) = comm_field(rest)?;
+    let (round, rest) = number_field(rest)?;
+    over(rest)?;
+    Ok(Some(Event::Spawn {
+        comm,
+        parent,
+        round,
+    }))
+}
+
+/// A settlement with these counts, where a contribution has them.
+fn settled(
+    place: (u16, (u16, u16)),
+    offer: Offer<FlagAnd>,
+    known: u16,
+    acked: u16,
+) -> Option<Event<FlagAnd>>
+    ensures { result ≡ settled place offer known acked }
+{
+    let (comm, (round, rank)) = place;
+    if acked <= known && known <= 1024 {
+        let given = Contribution {
+            offer,
+            known: Known { count: known },
+            acked: Acked { count: acked },
+        };
+        Some(Event::Settle {
+            comm,
+            round,
+            rank,
+            given,
+        })
+    } else {
+        None
+    }
+}
+
+/// A mark with this count, where a mark has it.
+fn marked(place: (u16, (u16, u16)), known: u16) -> Option<Event<FlagAnd>>
+    ensures { result ≡ marked place known }
+{
+    let (comm, (round, rank)) = place;
+    if 0 < known && known <= 1024 {
+        let known = MarkCount {
+            known: Known { count: known },
+        };
+        Some(Event::Mark {
+            comm,
+            round,
+            rank,
+            known,
+        })
+    } else {
+        None
+    }
+}

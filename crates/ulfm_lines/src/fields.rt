@@ -1,0 +1,181 @@
+//! The fields of a trace's line, read one after another, each with the text behind it.
+ghost use Rattle.std.specs.Prelude.{◌≡◌};
+ghost use Rattle.ulfm_script.specs.Words.{Gives, rest_at};
+ghost use Rattle.ulfm_lines.specs.Fields.{at_field, caller_field, caller_of, comm_field, error_field, error_of, flag_field, flag_mask, label_field, labelled, number_field, offer_field, offer_of, over, place_field, point_field, rank_field};
+
+use ulfm_laws::{CtxMask, FlagAnd};
+use ulfm_model::contribution::Offer;
+use ulfm_model::event::Caller;
+use ulfm_script::LineKind;
+use ulfm_script::words::{
+    LAST_COMM, LAST_RANK, next_word, read_flag, read_number, read_number_to, read_point,
+};
+
+#[tactic(auto, unfolding(crate::specs::Fields::rank_field))]
+pub(crate) fn rank_field(text: Option<&[u8]>) -> Result<(u16, Option<&[u8]>), LineKind>
+    ensures { Gives at_field result (rank_field (rest_at text.entry)) }
+{
+    let (word, rest) = next_word(text)?;
+    let rank = read_number_to(LAST_RANK, word)?;
+    Ok((rank, rest))
+}
+
+#[tactic(auto, unfolding(crate::specs::Fields::comm_field))]
+pub(crate) fn comm_field(text: Option<&[u8]>) -> Result<(u16, Option<&[u8]>), LineKind>
+    ensures { Gives at_field result (comm_field (rest_at text.entry)) }
+{
+    let (word, rest) = next_word(text)?;
+    let comm = read_number_to(LAST_COMM, word)?;
+    Ok((comm, rest))
+}
+
+#[tactic(auto, unfolding(crate::specs::Fields::number_field))]
+pub(crate) fn number_field(text: Option<&[u8]>) -> Result<(u16, Option<&[u8]>), LineKind>
+    ensures { Gives at_field result (number_field (rest_at text.entry)) }
+{
+    let (word, rest) = next_word(text)?;
+    let number = read_number(word)?;
+    Ok((number, rest))
+}
+
+#[tactic(auto, unfolding(crate::specs::Fields::point_field))]
+pub(crate) fn point_field(text: Option<&[u8]>) -> Result<(u32, Option<&[u8]>), LineKind>
+    ensures { Gives at_field result (point_field (rest_at text.entry)) }
+{
+    let (word, rest) = next_word(text)?;
+    let point = read_point(word)?;
+    Ok((point, rest))
+}
+
+#[tactic(auto, unfolding(crate::specs::Fields::flag_field))]
+pub(crate) fn flag_field(text: Option<&[u8]>) -> Result<(FlagAnd, Option<&[u8]>), LineKind>
+    ensures { Gives at_field result (flag_field (rest_at text.entry)) }
+{
+    let (word, rest) = next_word(text)?;
+    let flag = read_flag(word)?;
+    Ok((flag, rest))
+}
+
+#[tactic(auto, unfolding(crate::specs::Fields::caller_of))]
+fn read_caller(word: &[u8]) -> Result<Caller, LineKind>
+    ensures { result ≡ caller_of word.now }
+{
+    if word == b"-".as_slice() {
+        return Ok(Caller::Outside);
+    }
+    let rank = read_number_to(LAST_RANK, word)?;
+    Ok(Caller::Rank(rank))
+}
+
+#[tactic(auto, unfolding(crate::specs::Fields::caller_field))]
+pub(crate) fn caller_field(text: Option<&[u8]>) -> Result<(Caller, Option<&[u8]>), LineKind>
+    ensures { Gives at_field result (caller_field (rest_at text.entry)) }
+{
+    let (word, rest) = next_word(text)?;
+    let by = read_caller(word)?;
+    Ok((by, rest))
+}
+
+/// This word, and the text behind it.
+#[tactic(auto, unfolding(crate::specs::Fields::label_field))]
+pub(crate) fn label_field<'a>(
+    label: &[u8],
+    text: Option<&'a [u8]>,
+) -> Result<((), Option<&'a [u8]>), LineKind>
+    ensures { Gives at_field result (label_field label.now (rest_at text.entry)) }
+{
+    let (word, rest) = next_word(text)?;
+    if word != label {
+        return Err(LineKind::Words);
+    }
+    Ok(((), rest))
+}
+
+/// A number behind its label.
+#[tactic(auto, unfolding(crate::specs::Fields::labelled))]
+pub(crate) fn labelled<'a>(
+    label: &[u8],
+    text: Option<&'a [u8]>,
+) -> Result<(u16, Option<&'a [u8]>), LineKind>
+    ensures { Gives at_field result (labelled label.now (rest_at text.entry)) }
+{
+    let (_, rest) = label_field(label, text)?;
+    number_field(rest)
+}
+
+/// A communicator, a round and a rank.
+#[tactic(auto, unfolding(crate::specs::Fields::place_field))]
+pub(crate) fn place_field(
+    text: Option<&[u8]>,
+) -> Result<((u16, (u16, u16)), Option<&[u8]>), LineKind>
+    ensures { Gives at_field result (place_field (rest_at text.entry)) }
+{
+    let (comm, rest) = comm_field(text)?;
+    let (round, rest) = number_field(rest)?;
+    let (rank, rest) = rank_field(rest)?;
+    Ok(((comm, (round, rank)), rest))
+}
+
+/// A set of context ids, of a flag's digits.
+fn mask_of(flag: FlagAnd) -> CtxMask
+    ensures { result ≡ flag_mask flag }
+{
+    CtxMask { bits: flag.bits }
+}
+
+fn read_offer(label: &[u8], flag: FlagAnd) -> Result<Offer<FlagAnd>, LineKind>
+    ensures { result ≡ offer_of label.now flag }
+{
+    if label == b"flag".as_slice() {
+        Ok(Offer::Flag(flag))
+    } else if label == b"ctx".as_slice() {
+        Ok(Offer::Ctx(mask_of(flag)))
+    } else {
+        Err(LineKind::Words)
+    }
+}
+
+/// What is offered.
+#[tactic(auto, unfolding(crate::specs::Fields::offer_field))]
+pub(crate) fn offer_field(text: Option<&[u8]>) -> Result<(Offer<FlagAnd>, Option<&[u8]>), LineKind>
+    ensures { Gives at_field result (offer_field (rest_at text.entry)) }
+{
+    let (label, rest) = next_word(text)?;
+    let (flag, rest) = flag_field(rest)?;
+    let offer = read_offer(label, flag)?;
+    Ok((offer, rest))
+}
+
+#[tactic(auto, unfolding(crate::specs::Fields::error_of))]
+fn read_error(word: &[u8]) -> Result<bool, LineKind>
+    ensures { result ≡ error_of word.now }
+{
+    if word == b"raised".as_slice() {
+        Ok(true)
+    } else if word == b"clean".as_slice() {
+        Ok(false)
+    } else {
+        Err(LineKind::Words)
+    }
+}
+
+/// Whether an agree raises an error.
+#[tactic(auto, unfolding(crate::specs::Fields::error_field))]
+pub(crate) fn error_field(text: Option<&[u8]>) -> Result<(bool, Option<&[u8]>), LineKind>
+    ensures { Gives at_field result (error_field (rest_at text.entry)) }
+{
+    let (word, rest) = next_word(text)?;
+    let raised = read_error(word)?;
+    Ok((raised, rest))
+}
+
+/// Nothing more.
+#[tactic(auto, unfolding(crate::specs::Fields::over))]
+pub(crate) fn over(text: Option<&[u8]>) -> Result<(), LineKind>
+    ensures { result ≡ over (rest_at text.entry) }
+{
+    if text.is_some() {
+        return Err(LineKind::Words);
+    }
+    Ok(())
+}

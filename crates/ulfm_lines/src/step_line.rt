@@ -1,0 +1,104 @@
+//! The lines of a step script.
+ghost use Rattle.std.specs.Prelude.{◌≡◌, Ok, IfOk};
+ghost use Rattle.ulfm_script.specs.Words.{rest_at};
+ghost use Rattle.ulfm_lines.specs.StepLines.{ScriptStep, SpellsStep, asked_of, before_of, failed_of, finished_of, step_line_of, stepped_of};
+
+use crate::step_name::read_step_name;
+use ulfm_laws::FlagAnd;
+use ulfm_script::words::{LAST_RANK, one_word, read_number, read_number_to, split_word, two_words};
+use ulfm_script::{LineKind, read_call};
+use ulfm_trace_model::StepLine;
+
+/// What one line of a step script asks for, without its newline, or the first fault in it from `verb` on.
+///
+/// A line is `call X`, where X is a line that [`read_call`] reads, other than `fail R`; `step R N`, `before R K`, `finish R` or
+/// `fail R`: ranks R are 0 to 1023, counts N 1 to 9999, and K is the name of a step, as `settle`. The faults come in the order of
+/// [`LineKind`], of `call X` first the verb of X. A `call` with nothing behind it, or an empty word, is `Words`.
+pub fn read_step_line(line: &[u8]) -> Result<StepLine<FlagAnd>, LineKind>
+    // What is read is spelled so, and what is spelled so is read.
+    ensures found { IfOk result (λ step. SpellsStep line.now step) }
+    ensures only { (step : ScriptStep) → SpellsStep line.now step → result ≡ Ok step }
+    ensures exact { result ≡ step_line_of line.now }
+{
+    parse_step_line(line)
+}
+
+#[tactic(auto, unfolding(crate::specs::StepLines::step_line_of))]
+fn parse_step_line(line: &[u8]) -> Result<StepLine<FlagAnd>, LineKind>
+    ensures { result ≡ step_line_of line.now }
+{
+    let (verb, fields) = split_word(line);
+    if verb == b"call".as_slice() {
+        read_asked(fields)
+    } else if verb == b"step".as_slice() {
+        read_stepped(fields)
+    } else if verb == b"before".as_slice() {
+        read_before(fields)
+    } else if verb == b"finish".as_slice() {
+        read_finished(fields)
+    } else if verb == b"fail".as_slice() {
+        read_failed(fields)
+    } else {
+        Err(LineKind::Verb)
+    }
+}
+
+/// A call that a rank begins.
+#[tactic(auto, unfolding(crate::specs::StepLines::asked_of))]
+fn read_asked(fields: Option<&[u8]>) -> Result<StepLine<FlagAnd>, LineKind>
+    ensures { result ≡ asked_of (rest_at fields.entry) }
+{
+    let Some(text) = fields else {
+        return Err(LineKind::Words);
+    };
+    let (verb, _) = split_word(text);
+    if verb.is_empty() {
+        return Err(LineKind::Words);
+    }
+    if verb == b"fail".as_slice() {
+        return Err(LineKind::Verb);
+    }
+    let call = read_call(text)?;
+    Ok(StepLine::Called(call))
+}
+
+#[tactic(auto, unfolding(crate::specs::StepLines::stepped_of))]
+fn read_stepped(fields: Option<&[u8]>) -> Result<StepLine<FlagAnd>, LineKind>
+    ensures { result ≡ stepped_of (rest_at fields.entry) }
+{
+    let (rank, count) = two_words(fields)?;
+    let rank = read_number_to(LAST_RANK, rank)?;
+    let count = read_number(count)?;
+    if count == 0 {
+        return Err(LineKind::Number);
+    }
+    Ok(StepLine::Stepped { rank, count })
+}
+
+#[tactic(auto, unfolding(crate::specs::StepLines::before_of))]
+fn read_before(fields: Option<&[u8]>) -> Result<StepLine<FlagAnd>, LineKind>
+    ensures { result ≡ before_of (rest_at fields.entry) }
+{
+    let (rank, name) = two_words(fields)?;
+    let rank = read_number_to(LAST_RANK, rank)?;
+    let name = read_step_name(name)?;
+    Ok(StepLine::Before { rank, name })
+}
+
+#[tactic(auto, unfolding(crate::specs::StepLines::finished_of))]
+fn read_finished(fields: Option<&[u8]>) -> Result<StepLine<FlagAnd>, LineKind>
+    ensures { result ≡ finished_of (rest_at fields.entry) }
+{
+    let word = one_word(fields)?;
+    let rank = read_number_to(LAST_RANK, word)?;
+    Ok(StepLine::Finished { rank })
+}
+
+#[tactic(auto, unfolding(crate::specs::StepLines::failed_of))]
+fn read_failed(fields: Option<&[u8]>) -> Result<StepLine<FlagAnd>, LineKind>
+    ensures { result ≡ failed_of (rest_at fields.entry) }
+{
+    let word = one_word(fields)?;
+    let rank = read_number_to(LAST_RANK, word)?;
+    Ok(StepLine::Failed { rank })
+}

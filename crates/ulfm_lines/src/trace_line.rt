@@ -1,0 +1,160 @@
+//! The lines of a trace, read.
+ghost use Rattle.std.specs.Prelude.{◌≡◌, List, ℕ, Some, IfOk, IfSome};
+ghost use Rattle.ulfm_script.specs.Words.{Gives, rest_at};
+ghost use Rattle.ulfm_lines.specs.Fields.{at_field};
+ghost use Rattle.ulfm_lines.specs.LineReading.{called_line, happened_line, line_head, line_listing, looked_line, replied_line, reply_listing};
+ghost use Rattle.ulfm_lines.specs.LineTexts.{TraceLine};
+ghost use Rattle.ulfm_lines.specs.Telling.{ListsRanks, Tells};
+
+use crate::events::read_event;
+use crate::fields::{caller_field, number_field, over, point_field, rank_field};
+use crate::replies::read_reply;
+use std::alloc::{AllocError, Allocator};
+use ulfm_laws::FlagAnd;
+use ulfm_model::Reply;
+use ulfm_script::words::split_word;
+use ulfm_script::{LineKind, read_call};
+use ulfm_trace_model::Line;
+
+/// The most bytes that a line of a trace may have, without its newline.
+pub const LONGEST: usize = 8192;
+
+/// What a line of a trace tells, without its newline: a typed line, or none where the line isn't of the grammar. The group has the ranks
+/// that a reply lists afterwards, in the place of what it had; nobody for other lines.
+///
+/// Lines are `call X`, `look R L`, `event B ..` and `reply B P TEXT`, as [`crate::print_line`] prints them; they have at most 8192
+/// bytes. An event with counts that no contribution and no mark has, and a `shrunk` with a context id over 255, are of the grammar and
+/// told as none of the events and replies. Only memory can be refused, for the group; nothing is said of it then.
+pub fn read_line<A: Allocator>(
+    line: &[u8],
+    group: &mut Vec<u16, A>,
+) -> Result<Option<Line<FlagAnd>>, AllocError>
+    // What is read is told so, and what is told so is read.
+    ensures found { IfOk result (λ read. IfSome read (λ told. Tells line.now group.new.items told)) }
+    ensures only { (told : TraceLine) (ranks : List ℕ) → Tells line.now ranks told
+        → IfOk result (λ read. (read ≡ Some told) × (group.new.items ≡ ranks)) }
+{
+    if line.len() > LONGEST {
+        return Ok(None);
+    }
+    match read_head(line) {
+        Err(_) => Ok(None),
+        Ok((head, ranks)) => {
+            if !read_ranks(ranks, group)? {
+                return Ok(None);
+            }
+            Ok(Some(listing(head, group.len() as u16)))
+        }
+    }
+}
+
+/// The ranks that stand there, in the place of what the group had; false where anything else does.
+fn read_ranks<A: Allocator>(
+    ranks: Option<&[u8]>,
+    group: &mut Vec<u16, A>,
+) -> Result<bool, AllocError>
+    ensures { IfOk result (λ read. ListsRanks (rest_at ranks.entry) group.new.items read) }
+{
+    group.clear();
+    let mut left = ranks;
+    'ranks: while left.is_some() {
+        match rank_field(left) {
+            Err(_) => return Ok(false),
+            Ok((rank, rest)) => {
+                group.push(rank)?;
+                left = rest;
+            }
+        }
+    }
+    Ok(true)
+}
+
+/// A line with the number of ranks that it lists.
+fn listing(line: Line<FlagAnd>, count: u16) -> Line<FlagAnd>
+    ensures { result ≡ line_listing count line }
+{
+    match line {
+        Line::Replied {
+            by,
+            point,
+            reply: Some(reply),
+        } => {
+            let reply = Some(reply_listing(reply, count));
+            Line::Replied { by, point, reply }
+        }
+        other => other,
+    }
+}
+
+fn reply_listing(reply: Reply<FlagAnd>, count: u16) -> Reply<FlagAnd>
+    ensures { result ≡ reply_listing count reply }
+{
+    match reply {
+        Reply::FailedGroup { .. } => Reply::FailedGroup { count },
+        Reply::Shrunk { comm, context, .. } => Reply::Shrunk {
+            comm,
+            context,
+            size: count,
+        },
+        other => other,
+    }
+}
+
+/// A line, but for the ranks that it lists, which follow where there are any.
+#[tactic(auto, unfolding(crate::specs::LineReading::line_head))]
+fn read_head(line: &[u8]) -> Result<(Line<FlagAnd>, Option<&[u8]>), LineKind>
+    ensures { Gives at_field result (line_head line.now) }
+{
+    let (verb, fields) = split_word(line);
+    if verb == b"call".as_slice() {
+        read_called(fields)
+    } else if verb == b"look".as_slice() {
+        read_looked(fields)
+    } else if verb == b"event".as_slice() {
+        read_happened(fields)
+    } else if verb == b"reply".as_slice() {
+        read_replied(fields)
+    } else {
+        Err(LineKind::Words)
+    }
+}
+
+#[tactic(auto, unfolding(crate::specs::LineReading::called_line))]
+fn read_called(text: Option<&[u8]>) -> Result<(Line<FlagAnd>, Option<&[u8]>), LineKind>
+    ensures { Gives at_field result (called_line (rest_at text.entry)) }
+{
+    let Some(text) = text else {
+        return Err(LineKind::Words);
+    };
+    let call = read_call(text)?;
+    Ok((Line::Called(call), None))
+}
+
+#[tactic(auto, unfolding(crate::specs::LineReading::looked_line))]
+fn read_looked(text: Option<&[u8]>) -> Result<(Line<FlagAnd>, Option<&[u8]>), LineKind>
+    ensures { Gives at_field result (looked_line (rest_at text.entry)) }
+{
+    let (rank, rest) = rank_field(text)?;
+    let (failures, rest) = number_field(rest)?;
+    over(rest)?;
+    Ok((Line::Looked { rank, failures }, None))
+}
+
+#[tactic(auto, unfolding(crate::specs::LineReading::happened_line))]
+fn read_happened(text: Option<&[u8]>) -> Result<(Line<FlagAnd>, Option<&[u8]>), LineKind>
+    ensures { Gives at_field result (happened_line (rest_at text.entry)) }
+{
+    let (by, rest) = caller_field(text)?;
+    let event = read_event(rest)?;
+    Ok((Line::Happened { by, event }, None))
+}
+
+#[tactic(auto, unfolding(crate::specs::LineReading::replied_line))]
+fn read_replied(text: Option<&[u8]>) -> Result<(Line<FlagAnd>, Option<&[u8]>), LineKind>
+    ensures { Gives at_field result (replied_line (rest_at text.entry)) }
+{
+    let (by, rest) = caller_field(text)?;
+    let (point, rest) = point_field(rest)?;
+    let (reply, rest) = read_reply(rest)?;
+    Ok((Line::Replied { by, point, reply }, rest))
+}

@@ -1,0 +1,26 @@
+ghost use Rattle.std.specs.Prelude.{◌≡◌};
+ghost use Rattle.ulfm_script.specs.Headers.{kind_text};
+
+/// What kind of text a first line begins.
+#[derive(Clone, Copy, Debug, PartialEq, Eq)]
+pub enum HeaderKind {
+    /// A script of calls.
+    Calls,
+    /// A script of single steps.
+    Steps,
+    /// A trace.
+    Trace,
+}
+
+impl HeaderKind {
+    /// The first word of such a line, as `ulfm-trace`.
+    pub fn word(self) -> &'static [u8]
+        ensures { result.now ≡ kind_text self }
+    {
+        match self {
+            HeaderKind::Calls => b"ulfm",
+            HeaderKind::Steps => b"ulfm-steps",
+            HeaderKind::Trace => b"ulfm-trace",
+        }
+    }
+}
