@@ -24,19 +24,22 @@ sys.dont_write_bytecode = True
 
 
 def toolchain():
-    """The toolchain's command `rt` as a module."""
+    """The toolchain's command `rt` as a module. One that has not what this gate stands on is run as it is: it tries each edit alone."""
     found = shutil.which("rt")
     if not found:
         sys.exit("gate: the toolchain's command rt isn't on the PATH")
     loader = importlib.machinery.SourceFileLoader("rt", os.path.realpath(found))
     module = importlib.util.module_from_spec(importlib.util.spec_from_loader("rt", loader))
     loader.exec_module(module)
+    if not all(hasattr(module, it) for it in ("add_edits", "ci", "edits_alone", "Kept", "must_fail", "need", "SETTLED")):
+        print("gate: this toolchain isn't one that the gate knows, so its own gate is run", file=sys.stderr, flush=True)
+        os.execv(found, ["rt", *(["must-fail", *sys.argv[1:]] if sys.argv[1:] else ["ci"])])
     return module
 
 
 rt = toolchain()
 # Crates of tests that this gate only runs, by the toolchain's checked build: no contract rests on their proofs, which `rt ci` makes.
-ONLY_RUN = ("ulfm_steps_tests", "ulfm_comm_tests", "ulfm_object_tests", "ulfm_run_tests")
+ONLY_RUN = ("ulfm_steps_tests", "ulfm_comm_tests", "ulfm_object_tests", "ulfm_run_tests", "ulfm_examples_tests")
 FUNCTION = re.compile(r"^[ \t]*(?:pub(?:\([^)]*\))?[ \t]+)?(?:const[ \t]+|unsafe[ \t]+)*fn[ \t]+(\w+)", re.M)
 BODY = re.compile(r"^[ \t]*(?:\{|(?:pub|fn|const|unsafe|\)).*\{)$", re.M)
 USES = re.compile(r"(?:use [^;]*;\s*)+")
@@ -170,30 +173,57 @@ def in_groups(crate, edits, flags, kept):
     return refused, runs
 
 
-# (how many edits of each crate were tried, in how many groups, and how many alone; the folder of this run; and whether this run has
-# proved each crate into it, so that it needn't be asked again before a crate's edits)
-tried, room, is_proved_here = {}, None, False
+# (how many edits of each crate were tried, in how many groups, and how many alone; the folder of this run; and whether this run proves
+# crates into it, so that a crate's proof needn't be made again before its edits)
+tried, room, proves_here = {}, None, False
+
+
+def add_edits(tasks, crate, files, first, waits, is_well, kept, start=None, in_ci=True):
+    """Adds the task that tries a crate's edits, in place of the toolchain's function of this name: one a crate and not one an edit.
+    Returns what gives their results, in the edits' order, and what gives those that an earlier run on this machine came to."""
+    known, key = {}, (crate.name, "edits", 0)
+
+    def task(given, jobs):
+        try:
+            # (names of this gate's own, so that nothing that it judged in a group counts for the toolchain's gate)
+            names = [kept.of_edit(it, f"{kept.key(crate)} in groups") if in_ci else None for it in files]
+        except OSError:
+            names = [None] * len(files)
+        known.update({at: it for at, it in enumerate(name and kept.tried(name) for name in names) if it})
+        if not is_well(given, len(files) - len(known)):
+            return None
+        left = [at for at in range(len(files)) if at not in known]
+        results = must_fail_all(crate, [files[at] for at in left], ["--jobs", str(jobs)]) if left else []
+        for at, (kind, text) in zip(left, results):
+            if names[at] and kind in (rt.REFUSED, rt.AT_LIMIT) and kept.is_untouched(crate):
+                kept.keep_tried(names[at], kind, text)
+        return {**known, **dict(zip(left, results))}
+
+    if files:
+        tasks[key] = ([*waits, *first], crate.count(rb"\n") * len(files), rt.need(crate), task)
+    return lambda given: [given[key][at][:2] for at in range(len(files))], lambda: known
 
 
 def must_fail_all(crate, files, flags):
-    """Tries a crate's edits, as the toolchain's function of this name does: for each whether it is refused, and what to say."""
+    """Tries a crate's edits: for each what it came to, and what to say. A bad edit fails this gate, as one that isn't tried does."""
     edits = [Edit(crate, it) for it in files if not rt.read_edit(it, crate.folder)[1]]
     idle = {it.file for it in edits if not it.changes_code}
     kept = folder_of(crate)
-    is_sound = is_proved_here or not rt.checked(crate, {}, flags, kept).returncode
+    is_sound = proves_here and bool(os.listdir(kept)) or not rt.checked(crate, {}, flags, kept).returncode
     refused, runs = in_groups(crate, edits, flags, kept) if is_sound else ({}, 0)
     by_file = {edit.file: said for edit, said in refused.items()}
     given, alone = [], 0
     for file in files:
         label = f"must-fail {crate.name}/{os.path.basename(file)}"
         if file in by_file:
-            given.append((True, f"{label}: refused, as it must be: {by_file[file][:200]}"))
+            given.append((rt.REFUSED, f"{label}: refused, as it must be: {by_file[file][:200]}"))
         elif file in idle:
-            given.append((False, f"{label}: BAD EDIT: it changes no code, so it tries no contract"))
+            given.append((rt.UNSURE, f"{label}: BAD EDIT: it changes no code, so it tries no contract"))
         else:
             alone += 1
-            over = rt.must_fail(crate, file, flags, kept) if is_sound else (False, "")
-            given.append(over if over[0] else rt.must_fail(crate, file, flags))
+            over = rt.must_fail(crate, file, flags, kept) if is_sound else (rt.UNSURE, "")
+            kind, text = over if over[0] in rt.SETTLED else rt.must_fail(crate, file, flags)
+            given.append((rt.UNSURE if kind == rt.BAD else kind, text))
     tried[crate.name] = len(files), runs, alone
     return given
 
@@ -230,9 +260,9 @@ def say(text, out=None, say=rt.say):
 
 
 def main(names):
-    global is_proved_here
-    rt.must_fail_all, rt.say = must_fail_all, say
-    is_proved_here = not names
+    global proves_here
+    rt.add_edits, rt.say = add_edits, say
+    proves_here = not names
     if names:
         for name in names:
             shutil.copytree(f"crates/{name}/out/incremental", f"{room}/{name}", dirs_exist_ok=True)
@@ -242,7 +272,7 @@ def main(names):
         # (the folder was empty when the proof began, so nothing older than this run is trusted)
         pattern = rt.rtlib.VERDICT.pattern.replace(r"statements=trusted\n", r"statements=trusted( incremental=trusted)?\n")
         rt.rtlib.VERDICT = re.compile(pattern, re.M)
-        status = rt.ci()
+        status = rt.ci(anew=False)
     sys.stdout.flush()
     for name, counts in [*sorted(tried.items()), ("all", [sum(it) for it in zip((0, 0, 0), *tried.values())])]:
         print("gate: {}: {} edits, {} groups, {} edits alone".format(name, *counts), file=sys.stderr)

@@ -5,19 +5,17 @@
 //! but never between those who get a reply; and only rank 3 may be refused.
 #![tactic(auto)]
 
-ghost use Rattle.std.specs.Prelude.{IfOk};
-ghost use Rattle.ulfm_comm.specs.Polls.{IsAnswer};
-
 use std::alloc::{AllocError, Global};
 use std::sync::Wait;
 use std::thread::{self, Threads, join};
 use ulfm_book::BookWords;
 use ulfm_comm::Polled;
 use ulfm_laws::FlagAnd;
-use ulfm_member::{Member, Outside};
+use ulfm_member::Member;
 use ulfm_model::{Limits, Refusal};
 
 type Shared = BookWords<FlagAnd>;
+
 type Reply = Result<Polled<FlagAnd>, Refusal>;
 
 const LIMITS: Limits = Limits {
@@ -37,20 +35,6 @@ fn flag(rank: u16) -> FlagAnd {
     FlagAnd { bits }
 }
 
-/// Contributes a flag, and polls until there is a reply or a refusal. It is never pending.
-fn agree<R: Wait>(rt: &R, member: &mut Member<Shared, FlagAnd, Global>, value: FlagAnd) -> Reply
-    ensures { IfOk result IsAnswer }
-{
-    member.iagree(0, value)?;
-    for _ in rt.forever() {
-        match member.poll(0)? {
-            Polled::Pending => thread::yield_now(),
-            answer => return Ok(answer),
-        }
-    }
-    unreachable!()
-}
-
 /// Each member agrees, in a thread of its own: the replies, in order.
 fn agree_all<R: Threads + Wait + Sync>(
     rt: &R,
@@ -61,7 +45,7 @@ fn agree_all<R: Threads + Wait + Sync>(
         all,
         &|mut member| {
             let value = flag(member.number());
-            agree(rt, &mut member, value)
+            ulfm_wait::agree(rt, &mut member, 0, value)
         },
     )
 }

@@ -11,7 +11,7 @@ use Rattle.ulfm_words.specs.Steps.{IsOf, Name, Sight}
 use Rattle.ulfm_words.proofs.Trails.{did_none, did_prefix, did_quiet, did_wait}
 use Rattle.ulfm_comm.specs.{Calls.{Calls, HadCome, RunsOut}, Ends.{IsEarlyRun, IsEndRun, IsRefusedAgain}, Look.{Looked}}
 use Rattle.ulfm_comm.proofs.ReplyKinds.{counted_seen}
-use Rattle.ulfm_comm.proofs.WholeCall.{refused_missing, sees_later, self_failed, view_at}
+use Rattle.ulfm_comm.proofs.WholeCall.{refused_missing, sees_later, self_failed}
 
 -- a call of a rank where nobody else steps: one that was refused for good before is refused again, without a step
 abbrev pub IsAloneCall : {P : Type 0} → (P → P → P) → Limits → History P → History P → Record → Call P → Reply P → Record → Type 0

@@ -1,29 +1,11 @@
 -- The records of ranks that stand in the order of their numbers.
-use Rattle.std.proofs.Common.{◌≡◌, ◌≢◌, ◌⊎◌, inl, inr, ℕ, zero, suc, ◌<◌, ◌≤◌, ◌==◌, Bool, true, false, cond, List, [], ◌∷◌, ◌++◌, map, length, get_or, set, Some, None, refl, ap, ap₂, sym, ◌∙◌, arith, length-append, if◌then◌else◌}
+use Rattle.std.proofs.Common.{◌≡◌, ◌≢◌, ℕ, zero, suc, ◌<◌, ◌≤◌, ◌==◌, Bool, true, false, cond, List, [], ◌∷◌, map, length, get_or, set, Some, None, refl, ap, ap₂, sym, ◌∙◌, arith, if◌then◌else◌}
 use Rattle.std.specs.List.{AllByRecursion, find}
-use Rattle.std.proofs.Math.Seq.{get_or-append_seam}
 use Rattle.std.proofs.lemmas.Bool.{eq-eqb, ne_eqb}
-use Rattle.std.proofs.lemmas.List.{get_or-map, get_or_append_left, length-map}
+use Rattle.std.proofs.lemmas.List.{get_or-map, length-map}
 use Rattle.ulfm_record.proofs.Places.{found_at}
 use Rattle.ulfm_model.specs.{History.{first_ranks}, Records.{Record}}
-
-first_length : (n : ℕ) → length (first_ranks n) ≡ n
-first_length zero = refl
-first_length (suc n) = length-append (first_ranks n) (n ∷ []) ∙ omega (arith, first_length n)
-
--- each rank stands at its own number
-first_at : (n k : ℕ) → k < n → get_or (first_ranks n) k 0 ≡ k
-first_at zero k lt = absurd (omega arith)
-first_at (suc n) k lt = go (first_at n k) (either k n)
-  where
-    either : (a b : ℕ) → (a < b) ⊎ (b ≤ a)
-    either a b = grind arith
-
-    go : (k < n → get_or (first_ranks n) k 0 ≡ k) → (k < n) ⊎ (n ≤ k) → get_or (first_ranks n ++ n ∷ []) k 0 ≡ k
-    go before (inl below) = get_or_append_left (first_ranks n) (n ∷ []) 0 k (omega (arith, below, first_length n)) ∙ before below
-    go before (inr last) =
-        let here : k ≡ length (first_ranks n) = omega (arith, lt, last, first_length n) in
-        rw here (get_or-append_seam (first_ranks n) n [] 0 ∙ sym (first_length n))
+use Rattle.ulfm_model.proofs.Groups.{first_at, first_length}
 
 module _ {X : Type 0} (p : X → Bool) where
   -- none passes

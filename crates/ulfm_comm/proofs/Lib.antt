@@ -20,7 +20,6 @@ pub mod Jobs
 pub mod Stands
 pub mod LeftOut
 pub mod AmongOthers
-pub mod Members
 pub mod Opening
 pub mod Others
 pub mod Passing

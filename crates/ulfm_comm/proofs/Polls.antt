@@ -5,12 +5,12 @@ use mathlib.Core.List.{IsPrefix}
 use Rattle.std.specs.List.{AllByRecursion, list_all}
 use Rattle.std.proofs.lemmas.List.{length-take}
 use Rattle.std.proofs.lemmas.Bool.{ne_eqb}
-use Rattle.ulfm_laws.specs.{Bodies.{body_meld}, declared.{body.Body.{Body}, body.Body.TheVariants.{Unit as NoBody, Flag as OfFlags, Ctx as OfIds, Clash}, ctx_mask.CtxMask.{CtxMask}, summary.Summary.{Summary}}}
+use Rattle.ulfm_laws.specs.{declared.{body.Body.{Body}, body.Body.TheVariants.{Unit as NoBody, Flag as OfFlags, Ctx as OfIds, Clash}, ctx_mask.CtxMask.{CtxMask}, summary.Summary.{Summary}}}
 use Rattle.ulfm_model.specs.declared.call.Call.TheVariants as call
 use Rattle.ulfm_model.specs.declared.{call.Call.{Call}, call.Request.{Request}, call.Request.TheVariants.{Agree, Shrink}, contribution.Contribution.{Contribution}, contribution.Slot.TheVariants.{Given}, event.Caller.TheVariants.{Rank}, event.Event.{Event}, event.Event.TheVariants.{Fail, Settle, Mark, Arrive, Revoke, Spawn}, limits.Limits.{Limits}, refusal.Refusal.TheVariants.{Idle, Mismatch}, reply.Reply.{Reply}, reply.Reply.TheVariants.{Agreed, Pending, Refused}}
 use Rattle.ulfm_model.specs.{Answers.{AgreeReplies, IsPending, MarksDeclared, PollAdds, PollReplies, Sees, View, closed, first_refusal, left_by, polled_by, refusal_of, refusal_on}, History.{Decision, History, IsLegal, body_of, decision, entries_by, failed, failures, has, is_decided, known_of, members, round, round_among, slot}, Laws.{all_of}, Records.{Fits, FitsRequest, Held, Record, held_at, is_shrink}, Runs.{Did, IsRun, unsettled_of}}
-use Rattle.ulfm_model.specs.Terms.{IsOwn, contexts_of, request_of, settled_by, view_of}
-use Rattle.ulfm_model.proofs.{Decisions.{slot_stands}, Histories.{slot_stays}, LeftIds.{free_at_each}, Lists.{at_member, each_filter_map, each_from, has_filter, has_kept, has_passes, has_prefix, is_some_of}, Melds.{known_fits}, Stable.{decision_is, fits_stays}, StepsRounds.{IsFlagged, IsMasked, flagged_left, flagged_right, given_stands, masked_left, masked_right, offered}}
+use Rattle.ulfm_model.specs.Terms.{IsOwn, contexts_of, request_of, settled_by}
+use Rattle.ulfm_model.proofs.{Decisions.{slot_stands}, Histories.{slot_stays}, LeftIds.{free_at_each}, Lists.{at_member, each_filter_map, each_from, has_filter, has_kept, has_passes, has_prefix, is_some_of}, Melds.{known_fits}, Stable.{decision_is, fits_stays}, StepsRounds.{IsFlagged, IsMasked, IsSort, given_stands, offered}}
 use Rattle.ulfm_words.proofs.Trails.{did_prefix, did_quiet, did_wait}
 use Rattle.ulfm_steps.specs.{Marks.{IsMarkOf}, Rounds.{IsSummed}}
 use Rattle.ulfm_comm.specs.{Ends.{IsEndRun}, Polls.{HasMarked, agreement}}
@@ -20,7 +20,7 @@ use Rattle.ulfm_comm.proofs.{Holding.{comm_is, failed_is, group_is, holds}, Whol
 pub clash_is : {P : Type 0} (body : Body P) → IsFlagged body → ((flag : P) → body ≡ OfFlags flag → ⊥) → body ≡ Clash
 clash_is NoBody flagged other = absurd flagged
 clash_is (OfFlags flag) flagged other = absurd (other flag refl)
-clash_is (OfIds mask) flagged other = absurd flagged
+clash_is (OfIds mask) flagged other = absurd (cc flagged)
 clash_is Clash flagged other = refl
 
 -- a mark of a member that the look found declared
@@ -88,11 +88,11 @@ module _ {P : Type 0} (meld : P → P → P) (limits : Limits) (h : History P) (
   raised_read = sym (ap (λ (d : Decision P). d.raised) (decision_is meld limits h c k legal) ∙ ap (λ (a : Summary P). nat_lt a.acked.count a.known.count) summed)
 
   -- the decision is of the sort that the rank has offered
-  read_sort : (Q : Body P → Type 0) → ((a b : Body P) → Q a → Q (body_meld meld a b)) → ((a b : Body P) → Q b → Q (body_meld meld a b)) → (given : Contribution P) → IsOwn h own.number (Settle c k own.number given) → Q (body_of given.offer) → Q all.body
-  read_sort Q left right given did offer =
+  read_sort : (masks : Bool) (given : Contribution P) → IsOwn h own.number (Settle c k own.number given) → IsSort masks (body_of given.offer) → IsSort masks all.body
+  read_sort masks given did offer =
       let stands = given_stands meld limits h legal c k own.number given did in
       let member : has (members limits.ranks h c) own.number ≡ true = ap (λ group. has group own.number) (sym (group_is meld limits h own c x fits held)) ∙ (holds meld limits h own c x fits held).member in
-      subst Q body_read (offered meld Q left right h c k own.number given stands offer (members limits.ranks h c) member)
+      subst (IsSort masks) body_read (offered meld masks h c k own.number given stands offer (members limits.ranks h c) member)
 
   requested : (request : Request) → x.request ≡ Some request → FitsRequest h own.number (contexts_of own.held) c (Some request)
   requested request open_is =
@@ -103,15 +103,15 @@ module _ {P : Type 0} (meld : P → P → P) (limits : Limits) (h : History P) (
   pub read_flagged : x.request ≡ Some (Agree k) → IsFlagged all.body
   read_flagged open_is =
       let mine = requested (Agree k) open_is in
-      let flag : IsFlagged (OfFlags mine.1) = tt in
-      read_sort IsFlagged (flagged_left meld) (flagged_right meld) mine.0 mine.2 (subst IsFlagged (sym (ap body_of mine.3)) flag)
+      let flag : IsFlagged (OfFlags mine.1) = refl in
+      read_sort false mine.0 mine.2 (subst IsFlagged (sym (ap body_of mine.3)) flag)
 
   -- and one with an open shrink on a mask, or on a clash
   pub read_masked : x.request ≡ Some (Shrink k) → IsMasked all.body
   read_masked open_is =
       let mine = requested (Shrink k) open_is in
-      let mask : IsMasked {P = P} (OfIds mine.1) = tt in
-      read_sort IsMasked (masked_left meld) (masked_right meld) mine.0 mine.2 (subst IsMasked (sym (ap body_of mine.3)) mask)
+      let mask : IsMasked {P = P} (OfIds mine.1) = refl in
+      read_sort true mine.0 mine.2 (subst IsMasked (sym (ap body_of mine.3)) mask)
 
   -- an id that the mask has is none that the rank holds
   pub read_fresh : x.request ≡ Some (Shrink k) → (mask : CtxMask) (id : ℕ) → all.body ≡ OfIds mask → bit_at mask.bits id ≡ 1 → AllByRecursion (λ i. nat_eq i id ≡ false) (contexts_of own.held)

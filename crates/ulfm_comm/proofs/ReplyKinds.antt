@@ -7,73 +7,73 @@ use Rattle.ulfm_laws.specs.declared.ctx_mask.CtxMask.{CtxMask}
 use Rattle.ulfm_model.specs.declared.{call.Call.{Call}, call.Request.{Request}, call.Request.TheVariants.{Agree, Shrink, Barrier}, contribution.Offer.{Offer}, contribution.Offer.TheVariants.{Ctx, Flag}, limits.Limits.{Limits}, refusal.Refusal.{Refusal}, refusal.Refusal.TheVariants.{IsRevoked, NoContext, ProcFailed, SelfFailed, Twice}, reply.Reply.{Reply}, reply.Reply.TheVariants.{AlreadyRevoked, Done, FailedGroup, Pending, Refused, Revoked, Started}}
 use Rattle.ulfm_model.specs.{Answers.{AgreeReplies, IsReply, IsSelfFailed, PollReplies, Replies, RepliesBy, Sees, ShrinkReplies, SpawnReplies, StartReplies, View, polled_by, refusal_of}, History.{Decision, History, decision, failures, has, has_arrived, is_revoked}, Records.{Held, free_ids, Record, held_at, is_shrink}, Runs.{IsRun}}
 use Rattle.ulfm_model.specs.Terms.{comm_of, view_of}
-use Rattle.ulfm_comm.specs.Replies.{IsAcked, IsCounted, IsFreed, IsPolled, IsRevokedBy, IsStanding, IsStart}
+use Rattle.ulfm_comm.specs.Replies.{Answers, Kind}
 
 -- a reply of the call's kind
 abbrev pub IsKind : {P : Type 0} → Call P → Reply P → Type 0
 IsKind (call.Fail rank) reply = ⊤
-IsKind (call.GetFailed rank c) reply = IsCounted reply
-IsKind (call.Ack rank c count) reply = IsAcked reply
-IsKind (call.Agree rank c value) reply = IsStart reply
-IsKind (call.Shrink rank c) reply = IsStart reply
-IsKind (call.Barrier rank c) reply = IsStart reply
-IsKind (call.Poll rank c) reply = IsPolled reply
-IsKind (call.Revoke rank c) reply = IsRevokedBy reply
-IsKind (call.IsRevoked rank c) reply = IsStanding reply
-IsKind (call.Free rank c) reply = IsFreed reply
+IsKind (call.GetFailed rank c) reply = Answers Kind.Counts reply
+IsKind (call.Ack rank c count) reply = Answers Kind.Acknowledges reply
+IsKind (call.Agree rank c value) reply = Answers Kind.Starts reply
+IsKind (call.Shrink rank c) reply = Answers Kind.Starts reply
+IsKind (call.Barrier rank c) reply = Answers Kind.Starts reply
+IsKind (call.Poll rank c) reply = Answers Kind.Polls reply
+IsKind (call.Revoke rank c) reply = Answers Kind.Revokes reply
+IsKind (call.IsRevoked rank c) reply = Answers Kind.Asks reply
+IsKind (call.Free rank c) reply = Answers Kind.Frees reply
 
-barrier_kind : (P : Type 0) (revoked done waits : Bool) → IsPolled {P = P} (if revoked then Refused IsRevoked else (if done then Done else (if waits then Pending else Refused ProcFailed)))
+barrier_kind : (P : Type 0) (revoked done waits : Bool) → Answers {P = P} Kind.Polls (if revoked then Refused IsRevoked else (if done then Done else (if waits then Pending else Refused ProcFailed)))
 barrier_kind P true done waits = tt
 barrier_kind P false true waits = tt
 barrier_kind P false false true = tt
 barrier_kind P false false false = tt
 
 module _ {P : Type 0} (meld : P → P → P) (limits : Limits) (view : View P) (old : Record) (x : Held) (reply : Reply P) where
-  start_kind : (offer : Offer P) → StartReplies view old x offer reply → IsStart reply
-  start_kind offer (inl started) = subst IsStart (sym started.0) tt
-  start_kind offer (inr twice) = subst IsStart (sym twice.0) tt
+  start_kind : (offer : Offer P) → StartReplies view old x offer reply → Answers Kind.Starts reply
+  start_kind offer (inl started) = subst (Answers Kind.Starts) (sym started.0) tt
+  start_kind offer (inr twice) = subst (Answers Kind.Starts) (sym twice.0) tt
 
   either_kind : {X Y : Type 0} (K : Reply P → Type 0) (a b : Reply P) → K a → K b → ((reply ≡ a) × X) ⊎ ((reply ≡ b) × Y) → K reply
   either_kind K a b first second (inl is) = subst K (sym is.0) first
   either_kind K a b first second (inr is) = subst K (sym is.0) second
 
-  agree_kind : (made : Decision P) → AgreeReplies made reply → IsPolled reply
-  agree_kind made (inl agreed) = subst IsPolled (sym agreed.2) tt
-  agree_kind made (inr clash) = subst IsPolled (sym clash.1) tt
+  agree_kind : (made : Decision P) → AgreeReplies made reply → Answers Kind.Polls reply
+  agree_kind made (inl agreed) = subst (Answers Kind.Polls) (sym agreed.2) tt
+  agree_kind made (inr clash) = subst (Answers Kind.Polls) (sym clash.1) tt
 
-  spawn_kind : (h : History P) (c k mask : ℕ) → SpawnReplies limits h c k mask reply → IsPolled reply
-  spawn_kind h c k mask (inl made) = subst IsPolled (sym made.5) tt
-  spawn_kind h c k mask (inr full) = subst IsPolled (sym full.2) tt
+  spawn_kind : (h : History P) (c k mask : ℕ) → SpawnReplies limits h c k mask reply → Answers Kind.Polls reply
+  spawn_kind h c k mask (inl made) = subst (Answers Kind.Polls) (sym made.5) tt
+  spawn_kind h c k mask (inr full) = subst (Answers Kind.Polls) (sym full.2) tt
 
-  ids_kind : (h : History P) (r c k : ℕ) (made : Decision P) (mask : CtxMask) → ((mask.bits ≡ 0) × (reply ≡ Refused NoContext)) ⊎ ((0 < mask.bits) × IsFalse (has made.failed r) × SpawnReplies limits h c k mask.bits reply) → IsPolled reply
-  ids_kind h r c k made mask (inl none) = subst IsPolled (sym none.1) tt
+  ids_kind : (h : History P) (r c k : ℕ) (made : Decision P) (mask : CtxMask) → ((mask.bits ≡ 0) × (reply ≡ Refused NoContext)) ⊎ ((0 < mask.bits) × IsFalse (has made.failed r) × SpawnReplies limits h c k mask.bits reply) → Answers Kind.Polls reply
+  ids_kind h r c k made mask (inl none) = subst (Answers Kind.Polls) (sym none.1) tt
   ids_kind h r c k made mask (inr some) = spawn_kind h c k mask.bits some.2
 
-  shrink_kind : (h : History P) (r c k : ℕ) (made : Decision P) → ShrinkReplies limits h r c k made reply → IsPolled reply
+  shrink_kind : (h : History P) (r c k : ℕ) (made : Decision P) → ShrinkReplies limits h r c k made reply → Answers Kind.Polls reply
   shrink_kind h r c k made (inl on) = ids_kind h r c k made on.0 on.2
-  shrink_kind h r c k made (inr clash) = subst IsPolled (sym clash.1) tt
+  shrink_kind h r c k made (inr clash) = subst (Answers Kind.Polls) (sym clash.1) tt
 
-  poll_kind : (request : Option Request) → PollReplies meld limits view old.number x request reply → IsPolled reply
+  poll_kind : (request : Option Request) → PollReplies meld limits view old.number x request reply → Answers Kind.Polls reply
   poll_kind None replies = absurd replies
-  poll_kind (Some (Agree k)) (inl waits) = subst IsPolled (sym waits.1) tt
+  poll_kind (Some (Agree k)) (inl waits) = subst (Answers Kind.Polls) (sym waits.1) tt
   poll_kind (Some (Agree k)) (inr decided) = agree_kind (decision meld limits.ranks view.history x.comm k) decided.1
-  poll_kind (Some (Shrink k)) (inl waits) = subst IsPolled (sym waits.1) tt
+  poll_kind (Some (Shrink k)) (inl waits) = subst (Answers Kind.Polls) (sym waits.1) tt
   poll_kind (Some (Shrink k)) (inr decided) = shrink_kind view.history old.number x.comm k (decision meld limits.ranks view.history x.comm k) decided.1
-  poll_kind (Some (Barrier k)) is = subst IsPolled (sym is)
+  poll_kind (Some (Barrier k)) is = subst (Answers Kind.Polls) (sym is)
       (barrier_kind P (is_revoked view.history x.comm) (list_all (has_arrived view.history x.comm k) x.group) (list_all (has_arrived view.history x.comm k) (filter (has x.group) view.look)))
 
   -- that of a call that the record doesn't refuse
   pub replies_kind : (asked : Call P) → Replies meld limits view old x asked reply → IsKind asked reply
   replies_kind (call.Fail rank) replies = tt
-  replies_kind (call.GetFailed rank c) replies = subst IsCounted (sym replies.1) tt
-  replies_kind (call.Ack rank c count) replies = subst IsAcked (sym replies.1) tt
+  replies_kind (call.GetFailed rank c) replies = subst (Answers Kind.Counts) (sym replies.1) tt
+  replies_kind (call.Ack rank c count) replies = subst (Answers Kind.Acknowledges) (sym replies.1) tt
   replies_kind (call.Agree rank c value) replies = start_kind (Flag value) replies
   replies_kind (call.Shrink rank c) replies = start_kind (Ctx (free_ids old.held)) replies
-  replies_kind (call.Barrier rank c) replies = either_kind IsStart Started (Refused Twice) tt tt replies.1
+  replies_kind (call.Barrier rank c) replies = either_kind (Answers Kind.Starts) Started (Refused Twice) tt tt replies.1
   replies_kind (call.Poll rank c) replies = poll_kind x.request replies
-  replies_kind (call.Revoke rank c) replies = either_kind IsRevokedBy Revoked AlreadyRevoked tt tt replies.1
-  replies_kind (call.IsRevoked rank c) replies = subst IsStanding (sym replies) tt
-  replies_kind (call.Free rank c) replies = subst IsFreed (sym replies) tt
+  replies_kind (call.Revoke rank c) replies = either_kind (Answers Kind.Revokes) Revoked AlreadyRevoked tt tt replies.1
+  replies_kind (call.IsRevoked rank c) replies = subst (Answers Kind.Asks) (sym replies) tt
+  replies_kind (call.Free rank c) replies = subst (Answers Kind.Frees) (sym replies) tt
 
 -- a call that counted failures has seen all that were declared at its point
 module _ {P : Type 0} (meld : P → P → P) (limits : Limits) (view : View P) (after : History P) (old : Record) (count : ℕ) (seen : List ℕ) where

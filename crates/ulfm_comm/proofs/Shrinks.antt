@@ -9,7 +9,7 @@ use Rattle.ulfm_model.specs.declared.call.Call.TheVariants as call
 use Rattle.ulfm_model.specs.declared.{call.Call.{Call}, call.Request.TheVariants.{Shrink}, contribution.Slot.{Slot}, event.Caller.{Caller}, event.Caller.TheVariants.{Rank}, event.Event.{Event}, event.Event.TheVariants.{Fail, Settle, Mark, Arrive, Revoke, Spawn}, limits.Limits.{Limits}, refusal.Refusal.TheVariants.{Mismatch, NoContext, NoRoom, SelfFailed}, reply.Reply.{Reply}, reply.Reply.TheVariants.{Refused, Shrunk}}
 use Rattle.ulfm_model.specs.{Answers.{IsReply, IsSelfFailed, MayOwn, PollAdds, PollReplies, RepliesBy, Sees, ShrinkReplies, View, closed, left_by, polled_by, refusal_of}, History.{Decision, Exists, History, IsLegal, decision, entries_by, failed, failures, has, is_decided, is_made, members, says, spawns, without}, Records.{Fits, Held, IsLowestId, Record, is_shrink}, Runs.{Did}}
 use Rattle.ulfm_model.specs.Terms.{new_held, settled_by}
-use Rattle.ulfm_model.proofs.{Decisions.{decision_stays}, Histories.{failures_begin}, Lists.{each_from, has_prefix, not_in_filter, prefix_trans}, Spawned.{members_of_spawned}, Stable.{failed_begins, fits_stays}, StepsRounds.{IsMasked}}
+use Rattle.ulfm_model.proofs.{Decisions.{decision_stays}, Histories.{failures_begin}, Lists.{each_append, each_from, has_prefix, not_in_filter, prefix_trans}, Spawned.{members_of_spawned}, Stable.{failed_begins, fits_stays}, StepsRounds.{IsMasked}}
 use Rattle.ulfm_words.proofs.Trails.{did_after, did_more, did_prefix}
 use Rattle.ulfm_steps.specs.{Marks.{IsMarkOf}, Rounds.{IsSummed}}
 use Rattle.ulfm_steps.specs.ReadsOn.{ReadsOn}
@@ -22,14 +22,9 @@ use Rattle.ulfm_comm.proofs.WholeCall.{run_ends}
 -- a body that is a mask or a clash, and no mask
 pub masked_clash : {P : Type 0} (body : Body P) → IsMasked body → ((mask : CtxMask) → body ≡ OfIds mask → ⊥) → body ≡ Clash
 masked_clash NoBody masked other = absurd masked
-masked_clash (OfFlags flag) masked other = absurd masked
+masked_clash (OfFlags flag) masked other = absurd (cc masked)
 masked_clash (OfIds mask) masked other = absurd (other mask refl)
 masked_clash Clash masked other = refl
-
--- what holds of each of two lists holds of each of both
-each_append : {X : Type 0} (Q : X → Type 0) (xs ys : List X) → AllByRecursion Q xs → AllByRecursion Q ys → AllByRecursion Q (xs ++ ys)
-each_append Q [] ys all more = more
-each_append Q (x ∷ xs) ys all more = (all.0, each_append Q xs ys all.1 more)
 
 -- events that settle nothing add nobody
 settled_more : {P : Type 0} (marks more : List (Event P)) → settled_by more ≡ [] → settled_by (marks ++ more) ≡ settled_by marks

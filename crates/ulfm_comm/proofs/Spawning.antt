@@ -10,7 +10,7 @@ use Rattle.ulfm_model.specs.declared.call.Call.TheVariants as call
 use Rattle.ulfm_model.specs.declared.{call.Call.{Call}, event.Caller.TheVariants.{Rank}, event.Event.{Event}, event.Event.TheVariants.{Spawn}, limits.Limits.{Limits}, refusal.Refusal.TheVariants.{Mismatch, NoContext, NoRoom, OutOfMemory, SelfFailed}, reply.Reply.{Reply}, reply.Reply.TheVariants.{Pending, Refused, Shrunk}}
 use Rattle.ulfm_model.specs.{Answers.{CallAdds, PollAdds, closed, polled_by, traits_of}, History.{History, IsLegal, entries_by, failures, has, spawns, without}, Records.{Fits, Held, IsLowestId, Record, held_at, is_shrink}, Runs.{Did}}
 use Rattle.ulfm_model.specs.Terms.{comm_of, contexts_of, new_held}
-use Rattle.ulfm_model.proofs.{Histories.{failures_begin}, LeftFits.{fits_seen}, Lists.{length-filter-le, prefix_trans}, Stable.{fits_stays}}
+use Rattle.ulfm_model.proofs.{Groups.{members_few}, Histories.{failures_begin}, LeftFits.{fits_seen}, Lists.{length-filter-le, prefix_trans}, Stable.{fits_stays}}
 use Rattle.ulfm_words.specs.Steps.{IsOf, Name, Sight}
 use Rattle.ulfm_words.proofs.{Ranks.{spawns_below}, Trails.{did_none, did_prefix, did_wait}}
 use Rattle.ulfm_steps.proofs.{Appending.{append_stays}, Spawning.{may_spawn}}
@@ -26,7 +26,7 @@ use Rattle.ulfm_comm.specs.{Phase.{Answered, Stands}, Agreement.{HasReadAll}}
 use Rattle.ulfm_steps.proofs.ReadingOn.{passing_grow}
 use Rattle.ulfm_comm.proofs.StepAdds.{adds_none}
 use Rattle.ulfm_comm.proofs.{CallRuns.{calls_is, runs_out_after}, Holding.{comm_is, exists_is, failed_is, group_is, group_rises}, AmongOthers.{did_loosely}}
-use Rattle.ulfm_comm.proofs.{Members.{members_few}, Polls.{body_read, enough_read, later, not_refused, open_round, read_decided, read_fresh, polls_it}}
+use Rattle.ulfm_comm.proofs.{Polls.{body_read, enough_read, later, not_refused, open_round, read_decided, read_fresh, polls_it}}
 use Rattle.ulfm_comm.proofs.Shrinks.{all_did, marks_make_none, may_own, sees_on, shrink_decided, shrink_mismatch, shrink_no_context, shrink_no_room, shrink_self_failed, shrink_shrunk}
 
 -- so many failures were gone through as have the decision's failed group

@@ -2,34 +2,12 @@
 use Rattle.std.proofs.Common.{◌≡◌, ◌⊎◌, Bool, true, false, List, [], ℕ, Option, Some, None, refl, ap, ap₂, sym, ◌∙◌, subst, append-nil, if◌then◌else◌, inl, inr, IsTrue, IsFalse}
 use Rattle.std.specs.List.{AllByRecursion}
 use mathlib.Core.List.{IsPrefix}
-use Rattle.ulfm_model.specs.declared.{call.Call.{Call}, event.Caller.TheVariants.{Rank}, event.Event.{Event}, limits.Limits.{Limits}, refusal.Refusal.{Refusal}, refusal.Refusal.TheVariants.{NoSuchComm, SelfFailed}, reply.Reply.{Reply}, reply.Reply.TheVariants.{Started, Pending, Agreed, Shrunk, Done, FailedGroup, Acked, Declared, AlreadyFailed, Revoked, AlreadyRevoked, Standing, Freed, Refused}}
-use Rattle.ulfm_model.specs.{Answers.{CallAdds, Effect, IsReply, IsSelfFailed, MayOwn, Replies, RepliesBy, Sees, View, left_by, polled_by, printed, refusal_of, refusal_on, left_with, traits_of}, Answers.Effect.{Ends, ForGood, Keeps}, History.{History, IsLegal, entries_by, failures, has}, Records.{Held, Record, held_at, is_shrink}, Runs.{Did, unsettled_of}}
+use Rattle.ulfm_model.specs.declared.{call.Call.{Call}, event.Caller.TheVariants.{Rank}, event.Event.{Event}, limits.Limits.{Limits}, refusal.Refusal.{Refusal}, refusal.Refusal.TheVariants.{NoSuchComm, SelfFailed}, reply.Reply.{Reply}, reply.Reply.TheVariants.{Refused}}
+use Rattle.ulfm_model.specs.{Answers.{CallAdds, IsReply, IsSelfFailed, MayOwn, Replies, RepliesBy, Sees, View, left_by, polled_by, refusal_of, refusal_on, traits_of}, History.{History, IsLegal, entries_by, failures, has}, Records.{Held, Record, held_at, is_shrink}, Runs.{Did, unsettled_of}}
 use Rattle.ulfm_model.specs.Terms.{comm_of, request_of, settled_by}
-use Rattle.ulfm_model.proofs.{Histories.{failures_begin}, Lists.{each_from, prefix_trans}}
+use Rattle.ulfm_model.proofs.{Histories.{failures_begin}, LeftRuns.{left_keeps}, Lists.{each_from, prefix_trans}}
 use Rattle.ulfm_words.proofs.Trails.{did_none, did_prefix, did_quiet}
 use Rattle.ulfm_comm.specs.{Ends.{IsEndRun}, Look.{Looked}}
-
--- a reply leaves what the rank has seen
-left_seen : {P : Type 0} (ranks : ℕ) (h : History P) (now : Record) (asked : Call P) (reply : Reply P) → (left_by ranks h now asked reply).seen ≡ now.seen
-left_seen ranks h now asked Started = refl
-left_seen ranks h now asked Pending = refl
-left_seen ranks h now asked (Agreed value count raised) = refl
-left_seen ranks h now asked (Shrunk j context size) = refl
-left_seen ranks h now asked Done = refl
-left_seen ranks h now asked (FailedGroup count) = refl
-left_seen ranks h now asked (Acked count) = refl
-left_seen ranks h now asked Declared = refl
-left_seen ranks h now asked AlreadyFailed = refl
-left_seen ranks h now asked Revoked = refl
-left_seen ranks h now asked AlreadyRevoked = refl
-left_seen ranks h now asked (Standing revoked) = refl
-left_seen ranks h now asked Freed = refl
-left_seen ranks h now asked (Refused refusal) = by_effect (printed refusal).2
-  where
-    by_effect : (effect : Effect) → (left_with now (comm_of asked) effect).seen ≡ now.seen
-    by_effect Keeps = refl
-    by_effect Ends = refl
-    by_effect ForGood = refl
 
 -- a rank that has seen what its look found has seen what it may
 pub sees_look : {P : Type 0} (shrinks : Bool) (look : List ℕ) (after : History P) → IsPrefix look (failures after) → Sees shrinks look after look
@@ -57,7 +35,7 @@ module _ {P : Type 0} (meld : P → P → P) (limits : Limits) (alone : Bool) (b
       → new ≡ left_by limits.ranks after (record old { seen = seen }) asked reply → Marks asked own → IsEndRun meld limits alone before after old asked reply new
   run_ends after own asked reply new seen in_use looked did legal may replies sees is marks =
       let begins = did_prefix alone (entries_by (Rank old.number) own) look after did in
-      let same : new.seen ≡ seen = ap (λ (w : Record). w.seen) is ∙ left_seen limits.ranks after (record old { seen = seen }) asked reply in
+      let same : new.seen ≡ seen = ap (λ (w : Record). w.seen) is ∙ (left_keeps limits.ranks after (record old { seen = seen }) asked reply).1 in
       record {
         run = record {
           in_use = in_use;

@@ -6,10 +6,10 @@ use Rattle.ulfm_model.specs.declared.{reply.Reply.{Reply}, reply.Reply.TheVarian
 use Rattle.ulfm_model.specs.{Answers.{CallAdds, traits_of}, History.{History, entries_by}, Records.{Fits, Held, Record, held_at}, Runs.{Did}, Terms.{comm_of}}
 use Rattle.ulfm_words.specs.Steps.{IsOf, Name, Sight}
 use Rattle.ulfm_steps.specs.declared.{arrivals.Arrivals.{Arrivals}, arrivals.Missing.{Missing}}
-use Rattle.ulfm_comm.specs.{StepsLeft.{FewerLeft, MakesStep, steps_left}, Barrier.{IsChecking, AnswersEarly}}
-use Rattle.ulfm_comm.specs.Phase.{UnderWay, next_step, is_looking, IsFurther, IsPast, reply_in, Stands, Turns}
+use Rattle.ulfm_comm.specs.{Look.{JustLooked}, StepsLeft.{FewerLeft, MakesStep, steps_left}, Barrier.{IsChecking, AnswersEarly}}
+use Rattle.ulfm_comm.specs.Phase.{UnderWay, next_step, is_looking, IsFurther, IsPast, NextIs, reply_in, Stands, Turns}
 use Rattle.ulfm_comm.specs.declared.{phases.phase.Next.{Next}, phases.phase.Next.TheVariants.{Goes, Ends}, phases.phase.Phase.{Phase}}
-use Rattle.ulfm_comm.specs.declared.phases.phase.Phase.TheVariants.{Over, Begun, Looking, Settling, Arriving, Revoking, Asking, Marking, Reading, ReadingOn}
+use Rattle.ulfm_comm.specs.declared.phases.phase.Phase.TheVariants.{Over, Begun, Looking, Settling, Arriving, Revoking, Marking, ReadingOn}
 use Rattle.ulfm_comm.specs.declared.phases.phase.Phase.TheVariants.{Spawning, Waiting, Checking}
 
 -- steps of one rank, with own events alone where nobody else steps
@@ -26,6 +26,16 @@ pub record Makes {P : Type 0} (look : List ℕ) (own : Record) (asked : Call P) 
   pub held : held_at own (comm_of asked) ≡ Some x
   pub adds : CallAdds look own.number x asked event
   pub wins : (traits_of asked).polls ≡ false → (reply ≡ Some Started) ⊎ (reply ≡ Some Revoked)
+
+-- the look of a call has just ended, whenever the call began
+abbrev pub HasJustLooked : {P : Type 0} → (P → P → P) → Name → Call P → Record → Sight P → Type 0
+HasJustLooked {P} meld name asked own now = (old : Record) × (before : Sight P) × JustLooked meld false name asked old before own now
+
+-- what comes next leads on from the end of the look, also where nobody else steps
+abbrev pub FollowsLook : {P : Type 0} → (P → P → P) → Name → Call P → Record → Sight P → Next P → Record → Type 0
+FollowsLook {P} meld name asked own now next new =
+    (group : List ℕ) (alone : Bool) (old : Record) (before : Sight P) → JustLooked meld alone name asked old before own now
+    → NextIs meld alone name asked old before next group new now
 
 -- nothing happened but others' events, or one event of the call's own after them
 pub record Adds {P : Type 0} (quiet : Bool) (look : List ℕ) (own : Record) (asked : Call P) (reply : Option (Reply P)) (old new : History P) : Type 0 where

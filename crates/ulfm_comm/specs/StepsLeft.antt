@@ -1,5 +1,5 @@
 -- Which atomic step a call makes next, and how many it makes at most.
-use Rattle.std.specs.Prelude.{◌≡◌, ℕ, ◌+◌, ◌-◌, ◌*◌, ◌<◌, Bool, true, false, List, [], length, Option, Some, None, ⊤}
+use Rattle.std.specs.Prelude.{◌≡◌, ℕ, ◌+◌, ◌-◌, ◌*◌, ◌<◌, Bool, true, false, List, [], length, max, Option, Some, None, ⊤}
 use Rattle.ulfm_model.specs.declared.call.Call.TheVariants as call
 use Rattle.ulfm_model.specs.declared.{call.Call.{Call}, call.Request.{Request}, call.Request.TheVariants.{Agree, Shrink, Barrier}, limits.Limits.{Limits}}
 use Rattle.ulfm_model.specs.declared.place.Place.TheVariants.{List as ListAt, Comm as CommAt, Revoked as RevokedAt, Slot as SlotAt, Arrival as ArrivalAt}
@@ -55,6 +55,10 @@ after_look limits own (call.Poll rank c) = polling limits (length (group_of (hel
 after_look limits own (call.Revoke rank c) = 1
 after_look limits own (call.IsRevoked rank c) = 1
 after_look limits own (call.Free rank c) = 0
+
+-- how many it makes from the last step of its look on
+abbrev pub with_look : {P : Type 0} → Limits → Record → Call P → ℕ
+with_look limits own asked = after_look limits own asked + max 1 (limits.ranks - length own.seen)
 
 -- how many the poll of an agreement makes once its round is read through: a shrink may read on in the list of failures, and looks for
 -- its communicator

@@ -1,4 +1,5 @@
 // Calls of single ranks: memory that is refused, and others' events that come in between.
+ghost use Rattle.std.specs.Prelude.{◌<◌};
 
 use crate::member::first_member;
 use linked_list_allocator::LocalHeap;
@@ -9,6 +10,7 @@ use ulfm_comm::{Job, Polled, World};
 use ulfm_laws::acked::Acked;
 use ulfm_laws::flag_and::FlagAnd;
 use ulfm_laws::known::Known;
+use ulfm_member::Member;
 use ulfm_model::call::Call;
 use ulfm_model::contribution::{Contribution, Offer};
 use ulfm_model::event::{Caller, Entry, Event};
@@ -90,34 +92,45 @@ fn lost_fail_is_not_claimed(rt: HostRuntime) -> Result<(), Fail> {
     Ok(())
 }
 
-#[test]
-fn own_place_is_taken(rt: HostRuntime) -> Result<(), Fail> {
-    let plain = PlainWords::<FlagAnd>::open(THREE)?;
+// The first of three ranks, beside a rank that knows of no failure, and contributes a flag to the world's first round once the first
+// has made so many steps.
+fn beside_a_flag(
+    rt: &impl Abort,
+    alloc: Global,
+    limits: Limits,
+    rank: u16,
+    wait: u32,
+) -> Result<Member<Intruder<FlagAnd>, FlagAnd, Global>, Fail>
+    requires rank { rank < limits.ranks }
+    requires rounds { 0 < limits.rounds }
+{
+    let plain = PlainWords::<FlagAnd>::open(limits)?;
     let given = Contribution {
         offer: Offer::Flag(FlagAnd { bits: 0x1 }),
         known: Known { count: 0 },
         acked: Acked { count: 0 },
     };
     let guest = Entry {
-        by: Caller::Rank(0),
+        by: Caller::Rank(rank),
         event: Event::Settle {
             comm: 0,
             round: 0,
-            rank: 0,
+            rank,
             given,
         },
     };
-    let mut first = first_member(
-        &rt,
-        rt.alloc(),
-        Intruder {
-            plain,
-            guest,
-            // Just before the exchange: the look makes one load.
-            wait: Some(1),
-        },
-        3,
-    )?;
+    let words = Intruder {
+        plain,
+        guest,
+        wait: Some(wait),
+    };
+    first_member(rt, alloc, words, 3)
+}
+
+#[test]
+fn own_place_is_taken(rt: HostRuntime) -> Result<(), Fail> {
+    // Just before the exchange: the look makes one load.
+    let mut first = beside_a_flag(&rt, rt.alloc(), THREE, 0, 1)?;
     let refused = first.iagree(0, FlagAnd { bits: 0x3 });
     assert!(rt; refused == Err(Refusal::Twice));
     Ok(())
@@ -252,33 +265,9 @@ fn shrinks_once_memory_is_there(rt: HostRuntime) -> Result<(), Fail> {
 
 #[test]
 fn agree_meets_a_shrink(rt: HostRuntime) -> Result<(), Fail> {
-    let plain = PlainWords::<FlagAnd>::open(THREE_COMMS)?;
-    let given = Contribution {
-        offer: Offer::Flag(FlagAnd { bits: 0x1 }),
-        known: Known { count: 0 },
-        acked: Acked { count: 0 },
-    };
-    let guest = Entry {
-        by: Caller::Rank(1),
-        event: Event::Settle {
-            comm: 0,
-            round: 0,
-            rank: 1,
-            given,
-        },
-    };
-    let mut first = first_member(
-        &rt,
-        rt.alloc(),
-        Intruder {
-            plain,
-            guest,
-            // Just before the place of rank 1 is read: the declaration makes two steps, the start of the shrink three, the look
-            // two loads, one mark is made, and the first place is read.
-            wait: Some(9),
-        },
-        3,
-    )?;
+    // Just before the place of rank 1 is read: the declaration makes two steps, the start of the shrink three, the look two loads,
+    // one mark is made, and the first place is read.
+    let mut first = beside_a_flag(&rt, rt.alloc(), THREE_COMMS, 1, 9)?;
     assert!(rt; first.fail(2) == Ok(true));
     assert!(rt; first.ishrink(0) == Ok(()));
     assert!(rt; first.poll(0) == Err(Refusal::Mismatch));

@@ -1,12 +1,12 @@
 -- Free context ids, bit by bit: a shrink offers those that no held communicator has.
-use Rattle.std.proofs.Common.{◌≡◌, ◌↔◌, ℕ, zero, suc, ◌<◌, ◌||◌, ◌==◌, Bool, true, false, List, [], ◌∷◌, refl, ap, sym, ◌∙◌, arith, inl, inr, if◌then◌else◌}
-use Rattle.std.proofs.lemmas.Bool.{and_parts, cases_lt, eq-eqb, eqb-true, or_left, or_right}
-use Rattle.std.proofs.lemmas.List.Folds.{list_any-append}
+use Rattle.std.proofs.Common.{◌≡◌, ◌↔◌, ℕ, ◌<◌, ◌||◌, ◌==◌, Bool, true, false, List, [], ◌∷◌, refl, ap, sym, ◌∙◌, arith, if◌then◌else◌}
+use Rattle.std.proofs.lemmas.Bool.{and_parts, eqb-true}
 use Rattle.std.specs.Int.{bit_at}
 use Rattle.std.specs.List.{AllByRecursion, list_all}
 use Rattle.std.proofs.lemmas.Nat.Bits.{bit_at_and, bit_at_ones, bit_at-lt}
 use Rattle.ulfm_model.specs.History.{first_ranks, has}
 use Rattle.ulfm_model.specs.Records.{Held, all_but, free_ids}
+use Rattle.ulfm_model.proofs.Groups.{first_has}
 
 -- a bit stands in the mask where every held communicator leaves it standing
 pub free_is : (held : List Held) (i : ℕ) → i < 32 → (bit_at (free_ids held).bits i ≡ 1) ↔ AllByRecursion (λ x. bit_at (all_but x.context).bits i ≡ 1) held
@@ -31,20 +31,11 @@ all_at p (x ∷ xs) r all e =
     go more here true same e = ap p (sym (eqb-true x r same)) ∙ here
     go more here false same e = more e
 
-in_first : (n k : ℕ) → k < n → has (first_ranks n) k ≡ true
-in_first zero k within = absurd (omega (arith, within))
-in_first (suc n) k within =
-    list_any-append (λ x. x == k) (first_ranks n) (n ∷ [])
-    ∙ elim (cases_lt k n) [
-      | inl less ↦ or_left (has (first_ranks n) k) (has (n ∷ []) k) (in_first n k less)
-      | inr more ↦ or_right (has (first_ranks n) k) (has (n ∷ []) k) (or_left (n == k) false (eq-eqb n k (omega (arith, within, more))))
-    ]
-
 -- a held communicator takes away its own id and no other
 pub all_but_is : (i k : ℕ) → i < 32 → k < 32 → bit_at (all_but i).bits k ≡ (if i == k then 0 else 1)
 all_but_is i k low within =
-    let row = all_at (λ i. list_all (λ k. bit_at (all_but i).bits k == (if i == k then 0 else 1)) (first_ranks 32)) (first_ranks 32) i all_but_table (in_first 32 i low) in
-    eqb-true (bit_at (all_but i).bits k) (if i == k then 0 else 1) (all_at (λ k. bit_at (all_but i).bits k == (if i == k then 0 else 1)) (first_ranks 32) k row (in_first 32 k within))
+    let row = all_at (λ i. list_all (λ k. bit_at (all_but i).bits k == (if i == k then 0 else 1)) (first_ranks 32)) (first_ranks 32) i all_but_table (first_has 32 i low) in
+    eqb-true (bit_at (all_but i).bits k) (if i == k then 0 else 1) (all_at (λ k. bit_at (all_but i).bits k == (if i == k then 0 else 1)) (first_ranks 32) k row (first_has 32 k within))
 
 -- so the mask has an id exactly where no held communicator has it
 pub free_where : (held : List Held) (i : ℕ) → i < 32 → AllByRecursion (λ x. x.context < 32) held → (bit_at (free_ids held).bits i ≡ 1) ↔ AllByRecursion (λ x. (x.context == i) ≡ false) held

@@ -1,6 +1,7 @@
 -- Worked calls with others' steps in between.
-use Rattle.std.proofs.Common.{◌≡◌, IsTrue, ℕ, [], ◌∷◌, ◌++◌, Some, true, false, refl, arith, inl, inr}
+use Rattle.std.proofs.Common.{◌≡◌, IsTrue, ℕ, [], ◌∷◌, ◌++◌, append-nil, Some, true, false, refl, arith, inl, inr}
 use Rattle.std.specs.Prelude.{bit_and}
+use mathlib.Core.List.{IsPrefix}
 use Rattle.ulfm_laws.specs.declared.body.Body.TheVariants.{Unit as NoBody}
 use Rattle.ulfm_model.specs.declared.call.Call.TheVariants.{Agree as Ask, Poll}
 use Rattle.ulfm_model.specs.declared.reply.Reply.TheVariants.{Started, Shrunk, Refused}
@@ -19,7 +20,7 @@ use Rattle.ulfm_model.specs.Computed.{given_at, mark_at}
 use Rattle.ulfm_model.specs.Terms.{new_held}
 use Rattle.ulfm_model.specs.History.{History}
 use Rattle.ulfm_model.specs.Records.{Record, all_but, new_record, with_held}
-use Rattle.ulfm_model.specs.Runs.{IsRun}
+use Rattle.ulfm_model.specs.Runs.{IsRun, IsSpan}
 
 -- an event in the name of its caller
 abbrev by : Caller → Event ℕ → Entry ℕ
@@ -32,6 +33,23 @@ three = record { ranks = 3; comms = 2; rounds = 4 }
 -- a world of two
 abbrev two : Limits
 two = record { ranks = 2; comms = 1; rounds = 2 }
+
+never : {X : Type 0} → IsTrue false → X
+never alone = absurd (cc alone)
+
+-- a call of a rank that looks at what it has seen before and adds nothing, while others add these
+abbrev span_of : (limits : Limits) (r : ℕ) (before since point : History ℕ) → IsPrefix before point → IsPrefix point (before ++ since) → IsLegal bit_and limits (before ++ since)
+    → IsSpan bit_and limits false before (before ++ since) (Rank r)
+span_of limits r before since point begins ends legal = record {
+  look = before;
+  point = point;
+  own = [];
+  looked = record { since = []; goes_on = append-nil before; stands = tt; quiet = λ alone. refl };
+  did = record { since = since; goes_on = refl; stands = tt; quiet = never };
+  point_begins = begins;
+  point_ends = ends;
+  legal = legal;
+}
 
 -- rank 2 is declared between its look and its exchange
 abbrev late : History ℕ
@@ -69,16 +87,7 @@ marked = by Outside (Fail 2) ∷ by (Rank 0) (Mark 0 0 2 (mark_at 1)) ∷ []
 mark_comes_first : IsRun bit_and three false [] marked (new_record three 2) (Ask 2 0 0x5) (Refused SelfFailed) (record (new_record three 2) { refused = true })
 mark_comes_first = record {
   in_use = refl;
-  span = record {
-    look = [];
-    point = marked;
-    own = [];
-    looked = record { since = []; goes_on = refl; stands = tt; quiet = λ alone. refl };
-    did = record { since = marked; goes_on = refl; stands = tt; quiet = λ alone. absurd (cc alone) };
-    point_begins = (marked, refl);
-    point_ends = ([], refl);
-    legal = search arith;
-  };
+  span = span_of three 2 [] marked marked (marked, refl) ([], refl) (search arith);
   answer = record {
     own = tt;
     replies = inl (record { reply_is = refl; declared = refl; adds_nothing = λ x starts. refl });
@@ -98,16 +107,7 @@ arrived = by (Rank 0) (Arrive 0 0 0) ∷ by (Rank 1) (Arrive 0 0 1) ∷ []
 revoked_between_loads : IsRun bit_and two false arrived (arrived ++ by (Rank 1) (Revoke 0) ∷ []) waiting (Poll 0 0) (Refused IsRevoked) (closed waiting 0)
 revoked_between_loads = record {
   in_use = refl;
-  span = record {
-    look = arrived;
-    point = arrived ++ by (Rank 1) (Revoke 0) ∷ [];
-    own = [];
-    looked = record { since = []; goes_on = refl; stands = tt; quiet = λ alone. refl };
-    did = record { since = by (Rank 1) (Revoke 0) ∷ []; goes_on = refl; stands = tt; quiet = λ alone. absurd (cc alone) };
-    point_begins = (by (Rank 1) (Revoke 0) ∷ [], refl);
-    point_ends = ([], refl);
-    legal = search arith;
-  };
+  span = span_of two 0 arrived (by (Rank 1) (Revoke 0) ∷ []) (arrived ++ by (Rank 1) (Revoke 0) ∷ []) (by (Rank 1) (Revoke 0) ∷ [], refl) ([], refl) (search arith);
   answer = record {
     own = tt;
     replies = inr (record { not_declared = refl; replies = refl });
@@ -123,16 +123,7 @@ declared = by Outside (Fail 1) ∷ by (Rank 0) (Arrive 0 0 0) ∷ []
 late_arrival : IsRun bit_and two false declared (declared ++ by (Rank 1) (Arrive 0 0 1) ∷ []) (record waiting { seen = 1 ∷ [] }) (Poll 0 0) (Refused ProcFailed) (closed (record waiting { seen = 1 ∷ [] }) 0)
 late_arrival = record {
   in_use = refl;
-  span = record {
-    look = declared;
-    point = declared;
-    own = [];
-    looked = record { since = []; goes_on = refl; stands = tt; quiet = λ alone. refl };
-    did = record { since = by (Rank 1) (Arrive 0 0 1) ∷ []; goes_on = refl; stands = tt; quiet = λ alone. absurd (cc alone) };
-    point_begins = ([], refl);
-    point_ends = (by (Rank 1) (Arrive 0 0 1) ∷ [], refl);
-    legal = search arith;
-  };
+  span = span_of two 0 declared (by (Rank 1) (Arrive 0 0 1) ∷ []) declared ([], refl) (by (Rank 1) (Arrive 0 0 1) ∷ [], refl) (search arith);
   answer = record {
     own = tt;
     replies = inr (record { not_declared = refl; replies = refl });

@@ -18,27 +18,28 @@ stands_has x [] stands = absurd stands
 stands_has x (y ∷ ys) (inl here) = (0, omega arith, sym here.0)
 stands_has x (y ∷ ys) (inr later) = let there = stands_has x ys later in let within = there.1 in (suc there.0, omega (arith, within), there.2)
 
--- a reply leaves the record's number
-pub left_number : {P : Type 0} (ranks : ℕ) (h : History P) (now : Record) (asked : Call P) (reply : Reply P) → (left_by ranks h now asked reply).number ≡ now.number
-left_number ranks h now asked Started = refl
-left_number ranks h now asked Pending = refl
-left_number ranks h now asked (Agreed value count raised) = refl
-left_number ranks h now asked (Shrunk j context size) = refl
-left_number ranks h now asked Done = refl
-left_number ranks h now asked (FailedGroup count) = refl
-left_number ranks h now asked (Acked count) = refl
-left_number ranks h now asked Declared = refl
-left_number ranks h now asked AlreadyFailed = refl
-left_number ranks h now asked Revoked = refl
-left_number ranks h now asked AlreadyRevoked = refl
-left_number ranks h now asked (Standing revoked) = refl
-left_number ranks h now asked Freed = refl
-left_number ranks h now asked (Refused refusal) = by_effect (printed refusal).2
+-- a reply leaves the record's number, and what the rank has seen
+pub left_keeps : {P : Type 0} (ranks : ℕ) (h : History P) (now : Record) (asked : Call P) (reply : Reply P)
+    → (let left = left_by ranks h now asked reply in (left.number ≡ now.number) × (left.seen ≡ now.seen))
+left_keeps ranks h now asked Started = (refl, refl)
+left_keeps ranks h now asked Pending = (refl, refl)
+left_keeps ranks h now asked (Agreed value count raised) = (refl, refl)
+left_keeps ranks h now asked (Shrunk j context size) = (refl, refl)
+left_keeps ranks h now asked Done = (refl, refl)
+left_keeps ranks h now asked (FailedGroup count) = (refl, refl)
+left_keeps ranks h now asked (Acked count) = (refl, refl)
+left_keeps ranks h now asked Declared = (refl, refl)
+left_keeps ranks h now asked AlreadyFailed = (refl, refl)
+left_keeps ranks h now asked Revoked = (refl, refl)
+left_keeps ranks h now asked AlreadyRevoked = (refl, refl)
+left_keeps ranks h now asked (Standing revoked) = (refl, refl)
+left_keeps ranks h now asked Freed = (refl, refl)
+left_keeps ranks h now asked (Refused refusal) = by_effect (printed refusal).2
   where
-    by_effect : (effect : Effect) → (left_with now (comm_of asked) effect).number ≡ now.number
-    by_effect Keeps = refl
-    by_effect Ends = refl
-    by_effect ForGood = refl
+    by_effect : (effect : Effect) → (let left = left_with now (comm_of asked) effect in (left.number ≡ now.number) × (left.seen ≡ now.seen))
+    by_effect Keeps = (refl, refl)
+    by_effect Ends = (refl, refl)
+    by_effect ForGood = (refl, refl)
 
 module _ {P : Type 0} (meld : P → P → P) (limits : Limits) (alone : Bool) (before after : History P) where
   module _ (caller : Caller) (span : IsSpan meld limits alone before after caller) where
@@ -80,7 +81,7 @@ module _ {P : Type 0} (meld : P → P → P) (limits : Limits) (alone : Bool) (b
   -- a call keeps its rank's number
   pub run_number : (own : Record) (asked : Call P) (reply : Reply P) (new : Record) → IsRun meld limits alone before after own asked reply new → new.number ≡ own.number
   run_number own asked reply new run =
-      ap (λ (w : Record). w.number) run.answer.leaves.record_is ∙ left_number limits.ranks run.span.point (record own { seen = new.seen }) asked reply
+      ap (λ (w : Record). w.number) run.answer.leaves.record_is ∙ (left_keeps limits.ranks run.span.point (record own { seen = new.seen }) asked reply).0
 
   -- so it is with every call of a rank
   pub call_fits : (own : Record) (asked : Call P) (reply : Reply P) (new : Record) → Fits meld limits before own → IsCall meld limits alone before after own asked reply new → Fits meld limits after new

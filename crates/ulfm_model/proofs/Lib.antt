@@ -2,6 +2,7 @@ pub mod Contexts
 pub mod Decisions
 pub mod Excluded
 pub mod FreeIds
+pub mod Groups
 pub mod Histories
 pub mod Interleaved
 pub mod LeftFits

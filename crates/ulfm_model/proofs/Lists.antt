@@ -147,6 +147,11 @@ pub filter_same : {X : Type 0} (p q : X → Bool) (xs : List X) → AllByRecursi
 filter_same p q [] all = refl
 filter_same p q (x ∷ xs) all = ap₂ (λ b ys. cond b (x ∷ ys) ys) all.0 (filter_same p q xs all.1)
 
+-- what holds of each of two lists holds of each of both
+pub each_append : {X : Type 0} (Q : X → Type 0) (xs ys : List X) → AllByRecursion Q xs → AllByRecursion Q ys → AllByRecursion Q (xs ++ ys)
+each_append Q [] ys all more = more
+each_append Q (x ∷ xs) ys all more = (all.0, each_append Q xs ys all.1 more)
+
 -- one more element that has what all have
 pub each_push : {X : Type 0} (P : X → Type 0) (xs : List X) (x : X) → AllByRecursion P xs → P x → AllByRecursion P (xs ++ x ∷ [])
 each_push P [] x all last = (last, tt)

@@ -1,20 +1,19 @@
 -- A round is spawned once, and a mask has one least id.
 use Rattle.std.proofs.Common.{◌≡◌, ◌⊎◌, ℕ, zero, suc, ◌+◌, ◌<◌, ◌≤◌, ◌^◌, ◌==◌, ◌&&◌, Bool, true, false, cond, List, [], ◌∷◌, ◌++◌, length, Some, None, slice_get, refl, ap, sym, ◌∙◌, subst, arith, append-nil, inl, inr, filter}
-use Rattle.std.specs.Prelude.{find, unwrap_or}
+use Rattle.std.specs.Prelude.{unwrap_or}
 use Rattle.std.specs.Int.{bit_at}
-use Rattle.std.specs.Option.{option_or}
 use Rattle.std.specs.List.{cons_option, list_any, position_from}
 use Rattle.std.proofs.lemmas.Bool.{and_parts, cases_lt, eqb-true, or_parts}
 use Rattle.std.proofs.lemmas.List.Elements.{filter-append}
-use Rattle.std.proofs.lemmas.List.Folds.{find-append}
 use Rattle.std.proofs.lemmas.Nat.Bits.{bit_at_above}
 use Rattle.ulfm_model.specs.declared.limits.Limits.{Limits}
 use Rattle.ulfm_model.specs.declared.event.Event.{Event}
 use Rattle.ulfm_model.specs.declared.event.Event.TheVariants.{Fail, Settle, Mark, Arrive, Revoke, Spawn}
-use Rattle.ulfm_model.specs.History.{History, first_ranks, spawns}
+use Rattle.ulfm_model.specs.History.{History, spawns}
 use Rattle.ulfm_model.specs.History.{IsLegal, MayFollow, is_made}
 use Rattle.ulfm_model.specs.Computed.{lowest_id}
 use Rattle.ulfm_model.specs.Records.{IsLowestId}
+use Rattle.ulfm_model.proofs.LowestId.{first_found}
 use Rattle.ulfm_model.proofs.Says.{made_by}
 use Rattle.ulfm_model.proofs.Histories.{by_events, spawns_push}
 
@@ -84,27 +83,9 @@ spawns_once {P = P} meld limits h legal =
     more w (Spawn j parent round) c k may once =
         subst (λ (xs : List (ℕ × ℕ)). length xs ≤ 1) (sym (filter-append (is_of c k) (spawns w) ((parent, round) ∷ []))) (new w parent round c k may.first once (is_of c k (parent, round)) refl)
 
-find_none : (p : ℕ → Bool) (n : ℕ) → ((k : ℕ) → k < n → p k ≡ false) → find p (first_ranks n) ≡ None
-find_none p zero none = refl
-find_none p (suc n) none =
-    find-append p (first_ranks n) (n ∷ [])
-    ∙ (ap (λ o. option_or o (find p (n ∷ []))) (find_none p n (λ k below. none k (omega (arith, below)))) ∙ ap (λ b. cond b (Some n) None) (none n (omega arith)))
-
--- the first number that passes is found
-find_first : (p : ℕ → Bool) (n i : ℕ) → i < n → p i ≡ true → ((k : ℕ) → k < i → p k ≡ false) → find p (first_ranks n) ≡ Some i
-find_first p zero i below passes least = absurd (omega (arith, below))
-find_first p (suc n) i below passes least = find-append p (first_ranks n) (n ∷ []) ∙ go (λ less. find_first p n i less passes least) (cases_lt i n)
-  where
-    go : (i < n → find p (first_ranks n) ≡ Some i) → (i < n) ⊎ (n ≤ i) → option_or (find p (first_ranks n)) (find p (n ∷ [])) ≡ Some i
-    go before (inl less) = ap (λ o. option_or o (find p (n ∷ []))) (before less)
-    go before (inr not_less) =
-        let same : i ≡ n = omega (arith, below, not_less) in
-        ap (λ o. option_or o (find p (n ∷ []))) (find_none p n (λ k less. least k (omega (arith, less, same))))
-        ∙ (ap (λ b. cond b (Some n) None) (ap p (sym same) ∙ passes) ∙ ap Some (sym same))
-
 -- the least id is the one that is computed
 pub lowest_is : (mask i : ℕ) → mask < 2 ^ 32 → IsLowestId mask i → i ≡ lowest_id mask
-lowest_is mask i fits lowest = sym (ap (λ o. unwrap_or o 0) (find_first (λ k. bit_at mask k == 1) 32 i (within (cases_lt i 32)) (ap (λ b. b == 1) lowest.in_it) (λ k below. ap (λ b. b == 1) (lowest.least k below))))
+lowest_is mask i fits lowest = sym (ap (λ o. unwrap_or o 0) (first_found (λ k. bit_at mask k == 1) 32 i (within (cases_lt i 32)) (ap (λ b. b == 1) lowest.in_it) (λ k below. ap (λ b. b == 1) (lowest.least k below))))
   where
     within : (i < 32) ⊎ (32 ≤ i) → i < 32
     within (inl less) = less

@@ -5,7 +5,6 @@ use Rattle.std.proofs.lemmas.List.{map-append}
 use Rattle.std.proofs.lemmas.List.Elements.{filter_map-append}
 use Rattle.ulfm_laws.specs.declared.body.Body.{Body}
 use Rattle.ulfm_laws.specs.declared.body.Body.TheVariants.{Unit as NoBody, Flag as OfFlags, Ctx as OfIds, Clash}
-use Rattle.ulfm_laws.specs.Bodies.{body_meld}
 use Rattle.ulfm_model.specs.declared.call.Call.TheVariants as call
 use Rattle.ulfm_model.specs.declared.call.Request.{Request}
 use Rattle.ulfm_model.specs.declared.call.Request.TheVariants.{Agree, Shrink, Barrier}
@@ -23,13 +22,13 @@ use Rattle.ulfm_model.specs.History.{History, entries_by, failures, has, says, s
 use Rattle.ulfm_model.specs.{Answers.{AgreeReplies, MarksDeclared, PollAdds, PollReplies, first_refusal, refusal_of, refusal_on}, History.{Decision, Exists, IsLegal, IsLegalAfter, body_of, decision, is_decided, members}, Records.{FitsHeld, FitsRequest, Held, Record, held_at}, Runs.{unsettled_of}}
 use Rattle.ulfm_model.specs.Computed.{added_by_poll, agree_reply, held_outcome, marks_of, poll_reply, shrink_reply, spawn_of}
 use Rattle.ulfm_model.specs.Terms.{IsOwn, request_of, settled_by}
-use Rattle.ulfm_model.proofs.Lists.{each_from, has_filter, has_passes}
+use Rattle.ulfm_model.proofs.Lists.{each_append, each_from, has_filter, has_passes}
 use Rattle.ulfm_model.proofs.Says.{declared_by}
 use Rattle.ulfm_model.proofs.Histories.{legal_append, legal_parts, members_stay, slot_stays}
 use Rattle.ulfm_model.proofs.Decisions.{slot_stands}
 use Rattle.ulfm_model.proofs.Marking.{each_mark, marks_failures, marks_legal, marks_members, marks_settle, marks_settled_by, some_stays}
 use Rattle.ulfm_model.proofs.StepsAlone.{IsGood, call_good, view_with}
-use Rattle.ulfm_model.proofs.StepsRounds.{IsFlagged, IsMarked, IsMasked, flagged_left, flagged_right, given_stands, masked_left, masked_right, offered, pends}
+use Rattle.ulfm_model.proofs.StepsRounds.{IsFlagged, IsMarked, IsMasked, IsSort, given_stands, offered, pends}
 use Rattle.ulfm_model.proofs.StepsShrinks.{IsFull, IsSpawned, shrink_replied, spawned}
 
 -- a decided agree replies what a flag or a clash decides
@@ -39,13 +38,8 @@ agree_replied {P = P} made flagged = by_body made.body refl flagged
     by_body : (body : Body P) → made.body ≡ body → IsFlagged body → AgreeReplies made (agree_reply made body)
     by_body NoBody is flagged = absurd flagged
     by_body (OfFlags value) is flagged = inl (value, is, refl)
-    by_body (OfIds mask) is flagged = absurd flagged
+    by_body (OfIds mask) is flagged = absurd (cc flagged)
     by_body Clash is flagged = inr (is, refl)
-
--- what holds of each of two lists holds of each of both
-each_append : {X : Type 0} (Q : X → Type 0) (xs ys : List X) → AllByRecursion Q xs → AllByRecursion Q ys → AllByRecursion Q (xs ++ ys)
-each_append Q [] ys all more = more
-each_append Q (x ∷ xs) ys all more = (all.0, each_append Q xs ys all.1 more)
 
 module _ {P : Type 0} (meld : P → P → P) (limits : Limits) (h : History P) (legal : IsLegal meld limits h) (own : Record) (alive : has (failures h) own.number ≡ false) (small : limits.ranks ≤ 1024) (some : 0 < limits.comms) (ids : List ℕ) (x : Held) (fits : FitsHeld meld limits.ranks h own.number ids x) where
   abbrev c : ℕ
@@ -76,11 +70,11 @@ module _ {P : Type 0} (meld : P → P → P) (limits : Limits) (h : History P) (
       (λ r mark in_it. (r, mark, refl, has_filter (has (members limits.ranks h c)) (failures h) r in_it, ap (λ ms. has ms r) fits.group ∙ has_passes (has (members limits.ranks h c)) (failures h) r in_it))
 
   -- the decision of a history that goes on from h is of the sort that the rank has offered
-  of_sort : (Q : Body P → Type 0) → ((a b : Body P) → Q a → Q (body_meld meld a b)) → ((a b : Body P) → Q b → Q (body_meld meld a b)) → (more : History P) (k : ℕ) (given : Contribution P) → IsOwn h own.number (Settle c k own.number given)
-      → Q (body_of given.offer) → IsMarked limits.ranks h (h ++ more) x k → Q (decision meld limits.ranks (h ++ more) c k).body
-  of_sort Q left right more k given did is marked =
+  of_sort : (masks : Bool) (more : History P) (k : ℕ) (given : Contribution P) → IsOwn h own.number (Settle c k own.number given)
+      → IsSort masks (body_of given.offer) → IsMarked limits.ranks h (h ++ more) x k → IsSort masks (decision meld limits.ranks (h ++ more) c k).body
+  of_sort masks more k given did is marked =
       let stood = given_stands meld limits h legal c k own.number given did in
-      offered meld Q left right (h ++ more) c k own.number given (slot_stays h (h ++ more) c k own.number (Given given) (more, refl) stood) is (members limits.ranks (h ++ more) c)
+      offered meld masks (h ++ more) c k own.number given (slot_stays h (h ++ more) c k own.number (Given given) (more, refl) stood) is (members limits.ranks (h ++ more) c)
       (ap (λ ms. has ms own.number) marked.group ∙ fits.member)
 
   marked_exists : (k : ℕ) → Exists (marked k) c
@@ -144,7 +138,7 @@ module _ {P : Type 0} (meld : P → P → P) (limits : Limits) (h : History P) (
   poll_is (Some (Agree k)) is request =
       let events = marks_of limits.ranks h c k in
       let round = round_below k request.0 request.2 in
-      let sort = of_sort IsFlagged (flagged_left meld) (flagged_right meld) (entries_by (Rank own.number) events) k request.0 request.2 (subst (λ offer. IsFlagged (body_of offer)) (sym request.3) tt) (marked_marks k) in
+      let sort = of_sort false (entries_by (Rank own.number) events) k request.0 request.2 (subst (λ offer. IsFlagged (body_of offer)) (sym request.3) refl) (marked_marks k) in
       record {
         legal_after = marks_legal meld limits h (Rank own.number) c k legal fits.exists round small;
         adds = marks_declared k;
@@ -164,7 +158,7 @@ module _ {P : Type 0} (meld : P → P → P) (limits : Limits) (h : History P) (
       let made = spawned meld limits (marked k) (Rank own.number) own.number c k (marked_legal k round) (marked_exists k) some round (marked_alive k) in
       let ended = last_marks k spawn in
       let sort =
-      of_sort IsMasked (masked_left meld) (masked_right meld) (entries_by (Rank own.number) (marks_of limits.ranks h c k ++ spawn)) k request.0 request.2 (subst (λ offer. IsMasked (body_of offer)) (sym request.3) tt) ended in
+      of_sort true (entries_by (Rank own.number) (marks_of limits.ranks h c k ++ spawn)) k request.0 request.2 (subst (λ offer. IsMasked (body_of offer)) (sym request.3) refl) ended in
       record {
         legal_after = (legal_parts meld limits h (entries_by (Rank own.number) (marks_of limits.ranks h c k ++ spawn)) (last_legal k spawn made round)).1;
         adds =

@@ -1,5 +1,5 @@
 -- A round at the end of a poll: what the caller offered stands in it, and it is decided or somebody is missing.
-use Rattle.std.proofs.Common.{◌≡◌, ◌⊎◌, ℕ, Bool, true, false, ◌||◌, ◌==◌, List, [], ◌∷◌, ◌++◌, map, Option, Some, None, is_some, refl, ap, sym, ◌∙◌, subst, filter, filter_map, inl, inr, IsTrue, if◌then◌else◌, arith}
+use Rattle.std.proofs.Common.{◌≡◌, ◌⊎◌, ℕ, Bool, true, false, ◌||◌, ◌==◌, List, [], ◌∷◌, ◌++◌, map, Option, Some, None, is_some, refl, ap, sym, ◌∙◌, subst, filter, filter_map, inl, inr, IsTrue, IsFalse, if◌then◌else◌, arith}
 use Rattle.std.specs.Prelude.{⊤}
 use Rattle.std.specs.List.{AllByRecursion, cons_option, list_all}
 use Rattle.std.proofs.lemmas.Bool.{eqb-true}
@@ -44,84 +44,67 @@ module _ {P : Type 0} (meld : P → P → P) (limits : Limits) where
 abbrev bodies_of : {P : Type 0} → (P → P → P) → List (Slot P) → Body P
 bodies_of meld settled = combined body_unit (body_meld meld) (map (λ g. body_of g.offer) (filter_map contribution_of settled))
 
-module _ {P : Type 0} (meld : P → P → P) (Q : Body P → Type 0) (left : (x y : Body P) → Q x → Q (body_meld meld x y)) (right : (x y : Body P) → Q y → Q (body_meld meld x y)) where
-  -- what a body keeps in whatever it is combined with, the round of a member that gave it has
-  pub offered : (w : History P) (c k r : ℕ) (given : Contribution P) → slot w c k r ≡ Some (Given given) → Q (body_of given.offer) → (ms : List ℕ) → has ms r ≡ true → Q (bodies_of meld (filter_map (slot w c k) ms))
-  offered w c k r given stands is [] e = absurd (cc e)
-  offered w c k r given stands is (m ∷ ms) e = go (offered w c k r given stands is ms) (m == r) refl e
-    where
-      more : (o : Option (Slot P)) → Q (bodies_of meld (filter_map (slot w c k) ms)) → Q (bodies_of meld (cons_option o (filter_map (slot w c k) ms)))
-      more None is = is
-      more (Some (Marked mark)) is = is
-      more (Some (Given other)) is = right (body_of other.offer) (bodies_of meld (filter_map (slot w c k) ms)) is
-
-      go : (has ms r ≡ true → Q (bodies_of meld (filter_map (slot w c k) ms))) → (b : Bool) → (m == r) ≡ b → (b || has ms r) ≡ true → Q (bodies_of meld (cons_option (slot w c k m) (filter_map (slot w c k) ms)))
-      go later false other e = more (slot w c k m) (later e)
-      go later true same e =
-          subst (λ o. Q (bodies_of meld (cons_option o (filter_map (slot w c k) ms)))) (sym (ap (slot w c k) (eqb-true m r same) ∙ stands))
-          (left (body_of given.offer) (bodies_of meld (filter_map (slot w c k) ms)) is)
+-- a body of one sort, a mask or else a flag, or what came of both
+abbrev pub IsSort : {P : Type 0} → Bool → Body P → Type 0
+IsSort masks NoBody = ⊥
+IsSort masks (OfFlags flag) = IsFalse masks
+IsSort masks (OfIds mask) = IsTrue masks
+IsSort masks Clash = ⊤
 
 -- a flag, or a flag that met something else
 abbrev pub IsFlagged : {P : Type 0} → Body P → Type 0
-IsFlagged NoBody = ⊥
-IsFlagged (OfFlags flag) = ⊤
-IsFlagged (OfIds mask) = ⊥
-IsFlagged Clash = ⊤
+IsFlagged body = IsSort false body
 
 -- a mask, or a mask that met something else
 abbrev pub IsMasked : {P : Type 0} → Body P → Type 0
-IsMasked NoBody = ⊥
-IsMasked (OfFlags flag) = ⊥
-IsMasked (OfIds mask) = ⊤
-IsMasked Clash = ⊤
+IsMasked body = IsSort true body
 
--- whatever they are combined with, they stay so
-module _ {P : Type 0} (meld : P → P → P) where
-  pub flagged_left : (x y : Body P) → IsFlagged x → IsFlagged (body_meld meld x y)
-  flagged_left NoBody y is = absurd is
-  flagged_left (OfIds mask) y is = absurd is
-  flagged_left (OfFlags flag) NoBody is = tt
-  flagged_left (OfFlags flag) (OfFlags other) is = tt
-  flagged_left (OfFlags flag) (OfIds mask) is = tt
-  flagged_left (OfFlags flag) Clash is = tt
-  flagged_left Clash NoBody is = tt
-  flagged_left Clash (OfFlags other) is = tt
-  flagged_left Clash (OfIds mask) is = tt
-  flagged_left Clash Clash is = tt
+module _ {P : Type 0} (meld : P → P → P) (masks : Bool) where
+  -- whatever it is combined with, a body stays of its sort
+  sort_left : (x y : Body P) → IsSort masks x → IsSort masks (body_meld meld x y)
+  sort_left NoBody y is = absurd is
+  sort_left (OfFlags flag) NoBody is = is
+  sort_left (OfFlags flag) (OfFlags other) is = is
+  sort_left (OfFlags flag) (OfIds mask) is = tt
+  sort_left (OfFlags flag) Clash is = tt
+  sort_left (OfIds mask) NoBody is = is
+  sort_left (OfIds mask) (OfFlags flag) is = tt
+  sort_left (OfIds mask) (OfIds other) is = is
+  sort_left (OfIds mask) Clash is = tt
+  sort_left Clash NoBody is = tt
+  sort_left Clash (OfFlags flag) is = tt
+  sort_left Clash (OfIds mask) is = tt
+  sort_left Clash Clash is = tt
 
-  pub flagged_right : (x y : Body P) → IsFlagged y → IsFlagged (body_meld meld x y)
-  flagged_right NoBody y is = is
-  flagged_right x NoBody is = absurd is
-  flagged_right x (OfIds mask) is = absurd is
-  flagged_right (OfFlags flag) (OfFlags other) is = tt
-  flagged_right (OfIds mask) (OfFlags other) is = tt
-  flagged_right Clash (OfFlags other) is = tt
-  flagged_right (OfFlags flag) Clash is = tt
-  flagged_right (OfIds mask) Clash is = tt
-  flagged_right Clash Clash is = tt
+  sort_right : (x y : Body P) → IsSort masks y → IsSort masks (body_meld meld x y)
+  sort_right NoBody y is = is
+  sort_right x NoBody is = absurd is
+  sort_right (OfFlags flag) (OfFlags other) is = is
+  sort_right (OfIds mask) (OfFlags flag) is = tt
+  sort_right Clash (OfFlags flag) is = tt
+  sort_right (OfFlags flag) (OfIds mask) is = tt
+  sort_right (OfIds mask) (OfIds other) is = is
+  sort_right Clash (OfIds mask) is = tt
+  sort_right (OfFlags flag) Clash is = tt
+  sort_right (OfIds mask) Clash is = tt
+  sort_right Clash Clash is = tt
 
-  pub masked_left : (x y : Body P) → IsMasked x → IsMasked (body_meld meld x y)
-  masked_left NoBody y is = absurd is
-  masked_left (OfFlags flag) y is = absurd is
-  masked_left (OfIds mask) NoBody is = tt
-  masked_left (OfIds mask) (OfFlags flag) is = tt
-  masked_left (OfIds mask) (OfIds other) is = tt
-  masked_left (OfIds mask) Clash is = tt
-  masked_left Clash NoBody is = tt
-  masked_left Clash (OfFlags flag) is = tt
-  masked_left Clash (OfIds other) is = tt
-  masked_left Clash Clash is = tt
+  -- the round of a member is of the sort that this member gave
+  pub offered : (w : History P) (c k r : ℕ) (given : Contribution P) → slot w c k r ≡ Some (Given given) → IsSort masks (body_of given.offer) → (ms : List ℕ) → has ms r ≡ true
+      → IsSort masks (bodies_of meld (filter_map (slot w c k) ms))
+  offered w c k r given stands is [] e = absurd (cc e)
+  offered w c k r given stands is (m ∷ ms) e = go (offered w c k r given stands is ms) (m == r) refl e
+    where
+      more : (o : Option (Slot P)) → IsSort masks (bodies_of meld (filter_map (slot w c k) ms)) → IsSort masks (bodies_of meld (cons_option o (filter_map (slot w c k) ms)))
+      more None is = is
+      more (Some (Marked mark)) is = is
+      more (Some (Given other)) is = sort_right (body_of other.offer) (bodies_of meld (filter_map (slot w c k) ms)) is
 
-  pub masked_right : (x y : Body P) → IsMasked y → IsMasked (body_meld meld x y)
-  masked_right NoBody y is = is
-  masked_right x NoBody is = absurd is
-  masked_right x (OfFlags flag) is = absurd is
-  masked_right (OfFlags flag) (OfIds other) is = tt
-  masked_right (OfIds mask) (OfIds other) is = tt
-  masked_right Clash (OfIds other) is = tt
-  masked_right (OfFlags flag) Clash is = tt
-  masked_right (OfIds mask) Clash is = tt
-  masked_right Clash Clash is = tt
+      go : (has ms r ≡ true → IsSort masks (bodies_of meld (filter_map (slot w c k) ms))) → (b : Bool) → (m == r) ≡ b → (b || has ms r) ≡ true → IsSort masks (bodies_of meld (cons_option (slot w c k m) (filter_map (slot w c k) ms)))
+      go later false other e = more (slot w c k m) (later e)
+      go later true same e =
+          subst (λ o. IsSort masks (bodies_of meld (cons_option o (filter_map (slot w c k) ms)))) (sym (ap (slot w c k) (eqb-true m r same) ∙ stands))
+          (sort_left (body_of given.offer) (bodies_of meld (filter_map (slot w c k) ms)) is)
 
 -- a history at the end of a poll in round k, which looked at h: the communicator has the members that the rank holds, and
 -- each member that the look found declared is settled

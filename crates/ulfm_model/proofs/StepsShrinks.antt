@@ -99,7 +99,7 @@ module _ {P : Type 0} (meld : P → P → P) (limits : Limits) where
 
       by_body : (body : Body P) → (decision meld limits.ranks h c k).body ≡ body → IsMasked body → ShrinkReplies limits h r c k (decision meld limits.ranks h c k) (shrink_reply limits.ranks h r c k (decision meld limits.ranks h c k) body)
       by_body NoBody is masked = absurd masked
-      by_body (OfFlags flag) is masked = absurd masked
+      by_body (OfFlags flag) is masked = absurd (cc masked)
       by_body (OfIds mask) is masked = by_mask mask is (mask.bits == 0) refl (has (decision meld limits.ranks h c k).failed r) refl
       by_body Clash is masked = inr (is, refl)
 

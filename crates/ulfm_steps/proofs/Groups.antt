@@ -1,16 +1,15 @@
 -- Groups whose ranks rise: a rank is found in them by a binary search.
-use Rattle.std.proofs.Common.{◌≡◌, ◌⊎◌, inl, inr, ℕ, zero, suc, ◌+◌, ◌<◌, ◌≤◌, ◌==◌, ◌||◌, Bool, true, false, not, List, [], ◌∷◌, ◌++◌, length, get_or, reverse, nat_cmp, Option, Some, None, Result, Ok, Err, refl, sym, ◌∙◌, subst, arith, length-append, if◌then◌else◌}
+use Rattle.std.proofs.Common.{◌≡◌, ◌⊎◌, inl, inr, ℕ, suc, ◌+◌, ◌<◌, ◌≤◌, ◌==◌, ◌||◌, Bool, true, false, not, List, [], ◌∷◌, length, get_or, reverse, nat_cmp, Option, Some, None, Result, Ok, Err, refl, sym, subst, arith, if◌then◌else◌}
 use Rattle.std.specs.Prelude.{is_ok}
 use Rattle.std.specs.List.Sorted.{IsBinarySearchResult, IsStrictlyIncreasing}
-use Rattle.std.proofs.Math.Seq.{get_or-append_seam}
 use Rattle.std.proofs.lemmas.Bool.{eqb-true}
-use Rattle.std.proofs.lemmas.List.{get_or_append_left}
 use Rattle.std.proofs.lemmas.List.Kept.{IsStrictlyIncreasing-filter}
 use Rattle.std.proofs.lemmas.List.Sorted.{searched}
 use Rattle.std.proofs.lemmas.Map.Keys.{below_from_sorted, sorted_from_strictly_increasing}
 use Rattle.ulfm_model.specs.declared.limits.Limits.{Limits}
 use Rattle.ulfm_model.specs.History.{History, first_ranks, has, members, members_after, members_by, says, spawns, without}
 use Rattle.ulfm_model.specs.Terms.{group_among}
+use Rattle.ulfm_model.proofs.Groups.{first_at, first_length}
 use Rattle.ulfm_steps.specs.Rounds.{IsRoundOf}
 use Rattle.ulfm_steps.proofs.Reading.{has_at}
 
@@ -50,24 +49,6 @@ search_finds xs x (Err i) found rises = go (has xs x) refl
     go : (b : Bool) → has xs x ≡ b → false ≡ b
     go true e = let at = place_of xs x e in absurd (apart at.0 at.1 at.2 (either at.0 i))
     go false e = refl
-
-first_length : (n : ℕ) → length (first_ranks n) ≡ n
-first_length zero = refl
-first_length (suc n) = length-append (first_ranks n) (n ∷ []) ∙ omega (arith, first_length n)
-
--- each rank stands at its own number
-first_at : (n k : ℕ) → k < n → get_or (first_ranks n) k 0 ≡ k
-first_at zero k lt = absurd (omega arith)
-first_at (suc n) k lt = go (first_at n k) (either k n)
-  where
-    either : (a b : ℕ) → (a < b) ⊎ (b ≤ a)
-    either a b = grind arith
-
-    go : (k < n → get_or (first_ranks n) k 0 ≡ k) → (k < n) ⊎ (n ≤ k) → get_or (first_ranks n ++ n ∷ []) k 0 ≡ k
-    go before (inl below) = get_or_append_left (first_ranks n) (n ∷ []) 0 k (omega (arith, below, first_length n)) ∙ before below
-    go before (inr last) =
-        let here : k ≡ length (first_ranks n) = omega (arith, lt, last, first_length n) in
-        rw here (get_or-append_seam (first_ranks n) n [] 0 ∙ sym (first_length n))
 
 first_rise : (n : ℕ) → IsStrictlyIncreasing (first_ranks n)
 first_rise n k lt =

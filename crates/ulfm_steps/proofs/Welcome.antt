@@ -1,12 +1,12 @@
 -- What an intruder lets in may come at any time.
-use Rattle.std.proofs.Common.{◌≡◌, ℕ, zero, suc, ◌<◌, ◌==◌, ◌&&◌, Bool, true, false, nat_lt, List, [], ◌∷◌, ◌||◌, Some, slice_get, refl, ap, sym, ◌∙◌, subst, arith}
+use Rattle.std.proofs.Common.{◌≡◌, ℕ, suc, ◌<◌, ◌==◌, ◌&&◌, Bool, true, false, nat_lt, List, [], ◌∷◌, ◌||◌, Some, slice_get, refl, ap, sym, subst, arith}
 use Rattle.std.specs.Prelude.{MatchBool}
-use Rattle.std.proofs.lemmas.Bool.{and_parts, eqb-true, or_left, or_right}
+use Rattle.std.proofs.lemmas.Bool.{and_parts, eqb-true}
 use Rattle.std.proofs.lemmas.Bool.Decides.{nat_tests}
-use Rattle.std.proofs.lemmas.List.Folds.{list_any-append}
 use mathlib.Core.List.{IsPrefix}
 use Rattle.ulfm_model.specs.declared.{contribution.Contribution.{Contribution}, contribution.Slot.TheVariants.{Given}, event.Caller.{Caller}, event.Entry.{Entry}, event.Event.{Event}, event.Event.TheVariants.{Settle, Arrive, Revoke}, limits.Limits.{Limits}}
 use Rattle.ulfm_model.specs.{History.{History, IsPlace, failures, first_ranks, has}, Runs.{Did}}
+use Rattle.ulfm_model.proofs.Groups.{first_has}
 use Rattle.ulfm_words.specs.{Places.{IsCell}, Steps.{IsAdded}, Tries.{MayPut, MayCome, MayEnd}}
 use Rattle.ulfm_words.proofs.{Growing.{prefix_push}, Trails.{did_prefix}}
 use Rattle.ulfm_steps.specs.{Appends.{AppendIs, MayAppend}, Intrusions.{is_welcome}}
@@ -19,17 +19,6 @@ grown old new begins = record { since = begins.0; goes_on = begins.1; stands = t
 
 pub lt_of : (m n : ℕ) → nat_lt m n ≡ true → m < n
 lt_of m n e = grind (arith, nat_tests)
-
-first_has : (n r : ℕ) → r < n → has (first_ranks n) r ≡ true
-first_has zero r lt = absurd (omega arith)
-first_has (suc n) r lt = list_any-append (λ x. x == r) (first_ranks n) (n ∷ []) ∙ go (n == r) refl (first_has n r)
-  where
-    go : (b : Bool) → (n == r) ≡ b → (r < n → has (first_ranks n) r ≡ true) → (has (first_ranks n) r || (b || false)) ≡ true
-    go true e more = or_right (has (first_ranks n) r) true refl
-    go false e more = or_left (has (first_ranks n) r) false (more (differ e))
-      where
-        differ : (n == r) ≡ false → r < n
-        differ e = grind (arith, nat_tests)
 
 module _ {P : Type 0} (meld : P → P → P) (limits : Limits) where
   -- each rank is a member of the world's own communicator

@@ -1,9 +1,10 @@
 // The machines, each run to its end at once.
-ghost use Rattle.std.specs.Prelude.{◌≡◌, ◌<◌, ◌≤◌, vec_capacity};
+ghost use Rattle.std.specs.Prelude.{IfOk, ◌≡◌, ◌<◌, ◌≤◌, vec_capacity};
 ghost use Rattle.ulfm_model.specs.History.{first_ranks};
 ghost use Rattle.ulfm_words.specs.Steps.{IsOf};
 
 use crate::counted::Counted;
+use crate::world::{THREE, declare};
 use std::alloc::Allocator;
 use std::test::Fail;
 use ulfm_laws::acked::Acked;
@@ -14,28 +15,9 @@ use ulfm_laws::meld::Packed;
 use ulfm_laws::summary::Summary;
 use ulfm_model::contribution::{Contribution, Offer};
 use ulfm_model::event::{Caller, Entry, Event};
-use ulfm_model::limits::Limits;
-use ulfm_steps::{Append, Appended, Intruder, Item, Look, MarkAll, ReadRound, Settle};
+use ulfm_model::limits::OpenFault;
+use ulfm_steps::{Appended, Intruder, Look, MarkAll, ReadRound, Settle};
 use ulfm_words::{OpenWords, PlainWords, Words};
-
-const LIMITS: Limits = Limits {
-    ranks: 3,
-    comms: 2,
-    rounds: 4,
-};
-
-// Declares a rank.
-fn declare<P: Packed, A: Allocator, W: Words<P, A>>(
-    words: &W,
-    pass: &mut W::Pass,
-    rank: u16,
-) -> Appended
-    requires of { IsOf P.meld (W.name words.now) (W.sight pass.old) }
-    requires there { rank < (W.name words.now).limits.ranks }
-    ensures { IsOf P.meld (W.name words.now) (W.sight pass.new) }
-{
-    Append::new(Item::Failure { rank }, Caller::Outside).finish(words, pass)
-}
 
 // A rank, which knows of no failure, contributes a flag to the world's first round.
 fn give<P: Packed, A: Allocator, W: Words<P, A>>(
@@ -85,7 +67,7 @@ fn poll<P: Packed, A: Allocator, W: Words<P, A>, B: Allocator>(
 
 #[test]
 fn declared_once(rt: HostRuntime) -> Result<(), Fail> {
-    let words = PlainWords::<FlagAnd>::open(LIMITS)?;
+    let words = PlainWords::<FlagAnd>::open(THREE)?;
     let mut pass = words.pass(rt.alloc())?;
     assert!(rt; declare(&words, &mut pass, 2) == Appended::Won(0));
     assert!(rt; declare(&words, &mut pass, 0) == Appended::Won(1));
@@ -93,18 +75,26 @@ fn declared_once(rt: HostRuntime) -> Result<(), Fail> {
     Ok(())
 }
 
-#[test]
-fn anothers_failure_comes_first(rt: HostRuntime) -> Result<(), Fail> {
-    let plain = PlainWords::<FlagAnd>::open(LIMITS)?;
+// Words of three ranks, of which this one is declared by others where the test says.
+fn beside_a_failure(rank: u16) -> Result<Intruder<FlagAnd>, OpenFault>
+    requires { rank < 3 }
+    ensures { IfOk result (λ words. words.plain.limits.ranks ≡ 3) }
+{
+    let plain = PlainWords::<FlagAnd>::open(THREE)?;
     let guest = Entry {
         by: Caller::Outside,
-        event: Event::Fail { rank: 1 },
+        event: Event::Fail { rank },
     };
-    let words = Intruder {
+    Ok(Intruder {
         plain,
         guest,
         wait: None,
-    };
+    })
+}
+
+#[test]
+fn anothers_failure_comes_first(rt: HostRuntime) -> Result<(), Fail> {
+    let words = beside_a_failure(1)?;
     let mut pass = words.pass(rt.alloc())?;
     // Just before the exchange, which is the second step.
     pass.wait(1);
@@ -114,16 +104,7 @@ fn anothers_failure_comes_first(rt: HostRuntime) -> Result<(), Fail> {
 
 #[test]
 fn look_finds_what_came(rt: HostRuntime) -> Result<(), Fail> {
-    let plain = PlainWords::<FlagAnd>::open(LIMITS)?;
-    let guest = Entry {
-        by: Caller::Outside,
-        event: Event::Fail { rank: 2 },
-    };
-    let words = Intruder {
-        plain,
-        guest,
-        wait: None,
-    };
+    let words = beside_a_failure(2)?;
     let mut pass = words.pass(rt.alloc())?;
     let mut found = Vec::with_capacity(rt.alloc(), 3)?;
     pass.wait(0);
@@ -134,7 +115,7 @@ fn look_finds_what_came(rt: HostRuntime) -> Result<(), Fail> {
 
 #[test]
 fn steps_over_own_words(rt: HostRuntime) -> Result<(), Fail> {
-    let plain = PlainWords::<FlagAnd>::open(LIMITS)?;
+    let plain = PlainWords::<FlagAnd>::open(THREE)?;
     let words = Counted { plain };
     let mut pass = words.pass(rt.alloc())?;
     let mut found = Vec::with_capacity(rt.alloc(), 3)?;

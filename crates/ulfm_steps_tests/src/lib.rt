@@ -19,3 +19,5 @@ mod read_on;
 mod stepped;
 #[cfg(test)]
 mod words;
+#[cfg(test)]
+mod world;

@@ -6,14 +6,14 @@ ghost use Rattle.ulfm_model.specs.History.{failures, has};
 ghost use Rattle.ulfm_words.specs.Steps.{IsOf};
 
 use crate::counted::Counted;
+use crate::world::declare;
 use std::alloc::Allocator;
 use std::test::Fail;
 use ulfm_laws::flag_and::FlagAnd;
 use ulfm_laws::meld::Packed;
-use ulfm_model::event::Caller;
 use ulfm_model::limits::Limits;
 use ulfm_steps::group::is_member;
-use ulfm_steps::{Append, Item, Look, ReadOn};
+use ulfm_steps::{Look, ReadOn};
 use ulfm_words::{OpenWords, PlainWords, Words};
 
 const SIX: Limits = Limits {
@@ -60,15 +60,6 @@ fn read<P: Packed, A: Allocator, W: Words<P, A>, B: Allocator>(
         on.advance(words, pass, group, asked, seen, whole);
     }
     on.reach
-}
-
-// Declares a rank.
-fn declare<P: Packed, A: Allocator, W: Words<P, A>>(words: &W, pass: &mut W::Pass, rank: u16)
-    requires of { IsOf P.meld (W.name words.now) (W.sight pass.old) }
-    requires there { rank < (W.name words.now).limits.ranks }
-    ensures { IsOf P.meld (W.name words.now) (W.sight pass.new) }
-{
-    let _ = Append::new(Item::Failure { rank }, Caller::Outside).finish(words, pass);
 }
 
 #[test]

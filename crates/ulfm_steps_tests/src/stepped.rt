@@ -5,21 +5,15 @@ ghost use Rattle.ulfm_words.specs.Steps.{IsOf};
 ghost use Rattle.ulfm_steps.specs.Marks.{MayMarkAll};
 
 use crate::counted::Counted;
+use crate::world::THREE;
 use std::alloc::Allocator;
 use std::test::Fail;
 use ulfm_laws::flag_and::FlagAnd;
 use ulfm_laws::meld::Packed;
 use ulfm_laws::summary::Summary;
 use ulfm_model::event::Caller;
-use ulfm_model::limits::Limits;
 use ulfm_steps::{Append, Appended, Item, Look, MarkAll, ReadRound};
 use ulfm_words::{OpenWords, PlainWords, Words};
-
-const LIMITS: Limits = Limits {
-    ranks: 3,
-    comms: 2,
-    rounds: 4,
-};
 
 // Declares a rank.
 fn declare<P: Packed, A: Allocator, W: Words<P, A>>(
@@ -113,7 +107,7 @@ fn look_and_mark<P: Packed, A: Allocator, W: Words<P, A>, B: Allocator>(
 
 #[test]
 fn one_step_at_a_time(rt: HostRuntime) -> Result<(), Fail> {
-    let plain = PlainWords::<FlagAnd>::open(LIMITS)?;
+    let plain = PlainWords::<FlagAnd>::open(THREE)?;
     let words = Counted { plain };
     let mut pass = words.pass(rt.alloc())?;
     let mut found = Vec::with_capacity(rt.alloc(), 3)?;

@@ -10,3 +10,4 @@ pub mod Ranks
 pub mod Reading
 pub mod Setting
 pub mod Numbered
+pub mod Numbering

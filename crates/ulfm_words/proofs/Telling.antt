@@ -3,7 +3,7 @@ use Rattle.std.proofs.Common.{◌≡◌, ◌≢◌, ℕ, Bool, true, false, List
 use Rattle.std.specs.List.{slice_index}
 use Rattle.ulfm_model.specs.declared.{event.Entry.{Entry}, limits.Limits.{Limits}, place.Place.{Place}}
 use Rattle.ulfm_model.specs.{Words.{word_at}}
-use Rattle.ulfm_words.specs.declared.{pass.Setting.{Setting}, step.Last.{Last}, step.Step.{Step}}
+use Rattle.ulfm_words.specs.declared.{plain.Setting.{Setting}, step.Last.{Last}, step.Step.{Step}}
 use Rattle.ulfm_words.specs.{Entries.{entry_of}, Pass.{entries, last_of, sight_of, IsTied}, Places.{IsWithin, key_in}, Steps.{Sight, Loads, Sets}}
 use Rattle.ulfm_words.proofs.Trails.{did_none}
 

@@ -9,7 +9,7 @@ use Rattle.std.proofs.lemmas.Option.{slice_get_read}
 use Rattle.ulfm_model.specs.declared.{event.Entry.{Entry}, limits.Limits.{Limits}, place.Place.{Place}, place.Place.TheVariants.{List as ListAt, Comm as CommAt, Revoked as RevokedAt, Slot as SlotAt, Arrival as ArrivalAt}}
 use Rattle.ulfm_model.specs.{History.{History, MayFollow}, Words.{place_of, word_at, word_of}}
 use Rattle.ulfm_model.proofs.{Histories.{legal_push}, WordRules.{word_set, word_kept, word_some}}
-use Rattle.ulfm_words.specs.declared.{pass.Setting.{Setting}, step.Step.{Step}}
+use Rattle.ulfm_words.specs.declared.{plain.Setting.{Setting}, step.Step.{Step}}
 use Rattle.ulfm_words.specs.{Entries.{entry_of}, Pass.{entry_at, entries, IsMade, is_zero, IsTied}, Places.{IsWithin, key_in}}
 use Rattle.ulfm_words.proofs.Keys.{key_lt, one_key}
 

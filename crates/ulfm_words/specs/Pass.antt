@@ -3,7 +3,7 @@ use Rattle.std.specs.Prelude.{◌≡◌, ◌≢◌, ℕ, ◌+◌, ◌≤◌, ◌
 use Rattle.std.specs.List.{AllByRecursion}
 use Rattle.ulfm_model.specs.declared.{event.Entry.{Entry}, limits.Limits.{Limits}, place.Place.{Place}}
 use Rattle.ulfm_model.specs.{History.{History, IsLegal}, Words.{MayOpen, place_of, size_of, word_at, word_of}}
-use Rattle.ulfm_words.specs.declared.{pass.Setting.{Setting}, step.Last.{Last}, step.Step.{Step}}
+use Rattle.ulfm_words.specs.declared.{plain.Setting.{Setting}, step.Last.{Last}, step.Step.{Step}}
 use Rattle.ulfm_words.specs.{Entries.{entry_of}, Places.{IsWithin, key_in}, Steps.{Name, Sight}}
 
 -- plain words are told apart by their limits alone

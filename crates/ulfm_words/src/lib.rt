@@ -3,7 +3,6 @@
 
 pub mod laws;
 pub mod loads;
-pub mod pass;
 pub mod plain;
 mod row;
 pub mod sets;
@@ -12,8 +11,7 @@ pub mod step;
 pub mod words;
 
 pub use loads::{load_arrival, load_comm, load_failure, load_revocation, load_summary};
-pub use pass::PlainPass;
-pub use plain::{PlainTold, PlainWords};
+pub use plain::{PlainPass, PlainTold, PlainWords};
 pub use sets::{put_slot, set_arrival, set_comm, set_failure, set_revocation, set_slot};
 pub use slots::{read_slot, slot_word};
 pub use step::{Last, Step};

@@ -1,13 +1,18 @@
-ghost use Rattle.std.specs.Prelude.{◌≡◌, [], true, false, MatchResult};
-ghost use Rattle.ulfm_model.specs.Words.{IsUnfit, MayOpen};
-ghost use Rattle.ulfm_words.specs.Pass.{plain_name};
+// Words of one owner, and the passes over them: each pass is a memory of its own.
+ghost use Rattle.std.specs.Prelude.{◌≡◌, ◌≤◌, [], true, false, IfOk, MatchOption, MatchResult, length};
+ghost use Rattle.ulfm_model.specs.Words.{IsUnfit, MayOpen, word_at};
+ghost use Rattle.ulfm_words.specs.Pass.{IsNth, plain_name};
+ghost use Rattle.ulfm_words.specs.Places.{IsWithin};
+ghost use Rattle.ulfm_words.specs.Steps.{IsOf, IsNew, Loads, MaySet, Sets};
 
-use crate::pass::PlainPass;
-use crate::step::Step;
+use crate::row::Row;
+use crate::step::{Last, Step};
 use crate::words::{OpenWords, Words};
-use std::alloc::{AllocError, Allocator};
-use std::marker::PhantomData;
+use http_server::Log;
+use std::alloc::{AllocError, Allocator, Global};
+use std::marker::{Model, PhantomData};
 use ulfm_laws::meld::Packed;
+use ulfm_model::event::Caller;
 use ulfm_model::limits::{Limits, OpenFault};
 use ulfm_model::place::Place;
 
@@ -86,4 +91,102 @@ impl<P: Packed, A: Allocator + Copy + Drop> OpenWords<P, A> for PlainWords<P> {
     }
 
     fn learn(&self, _pass: &mut PlainPass<P, A>, _told: &PlainTold) {}
+}
+
+/// A place that was set, and in whose name.
+#[derive(Clone, Copy)]
+pub(crate) struct Setting {
+    pub place: Place,
+    pub by: Caller,
+}
+
+/// The words of one owner, and the journal of what was set. Contracts see it as a `Sight`.
+#[derive(Drop)]
+pub struct PlainPass<P: Packed, A: Allocator = Global> {
+    row: Row<A>,
+    // In the order of setting. It has room for each word that is still 0.
+    journal: Vec<Setting, A>,
+    // The steps so far. It takes no memory, and only contracts read it.
+    trail: Log<Last, bool>,
+    flags: PhantomData<P>,
+}
+
+impl<P: Packed, A: Allocator> Model for PlainPass<P, A> {
+    ghost use Rattle.ulfm_words.specs.Steps.{Sight};
+    ghost use Rattle.std.specs.Prelude.{vec_capacity};
+    ghost use Rattle.ulfm_words.specs.Pass.{sight_of, IsTied};
+
+    ghost Value = { Sight P };
+
+    ghost view = { λ a. sight_of P.unpack a.row.limits a.row.words a.journal.items a.trail.items };
+
+    ghost invariant = { λ a. IsTied P.meld P.pack P.unpack a.row.limits a.row.words a.journal.items (vec_capacity a.journal) };
+}
+
+impl<P: Packed, A: Allocator + Copy> PlainPass<P, A> {
+    /// Words that are all 0. All memory that later steps need is taken here.
+    pub fn new(alloc: A, limits: Limits) -> Result<PlainPass<P, A>, AllocError>
+        requires { MayOpen limits }
+        ensures { IfOk result (λ p. IsNew P.meld (plain_name limits) p) }
+    {
+        let row = Row::new(alloc, limits)?;
+        let journal = Vec::with_capacity(alloc, limits.size() as usize)?;
+        Ok(PlainPass {
+            row,
+            journal,
+            trail: Log::new(),
+            flags: PhantomData,
+        })
+    }
+
+    /// The step that was set as the `i`-th, counted from 0; none past the last. It is no atomic step and takes no memory.
+    pub fn nth(&self, i: usize) -> Option<Step>
+        ensures { MatchOption result (length self.now.seen ≤ i) (IsNth P.pack P.unpack self.now.seen i) }
+    {
+        let setting = *self.journal.get(i)?;
+        let word = self.row.get(setting.place);
+        Some(Step {
+            place: setting.place,
+            word,
+            by: setting.by,
+        })
+    }
+
+    /// What was seen is legal. It does nothing.
+    pub fn known_legal(&self)
+        ensures { IsOf P.meld self.now.name self.now }
+    {
+        let _ = &self.row;
+    }
+
+    /// The word at a place.
+    #[inline(always)]
+    pub fn load(&mut self, place: Place) -> u64
+        requires { IsWithin self.old.name.limits place }
+        ensures loads { Loads P.meld P.pack true self.old.name place self.old self.new }
+        ensures word { result ≡ word_at P.pack self.new.seen place }
+    {
+        let word = self.row.get(place);
+        let load = true;
+        self.trail = self.trail.and(&Last { place, word, load }, &load);
+        word
+    }
+
+    /// Sets a word that is 0, or gives the word that stands. It takes no memory.
+    #[inline(always)]
+    pub fn set_once(&mut self, step: Step) -> Result<(), u64>
+        requires within { IsWithin self.old.name.limits step.place }
+        requires may { MaySet P.meld P.pack P.unpack self.old.name.limits self.old.seen step }
+        ensures { Sets P.meld P.pack P.unpack true self.old.name step self.old result self.new }
+    {
+        let place = step.place;
+        let word = self.row.set_once(place, step.word);
+        let load = false;
+        self.trail = self.trail.and(&Last { place, word, load }, &load);
+        if word != 0 {
+            return Err(word);
+        }
+        let _ = self.journal.push(Setting { place, by: step.by });
+        Ok(())
+    }
 }

@@ -1,11 +1,11 @@
 // The look of a call, and what comes after it.
-ghost use Rattle.std.specs.Prelude.{ℕ, Bool, List, ◌≡◌, ◌+◌, ◌-◌, ◌<◌, false, true, length, max, min, None, Some, MatchOption};
-ghost use Rattle.ulfm_model.specs.{Records.{Record}, Terms.{comm_of}};
+ghost use Rattle.std.specs.Prelude.{ℕ, List, ◌≡◌, ◌<◌, max, min, None, Some, MatchOption};
 ghost use Rattle.ulfm_model.specs.declared.{call.Call.TheVariants.{Poll as PollAsked}, call.Request.TheVariants.{Barrier as OfBarrier}};
-ghost use Rattle.ulfm_comm.specs.{Polls.{IsAgreement, agreement}, Phase.{IsFurther, NextIs, Stands, StillStands, left}, Look.{JustLooked, Passes}};
-ghost use Rattle.ulfm_comm.specs.{StepsLeft.{FewerLeft, after_look, steps_left}, Step.{TakesTurn}};
+ghost use Rattle.ulfm_comm.specs.{Polls.{IsAgreement, agreement}, Phase.{IsFurther, StillStands, left}, Look.{Passes}};
+ghost use Rattle.ulfm_comm.specs.{StepsLeft.{FewerLeft, steps_left, with_look}, Step.{FollowsLook, HasJustLooked, TakesTurn}};
+ghost use Rattle.ulfm_comm.specs.declared.phases.phase.Next.TheVariants.{Goes as NextGoes};
 ghost use Rattle.ulfm_comm.specs.declared.phases.phase.Phase.TheVariants.{Begun as AtBegun, Looking as AtLooking};
-ghost use Rattle.ulfm_words.specs.Steps.{IsOf, Sight};
+ghost use Rattle.ulfm_words.specs.Steps.{IsOf};
 
 use crate::groups::count_in;
 use crate::phases::phase::{Next, Phase};
@@ -105,14 +105,10 @@ impl<P: Packed, A: Allocator> Rank<P, A> {
         asked: &Call<P>,
     ) -> Next<P>
         requires of { IsOf P.meld (W.name world.now.words) (W.sight pass.now) }
-        requires just { (old : Record) × (before : Sight P)
-            × JustLooked P.meld false (W.name world.now.words) asked.now old before self.old (W.sight pass.now) }
+        requires just { HasJustLooked P.meld (W.name world.now.words) asked.now self.old (W.sight pass.now) }
         ensures further { IsFurther AtLooking result }
-        ensures nearer { FewerLeft (after_look (W.name world.now.words).limits self.old asked.now + max 1
-            ((W.name world.now.words).limits.ranks - length self.old.seen)) (W.name world.now.words).limits self.new asked.now result }
-        ensures turns { (group : List ℕ) (alone : Bool) (old : Record) (before : Sight P)
-            → JustLooked P.meld alone (W.name world.now.words) asked.now old before self.old (W.sight pass.now)
-            → NextIs P.meld alone (W.name world.now.words) asked.now old before result group self.new (W.sight pass.now) }
+        ensures nearer { FewerLeft (with_look (W.name world.now.words).limits self.old asked.now) (W.name world.now.words).limits self.new asked.now result }
+        ensures turns { FollowsLook P.meld (W.name world.now.words) asked.now self.old (W.sight pass.now) result self.new }
     {
         let Some(x) = self.held(comm_of(asked)) else {
             return Next::Ends(Reply::Refused(Refusal::NoSuchComm));
@@ -130,16 +126,12 @@ impl<P: Packed, A: Allocator> Rank<P, A> {
         pass: &W::Pass,
         asked: &Call<P>,
     ) -> Next<P>
-        requires of { IsOf P.meld (W.name world.now.words) (W.sight pass.now) }
-        requires just { (old : Record) × (before : Sight P)
-            × JustLooked P.meld false (W.name world.now.words) asked.now old before self.old (W.sight pass.now) }
         requires passes { Passes self.old asked.now }
+        requires of { IsOf P.meld (W.name world.now.words) (W.sight pass.now) }
+        requires just { HasJustLooked P.meld (W.name world.now.words) asked.now self.old (W.sight pass.now) }
         ensures further { IsFurther AtLooking result }
-        ensures nearer { FewerLeft (after_look (W.name world.now.words).limits self.old asked.now + max 1
-            ((W.name world.now.words).limits.ranks - length self.old.seen)) (W.name world.now.words).limits self.new asked.now result }
-        ensures turns { (group : List ℕ) (alone : Bool) (old : Record) (before : Sight P)
-            → JustLooked P.meld alone (W.name world.now.words) asked.now old before self.old (W.sight pass.now)
-            → NextIs P.meld alone (W.name world.now.words) asked.now old before result group self.new (W.sight pass.now) }
+        ensures nearer { FewerLeft (with_look (W.name world.now.words).limits self.old asked.now) (W.name world.now.words).limits self.new asked.now result }
+        ensures turns { FollowsLook P.meld (W.name world.now.words) asked.now self.old (W.sight pass.now) result self.new }
     {
         let x = self.held_comm(comm_of(asked));
         match *asked {
@@ -189,17 +181,12 @@ impl<P: Packed, A: Allocator> Rank<P, A> {
         asked: &Call<P>,
     ) -> Phase<P>
         requires of { IsOf P.meld (W.name world.now.words) (W.sight pass.now) }
-        requires just { (old : Record) × (before : Sight P)
-            × JustLooked P.meld false (W.name world.now.words) asked.now old before self.now (W.sight pass.now) }
+        requires just { HasJustLooked P.meld (W.name world.now.words) asked.now self.now (W.sight pass.now) }
         requires passes { Passes self.now asked.now }
         requires polls { (rank : ℕ) × (comm : ℕ) × (asked.now ≡ PollAsked rank comm) }
         ensures further { left result < 7 }
-        ensures nearer { steps_left (W.name world.now.words).limits self.now asked.now result
-            < after_look (W.name world.now.words).limits self.now asked.now + max 1 ((W.name world.now.words).limits.ranks - length self.now.seen) }
-        ensures turns { (group : List ℕ) (alone : Bool) (old : Record) (before : Sight P)
-            → JustLooked P.meld alone (W.name world.now.words) asked.now old before self.now (W.sight pass.now)
-            → Stands P.meld alone (W.name world.now.words) old before (record { asked = asked.now; phase = result; group = group }) self.now
-            (W.sight pass.now) }
+        ensures nearer { steps_left (W.name world.now.words).limits self.now asked.now result < with_look (W.name world.now.words).limits self.now asked.now }
+        ensures turns { FollowsLook P.meld (W.name world.now.words) asked.now self.now (W.sight pass.now) (NextGoes result) self.now }
     {
         let comm = comm_of(asked);
         let x = self.held_comm(comm);

@@ -1,8 +1,8 @@
-use Rattle.std.proofs.Common.{rules, ℕ, arith, false, List, Some, ap, refl, sym, subst, ◌∙◌}
+use Rattle.std.proofs.Common.{rules, ◌≡◌, ℕ, arith, Bool, false, List, Some, ap, refl, sym, subst, ◌∙◌}
 use Rattle.ulfm_model.specs.Records.{Record}
 use Rattle.ulfm_comm.proofs.StepAdds.{adds_settled, start_keeps}
-use Rattle.ulfm_model.specs.declared.reply.Reply.TheVariants.{Started}
-use Rattle.ulfm_comm.specs.{Calls.{reply_of}, Step.{Adds}, Phase.{Answered, Turns}}
+use Rattle.ulfm_model.specs.declared.{reply.Reply.{Reply}, reply.Reply.TheVariants.{Started}}
+use Rattle.ulfm_comm.specs.{Calls.{reply_of}, Step.{Adds, TakesTurn}, Phase.{Answered, Turns}}
 use Rattle.ulfm_comm.specs.declared.{phases.phase.Next.TheVariants.{Ends}, phases.phase.Phase.TheVariants.{Settling}}
 use Rattle.ulfm_model.specs.declared.place.Place.TheVariants.{Slot as SlotAt}
 use Rattle.ulfm_model.specs.Terms.{comm_of}
@@ -68,40 +68,25 @@ named g c =
     let there = comm_is g.P.Meld.meld limits now.seen own (comm_of c.args.asked.now) x (fits_now _ _ _ _ _ _ _ _ p c.requires.of.legal) (rw (← c.comm_of.ensures) held) in
     (x.next_agreement, subst (λ n. IsOneStep (SlotAt n x.next_agreement own.number) false now after) there c.contribute-settled.ensures.one)
 
-pub returns-in-Ok : goal.returns-in-Ok
-returns-in-Ok g c =
-    λ group whole.
+-- the exchange ends the call, with this reply
+ends : (g : _) (c : After-end_start g) (reply : Reply g.row.P.Denot) → reply_of (λ _. Started) c.end_start.result ≡ reply → (group : List ℕ) (whole : Bool)
+    → TakesTurn g.P.Meld.meld g.W.Words.alone whole (g.W.Words.name c.args.world.now.words) c.args.asked.now (Settling c.args.request c.args.offer) group c.args.self.now (g.W.Words.sight c.args.pass.now) (Ends reply) group c.end_start.new.self (g.W.Words.sight c.contribute-settled.new.pass)
+ends g c reply is = λ group whole.
     record {
       walks = walks_settled g.P.Meld.meld g.W.Words.alone (g.W.Words.name c.args.world.now.words) c.args.self.now.number (g.W.Words.sight c.args.pass.now) (g.W.Words.sight c.contribute-settled.new.pass)
           c.contribute-settled.ensures.of c.contribute-settled.ensures.one.steps c.args.self.now c.held_comm-x.result.now c.args.offer c.contribute-settled.result refl c.contribute-settled.ensures.settles;
-      named = λ not. named g (goal.at.returns-in-Ok g c).After-end_start;
-      nearer = search rules;
+      named = λ not. named g c;
+      nearer = λ not. tt;
       further = search rules;
-      adds = λ not.
-          subst (λ r. Adds g.W.Words.alone c.args.self.now.seen c.args.self.now c.args.asked.now (Some (reply_of (λ _. Started) r)) (g.W.Words.sight c.args.pass.now).seen (g.W.Words.sight c.contribute-settled.new.pass).seen) c.in-Ok.is
-          (adds g (goal.at.returns-in-Ok g c).After-end_start);
+      adds = λ not. subst (λ r. Adds g.W.Words.alone c.args.self.now.seen c.args.self.now c.args.asked.now (Some r) (g.W.Words.sight c.args.pass.now).seen (g.W.Words.sight c.contribute-settled.new.pass).seen) is (adds g c);
       sees = ap (λ (w : Record). w.seen) c.end_start.ensures.leaves ∙ start_keeps c.args.self.now _ c.args.request c.contribute-settled.result;
       past = search rules;
       turns = λ alone only old before stands.
-          subst (λ r. Answered g.P.Meld.meld alone (g.W.Words.name c.args.world.now.words) c.args.asked.now old before (reply_of (λ _. Started) r) c.end_start.new.self (g.W.Words.sight c.contribute-settled.new.pass)) c.in-Ok.is
-          (answered g (goal.at.returns-in-Ok g c).After-end_start group alone only old before stands);
+          subst (λ r. Answered g.P.Meld.meld alone (g.W.Words.name c.args.world.now.words) c.args.asked.now old before r c.end_start.new.self (g.W.Words.sight c.contribute-settled.new.pass)) is (answered g c group alone only old before stands);
     }
 
+pub returns-in-Ok : goal.returns-in-Ok
+returns-in-Ok g c = ends g (goal.at.returns-in-Ok g c).After-end_start Started (ap (reply_of (λ _. Started)) c.in-Ok.is)
+
 pub returns-in-Err : goal.returns-in-Err
-returns-in-Err g c =
-    λ group whole.
-    record {
-      walks = walks_settled g.P.Meld.meld g.W.Words.alone (g.W.Words.name c.args.world.now.words) c.args.self.now.number (g.W.Words.sight c.args.pass.now) (g.W.Words.sight c.contribute-settled.new.pass)
-          c.contribute-settled.ensures.of c.contribute-settled.ensures.one.steps c.args.self.now c.held_comm-x.result.now c.args.offer c.contribute-settled.result refl c.contribute-settled.ensures.settles;
-      named = λ not. named g (goal.at.returns-in-Err g c).After-end_start;
-      nearer = search rules;
-      further = search rules;
-      adds = λ not.
-          subst (λ r. Adds g.W.Words.alone c.args.self.now.seen c.args.self.now c.args.asked.now (Some (reply_of (λ _. Started) r)) (g.W.Words.sight c.args.pass.now).seen (g.W.Words.sight c.contribute-settled.new.pass).seen) c.in-Err.is
-          (adds g (goal.at.returns-in-Err g c).After-end_start);
-      sees = ap (λ (w : Record). w.seen) c.end_start.ensures.leaves ∙ start_keeps c.args.self.now _ c.args.request c.contribute-settled.result;
-      past = search rules;
-      turns = λ alone only old before stands.
-          subst (λ r. Answered g.P.Meld.meld alone (g.W.Words.name c.args.world.now.words) c.args.asked.now old before (reply_of (λ _. Started) r) c.end_start.new.self (g.W.Words.sight c.contribute-settled.new.pass)) c.in-Err.is
-          (answered g (goal.at.returns-in-Err g c).After-end_start group alone only old before stands);
-    }
+returns-in-Err g c = ends g (goal.at.returns-in-Err g c).After-end_start _ (ap (reply_of (λ _. Started)) c.in-Err.is)

@@ -1,10 +1,12 @@
-use Rattle.std.proofs.Common.{rules, ◌≡◌, false, ap, ◌∙◌, subst}
+use Rattle.std.proofs.Common.{rules, ◌≡◌, ℕ, List, true, false, refl, ap, ◌∙◌, subst}
+use Rattle.ulfm_comm.specs.{Phase.{IsFurther, IsPast, Turns}, Step.{TakesTurn}, StepsLeft.{FewerLeft, steps_left}}
+use Rattle.ulfm_comm.specs.declared.{phases.phase.Next.{Next}, phases.phase.Phase.TheVariants.{Waiting}}
 use Rattle.ulfm_comm.specs.Barrier.{IsChecking}
 use Rattle.ulfm_model.specs.Terms.{comm_of}
 use Rattle.ulfm_model.specs.Records.{Held}
 use Rattle.ulfm_comm.proofs.Barrier.{waiting_checks, waiting_ends, waiting_goes, waiting_may}
 use Rattle.ulfm_comm.proofs.rank.Rank.go_waiting.Goals as goal
-use Rattle.ulfm_comm.proofs.rank.Rank.go_waiting.Goals.{After-deref}
+use Rattle.ulfm_comm.proofs.rank.Rank.go_waiting.Goals.{After-advance, After-deref}
 
 -- the members that the code reads
 members : (g : _) (c : After-deref g) → c.deref.result.now ≡ c.held_comm-x.result.now.group
@@ -28,36 +30,22 @@ returns-in-Some-clause-checks g c = λ which is group alone only old before stan
     c.held_comm-x.result.now c.comm_of.result c.held_comm-x.ensures c.comm_of.ensures c.deref.result.now c.failures.result.now (members g (goal.at.returns-in-Some-clause-checks g c).After-deref) c.failures.ensures alone old before stands
     g.W.Words.alone only after c.advance.ensures.goes.did c.advance.ensures.goes.onward c.in-Some.missing c.in-Some.ensures.are c.advance.ensures.goes.of.legal)
 
+-- the loads leave what the rank holds and has seen
+waits : (g : _) (c : After-advance g) (next : Next g.row.P.Denot) → (c.args.whole ≡ false → FewerLeft (steps_left (g.W.Words.name c.args.world.now.words).limits c.args.self.now c.args.asked.now (Waiting c.args.arrivals)) (g.W.Words.name c.args.world.now.words).limits c.args.self.now c.args.asked.now next)
+    → (c.args.whole ≡ true → IsFurther (Waiting c.args.arrivals) next) → IsPast next
+    → ((group : List ℕ) → Turns g.P.Meld.meld g.W.Words.alone (g.W.Words.name c.args.world.now.words) c.args.asked.now (Waiting c.args.arrivals) group c.args.self.now (g.W.Words.sight c.args.pass.now) next group c.args.self.now (g.W.Words.sight c.advance.new.pass))
+    → (group : List ℕ) → TakesTurn g.P.Meld.meld g.W.Words.alone c.args.whole (g.W.Words.name c.args.world.now.words) c.args.asked.now (Waiting c.args.arrivals) group c.args.self.now (g.W.Words.sight c.args.pass.now) next group c.args.self.now (g.W.Words.sight c.advance.new.pass)
+waits g c next nearer further past turns = λ group.
+    record { walks = search rules; named = search rules; nearer = nearer; further = further; adds = search rules; sees = refl; past = λ _. past; turns = turns group }
+
 pub returns-in-None-clause-turn : goal.returns-in-None-clause-turn
-returns-in-None-clause-turn g c =
-    λ group.
-    record {
-      walks = search rules;
-      named = search rules;
-      nearer = search rules;
-      further = search rules;
-      adds = search rules;
-      sees = search rules;
-      past = search rules;
-      turns = λ alone only old before stands.
-          waiting_goes g.P.Meld.meld (g.W.Words.name c.args.world.now.words) c.args.asked.now c.args.arrivals group c.args.self.now (g.W.Words.sight c.args.pass.now) c.requires.of
-          c.held_comm-x.result.now c.comm_of.result c.held_comm-x.ensures c.comm_of.ensures c.deref.result.now c.failures.result.now (members g (goal.at.returns-in-None-clause-turn g c).After-deref) c.failures.ensures alone old before stands
-          g.W.Words.alone only (g.W.Words.sight c.advance.new.pass) c.advance.ensures.goes.did c.advance.ensures.goes.onward c.advance.new.self c.advance.ensures.comm c.advance.ensures.round c.in-None.ensures.at;
-    }
+returns-in-None-clause-turn g c = waits g (goal.at.returns-in-None-clause-turn g c).After-advance _ (search rules) (search rules) (search rules) (λ group alone only old before stands.
+    waiting_goes g.P.Meld.meld (g.W.Words.name c.args.world.now.words) c.args.asked.now c.args.arrivals group c.args.self.now (g.W.Words.sight c.args.pass.now) c.requires.of
+    c.held_comm-x.result.now c.comm_of.result c.held_comm-x.ensures c.comm_of.ensures c.deref.result.now c.failures.result.now (members g (goal.at.returns-in-None-clause-turn g c).After-deref) c.failures.ensures alone old before stands
+    g.W.Words.alone only (g.W.Words.sight c.advance.new.pass) c.advance.ensures.goes.did c.advance.ensures.goes.onward c.advance.new.self c.advance.ensures.comm c.advance.ensures.round c.in-None.ensures.at)
 
 pub returns-in-Some-clause-turn : goal.returns-in-Some-clause-turn
-returns-in-Some-clause-turn g c =
-    λ group.
-    record {
-      walks = search rules;
-      named = search rules;
-      nearer = search rules;
-      further = search rules;
-      adds = search rules;
-      sees = search rules;
-      past = search rules;
-      turns = λ alone only old before stands.
-          waiting_ends g.P.Meld.meld (g.W.Words.name c.args.world.now.words) c.args.asked.now c.args.arrivals group c.args.self.now (g.W.Words.sight c.args.pass.now) c.requires.of
-          c.held_comm-x.result.now c.comm_of.result c.held_comm-x.ensures c.comm_of.ensures c.deref.result.now c.failures.result.now (members g (goal.at.returns-in-Some-clause-turn g c).After-deref) c.failures.ensures alone old before stands
-          g.W.Words.alone only (g.W.Words.sight c.advance.new.pass) c.advance.ensures.goes.did c.advance.ensures.goes.onward c.in-Some.missing c.in-Some.ensures.are c.advance.ensures.goes.of.legal;
-    }
+returns-in-Some-clause-turn g c = waits g (goal.at.returns-in-Some-clause-turn g c).After-advance _ (search rules) (search rules) (search rules) (λ group alone only old before stands.
+    waiting_ends g.P.Meld.meld (g.W.Words.name c.args.world.now.words) c.args.asked.now c.args.arrivals group c.args.self.now (g.W.Words.sight c.args.pass.now) c.requires.of
+    c.held_comm-x.result.now c.comm_of.result c.held_comm-x.ensures c.comm_of.ensures c.deref.result.now c.failures.result.now (members g (goal.at.returns-in-Some-clause-turn g c).After-deref) c.failures.ensures alone old before stands
+    g.W.Words.alone only (g.W.Words.sight c.advance.new.pass) c.advance.ensures.goes.did c.advance.ensures.goes.onward c.in-Some.missing c.in-Some.ensures.are c.advance.ensures.goes.of.legal)

@@ -19,32 +19,23 @@ finish-requires-clause-may g c =
     let below : c.args.rank < limits.ranks = omega (arith, c.if-rank-limits.false) in
     subst (λ a. MayAppend g.P.Meld.meld limits seen a.item) (sym c.new-append.ensures) (may_fail g.P.Meld.meld limits seen c.args.rank below)
 
+-- the world has the rank
+below : (g : _) (c : After-finish g) → c.args.rank < (g.W.Words.name c.args.self.now.words).limits.ranks
+below g c =
+    let ranks : c.limits.result.ranks ≡ (g.W.Words.name c.args.self.now.words).limits.ranks = ap (λ l. l.ranks) c.limits.ensures.limits in
+    omega (arith, ranks, c.if-rank-limits.false)
+
 pub returns-in-Won : goal.returns-in-Won
 returns-in-Won g c =
-    let name = g.W.Words.name c.args.self.now.words in
-    let old = g.W.Words.sight c.args.pass.now in
-    let new = g.W.Words.sight c.finish.new.pass in
-    let ranks : c.limits.result.ranks ≡ name.limits.ranks = ap (λ l. l.ranks) c.limits.ensures.limits in
-    let below : c.args.rank < name.limits.ranks = omega (arith, c.if-rank-limits.false) in
-    fail_won g.P.Meld.meld g.W.Words.alone name c.args.rank old new c.in-Won.field-0 below
-    (rw c.new-append.ensures at c.in-Won.ensures)
+    fail_won g.P.Meld.meld g.W.Words.alone (g.W.Words.name c.args.self.now.words) c.args.rank (g.W.Words.sight c.args.pass.now) (g.W.Words.sight c.finish.new.pass) c.in-Won.field-0
+    (below g (goal.at.returns-in-Won g c).After-finish) (rw c.new-append.ensures at c.in-Won.ensures)
 
 pub returns-in-Found : goal.returns-in-Found
 returns-in-Found g c =
-    let name = g.W.Words.name c.args.self.now.words in
-    let old = g.W.Words.sight c.args.pass.now in
-    let new = g.W.Words.sight c.finish.new.pass in
-    let ranks : c.limits.result.ranks ≡ name.limits.ranks = ap (λ l. l.ranks) c.limits.ensures.limits in
-    let below : c.args.rank < name.limits.ranks = omega (arith, c.if-rank-limits.false) in
-    fail_found g.P.Meld.meld g.W.Words.alone name c.args.rank old new c.in-Found.field-0 below
-    (rw c.new-append.ensures at c.in-Found.ensures)
+    fail_found g.P.Meld.meld g.W.Words.alone (g.W.Words.name c.args.self.now.words) c.args.rank (g.W.Words.sight c.args.pass.now) (g.W.Words.sight c.finish.new.pass) c.in-Found.field-0
+    (below g (goal.at.returns-in-Found g c).After-finish) (rw c.new-append.ensures at c.in-Found.ensures)
 
 pub returns-in-Full : goal.returns-in-Full
 returns-in-Full g c =
-    let name = g.W.Words.name c.args.self.now.words in
-    let old = g.W.Words.sight c.args.pass.now in
-    let new = g.W.Words.sight c.finish.new.pass in
-    let ranks : c.limits.result.ranks ≡ name.limits.ranks = ap (λ l. l.ranks) c.limits.ensures.limits in
-    let below : c.args.rank < name.limits.ranks = omega (arith, c.if-rank-limits.false) in
-    fail_full g.P.Meld.meld g.W.Words.alone name c.args.rank old new below
-    (rw c.new-append.ensures at c.in-Full.ensures)
+    fail_full g.P.Meld.meld g.W.Words.alone (g.W.Words.name c.args.self.now.words) c.args.rank (g.W.Words.sight c.args.pass.now) (g.W.Words.sight c.finish.new.pass)
+    (below g (goal.at.returns-in-Full g c).After-finish) (rw c.new-append.ensures at c.in-Full.ensures)

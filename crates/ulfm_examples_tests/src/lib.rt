@@ -1,0 +1,14 @@
+//! The examples of the public calls of `ulfm_comm`, `ulfm_member` and `ulfm_book`, each run as a test.
+//!
+//! A test has the name of the type, or of the module, and of the call. What stands in it between two empty lines is, word for
+//! word, the example in the call's documentation: `gate/examples_test.py` compares them.
+#![tactic(auto)]
+
+#[cfg(test)]
+mod members;
+#[cfg(test)]
+mod open;
+#[cfg(test)]
+mod ranks;
+#[cfg(test)]
+mod worlds;

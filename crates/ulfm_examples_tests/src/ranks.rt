@@ -1,0 +1,228 @@
+// Examples of `Rank`, and of its calls step by step.
+
+use crate::open::two;
+use std::test::Fail;
+use ulfm_comm::Polled;
+use ulfm_laws::FlagAnd;
+use ulfm_model::{Call, Refusal, StepName};
+
+#[test]
+fn rank_number(rt: HostRuntime) -> Result<(), Fail> {
+    let (_, member) = two(&rt, rt.alloc())?;
+    let (_, rank, _) = member.into_parts();
+
+    assert!(rt; rank.number() == 0);
+
+    Ok(())
+}
+
+#[test]
+fn rank_failures(rt: HostRuntime) -> Result<(), Fail> {
+    let (_, mut member) = two(&rt, rt.alloc())?;
+    member.fail(1)?;
+    let (world, mut rank, mut pass) = member.into_parts();
+
+    // Rank 1 was declared failed before.
+    // A call looks, and then the rank has seen it.
+    rank.is_revoked(&world, &mut pass, 0)?;
+    assert_eq!(rt; rank.failures(), [1].as_slice());
+
+    Ok(())
+}
+
+#[test]
+fn rank_members(rt: HostRuntime) -> Result<(), Fail> {
+    let (_, member) = two(&rt, rt.alloc())?;
+    let (_, rank, _) = member.into_parts();
+
+    assert!(rt; rank.members(0) == Some([0, 1].as_slice()));
+    assert!(rt; rank.members(1).is_none());
+
+    Ok(())
+}
+
+#[test]
+fn rank_context(rt: HostRuntime) -> Result<(), Fail> {
+    let (_, member) = two(&rt, rt.alloc())?;
+    let (_, rank, _) = member.into_parts();
+
+    assert!(rt; rank.context(0) == Some(0));
+    assert!(rt; rank.context(1).is_none());
+
+    Ok(())
+}
+
+#[test]
+fn rank_iagree(rt: HostRuntime) -> Result<(), Fail> {
+    let (_, member) = two(&rt, rt.alloc())?;
+    let (world, mut rank, mut pass) = member.into_parts();
+
+    let flag = FlagAnd { bits: 0b0110 };
+    assert!(rt; rank.iagree(&world, &mut pass, 0, flag) == Ok(()));
+    // A communicator has one request of a rank at a time.
+    assert!(rt; rank.iagree(&world, &mut pass, 0, flag) == Err(Refusal::Busy));
+
+    Ok(())
+}
+
+#[test]
+fn rank_ishrink(rt: HostRuntime) -> Result<(), Fail> {
+    let (_, mut member) = two(&rt, rt.alloc())?;
+    member.fail(1)?;
+    let (world, mut rank, mut pass) = member.into_parts();
+
+    // Rank 1 was declared failed before.
+    rank.ishrink(&world, &mut pass, 0)?;
+    let alone = Polled::Shrunk {
+        comm: 1,
+        context: 1,
+        size: 1,
+    };
+    assert!(rt; rank.poll(&world, &mut pass, 0) == Ok(alone));
+
+    Ok(())
+}
+
+#[test]
+fn rank_ibarrier(rt: HostRuntime) -> Result<(), Fail> {
+    let (_, mut member) = two(&rt, rt.alloc())?;
+    member.fail(1)?;
+    let (world, mut rank, mut pass) = member.into_parts();
+
+    rank.ibarrier(&world, &mut pass, 0)?;
+    // Rank 1 was declared failed before, and can't arrive any more.
+    assert!(rt; rank.poll(&world, &mut pass, 0) == Err(Refusal::ProcFailed));
+
+    Ok(())
+}
+
+#[test]
+fn rank_poll(rt: HostRuntime) -> Result<(), Fail> {
+    let (_, mut member) = two(&rt, rt.alloc())?;
+    member.fail(1)?;
+    let (world, mut rank, mut pass) = member.into_parts();
+
+    let value = FlagAnd { bits: 0b0110 };
+    rank.iagree(&world, &mut pass, 0, value)?;
+    // Rank 1 was declared failed before, and is left out.
+    let agreed = Polled::Agreed {
+        value,
+        failed: 1,
+        raised: true,
+    };
+    assert!(rt; rank.poll(&world, &mut pass, 0) == Ok(agreed));
+
+    Ok(())
+}
+
+#[test]
+fn rank_get_failed(rt: HostRuntime) -> Result<(), Fail> {
+    let alloc = rt.alloc();
+    let (_, mut member) = two(&rt, alloc)?;
+    member.fail(1)?;
+    let (world, mut rank, mut pass) = member.into_parts();
+
+    // Rank 1 was declared failed before.
+    let mut found = Vec::new(alloc);
+    rank.get_failed(&world, &mut pass, 0, &mut found)?;
+    assert_eq!(rt; found.as_slice(), [1].as_slice());
+
+    Ok(())
+}
+
+#[test]
+fn rank_ack_failed(rt: HostRuntime) -> Result<(), Fail> {
+    let (_, mut member) = two(&rt, rt.alloc())?;
+    member.fail(1)?;
+    let (world, mut rank, mut pass) = member.into_parts();
+
+    // Rank 1 was declared failed before.
+    // There is one failure to acknowledge, however many are asked for.
+    assert!(rt; rank.ack_failed(&world, &mut pass, 0, 9) == Ok(1));
+
+    Ok(())
+}
+
+#[test]
+fn rank_revoke(rt: HostRuntime) -> Result<(), Fail> {
+    let (_, member) = two(&rt, rt.alloc())?;
+    let (world, mut rank, mut pass) = member.into_parts();
+
+    assert!(rt; rank.revoke(&world, &mut pass, 0) == Ok(true));
+    assert!(rt; rank.revoke(&world, &mut pass, 0) == Ok(false));
+
+    Ok(())
+}
+
+#[test]
+fn rank_is_revoked(rt: HostRuntime) -> Result<(), Fail> {
+    let (_, member) = two(&rt, rt.alloc())?;
+    let (world, mut rank, mut pass) = member.into_parts();
+
+    assert!(rt; rank.is_revoked(&world, &mut pass, 0) == Ok(false));
+    rank.revoke(&world, &mut pass, 0)?;
+    assert!(rt; rank.is_revoked(&world, &mut pass, 0) == Ok(true));
+
+    Ok(())
+}
+
+#[test]
+fn rank_free(rt: HostRuntime) -> Result<(), Fail> {
+    let (_, mut member) = two(&rt, rt.alloc())?;
+    member.fail(1)?;
+    let (world, mut rank, mut pass) = member.into_parts();
+
+    // Rank 1 was declared failed before.
+    rank.ishrink(&world, &mut pass, 0)?;
+    rank.poll(&world, &mut pass, 0)?;
+    assert!(rt; rank.free(&world, &mut pass, 1) == Ok(()));
+    assert!(rt; rank.members(1).is_none());
+    assert!(rt; rank.free(&world, &mut pass, 0) == Err(Refusal::WorldKept));
+
+    Ok(())
+}
+
+#[test]
+fn rank_begin(rt: HostRuntime) -> Result<(), Fail> {
+    let (_, member) = two(&rt, rt.alloc())?;
+    let (_, rank, _) = member.into_parts();
+
+    let asked = Call::IsRevoked {
+        rank: rank.number(),
+        comm: 0,
+    };
+    let doing = rank.begin(asked);
+    assert!(rt; doing.next() == Some(StepName::List));
+
+    Ok(())
+}
+
+#[test]
+fn doing_next(rt: HostRuntime) -> Result<(), Fail> {
+    let (_, member) = two(&rt, rt.alloc())?;
+    let (_, rank, _) = member.into_parts();
+
+    let asked = Call::IsRevoked {
+        rank: rank.number(),
+        comm: 0,
+    };
+    let doing = rank.begin(asked);
+    assert!(rt; doing.next() == Some(StepName::List));
+
+    Ok(())
+}
+
+#[test]
+fn doing_is_looking(rt: HostRuntime) -> Result<(), Fail> {
+    let (_, member) = two(&rt, rt.alloc())?;
+    let (_, rank, _) = member.into_parts();
+
+    let asked = Call::IsRevoked {
+        rank: rank.number(),
+        comm: 0,
+    };
+    let doing = rank.begin(asked);
+    assert!(rt; doing.is_looking());
+
+    Ok(())
+}

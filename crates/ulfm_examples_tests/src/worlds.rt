@@ -1,0 +1,137 @@
+// Examples of `World` and `Job`.
+
+use crate::open::{TWO, two};
+use std::test::Fail;
+use ulfm_comm::{Job, World};
+use ulfm_laws::FlagAnd;
+use ulfm_model::{Call, Refusal, Reply};
+use ulfm_words::PlainWords;
+
+#[test]
+fn world_open(rt: HostRuntime) -> Result<(), Fail> {
+    let alloc = rt.alloc();
+    let limits = TWO;
+
+    let words: PlainWords<FlagAnd> = PlainWords::open(limits)?;
+    let (world, ranks) = World::open(alloc, words)?;
+    assert!(rt; world.limits() == limits && ranks.len() == 2);
+
+    Ok(())
+}
+
+#[test]
+fn world_limits(rt: HostRuntime) -> Result<(), Fail> {
+    let (_, member) = two(&rt, rt.alloc())?;
+    let (world, _, _) = member.into_parts();
+
+    assert!(rt; world.limits().ranks == 2);
+
+    Ok(())
+}
+
+#[test]
+fn world_pass(rt: HostRuntime) -> Result<(), Fail> {
+    let alloc = rt.alloc();
+    let (_, member) = two(&rt, alloc)?;
+    let (world, _, _) = member.into_parts();
+
+    let mut pass = world.pass(alloc)?;
+    assert!(rt; world.fail(&mut pass, 1) == Ok(true));
+
+    Ok(())
+}
+
+#[test]
+fn world_told(rt: HostRuntime) -> Result<(), Fail> {
+    let alloc = rt.alloc();
+    let (_, member) = two(&rt, alloc)?;
+    let (world, _, _) = member.into_parts();
+
+    let mut pass = world.pass(alloc)?;
+    let mut other = world.pass(alloc)?;
+    world.fail(&mut pass, 1)?;
+    world.learn(&mut other, &world.told(&pass));
+
+    Ok(())
+}
+
+#[test]
+fn world_learn(rt: HostRuntime) -> Result<(), Fail> {
+    let alloc = rt.alloc();
+    let (_, member) = two(&rt, alloc)?;
+    let (world, _, _) = member.into_parts();
+
+    let mut pass = world.pass(alloc)?;
+    let mut other = world.pass(alloc)?;
+    world.fail(&mut pass, 1)?;
+    let told = world.told(&pass);
+    world.learn(&mut other, &told);
+
+    Ok(())
+}
+
+#[test]
+fn world_fail(rt: HostRuntime) -> Result<(), Fail> {
+    let (_, member) = two(&rt, rt.alloc())?;
+    let (world, _, mut pass) = member.into_parts();
+
+    assert!(rt; world.fail(&mut pass, 1) == Ok(true));
+    assert!(rt; world.fail(&mut pass, 1) == Ok(false));
+    assert!(rt; world.fail(&mut pass, 2) == Err(Refusal::NoSuchRank));
+
+    Ok(())
+}
+
+#[test]
+fn job_open(rt: HostRuntime) -> Result<(), Fail> {
+    let alloc = rt.alloc();
+    let limits = TWO;
+
+    let words: PlainWords<FlagAnd> = PlainWords::open(limits)?;
+    let job = Job::open(alloc, words)?;
+    assert!(rt; job.rank(1).is_some());
+
+    Ok(())
+}
+
+#[test]
+fn job_pass(rt: HostRuntime) -> Result<(), Fail> {
+    let alloc = rt.alloc();
+    let limits = TWO;
+    let words: PlainWords<FlagAnd> = PlainWords::open(limits)?;
+    let job = Job::open(alloc, words)?;
+
+    assert!(rt; job.pass().nth(0).is_none());
+
+    Ok(())
+}
+
+#[test]
+fn job_rank(rt: HostRuntime) -> Result<(), Fail> {
+    let alloc = rt.alloc();
+    let limits = TWO;
+    let words: PlainWords<FlagAnd> = PlainWords::open(limits)?;
+    let job = Job::open(alloc, words)?;
+
+    assert!(rt; job.rank(1).is_some());
+    assert!(rt; job.rank(2).is_none());
+
+    Ok(())
+}
+
+#[test]
+fn job_apply(rt: HostRuntime) -> Result<(), Fail> {
+    let alloc = rt.alloc();
+    let limits = TWO;
+    let words: PlainWords<FlagAnd> = PlainWords::open(limits)?;
+    let mut job = Job::open(alloc, words)?;
+
+    let mut group = Vec::new(alloc);
+    let failed = job.apply(&Call::Fail { rank: 1 }, &mut group)?;
+    assert!(rt; failed == Reply::Declared);
+    let found = job.apply(&Call::GetFailed { rank: 0, comm: 0 }, &mut group)?;
+    assert!(rt; found == Reply::FailedGroup { count: 1 });
+    assert_eq!(rt; group.as_slice(), [1].as_slice());
+
+    Ok(())
+}

@@ -1,0 +1,7 @@
+//! Tests of calls that wait, and of the future of an agree.
+#![tactic(auto)]
+
+#[cfg(test)]
+mod future;
+#[cfg(test)]
+mod threads;

@@ -1,0 +1,88 @@
+#!/usr/bin/env python3
+"""Compares the example in the documentation of each public function with the test that runs it.
+
+Of the crates below each public function has one block ``` in its documentation. The same text stands, between two empty lines, in the
+test of `ulfm_examples_tests` that is named by the function's type, or by its file, and by the function: `member_poll` for
+`Member::poll`, `members_open` for `open` of members.rt. `Rank::step` has none: what it asks for is what a run of steps keeps, which the
+plays of `ulfm_comm_tests` prove. The last line is 'N passed, M failed'.
+"""
+
+import glob
+import os
+import re
+import sys
+
+HERE = os.path.dirname(os.path.dirname(os.path.abspath(__file__)))
+CRATES = ("ulfm_comm", "ulfm_member", "ulfm_book")
+WITHOUT = ("rank_step",)
+PUBLIC = re.compile(r"^( *)pub fn (\w+)")
+TEST = re.compile(r"^fn (\w+)\(rt: HostRuntime\).*?\{\n(.*?)^\}$", re.M | re.S)
+
+
+def read(file):
+    with open(file, encoding="utf-8") as it:
+        return it.read()
+
+
+def implemented(line):
+    """The type of a line that begins an `impl` block, behind its parameters, in lower case with underscores."""
+    depth = 0
+    for at, letter in enumerate(line):
+        depth += {"<": 1, ">": -1}.get(letter, 0)
+        if letter in " >" and depth == 0:
+            name = re.match(r"\w+", line[at + 1 :].strip())
+            if name:
+                return re.sub(r"(?<!^)(?=[A-Z])", "_", name[0]).lower()
+    return ""
+
+
+def documented(lines, at):
+    """The documentation above line `at`, without its slashes."""
+    above = []
+    while at > 0 and re.match(r" *(///|#\[)", lines[at - 1]):
+        at -= 1
+        if "///" in lines[at]:
+            above.insert(0, re.sub(r"^ */// ?", "", lines[at]))
+    return above
+
+
+def examples_in(crate):
+    """Gives each public function's name as its test has it, its example, or None, and where it stands."""
+    for file in sorted(glob.glob(f"{HERE}/crates/{crate}/src/**/*.rt", recursive=True)):
+        lines, owner = read(file).split("\n"), ""
+        for at, line in enumerate(lines):
+            if line.startswith("impl"):
+                owner = implemented(line)
+            public = PUBLIC.match(line)
+            if public and f"{owner}_{public[2]}" not in WITHOUT:
+                within = owner if public[1] else os.path.basename(file)[: -len(".rt")]
+                blocks = "\n".join(documented(lines, at)).split("```\n")
+                example = re.split(r"\n?```$", blocks[1])[0].rstrip("\n") if len(blocks) > 1 else None
+                yield f"{within}_{public[2]}", example, f"{os.path.relpath(file, HERE)}:{at + 1}"
+
+
+def tests():
+    """Gives the text between empty lines of each test, by the test's name."""
+    found = {}
+    for file in glob.glob(f"{HERE}/crates/ulfm_examples_tests/src/*.rt"):
+        for name, body in TEST.findall(read(file)):
+            lines = [re.sub(r"^ {4}", "", line) for line in body.split("\n")]
+            found[name] = "\n".join(lines).split("\n\n")[1:-1]
+    return found
+
+
+def main():
+    ran, passed, failed = tests(), 0, 0
+    for crate in CRATES:
+        for name, example, place in examples_in(crate):
+            if example is not None and ["\n\n".join(ran.get(name, []))] == [example]:
+                passed += 1
+                continue
+            failed += 1
+            print(f"{place}: {'no example' if example is None else f'the example is not that of the test {name}'}")
+    print(f"{passed} passed, {failed} failed")
+    return int(failed > 0 or passed == 0)
+
+
+if __name__ == "__main__":
+    sys.exit(main())

@@ -1,0 +1,97 @@
+#!/usr/bin/env python3
+"""Runs the commands of docs/GUIDE.md on a copy of the repository, and compares what they print.
+
+A block ```sh has commands; the block ```text behind it, if one comes before the next commands, is what they must print. Of the blocks
+```rust the first is the program that docs/first_crate takes, and each other stands in the recovery's source. The copy has the built program,
+where there is one, and nothing else that was built. The guide's refusals are those of the model, by number and name, and docs/LIMITATIONS.md
+has each greatest limit. The last line is 'N passed, M failed'.
+"""
+
+import os
+import re
+import shutil
+import subprocess
+import sys
+import tempfile
+
+HERE = os.path.dirname(os.path.dirname(os.path.abspath(__file__)))
+PROGRAM = "crates/ulfm/out/ulfm"
+RECOVERY = "crates/ulfm_recovery_example/src/main.rt"
+REFUSED = re.compile(r"^\| (\d+) \| `(\w+)` \|", re.M)
+NUMBERED = re.compile(r"Refusal::(\w+) => (\d+),")
+GREATEST = re.compile(r"pub const MAX_\w+: \w+ = ([\d_]+);")
+BLOCK = re.compile(r"^```(sh|text|rust)\n(.*?)^```$", re.M | re.S)
+
+
+def laid_out(folder):
+    """Copies the repository, and the program last, so that no source is newer."""
+    left_out = shutil.ignore_patterns("out", ".git")
+    copy = os.path.join(folder, "copy")
+    shutil.copytree(HERE, copy, ignore=left_out)
+    if os.path.exists(os.path.join(HERE, PROGRAM)):
+        os.makedirs(os.path.dirname(os.path.join(copy, PROGRAM)))
+        shutil.copy(os.path.join(HERE, PROGRAM), os.path.join(copy, PROGRAM))
+    return copy
+
+
+def commands_in(text):
+    """Gives each block of commands with what it must print, or None where no such block follows."""
+    wanted = []
+    for kind, body in BLOCK.findall(text):
+        if kind == "sh":
+            wanted.append((body, None))
+        elif kind == "text" and wanted:
+            wanted[-1] = (wanted[-1][0], body)
+    return wanted
+
+
+def passes(command, wanted, copy):
+    ran = subprocess.run(["bash", "-e", "-o", "pipefail", "-c", command], cwd=copy, capture_output=True, text=True)
+    if ran.returncode == 0 and wanted in (None, ran.stdout):
+        return True
+    print(f"failed with status {ran.returncode}:\n{command}printed:\n{ran.stdout}{ran.stderr}")
+    return False
+
+
+def stands_in(source, shown):
+    if shown in source:
+        return True
+    print(f"not in {RECOVERY}:\n{shown}")
+    return False
+
+
+def has_refusals(guide, source):
+    wanted = [(number, name) for name, number in NUMBERED.findall(source)]
+    if wanted and REFUSED.findall(guide) == wanted:
+        return True
+    print(f"the guide's refusals aren't the model's: {sorted(set(REFUSED.findall(guide)) ^ set(wanted))}")
+    return False
+
+
+def has_limits(page, source):
+    missing = [it for it in GREATEST.findall(source) if f"{int(it):,}" not in page]
+    if missing:
+        print(f"docs/LIMITATIONS.md lacks the limits {missing}")
+    return not missing and bool(GREATEST.search(source))
+
+
+def read(file):
+    with open(os.path.join(HERE, file), encoding="utf-8") as it:
+        return it.read()
+
+
+def main():
+    guide, recovery = read("docs/GUIDE.md"), read(RECOVERY)
+    shown = [body for kind, body in BLOCK.findall(guide) if kind == "rust"][1:]
+    results = [stands_in(recovery, it) for it in shown]
+    results.append(has_refusals(guide, read("crates/ulfm_model/src/refusal.rt")))
+    results.append(has_limits(read("docs/LIMITATIONS.md"), read("crates/ulfm_model/src/limits.rt")))
+    with tempfile.TemporaryDirectory(prefix="guide-") as folder:
+        copy = laid_out(folder)
+        results += [passes(command, text, copy) for command, text in commands_in(guide)]
+    print(f"{results.count(True)} passed, {results.count(False)} failed")
+    return int(not results or not all(results))
+
+
+if __name__ == "__main__":
+    sys.exit(main())
