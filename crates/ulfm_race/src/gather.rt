@@ -1,71 +1,99 @@
 // What the workers were answered, gathered.
-ghost use Rattle.std.specs.Prelude.{◌≡◌, ◌++◌, ℕ, [], false, map, IfOk, vec_len, get_or, ◌<◌};
-ghost use Rattle.std.specs.List.{AllByRecursion};
+ghost use Rattle.std.specs.Prelude.{◌≡◌, ◌+◌, ℕ, [], true, false, map, length, IfOk, IfSome, Some, None};
+ghost use Rattle.std.specs.List.{AllByRecursion, list_any};
 ghost use mathlib.Core.List.{IsPrefix};
 ghost use Rattle.boxcar.specs.Table.{Shows};
+ghost use Rattle.ulfm_laws.specs.declared.flag_and.FlagAnd.{FlagAnd as FlagOf};
 ghost use Rattle.ulfm_laws.specs.Flags.{flag_meld};
+ghost use Rattle.ulfm_model.specs.{History.{History}, Records.{Held, held_at}};
 ghost use Rattle.ulfm_words.specs.Steps.{IsOf};
-ghost use Rattle.ulfm_race.specs.Races.{IsOutcome, IsPlan, IsReported, WasAnswered, limits_of};
+ghost use Rattle.ulfm_race.specs.Races.{IsGathered, IsHeard, IsOutcome, IsReported, IsStarted, Numbered, is_shrunk, limits_of};
 
-use crate::plan::{Outcome, RaceFault};
-use crate::race::Handle;
-use crate::worker::{Replies, Report, Shared, Token};
+use crate::plan::{Outcome, Plan, RaceFault};
+use crate::racing::Handle;
+use crate::worker::{Own, Replies, Report, Shared, Token};
 use std::alloc::{AllocError, Global};
 use std::thread::Threads;
 use ulfm_book::BookPass;
 use ulfm_laws::flag_and::FlagAnd;
 use ulfm_model::reply::Reply;
 
-/// What one rank was answered, and the members of what its shrink made, if it did.
+/// What one rank was answered, whether its shrink made a communicator, and the members of that.
 #[derive(Drop)]
 pub(crate) struct Heard {
-    pub(crate) replies: Vec<Reply<FlagAnd>>,
-    pub(crate) group: Option<Vec<u16>>,
+    replies: Vec<Reply<FlagAnd>>,
+    made: bool,
+    group: Vec<u16>,
 }
 
 /// What the first ranks were answered, and the fault of one that stopped, if any did.
 #[derive(Drop)]
 pub(crate) struct Gathered {
-    pub(crate) replies: Vec<Vec<Reply<FlagAnd>>>,
-    pub(crate) group: Vec<u16>,
-    pub(crate) fault: Option<RaceFault>,
+    plan: Plan,
+    replies: Vec<Vec<Reply<FlagAnd>>>,
+    group: Vec<u16>,
+    fault: Option<RaceFault>,
 }
 
 impl Gathered {
-    /// Nothing yet, with room for so many ranks.
-    pub(crate) fn new(alloc: Global, ranks: u16) -> Result<Gathered, AllocError> {
+    /// Nothing yet, with room for all ranks of a plan.
+    pub(crate) fn new(alloc: Global, plan: Plan) -> Result<Gathered, AllocError>
+        ensures { IfOk result (λ g. (g.plan ≡ plan) × (g.replies.items ≡ []) × (g.group.items ≡ [])) }
+    {
         Ok(Gathered {
-            replies: Vec::with_capacity(alloc, ranks as usize)?,
+            plan,
+            replies: Vec::with_capacity(alloc, plan.ranks as usize)?,
             group: Vec::new(alloc),
             fault: None,
         })
     }
 
     // What the next rank was answered is taken in.
-    fn take_in(&mut self, heard: Result<Heard, RaceFault>) {
+    fn take_in(&mut self, heard: Result<Heard, RaceFault>)
+        ensures plan { self.new.plan ≡ self.old.plan }
+        ensures takes { (h : History FlagOf) → (r : ℕ) → IfOk heard (λ x. IsHeard self.old.plan h r x.replies.items x.made x.group.items)
+            → IsGathered self.old.plan h r (map (λ v. v.items) self.old.replies.items) self.old.group.items self.old.fault
+            → IsGathered self.old.plan h (r + 1) (map (λ v. v.items) self.new.replies.items) self.new.group.items self.new.fault }
+    {
         match heard {
-            Ok(heard) => {
-                let Heard { replies, group } = heard;
-                if self.replies.push(replies).is_err() {
-                    self.stop(RaceFault::Memory);
-                }
-                if let Some(group) = group {
-                    self.group = group;
-                }
-            }
+            Ok(heard) => self.add(heard),
             Err(fault) => self.stop(fault),
         }
     }
 
+    // One rank more.
+    fn add(&mut self, heard: Heard)
+        ensures plan { self.new.plan ≡ self.old.plan }
+        ensures adds { (h : History FlagOf) → (r : ℕ) → IsHeard self.old.plan h r heard.replies.items heard.made heard.group.items
+            → IsGathered self.old.plan h r (map (λ v. v.items) self.old.replies.items) self.old.group.items self.old.fault
+            → IsGathered self.old.plan h (r + 1) (map (λ v. v.items) self.new.replies.items) self.new.group.items self.new.fault }
+    {
+        let Heard {
+            replies,
+            made,
+            group,
+        } = heard;
+        if self.replies.push(replies).is_err() {
+            self.stop(RaceFault::Memory);
+            return;
+        }
+        if made {
+            self.group = group;
+        }
+    }
+
     // The first fault stays.
-    fn stop(&mut self, fault: RaceFault) {
+    fn stop(&mut self, fault: RaceFault)
+        ensures stopped { self.new.fault ≡ None → ⊥ }
+        ensures plan { self.new.plan ≡ self.old.plan }
+    {
         if self.fault.is_none() {
             self.fault = Some(fault);
         }
     }
 }
 
-/// Joins all workers, in order, and gathers what they were answered.
+/// Joins all workers, in order, and gathers what they were answered, where all were started.
 pub(crate) fn hear_all<R: Threads>(
     rt: &R,
     alloc: Global,
@@ -74,7 +102,19 @@ pub(crate) fn hear_all<R: Threads>(
     handles: Vec<Handle<'_>>,
     outside: BookPass<FlagAnd>,
     gathered: Gathered,
-) -> Result<Outcome, RaceFault> {
+    fault: Option<RaceFault>,
+) -> Result<Outcome, RaceFault>
+    requires limits { world.now.words.limits ≡ limits_of gathered.plan }
+    requires of { IsOf flag_meld world.now.words outside }
+    requires nothing { (gathered.replies.items ≡ []) × (gathered.group.items ≡ []) }
+    requires started { fault ≡ None → Numbered (λ r h. IsStarted world.now.words said.now gathered.plan r h.promise) 0 handles.items }
+    requires all { fault ≡ None → length handles.items ≡ gathered.plan.ranks }
+    ensures { IfOk result (λ o. IsOutcome gathered.plan o.seen.seen (map (λ v. v.items) o.replies.items) o.group.items) }
+{
+    if let Some(fault) = fault {
+        join_all(rt, handles);
+        return Err(fault);
+    }
     let mut outside = outside;
     let mut gathered = gathered;
     for handle in handles {
@@ -82,6 +122,7 @@ pub(crate) fn hear_all<R: Threads>(
         gathered.take_in(heard);
     }
     let Gathered {
+        plan: _,
         replies,
         group,
         fault,
@@ -96,6 +137,13 @@ pub(crate) fn hear_all<R: Threads>(
     }
 }
 
+// Joins all workers, whatever they were answered.
+fn join_all<R: Threads>(rt: &R, handles: Vec<Handle<'_>>) {
+    for handle in handles {
+        drop(handle.join(rt));
+    }
+}
+
 // A worker is joined: what it promised, and that all it had seen is seen.
 fn finish<'a, R: Threads>(
     rt: &R,
@@ -103,6 +151,13 @@ fn finish<'a, R: Threads>(
     handle: Handle<'a>,
     outside: &mut BookPass<FlagAnd>,
 ) -> Report
+    requires world { handle.promise.world.now.words ≡ world.now.words }
+    requires of { IsOf flag_meld world.now.words outside.old }
+    ensures of { IsOf flag_meld world.now.words outside.new }
+    ensures seen { IsPrefix outside.old.seen outside.new.seen }
+    ensures learned { IsPrefix result.told.seen outside.new.seen }
+    ensures kept { IsReported world.now.words handle.entry.promise.said.now handle.entry.promise.plan handle.entry.promise.number result.rank result.told
+        result.tokens.items result.fault }
 {
     let report = handle.join(rt);
     world.learn(outside, &report.told);
@@ -118,37 +173,75 @@ fn hear<'a, R: Threads>(
     handle: Handle<'a>,
     outside: &mut BookPass<FlagAnd>,
 ) -> Result<Heard, RaceFault>
+    requires world { handle.promise.world.now.words ≡ world.now.words }
+    requires said { handle.promise.said.now ≡ said.now }
+    requires limits { world.now.words.limits ≡ limits_of handle.promise.plan }
+    requires of { IsOf flag_meld world.now.words outside.old }
+    ensures of { IsOf flag_meld world.now.words outside.new }
+    ensures seen { IsPrefix outside.old.seen outside.new.seen }
+    ensures answered { IfOk result (λ x. IsHeard handle.entry.promise.plan outside.new.seen handle.entry.promise.number x.replies.items x.made x.group.items) }
 {
     let report = finish(rt, world, handle, outside);
     let heard = read_report(alloc, said, &report);
     let fault = report.fault;
     drop(report);
-    match fault {
-        Some(fault) => Err(fault),
-        None => match heard {
-            Ok(heard) => Ok(heard),
-            Err(_) => Err(RaceFault::Memory),
-        },
+    if let Some(fault) = fault {
+        return Err(fault);
+    }
+    match heard {
+        Ok(heard) => Ok(heard),
+        Err(_) => Err(RaceFault::Memory),
     }
 }
 
-// What a worker was answered, and the members of what its shrink made, if it did.
-fn read_report(alloc: Global, said: &Replies, report: &Report) -> Result<Heard, AllocError> {
+// What a worker was answered, whether its shrink made a communicator, and the members of that.
+fn read_report(alloc: Global, said: &Replies, report: &Report) -> Result<Heard, AllocError>
+    requires { AllByRecursion (Shows said.now) report.now.tokens.items }
+    ensures replies { IfOk result (λ x. x.replies.items ≡ map (λ t. t.value) report.now.tokens.items) }
+    ensures made { IfOk result (λ x. x.made ≡ list_any is_shrunk x.replies.items) }
+    ensures group { IfOk result (λ x. x.made ≡ true → (y : Held) → held_at report.now.rank 1 ≡ Some y → x.group.items ≡ y.group) }
+    ensures nobody { IfOk result (λ x. x.made ≡ false → x.group.items ≡ []) }
+{
     let replies = read(alloc, said, &report.tokens)?;
-    let members = if replies.iter().any(is_shrunk) {
-        report.rank.members(1)
-    } else {
-        None
-    };
-    let group = match members {
-        Some(members) => Some(members.to_vec(alloc)?),
-        None => None,
-    };
-    Ok(Heard { replies, group })
+    let made = any_shrunk(&replies);
+    let group = members_made(&report.rank, made).to_vec(alloc)?;
+    Ok(Heard {
+        replies,
+        made,
+        group,
+    })
+}
+
+// The members of communicator 1, where the rank holds it.
+fn members_made(rank: &Own, made: bool) -> &[u16]
+    ensures group { made ≡ true → (y : Held) → held_at rank.now 1 ≡ Some y → result.now ≡ y.group }
+    ensures nobody { made ≡ false → result.now ≡ [] }
+{
+    if !made {
+        return &[];
+    }
+    match rank.members(1) {
+        Some(group) => group,
+        None => &[],
+    }
+}
+
+// Whether a shrink made a communicator, by the replies.
+fn any_shrunk(replies: &[Reply<FlagAnd>]) -> bool
+    ensures { result ≡ list_any is_shrunk replies.now }
+{
+    for reply in replies {
+        if is_shrunk(reply) {
+            return true;
+        }
+    }
+    false
 }
 
 // Whether a reply is a communicator that a shrink made.
-fn is_shrunk(reply: &Reply<FlagAnd>) -> bool {
+fn is_shrunk(reply: &Reply<FlagAnd>) -> bool
+    ensures { result ≡ is_shrunk reply.now }
+{
     match reply {
         Reply::Shrunk { .. } => true,
         _ => false,
@@ -156,7 +249,11 @@ fn is_shrunk(reply: &Reply<FlagAnd>) -> bool {
 }
 
 // What a worker was answered, read at its tokens.
-fn read(alloc: Global, said: &Replies, tokens: &Vec<Token>) -> Result<Vec<Reply<FlagAnd>>, AllocError>
+fn read(
+    alloc: Global,
+    said: &Replies,
+    tokens: &Vec<Token>,
+) -> Result<Vec<Reply<FlagAnd>>, AllocError>
     requires { AllByRecursion (Shows said.now) tokens.now.items }
     ensures { IfOk result (λ v. v.items ≡ map (λ t. t.value) tokens.now.items) }
 {

@@ -3,8 +3,8 @@
 
 mod gather;
 mod plan;
-mod race;
+mod racing;
 mod worker;
 
 pub use plan::{Gate, Outcome, Plan, RaceFault, Turn};
-pub use race::race;
+pub use racing::race;

@@ -1,6 +1,7 @@
 // The part of one rank.
-ghost use Rattle.std.specs.Prelude.{◌≡◌, ◌<◌, List, [], ◌∷◌, ◌++◌, false, map, IfOk, MatchBool};
+ghost use Rattle.std.specs.Prelude.{◌≡◌, ◌<◌, Bool, List, [], ◌∷◌, ◌++◌, false, map, IfOk, MatchBool, None, Ok};
 ghost use Rattle.std.specs.List.{AllByRecursion};
+ghost use mathlib.Core.List.{IsPrefix};
 ghost use Rattle.boxcar.specs.Table.{Shows};
 ghost use Rattle.ulfm_model.specs.Records.{Fits, new_record};
 ghost use Rattle.ulfm_laws.specs.Flags.{flag_meld};
@@ -8,7 +9,7 @@ ghost use Rattle.ulfm_words.specs.Steps.{IsOf};
 ghost use Rattle.ulfm_model.specs.declared.reply.Reply.{Reply as ReplyOf};
 ghost use Rattle.ulfm_wait.specs.Waits.{IsPolledOn};
 ghost use Rattle.ulfm_race.specs.declared.plan.Plan.{Plan as PlanOf};
-ghost use Rattle.ulfm_race.specs.Races.{IsKept, IsPlan, IsReady, IsReported, SaysAgree, WasAnswered, flag_of, is_refused, limits_of};
+ghost use Rattle.ulfm_race.specs.Races.{IsAnswered, IsKept, IsPlan, IsReady, IsReported, SaysAgree, flag_of, is_refused, limits_of};
 
 use crate::plan::{Gate, Plan, RaceFault, Turn};
 use std::alloc::Global;
@@ -55,21 +56,55 @@ pub(crate) fn work<G: Gate, R: Wait>(
     requires fits { Fits flag_meld world.now.words.limits pass.seen rank }
     ensures { IsReported world.now.words said.now plan rank.number result.rank result.told result.tokens.items result.fault }
 {
-    let number = rank.number();
     let mut rank = rank;
     let mut pass = pass;
     let mut tokens = Vec::new(alloc);
-    let ended = take_turns(rt, gate, world, said, plan, &mut rank, &mut pass, &mut tokens);
-    if ended != Ok(true) {
-        let _ = world.fail(&mut pass, number);
-    }
+    let ended = take_turns(
+        rt,
+        gate,
+        world,
+        said,
+        plan,
+        &mut rank,
+        &mut pass,
+        &mut tokens,
+    );
+    let fault = fault_in(&ended);
+    declare(world, &rank, &mut pass, is_stopped(&ended));
     let told = world.told(&pass);
-    let fault = ended.err();
     Report {
         rank,
         told,
         tokens,
         fault,
+    }
+}
+
+// Whether a worker stopped before it was answered all.
+fn is_stopped(ended: &Result<bool, RaceFault>) -> bool {
+    !matches!(ended, Ok(true))
+}
+
+// The fault that a worker met, if any.
+fn fault_in(ended: &Result<bool, RaceFault>) -> Option<RaceFault>
+    ensures { result ≡ None → (whole : Bool) × (ended.now ≡ Ok whole) }
+{
+    match ended {
+        Ok(_) => None,
+        Err(fault) => Some(*fault),
+    }
+}
+
+// The rank of a worker that stopped is declared.
+fn declare(world: &Shared, rank: &Own, pass: &mut BookPass<FlagAnd>, stopped: bool)
+    requires of { IsOf flag_meld world.now.words pass.old }
+    requires fits { Fits flag_meld world.now.words.limits pass.old.seen rank.now }
+    ensures of { IsOf flag_meld world.now.words pass.new }
+    ensures fits { Fits flag_meld world.now.words.limits pass.new.seen rank.now }
+    ensures seen { IsPrefix pass.old.seen pass.new.seen }
+{
+    if stopped {
+        let _ = world.fail(pass, rank.number());
     }
 }
 
@@ -83,7 +118,17 @@ fn take_turns<G: Gate, R: Wait>(
     rank: &mut Own,
     pass: &mut BookPass<FlagAnd>,
     tokens: &mut Vec<Token>,
-) -> Result<bool, RaceFault> {
+) -> Result<bool, RaceFault>
+    requires limits { world.now.words.limits ≡ limits_of plan }
+    requires of { IsOf flag_meld world.now.words pass.old }
+    requires fits { Fits flag_meld world.now.words.limits pass.old.seen rank.old }
+    requires shown { AllByRecursion (Shows said.now) tokens.old.items }
+    requires ready { IsReady plan rank.old.number 0 rank.old pass.old.seen (map (λ t. t.value) tokens.old.items) }
+    ensures of { IsOf flag_meld world.now.words pass.new }
+    ensures fits { Fits flag_meld world.now.words.limits pass.new.seen rank.new }
+    ensures shown { AllByRecursion (Shows said.now) tokens.new.items }
+    ensures answered { IfOk result (λ _. IsAnswered plan pass.new.seen rank.old.number rank.new (map (λ t. t.value) tokens.new.items)) }
+{
     match agree_all(rt, gate, world, said, plan, rank, pass, tokens) {
         Ok(true) => {}
         Ok(false) => return Ok(false),
@@ -206,7 +251,9 @@ fn agree<G: Gate, R: Wait>(
     requires fits { Fits flag_meld world.now.words.limits pass.old.seen rank.old }
     ensures of { IsOf flag_meld world.now.words pass.new }
     ensures fits { Fits flag_meld world.now.words.limits pass.new.seen rank.new }
-    ensures says { IfOk result (λ reply. (plan : PlanOf) → (said : List (ReplyOf _)) → world.now.words.limits ≡ limits_of plan → round < plan.rounds → IsReady plan rank.old.number round rank.old pass.old.seen said → SaysAgree plan rank.old.number round said rank.new pass.new.seen reply) }
+    ensures says { IfOk result (λ reply. (plan : PlanOf) → (said : List (ReplyOf _))
+        → world.now.words.limits ≡ limits_of plan → round < plan.rounds → IsReady plan rank.old.number round rank.old pass.old.seen said
+        → SaysAgree plan rank.old.number round said rank.new pass.new.seen reply) }
 {
     let number = rank.number();
     if !gate.go(number, Turn::Contribute) {
@@ -228,7 +275,14 @@ fn shrink<G: Gate, R: Wait>(
     world: &Shared,
     rank: &mut Own,
     pass: &mut BookPass<FlagAnd>,
-) -> Result<Reply<FlagAnd>, RaceFault> {
+) -> Result<Reply<FlagAnd>, RaceFault>
+    requires of { IsOf flag_meld world.now.words pass.old }
+    requires fits { Fits flag_meld world.now.words.limits pass.old.seen rank.old }
+    ensures of { IsOf flag_meld world.now.words pass.new }
+    ensures fits { Fits flag_meld world.now.words.limits pass.new.seen rank.new }
+    ensures says { IfOk result (λ reply. (plan : PlanOf) → (said : List (ReplyOf _)) → world.now.words.limits ≡ limits_of plan
+        → IsReady plan rank.old.number plan.rounds rank.old pass.old.seen said → IsAnswered plan pass.new.seen rank.old.number rank.new (said ++ reply ∷ [])) }
+{
     if !gate.go(rank.number(), Turn::Contribute) {
         return Err(RaceFault::Held);
     }
@@ -270,7 +324,9 @@ pub(crate) fn agree_all<G: Gate, R: Wait>(
     ensures of { IsOf flag_meld world.now.words pass.new }
     ensures fits { Fits flag_meld world.now.words.limits pass.new.seen rank.new }
     ensures shown { AllByRecursion (Shows said.now) tokens.new.items }
-    ensures says { IfOk result (λ goes. MatchBool goes (IsReady plan rank.old.number plan.rounds rank.new pass.new.seen (map (λ t. t.value) tokens.new.items)) (WasAnswered plan pass.new.seen rank.old.number (map (λ t. t.value) tokens.new.items))) }
+    ensures says { IfOk result (λ goes. MatchBool goes
+        (IsReady plan rank.old.number plan.rounds rank.new pass.new.seen (map (λ t. t.value) tokens.new.items))
+        (IsAnswered plan pass.new.seen rank.old.number rank.new (map (λ t. t.value) tokens.new.items))) }
 {
     for round in 0..plan.rounds {
         match agree(rt, gate, world, rank, pass, round) {

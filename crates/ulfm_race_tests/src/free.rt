@@ -1,12 +1,14 @@
+// Races whose gate lets all run as they like.
+use std::alloc::{AllocError, Global};
 use std::test::Fail;
-use std::process::Abort;
-use ulfm_laws::FlagAnd;
-use ulfm_model::Reply;
-use ulfm_race::{Gate, Outcome, Plan, RaceFault, Turn, race};
+use ulfm_laws::flag_and::FlagAnd;
+use ulfm_model::reply::Reply;
+use ulfm_race::{Gate, Plan, Turn, race};
 
-struct Open;
+/// Always says true.
+pub(crate) struct Free;
 
-impl Gate for Open {
+impl Gate for Free {
     fn go(&self, _rank: u16, _turn: Turn) -> bool {
         true
     }
@@ -14,23 +16,54 @@ impl Gate for Open {
     fn answered(&self, _rank: u16) {}
 }
 
+/// An agree of these bits that nobody failed in.
+fn clean(bits: u32) -> Reply<FlagAnd> {
+    Reply::Agreed {
+        value: FlagAnd { bits },
+        failed: 0,
+        raised: false,
+    }
+}
+
+/// What each of four ranks is answered in two rounds, where nobody is declared.
+fn four_answers(alloc: Global) -> Result<Vec<Reply<FlagAnd>>, AllocError> {
+    let made = Reply::Shrunk {
+        comm: 1,
+        context: 1,
+        size: 4,
+    };
+    Ok(vec![in alloc; clean(0xffff_fff0), clean(0xffff_ffe1), made]?)
+}
+
 #[test]
 fn race_of_four(rt: HostRuntime) -> Result<(), Fail> {
-    let plan = Plan { ranks: 4, rounds: 2, fail: None };
-    let outcome = race(&rt, rt.alloc(), plan, &Open)?;
+    let plan = Plan {
+        ranks: 4,
+        rounds: 2,
+        fail: None,
+    };
+    let outcome = race(&rt, rt.alloc(), plan, &Free)?;
+    let wanted = four_answers(rt.alloc())?;
     assert_eq!(rt; outcome.replies.len(), 4);
     for replies in &outcome.replies {
-        let wanted = vec![in rt.alloc(); Reply::Agreed { value: FlagAnd { bits: 0xffff_fff0 }, failed: 0, raised: false }, Reply::Agreed { value: FlagAnd { bits: 0xffff_ffe1 }, failed: 0, raised: false }, Reply::Shrunk { comm: 1, context: 1, size: 4 }]?;
-        assert_eq!(rt; *replies, wanted);
+        assert_eq!(rt; replies.as_slice(), wanted.as_slice());
     }
-    assert_eq!(rt; outcome.group, vec![in rt.alloc(); 0u16, 1, 2, 3]?);
+    assert_eq!(rt; outcome.group.as_slice(), [0, 1, 2, 3].as_slice());
     Ok(())
 }
 
 #[test]
-fn race_large(rt: HostRuntime) -> Result<(), Fail> {
-    let plan = Plan { ranks: 64, rounds: 100, fail: Some(7) };
-    let outcome = race(&rt, rt.alloc(), plan, &Open)?;
+fn race_of_sixty_four(rt: HostRuntime) -> Result<(), Fail> {
+    let plan = Plan {
+        ranks: 64,
+        rounds: 100,
+        fail: None,
+    };
+    let outcome = race(&rt, rt.alloc(), plan, &Free)?;
     assert_eq!(rt; outcome.replies.len(), 64);
+    for replies in &outcome.replies {
+        assert_eq!(rt; replies.len(), 101);
+    }
+    assert_eq!(rt; outcome.group.len(), 64);
     Ok(())
 }

@@ -1,5 +1,11 @@
-//! Tests of races.
+//! Tests of races of ranks on threads.
 #![tactic(auto)]
 
 #[cfg(test)]
+mod failing;
+#[cfg(test)]
 mod free;
+#[cfg(test)]
+mod held;
+#[cfg(test)]
+mod tables;

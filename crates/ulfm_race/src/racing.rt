@@ -1,10 +1,7 @@
-ghost use Rattle.std.specs.Prelude.{◌≡◌, [], IfOk, map, vec_len};
-ghost use Rattle.std.specs.List.{AllByRecursion};
-ghost use mathlib.Core.List.{IsPrefix};
+ghost use Rattle.std.specs.Prelude.{◌≡◌, [], IfOk, map, length, None};
 ghost use Rattle.ulfm_laws.specs.Flags.{flag_meld};
-ghost use Rattle.ulfm_model.specs.Records.{Fits, new_record};
 ghost use Rattle.ulfm_words.specs.Steps.{IsOf};
-ghost use Rattle.ulfm_race.specs.Races.{AreNew, AreStarted, IsOutcome, IsPlan, IsReported, IsStarted, limits_of};
+ghost use Rattle.ulfm_race.specs.Races.{IsNewRank, IsOutcome, IsPlan, IsReported, IsStarted, Numbered, limits_of};
 
 use crate::gather::{Gathered, hear_all};
 use crate::plan::{Gate, Outcome, Plan, RaceFault};
@@ -41,7 +38,7 @@ pub(crate) type Handle<'a> = PromisedHandle<Report, Promised<'a>>;
 /// whose thread can't be made; so the others don't wait for it.
 ///
 /// `Ok` says for each rank what it was answered, all in one history. `Memory` where memory or a thread was refused, `Held` where the gate
-/// said false; of the faults of several ranks it is that of the first. Whatever it answers, all its threads have ended. It answers only if
+/// said false; where several ranks met a fault, it is one of theirs. Whatever it answers, all its threads have ended. It answers only if
 /// they end: each polls until it is answered, and yields in between.
 ///
 /// With a gate that always says true, `race(rt, alloc, Plan { ranks: 4, rounds: 2, fail: None }, &gate)` answers, for each of the four
@@ -55,6 +52,30 @@ pub fn race<R: Threads + Wait + Sync, G: Gate + Sync>(
     requires { IsPlan plan }
     ensures { IfOk result (λ o. IsOutcome plan o.seen.seen (map (λ v. v.items) o.replies.items) o.group.items) }
 {
+    let (world, ranks) = open_world(alloc, plan)?;
+    let said = boxcar::Vec::new(alloc)?;
+    let world = &world;
+    let said = &said;
+    thread::scope(
+        thread::scope_env(),
+        rt,
+        |scope|
+            requires plan { IsPlan plan }
+            requires limits { world.now.words.limits ≡ limits_of plan }
+            requires ranks { Numbered (IsNewRank plan) 0 ranks.items }
+            requires all { length ranks.items ≡ plan.ranks }
+        { race_in(scope, rt, gate, alloc, world, said, plan, ranks) },
+    )
+}
+
+// The world of a plan, and its ranks.
+#[tactic(auto, using(crate::proofs::Gathering::new_ranks))]
+fn open_world(alloc: Global, plan: Plan) -> Result<(Shared, Vec<Own>), RaceFault>
+    requires { IsPlan plan }
+    ensures limits { IfOk result (λ o. o.0.words.limits ≡ limits_of plan) }
+    ensures ranks { IfOk result (λ o. Numbered (IsNewRank plan) 0 o.1.items) }
+    ensures all { IfOk result (λ o. length o.1.items ≡ plan.ranks) }
+{
     let limits = Limits {
         ranks: plan.ranks,
         comms: 2,
@@ -64,17 +85,10 @@ pub fn race<R: Threads + Wait + Sync, G: Gate + Sync>(
     let Ok(words) = BookWords::open(alloc, limits) else {
         return Err(RaceFault::Memory);
     };
-    let Ok((world, ranks)) = World::open(alloc, words) else {
-        return Err(RaceFault::Memory);
-    };
-    let said = boxcar::Vec::new(alloc)?;
-    let world = &world;
-    let said = &said;
-    thread::scope(
-        thread::scope_env(),
-        rt,
-        |scope| race_in(scope, rt, gate, alloc, world, said, plan, ranks),
-    )
+    match World::open(alloc, words) {
+        Ok(opened) => Ok(opened),
+        Err(_) => Err(RaceFault::Memory),
+    }
 }
 
 // The race, once there are a world and its ranks.
@@ -90,17 +104,37 @@ fn race_in<'s, E, R: Threads + Wait + Sync, G: Gate + Sync>(
 ) -> Result<Outcome, RaceFault>
     requires plan { IsPlan plan }
     requires limits { world.now.words.limits ≡ limits_of plan }
-    requires ranks { AreNew (limits_of plan) 0 ranks.items }
+    requires ranks { Numbered (IsNewRank plan) 0 ranks.items }
+    requires all { length ranks.items ≡ plan.ranks }
     ensures { IfOk result (λ o. IsOutcome plan o.seen.seen (map (λ v. v.items) o.replies.items) o.group.items) }
 {
-    let mut gathered = Gathered::new(alloc, plan.ranks)?;
+    let gathered = Gathered::new(alloc, plan)?;
     let mut handles = Vec::with_capacity(alloc, ranks.len())?;
     let mut outside = world.pass(alloc)?;
-    gathered.fault = start_all(scope, rt, gate, alloc, world, said, plan, ranks, &mut outside, &mut handles);
+    let fault = start_all(
+        scope,
+        rt,
+        gate,
+        alloc,
+        world,
+        said,
+        plan,
+        ranks,
+        &mut outside,
+        &mut handles,
+    );
+    declare(world, plan, &mut outside);
+    hear_all(rt, alloc, world, said, handles, outside, gathered, fault)
+}
+
+// The rank that the plan declares, if any, is declared.
+fn declare(world: &Shared, plan: Plan, outside: &mut BookPass<FlagAnd>)
+    requires of { IsOf flag_meld world.now.words outside.old }
+    ensures of { IsOf flag_meld world.now.words outside.new }
+{
     if let Some(rank) = plan.fail {
-        let _ = world.fail(&mut outside, rank);
+        let _ = world.fail(outside, rank);
     }
-    hear_all(rt, alloc, world, said, handles, outside, gathered)
 }
 
 // A worker is started for each rank, in order: the fault of one that wasn't, if any.
@@ -115,7 +149,16 @@ fn start_all<'s, E, G: Gate + Sync, R: Wait + Sync>(
     ranks: Vec<Own>,
     outside: &mut BookPass<FlagAnd>,
     handles: &mut Vec<Handle<'s>>,
-) -> Option<RaceFault> {
+) -> Option<RaceFault>
+    requires plan { IsPlan plan }
+    requires limits { world.now.words.limits ≡ limits_of plan }
+    requires of { IsOf flag_meld world.now.words outside.old }
+    requires ranks { Numbered (IsNewRank plan) 0 ranks.items }
+    requires nobody { handles.old.items ≡ [] }
+    ensures of { IsOf flag_meld world.now.words outside.new }
+    ensures started { result ≡ None → Numbered (λ r h. IsStarted world.now.words said.now plan r h.promise) 0 handles.new.items }
+    ensures all { result ≡ None → length handles.new.items ≡ length ranks.items }
+{
     let mut fault = None;
     for rank in ranks {
         match start(scope, rt, gate, alloc, world, said, plan, rank, outside) {
@@ -144,11 +187,10 @@ fn start<'s, E, G: Gate + Sync, R: Wait + Sync>(
 ) -> Result<Handle<'s>, RaceFault>
     requires plan { IsPlan plan }
     requires limits { world.now.words.limits ≡ limits_of plan }
-    requires new { rank ≡ new_record (limits_of plan) rank.number }
-    requires fits { Fits flag_meld world.now.words.limits [] rank }
+    requires new { IsNewRank plan rank.number rank }
     requires of { IsOf flag_meld world.now.words outside.old }
     ensures of { IsOf flag_meld world.now.words outside.new }
-    ensures started { IfOk result (λ h. IsStarted world.now.words said.now plan rank.number h) }
+    ensures started { IfOk result (λ h. IsStarted world.now.words said.now plan rank.number h.promise) }
 {
     let number = rank.number();
     let promised = Promised {
@@ -164,7 +206,10 @@ fn start<'s, E, G: Gate + Sync, R: Wait + Sync>(
             return Err(RaceFault::Memory);
         }
     };
-    let started = scope.spawn_with(promised, move || work(rt, gate, alloc, world, said, plan, rank, pass));
+    let started = scope.spawn_with(
+        promised,
+        move || work(rt, gate, alloc, world, said, plan, rank, pass),
+    );
     match started {
         Ok(handle) => Ok(handle),
         Err(_) => {

@@ -1,0 +1,137 @@
+-- What is gathered of all workers.
+use Rattle.std.proofs.Common.{◌≡◌, ◌⊎◌, ℕ, zero, suc, ◌+◌, ◌<◌, Bool, true, false, cond, List, [], ◌∷◌, ◌++◌, length, map, Option, Some, None, Result, Ok, Err, IfOk, inl, inr, refl, ap, sym, ◌∙◌, subst, arith, slice_get, length-append, append-nil}
+use Rattle.std.specs.List.{AllByRecursion, list_any}
+use mathlib.Core.{Bool.{◌||◌}, List.{IsPrefix}}
+use Rattle.ulfm_laws.specs.{declared.flag_and.FlagAnd.{FlagAnd}, Flags.{flag_meld}}
+use Rattle.ulfm_model.specs.declared.{limits.Limits.{Limits}, reply.Reply.{Reply}}
+use Rattle.ulfm_model.specs.{History.{Exists, History, IsLegal, first_ranks, members}, Records.{Fits, Held, Record, held_at, new_record}}
+use Rattle.ulfm_model.proofs.{Histories.{members_stay}, LeftFits.{held_fits}}
+use Rattle.ulfm_rounds.proofs.Staying.{replies_last}
+use Rattle.ulfm_race.specs.Races.{AreAnswered, IsAnswered, IsGathered, IsGroup, IsHeard, IsNewRank, Numbered, WasAnswered, flag_of, is_shrunk, limits_of}
+use Rattle.ulfm_race.specs.declared.{gather.Heard.{Heard}, plan.Plan.{Plan}, plan.RaceFault.{RaceFault}}
+use Rattle.ulfm_race.proofs.Turns.{any_push, at_push}
+
+-- one element more, with the number that comes next
+pub number_push : {X : Type 0} (Q : ℕ → X → Type 0) (n : ℕ) (xs : List X) (x : X) (m : ℕ) → m ≡ n + length xs → Numbered Q n xs → Q m x → Numbered Q n (xs ++ x ∷ [])
+number_push Q n [] x m is all last = (subst (λ k. Q k x) (omega (arith, is)) last, tt)
+number_push Q n (y ∷ xs) x m is all last = (all.0, number_push Q (n + 1) xs x m (omega (arith, is)) all.1 last)
+
+count_first : (n : ℕ) → length (first_ranks n) ≡ n
+count_first zero = refl
+count_first (suc n) = omega (arith, length-append (first_ranks n) (n ∷ []), count_first n)
+
+map_push : {X Y : Type 0} (f : X → Y) (xs : List X) (x : X) → map f (xs ++ x ∷ []) ≡ map f xs ++ f x ∷ []
+map_push f [] x = refl
+map_push f (y ∷ xs) x = ap (λ ys. f y ∷ ys) (map_push f xs x)
+
+count_map : {X Y : Type 0} (f : X → Y) (xs : List X) → length (map f xs) ≡ length xs
+count_map f [] = refl
+count_map f (x ∷ xs) = ap suc (count_map f xs)
+
+number_first : {X : Type 0} (f : ℕ → X) (n : ℕ) → Numbered (λ i x. x ≡ f i) 0 (map f (first_ranks n))
+number_first f zero = tt
+number_first f (suc n) =
+    subst (Numbered (λ i x. x ≡ f i) 0) (sym (map_push f (first_ranks n) n))
+    (number_push (λ i x. x ≡ f i) 0 (map f (first_ranks n)) (f n) n (omega (arith, count_map f (first_ranks n), count_first n)) (number_first f n) refl)
+
+both_new : (plan : Plan) (n : ℕ) (ranks : List Record) → Numbered (λ i own. own ≡ new_record (limits_of plan) i) n ranks → AllByRecursion (Fits flag_meld (limits_of plan) []) ranks → Numbered (IsNewRank plan) n ranks
+both_new plan n [] are fit = tt
+both_new plan n (own ∷ ranks) are fit = (record { record_is = are.0; fits = fit.0 }, both_new plan (n + 1) ranks are.1 fit.1)
+
+-- the ranks of a new world
+pub new_ranks : (plan : Plan) (limits : Limits) → limits ≡ limits_of plan → (ranks : List Record) → ranks ≡ map (new_record limits) (first_ranks limits.ranks) → AllByRecursion (Fits flag_meld limits []) ranks
+    → Numbered (IsNewRank plan) 0 ranks × (length ranks ≡ plan.ranks)
+new_ranks plan limits same ranks are fit =
+    let mine : ranks ≡ map (new_record (limits_of plan)) (first_ranks plan.ranks) = subst (λ l. ranks ≡ map (new_record l) (first_ranks l.ranks)) same are in (
+      both_new plan 0 ranks (subst (Numbered (λ i own. own ≡ new_record (limits_of plan) i) 0) (sym mine) (number_first (new_record (limits_of plan)) plan.ranks)) (subst (λ l. AllByRecursion (Fits flag_meld l []) ranks) same fit),
+      ap length mine ∙ (count_map (new_record (limits_of plan)) (first_ranks plan.ranks) ∙ count_first plan.ranks),
+    )
+
+module _ (plan : Plan) (h longer : History FlagAnd) (begins : IsPrefix h longer) (legal : IsLegal flag_meld (limits_of plan) longer) where
+  -- what a rank was answered stays
+  pub answered_stays : (r : ℕ) (said : List (Reply FlagAnd)) → WasAnswered plan h r said → WasAnswered plan longer r said
+  answered_stays r said was = replies_last flag_meld (limits_of plan) h longer 0 plan.rounds (flag_of r) r said (omega arith) (omega arith) begins legal was
+
+  group_stays : (made : Bool) (group : List ℕ) → IsGroup plan h made group → IsGroup plan longer made group
+  group_stays true group is = let same = members_stay plan.ranks h longer 1 begins is.0 in (same.0, is.1 ∙ sym same.1)
+  group_stays false group is = is
+
+  -- what a worker reported, heard later
+  module _ (own : Record) (fits : Fits flag_meld (limits_of plan) h own) (r : ℕ) (said replies : List (Reply FlagAnd)) (read : replies ≡ said) (is : IsAnswered plan h r own said) where
+    group_of : (made : Bool) (group : List ℕ) → made ≡ list_any is_shrunk said → (made ≡ true → (y : Held) → held_at own 1 ≡ Some y → group ≡ y.group) → (made ≡ false → group ≡ []) → IsGroup plan longer made group
+    group_of true group made_is members_are nobody =
+        let x = is.holds (sym made_is) in
+        let both = held_fits flag_meld (limits_of plan) h own 1 x.0 fits x.1 in
+        let here : Exists h 1 = subst (Exists h) both.1 both.0.exists in
+        let same = members_stay plan.ranks h longer 1 begins here in
+        (same.0, members_are refl x.0 x.1 ∙ (both.0.group ∙ (ap (λ n. members plan.ranks h n) both.1 ∙ sym same.1)))
+    group_of false group made_is members_are nobody = nobody refl
+
+    pub heard_is : (made : Bool) (group : List ℕ) → made ≡ list_any is_shrunk replies → (made ≡ true → (y : Held) → held_at own 1 ≡ Some y → group ≡ y.group) → (made ≡ false → group ≡ []) → IsHeard plan longer r replies made group
+    heard_is made group made_is members_are nobody = record {
+      answered = subst (WasAnswered plan longer r) (sym read) (answered_stays r said is.answered);
+      made_is = made_is;
+      group_is = group_of made group (made_is ∙ ap (list_any is_shrunk) read) members_are nobody;
+    }
+
+  -- what is gathered stays
+  pub gathered_stays : (n : ℕ) (replies : List (List (Reply FlagAnd))) (group : List ℕ) (fault : Option RaceFault) → IsGathered plan h n replies group fault → IsGathered plan longer n replies group fault
+  gathered_stays n replies group fault is none =
+      let was = is none in
+      record {
+        all = was.all;
+        each = λ r said at. answered_stays r said (was.each r said at);
+        group_is = group_stays (list_any (list_any is_shrunk) replies) group was.group_is;
+      }
+
+-- nothing is gathered at first
+pub gathered_none : {V : Type 0} (items : V → List (Reply FlagAnd)) (plan : Plan) (h : History FlagAnd) (old : List V) (group : List ℕ) (fault : Option RaceFault) → old ≡ [] → group ≡ [] → IsGathered plan h 0 (map items old) group fault
+gathered_none items plan h old group fault nothing nobody none =
+    subst (λ w. AreAnswered plan h 0 (map items w) group) (sym nothing) (record { all = refl; each = λ r said at. absurd (cc at); group_is = nobody })
+
+-- the same by another name of the plan
+pub gathered_by : (plan other : Plan) (h : History FlagAnd) (n : ℕ) (replies : List (List (Reply FlagAnd))) (group : List ℕ) (fault : Option RaceFault) → plan ≡ other → IsGathered plan h n replies group fault → IsGathered other h n replies group fault
+gathered_by plan other h n replies group fault same is = subst (λ p. IsGathered p h n replies group fault) same is
+
+-- one element more was pushed
+pub push_numbered : {X : Type 0} (Q : ℕ → X → Type 0) (old new : List X) (x : X) (ok : Bool) (r : ℕ) → new ≡ cond ok (old ++ x ∷ []) old → ok ≡ true → Numbered Q 0 old × (length old ≡ r) → Q r x → Numbered Q 0 new × (length new ≡ r + 1)
+push_numbered Q old new x ok r is here was last =
+    let pushed = is ∙ ap (λ w. cond w (old ++ x ∷ []) old) here in
+    let count = was.1 in
+    (subst (Numbered Q 0) (sym pushed) (number_push Q 0 old x r (omega (arith, count)) was.0 last), omega (arith, ap length pushed, length-append old (x ∷ []), count))
+
+module _ (plan : Plan) (h : History FlagAnd) (r : ℕ) (replies : List (List (Reply FlagAnd))) (group : List ℕ) (was : AreAnswered plan h r replies group) (said : List (Reply FlagAnd)) where
+  group_push : (earlier made : Bool) (more : List ℕ) → IsGroup plan h earlier group → IsGroup plan h made more → IsGroup plan h (earlier || made) (cond made more group)
+  group_push true true more old new = new
+  group_push true false more old new = old
+  group_push false true more old new = new
+  group_push false false more old new = old
+
+  -- one rank more
+  pub answered_push : (made : Bool) (more : List ℕ) → IsHeard plan h r said made more → AreAnswered plan h (r + 1) (replies ++ said ∷ []) (cond made more group)
+  answered_push made more heard =
+      let count = was.all in
+      record {
+        all = omega (arith, length-append replies (said ∷ []), count);
+        each = λ i given here. elim (at_push replies said given i here) [
+          | inl old ↦ was.each i given old
+          | inr this ↦
+              let one : r ≡ i = omega (arith, count, this.0) in
+              subst (λ n. WasAnswered plan h n given) one (subst (WasAnswered plan h r) this.1 heard.answered)
+        ];
+        group_is = subst (λ b. IsGroup plan h b (cond made more group)) (sym (any_push (list_any is_shrunk) replies said ∙ ap (λ b. list_any (list_any is_shrunk) replies || b) (sym heard.made_is)))
+            (group_push (list_any (list_any is_shrunk) replies) made more was.group_is heard.group_is);
+      }
+
+-- one rank more, pushed
+pub adds : {V : Type 0} (items : V → List (Reply FlagAnd)) (plan : Plan) (h : History FlagAnd) (r : ℕ) (old new : List V) (x : V) (group : List ℕ) (ok made : Bool) (more : List ℕ) (b : Bool)
+    → new ≡ cond ok (old ++ x ∷ []) old → ok ≡ true → made ≡ b → AreAnswered plan h r (map items old) group → IsHeard plan h r (items x) made more → AreAnswered plan h (r + 1) (map items new) (cond b more group)
+adds items plan h r old new x group ok made more b is here made_is was heard =
+    let pushed = is ∙ ap (λ w. cond w (old ++ x ∷ []) old) here in
+    subst (λ w. AreAnswered plan h (r + 1) w (cond b more group)) (sym (ap (map items) pushed ∙ map_push items old x))
+    (subst (λ w. AreAnswered plan h (r + 1) (map items old ++ items x ∷ []) (cond w more group)) made_is (answered_push plan h r (map items old) group was (items x) made more heard))
+
+-- what was heard of a rank, by another name of its plan and number
+pub heard_if : (plan other : Plan) (h : History FlagAnd) (r n : ℕ) → plan ≡ other → r ≡ n → (o : Result Heard RaceFault) → IfOk o (λ x. IsHeard plan h r x.replies.items x.made x.group.items) → IfOk o (λ x. IsHeard other h n x.replies.items x.made x.group.items)
+heard_if plan other h r n same is (Ok x) heard = subst (λ m. IsHeard other h m x.replies.items x.made x.group.items) is (subst (λ p. IsHeard p h r x.replies.items x.made x.group.items) same heard)
+heard_if plan other h r n same is (Err e) heard = tt

@@ -1,0 +1,18 @@
+use Rattle.std.proofs.Common.{◌≡◌, ℕ, ◌+◌, length, Option, None}
+use Rattle.ulfm_laws.specs.Flags.{flag_meld}
+use Rattle.ulfm_words.specs.Steps.{IsOf}
+use Rattle.ulfm_race.specs.Races.{IsNewRank, IsStarted, Numbered}
+use Rattle.ulfm_race.proofs.racing.start_all.Given as goal
+
+abbrev pub invariant-loop-rank : goal.invariant-loop-rank
+invariant-loop-rank g l =
+    let plan = l.fn.plan in
+    let name = l.fn.world.words in
+    let rest = l.rank-iterator.rest.items in
+    (l.world ≡ l.fn.world)
+    × (l.said ≡ l.fn.said)
+    × IsOf flag_meld name l.outside
+    × ((r : ℕ)
+    × (r + length rest ≡ length l.fn.ranks.items)
+    × Numbered (IsNewRank plan) r rest
+    × (l.fault ≡ None → Numbered (λ i h. IsStarted name l.fn.said plan i h.promise) 0 l.handles.items × (length l.handles.items ≡ r)))

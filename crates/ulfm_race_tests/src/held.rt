@@ -1,0 +1,28 @@
+// A race whose gate holds all ranks but one.
+use std::test::Fail;
+use ulfm_race::{Gate, Plan, RaceFault, Turn, race};
+
+/// Says false to every rank but this one.
+struct Only(u16);
+
+impl Gate for Only {
+    fn go(&self, rank: u16, _turn: Turn) -> bool {
+        rank == self.0
+    }
+
+    fn answered(&self, _rank: u16) {}
+}
+
+#[test]
+fn race_held(rt: HostRuntime) -> Result<(), Fail> {
+    let plan = Plan {
+        ranks: 4,
+        rounds: 3,
+        fail: None,
+    };
+    for rank in 0..4 {
+        let outcome = race(&rt, rt.alloc(), plan, &Only(rank));
+        assert!(rt; matches!(outcome, Err(RaceFault::Held)));
+    }
+    Ok(())
+}
