@@ -1,11 +1,9 @@
 -- What the words of a command line ask for, they ask for alone.
-use Rattle.std.proofs.Common.{◌≡◌, ◌∙◌, ℕ, List, [], ◌∷◌, ◌==◌, true, false, Option, Some, ap, sym, subst, codes, slice_index}
+use Rattle.std.proofs.Common.{◌≡◌, ◌∙◌, ℕ, List, ◌==◌, true, false, Option, Some, ap, sym, subst, codes, slice_index}
 use Rattle.std.specs.Prelude.{option_map}
 use Rattle.std.proofs.lemmas.Option.{same_Some, some_pair_parts}
-use Rattle.clap.specs.Words.{Row, Text, fault_of, subcommand_of}
-use Rattle.clap.specs.declared.error.kind.ErrorKind.{ErrorKind}
-use Rattle.clap.specs.declared.error.kind.ErrorKind.TheVariants.{DisplayHelp, DisplayVersion}
-use Rattle.ulfm_command.specs.CommandLines.{AsksRace, AsksRun, IsRaceOf, Words, ulfm}
+use Rattle.clap.specs.Words.{Row, Text}
+use Rattle.ulfm_command.specs.CommandLines.{AsksRace, AsksRun, IsRaceOf, Words}
 use Rattle.ulfm_command.specs.declared.asked.RaceOptions.{RaceOptions}
 use Rattle.ulfm_command.proofs.Numbers.{same_race}
 

@@ -1,6 +1,6 @@
 -- The options of a race as its plan.
-use Rattle.std.proofs.Common.{◌≡◌, ◌≤◌, ◌<◌, ◌&&◌, ℕ, Bool, true, false, Option, Some, None, refl, sym}
-use Rattle.std.specs.Prelude.{IfSome, nat_le, nat_lt}
+use Rattle.std.proofs.Common.{◌≡◌, ◌≤◌, ◌<◌, ◌&&◌, ℕ, Bool, true, false, Option, Some, None, refl}
+use Rattle.std.specs.Prelude.{IfSome}
 use Rattle.std.proofs.lemmas.Bool.{leb-true, ltb-true}
 use Rattle.ulfm_command.specs.CommandLines.{fail_is_in, is_in_range}
 use Rattle.ulfm_command.specs.declared.asked.RaceOptions.{RaceOptions}
