@@ -3,6 +3,7 @@ use std::test::Fail;
 use ulfm_race::{Gate, Plan, RaceFault, Turn, race};
 
 /// Says false to every rank but this one.
+#[derive(Drop)]
 struct Only(u16);
 
 impl Gate for Only {

@@ -65,6 +65,7 @@ impl Rule {
 }
 
 /// A gate with a table. It gives up after a thousand turns of a thousand looks each.
+#[derive(Drop)]
 struct Tables<'a, R: Wait> {
     rt: &'a R,
     rule: Rule,

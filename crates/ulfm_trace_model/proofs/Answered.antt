@@ -5,22 +5,12 @@ use Rattle.std.proofs.Math.Seq.{take-append_seam}
 use Rattle.std.proofs.lemmas.{Bool.{eqb-true}, List.{take-append-drop}}
 use mathlib.Core.List.{IsPrefix}
 use Rattle.ulfm_model.specs.declared.{call.Call.{Call}, event.Caller.{Caller}, limits.Limits.{Limits}, refusal.Refusal.{Refusal}, reply.Reply.{Reply}}
-use Rattle.ulfm_model.specs.Answers.{Effect, IsReply, IsSelfFailed, MayOwn, Sees, View, left_by, left_with, polled_by, printed, comm_of}
+use Rattle.ulfm_model.specs.Answers.{IsReply, IsSelfFailed, MayOwn, Sees, View, left_by, polled_by, comm_of}
 use Rattle.ulfm_model.specs.{History.{History, entries_by, failures}, Records.{Record, is_shrink}, Runs.{IsRun, IsSpan, StandsIn}}
-use Rattle.ulfm_model.proofs.{Histories.{failures_begin}, Lists.{each_always, find_holds}}
+use Rattle.ulfm_model.proofs.{Histories.{failures_begin}, LeftRuns.{left_keeps}, Lists.{each_always, find_holds}}
 use Rattle.ulfm_trace_model.specs.declared.line.Line.{Line}
 use Rattle.ulfm_trace_model.specs.{Laws.{IsAnswer, IsRanksAnswer}, Traces.{AnswersCall, AnswersRank, IsLegalTrace, MayReply, Traced, Told, Under, call_by, caller_of, found_by, nothing, record_of, said_by, same_caller, taken_in, view_at}}
 use Rattle.ulfm_trace_model.proofs.{Callers.{same_is}, Kept.{IsKept, Spans, found_sees, kept_along, kept_nothing}, Parts.{legal_parts}}
-
--- a reply leaves what the record has seen
-left_seen : {P : Type 0} (ranks : ℕ) (h : History P) (now : Record) (asked : Call P) (reply : Reply P) → (left_by ranks h now asked reply).seen ≡ now.seen
-left_seen ranks h now asked (Reply.Refused refusal) = by_effect (printed refusal).2
-  where
-    by_effect : (effect : Effect) → (left_with now (comm_of asked) effect).seen ≡ now.seen
-    by_effect Effect.Keeps = refl
-    by_effect Effect.Ends = refl
-    by_effect Effect.ForGood = refl
-left_seen ranks h now asked reply = refl
 
 -- of a list, the first few are a beginning of the first few more
 take_prefix : {X : Type 0} (m n : ℕ) (xs : List X) → m ≤ n → IsPrefix (take m xs) (take n xs)
@@ -93,7 +83,7 @@ module _ {P : Type 0} (meld : P → P → P) (now : Traced P) (kept : IsKept mel
         seen = if is_some u.look then found_by now u else own.seen
 
         seen_left : left.seen ≡ seen
-        seen_left = left_seen now.limits.ranks (take point now.history) (record own { seen = seen }) u.asked reply
+        seen_left = (left_keeps now.limits.ranks (take point now.history) (record own { seen = seen }) u.asked reply).1
 
         left_is : left.seen ≡ failures first
         left_is = seen_left ∙ (ap (λ (b : Bool). if b then found_by now u else own.seen) looked ∙ found)

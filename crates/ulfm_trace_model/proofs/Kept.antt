@@ -6,7 +6,7 @@ use Rattle.std.proofs.lemmas.Bool.{eqb-false, eqb-true, ne_eqb}
 use Rattle.std.specs.List.{AllByRecursion}
 use Rattle.ulfm_model.specs.declared.{call.Call.{Call}, event.Caller.{Caller}, event.Entry.{Entry}, event.Event.{Event}, limits.Limits.{Limits}, reply.Reply.{Reply}}
 use Rattle.ulfm_model.specs.{Answers.{MayOwn}, History.{History, IsLegal, entries_by, failures}, Records.{Record}, Runs.{StandsIn}}
-use Rattle.ulfm_model.proofs.{Histories.{failures_begin, legal_push}, LeftRuns.{left_number}, Lists.{each_push}}
+use Rattle.ulfm_model.proofs.{Histories.{failures_begin, legal_push}, LeftRuns.{left_keeps}, Lists.{each_push}}
 use Rattle.ulfm_trace_model.specs.declared.line.Line.{Line}
 use Rattle.ulfm_trace_model.specs.Traces.{AreLegalAfter, MayAddBy, MayCome, Told, Traced, Under, after, after_reply, call_by, caller_of, found_by, is_owned, nothing, record_of, records_after, said_by, same_caller, taken_in, with_event}
 use Rattle.ulfm_trace_model.proofs.Callers.{each_change, same_is}
@@ -220,7 +220,7 @@ module _ {P : Type 0} (meld : P → P → P) where
     where
       same : (n : ℕ) → caller_of u ≡ Caller.Rank n → find (λ x. x.number == n) (records_after now (Caller.Rank r) v point reply) ≡ find (λ x. x.number == n) now.records
       same n is =
-          find_other_record r n (taken_in now v point reply) (λ own. left_number now.limits.ranks (take point now.history) (record own { seen = if is_some v.look then found_by now v else own.seen }) v.asked reply)
+          find_other_record r n (taken_in now v point reply) (λ own. (left_keeps now.limits.ranks (take point now.history) (record own { seen = if is_some v.look then found_by now v else own.seen }) v.asked reply).0)
           (sym (ap (λ c. same_caller c (Caller.Rank r)) is) ∙ differ) now.records
 
   kept_reply : (now : Traced P) (by : Caller) (point : ℕ) (reply : Reply P) (answered : Option (Under P)) → IsKept meld now → IsKept meld (after_reply now by point reply answered)
