@@ -26,17 +26,17 @@ fn without_two(round: u32) -> u32 {
 fn agreed(reply: Reply<FlagAnd>, round: u32) -> Option<bool> {
     let some = without_two(round);
     let all = some & bits(2, round);
-    match reply {
-        Reply::Agreed {
-            value,
-            failed: 0,
-            raised: false,
-        } if value.bits == all => Some(false),
-        Reply::Agreed {
-            value,
-            failed: 1,
-            raised: true,
-        } if value.bits == all || value.bits == some => Some(true),
+    let Reply::Agreed {
+        value,
+        failed,
+        raised,
+    } = reply
+    else {
+        return None;
+    };
+    match (failed, raised) {
+        (0, false) if value.bits == all => Some(false),
+        (1, true) if value.bits == all || value.bits == some => Some(true),
         _ => None,
     }
 }
