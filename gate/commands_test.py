@@ -111,7 +111,8 @@ def of_man(page, commands):
 
 
 def calls_of(text):
-    """The verbs that a page of plain lines lists, each with the words of its replies."""
+    """The verbs of call scripts that a page of plain lines lists, each with the words of its replies."""
+    text = re.split("With --steps|STEP SCRIPTS", text)[0]
     lines = re.findall(r"^ *((?:fail|get|ack|agree|shrink|barrier|poll|revoke|isrevoked|free|[a-z]+)(?: [RCNF]){1,3})  +(.*(?:\n {14,}\S.*)*)$", text, re.M)
     return {call: replies_of(replies) for call, replies in lines}
 
@@ -132,6 +133,20 @@ def calls_of_formats(text):
     return calls
 
 
+def step_words_of(text):
+    """The lines of step scripts and the names of steps that a page of plain lines has."""
+    text = (re.split("With --steps|STEP SCRIPTS", text) + [""])[1]
+    lines = re.findall(r"^ *((?:call X|(?:step|before|finish|fail)(?: [RNK])+))(?:  |$)", text, re.M)
+    names = re.search(r"K is one of ([a-z, ]+)\.", " ".join(text.split()))
+    return set(lines) | set(names.group(1).split(", ") if names else ())
+
+
+def step_words_of_formats(text):
+    """The same of the tables in FORMATS."""
+    part = text.split("## Step scripts, version 1")[1].split("\n## ")[0]
+    return set(re.findall(r"^\| `([^`]*)` \|", part, re.M))
+
+
 def statuses_of(text):
     """The statuses that a page of plain lines lists, each with what standard error says."""
     return set(re.findall(r"^ *([0-3])  (ulfm: [a-z]+(?: [a-zN]+)*(?:: KIND)?)(?:  |$)", text, re.M))
@@ -148,7 +163,7 @@ def kinds_of_formats(text):
 
 
 def kinds_of(text):
-    found = re.search(r"\bcut, long(?:, [a-z]+)+", " ".join(text.split()))
+    found = re.search(r"\bcut, long(?:, [a-z]+)+", " ".join(text.split()).replace(", and with --steps also", ","))
     return found.group(0).split(", ") if found else []
 
 
@@ -210,6 +225,7 @@ def main():
     for where, text in pages.items():
         differs("calls and replies", where, calls_of(text), calls_of_formats(formats))
         differs("line faults", where, kinds_of(text), kinds_of_formats(formats))
+        differs("step scripts", where, step_words_of(text), step_words_of_formats(formats))
     for where, text in ({"ulfm --help": top, "ulfm.1": man}).items():
         differs("statuses", where, statuses_of(text), statuses_of_formats(formats))
     together = statuses_of(helps["run"]) | statuses_of(helps["race"])

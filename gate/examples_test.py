@@ -13,7 +13,7 @@ import re
 import sys
 
 HERE = os.path.dirname(os.path.dirname(os.path.abspath(__file__)))
-CRATES = ("ulfm_comm", "ulfm_member", "ulfm_book")
+CRATES = ("ulfm_comm", "ulfm_member", "ulfm_book", "ulfm_wait", "ulfm_race")
 WITHOUT = ("rank_step",)
 PUBLIC = re.compile(r"^( *)pub fn (\w+)")
 TEST = re.compile(r"^fn (\w+)\(rt: HostRuntime\).*?\{\n(.*?)^\}$", re.M | re.S)

@@ -23,23 +23,34 @@ import tempfile
 sys.dont_write_bytecode = True
 
 
+# What the gate stands on, in the two forms that the toolchain has had: in one its tasks are listed edit by edit (rattle-kit-13f), in the other
+# one call tries a crate's edits and says of each whether it was refused (rattle-kit-13b).
+BY_TASKS = ("add_edits", "ci", "edits_alone", "Kept", "must_fail", "need", "SETTLED", "REFUSED", "AT_LIMIT", "UNSURE", "BAD")
+BY_CRATES = ("must_fail_all", "ci", "edits_alone", "must_fail", "checked", "edited", "read_edit", "unread")
+
+
 def toolchain():
-    """The toolchain's command `rt` as a module. One that has not what this gate stands on is run as it is: it tries each edit alone."""
+    """The toolchain's command `rt` as a module. One that has neither form of what this gate stands on is run as it is: it tries each edit alone."""
     found = shutil.which("rt")
     if not found:
         sys.exit("gate: the toolchain's command rt isn't on the PATH")
     loader = importlib.machinery.SourceFileLoader("rt", os.path.realpath(found))
     module = importlib.util.module_from_spec(importlib.util.spec_from_loader("rt", loader))
     loader.exec_module(module)
-    if not all(hasattr(module, it) for it in ("add_edits", "ci", "edits_alone", "Kept", "must_fail", "need", "SETTLED")):
+    if not any(all(hasattr(module, it) for it in form) for form in (BY_TASKS, BY_CRATES)):
         print("gate: this toolchain isn't one that the gate knows, so its own gate is run", file=sys.stderr, flush=True)
         os.execv(found, ["rt", *(["must-fail", *sys.argv[1:]] if sys.argv[1:] else ["ci"])])
     return module
 
 
 rt = toolchain()
+is_by_tasks = hasattr(rt, "add_edits")
+REFUSED, UNSURE, SETTLED, BAD = (rt.REFUSED, rt.UNSURE, rt.SETTLED, rt.BAD) if is_by_tasks else (True, False, (True,), False)
 # Crates of tests that this gate only runs, by the toolchain's checked build: no contract rests on their proofs, which `rt ci` makes.
-ONLY_RUN = ("ulfm_steps_tests", "ulfm_comm_tests", "ulfm_object_tests", "ulfm_run_tests", "ulfm_examples_tests")
+ONLY_RUN = (
+    *("ulfm_steps_tests", "ulfm_comm_tests", "ulfm_object_tests", "ulfm_run_tests", "ulfm_examples_tests"),
+    *("ulfm_seats_tests", "ulfm_trace_tests"),
+)
 FUNCTION = re.compile(r"^[ \t]*(?:pub(?:\([^)]*\))?[ \t]+)?(?:const[ \t]+|unsafe[ \t]+)*fn[ \t]+(\w+)", re.M)
 BODY = re.compile(r"^[ \t]*(?:\{|(?:pub|fn|const|unsafe|\)).*\{)$", re.M)
 USES = re.compile(r"(?:use [^;]*;\s*)+")
@@ -205,7 +216,8 @@ def add_edits(tasks, crate, files, first, waits, is_well, kept, start=None, in_c
 
 
 def must_fail_all(crate, files, flags):
-    """Tries a crate's edits: for each what it came to, and what to say. A bad edit fails this gate, as one that isn't tried does."""
+    """Tries a crate's edits, in place of the toolchain's function of this name: for each what it came to, and what to say. A bad edit fails this
+    gate, as one that isn't tried does."""
     edits = [Edit(crate, it) for it in files if not rt.read_edit(it, crate.folder)[1]]
     idle = {it.file for it in edits if not it.changes_code}
     kept = folder_of(crate)
@@ -216,14 +228,14 @@ def must_fail_all(crate, files, flags):
     for file in files:
         label = f"must-fail {crate.name}/{os.path.basename(file)}"
         if file in by_file:
-            given.append((rt.REFUSED, f"{label}: refused, as it must be: {by_file[file][:200]}"))
+            given.append((REFUSED, f"{label}: refused, as it must be: {by_file[file][:200]}"))
         elif file in idle:
-            given.append((rt.UNSURE, f"{label}: BAD EDIT: it changes no code, so it tries no contract"))
+            given.append((UNSURE, f"{label}: BAD EDIT: it changes no code, so it tries no contract"))
         else:
             alone += 1
-            over = rt.must_fail(crate, file, flags, kept) if is_sound else (rt.UNSURE, "")
-            kind, text = over if over[0] in rt.SETTLED else rt.must_fail(crate, file, flags)
-            given.append((rt.UNSURE if kind == rt.BAD else kind, text))
+            over = rt.must_fail(crate, file, flags, kept) if is_sound else (UNSURE, "")
+            kind, text = over if over[0] in SETTLED else rt.must_fail(crate, file, flags)
+            given.append((UNSURE if kind == BAD else kind, text))
     tried[crate.name] = len(files), runs, alone
     return given
 
@@ -261,7 +273,11 @@ def say(text, out=None, say=rt.say):
 
 def main(names):
     global proves_here
-    rt.add_edits, rt.say = add_edits, say
+    rt.say = say
+    if is_by_tasks:
+        rt.add_edits = add_edits
+    else:
+        rt.must_fail_all = must_fail_all
     proves_here = not names
     if names:
         for name in names:
@@ -272,7 +288,7 @@ def main(names):
         # (the folder was empty when the proof began, so nothing older than this run is trusted)
         pattern = rt.rtlib.VERDICT.pattern.replace(r"statements=trusted\n", r"statements=trusted( incremental=trusted)?\n")
         rt.rtlib.VERDICT = re.compile(pattern, re.M)
-        status = rt.ci(anew=False)
+        status = rt.ci(anew=False) if is_by_tasks else rt.ci()
     sys.stdout.flush()
     for name, counts in [*sorted(tried.items()), ("all", [sum(it) for it in zip((0, 0, 0), *tried.values())])]:
         print("gate: {}: {} edits, {} groups, {} edits alone".format(name, *counts), file=sys.stderr)

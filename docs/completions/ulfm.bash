@@ -4,17 +4,18 @@ _ulfm() {
     local word=${COMP_WORDS[COMP_CWORD]} before=${COMP_WORDS[COMP_CWORD - 1]} command=none words i
     for ((i = 1; i < COMP_CWORD; i++)); do
         case ${COMP_WORDS[i]} in
-            run | race | help)
+            run | check | race | help)
                 command=${COMP_WORDS[i]}
                 break
                 ;;
         esac
     done
     case $command in
-        none) words='run race help -h --help -V --version' ;;
-        run) words='-h --help' ;;
+        none) words='run check race help -h --help -V --version' ;;
+        run) words='--steps -h --help' ;;
+        check) words='-h --help' ;;
         race) words='--ranks --rounds --fail -h --help' ;;
-        help) words='run race help' ;;
+        help) words='run check race help' ;;
     esac
     case $before in
         --ranks | --rounds | --fail) words= ;;

@@ -1,4 +1,4 @@
-//! Runs call scripts of the agreement object on standard input and output, and races of threads.
+//! Runs scripts of the agreement object on standard input and output, judges traces, and races threads.
 #![tactic(auto)]
 
 mod program;

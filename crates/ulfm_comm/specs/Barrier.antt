@@ -48,7 +48,7 @@ pub record IsChecking {P : Type 0} (meld : P → P → P) (limits : Limits) (alo
   pub legal : IsLegal meld limits earlier
   pub waited : Did alone [] earlier now
 
--- where somebody was missing, that is when the poll is answered so
+-- where nobody was missing, the poll is answered so; where somebody was, that is when it is answered; unless it finds a revocation
 abbrev pub AnswersEarly : {P : Type 0} → (P → P → P) → Limits → Bool → Call P → Missing → History P → Record → History P → Reply P → Record → Type 0
 AnswersEarly meld limits alone asked missing earlier old before reply new =
-    (missing ≡ Nobody) ⊎ ((reply ≡ Refused IsRevoked) ⊎ IsEndRun meld limits alone before earlier old asked reply new)
+    ((missing ≡ Nobody) × (reply ≡ Done)) ⊎ ((reply ≡ Refused IsRevoked) ⊎ IsEndRun meld limits alone before earlier old asked reply new)

@@ -41,6 +41,11 @@ is_looking Begun = true
 is_looking Looking = true
 is_looking _ = false
 
+-- whether a barrier's poll makes its last load next
+abbrev pub is_checking : {P : Type 0} → Phase P → Bool
+is_checking (Checking missing) = true
+is_checking _ = false
+
 -- how far a call is from its reply, by what it does next
 abbrev pub left : {P : Type 0} → Phase P → ℕ
 left Over = 0
@@ -70,6 +75,32 @@ IsFurther phase next = NextBelow (left phase) next
 abbrev pub IsPast : {P : Type 0} → Next P → Type 0
 IsPast (Goes next) = is_looking next ≡ false
 IsPast (Ends reply) = ⊤
+
+-- whether a call reads on for a decided shrink, or looks for its communicator
+abbrev pub is_making : {P : Type 0} → Phase P → Bool
+is_making (ReadingOn on made) = true
+is_making (Spawning append context reach) = true
+is_making _ = false
+
+-- it does, or is answered
+abbrev pub IsMaking : {P : Type 0} → Next P → Type 0
+IsMaking (Goes next) = is_making next ≡ true
+IsMaking (Ends reply) = ⊤
+
+-- it goes on, behind its look
+abbrev pub GoesOn : {P : Type 0} → Next P → Type 0
+GoesOn (Goes next) = is_looking next ≡ false
+GoesOn (Ends reply) = ⊥
+
+-- What a phase leads to: that in which a barrier's arrivals are read to no reply; those that come by a decided shrink's communicator to
+-- no other; and none behind the look back to it.
+abbrev pub LeadsTo : {P : Type 0} → Phase P → Next P → Type 0
+LeadsTo Begun next = ⊤
+LeadsTo Looking next = ⊤
+LeadsTo (ReadingOn on made) next = IsMaking next
+LeadsTo (Spawning append context reach) next = IsMaking next
+LeadsTo (Waiting arrivals) next = GoesOn next
+LeadsTo _ next = IsPast next
 
 -- the reply, if the call ends
 abbrev pub reply_in : {P : Type 0} → Next P → Option (Reply P)

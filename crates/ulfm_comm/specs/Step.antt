@@ -7,7 +7,7 @@ use Rattle.ulfm_model.specs.{Answers.{CallAdds, traits_of}, History.{History, en
 use Rattle.ulfm_words.specs.Steps.{IsOf, Name, Sight}
 use Rattle.ulfm_steps.specs.declared.{arrivals.Arrivals.{Arrivals}, arrivals.Missing.{Missing}}
 use Rattle.ulfm_comm.specs.{Look.{JustLooked}, StepsLeft.{FewerLeft, MakesStep, steps_left}, Barrier.{IsChecking, AnswersEarly}}
-use Rattle.ulfm_comm.specs.Phase.{UnderWay, next_step, is_looking, IsFurther, IsPast, NextIs, reply_in, Stands, Turns}
+use Rattle.ulfm_comm.specs.Phase.{UnderWay, next_step, IsFurther, LeadsTo, NextIs, reply_in, Stands, Turns}
 use Rattle.ulfm_comm.specs.declared.{phases.phase.Next.{Next}, phases.phase.Next.TheVariants.{Goes, Ends}, phases.phase.Phase.{Phase}}
 use Rattle.ulfm_comm.specs.declared.phases.phase.Phase.TheVariants.{Over, Begun, Looking, Settling, Arriving, Revoking, Marking, ReadingOn}
 use Rattle.ulfm_comm.specs.declared.phases.phase.Phase.TheVariants.{Spawning, Waiting, Checking}
@@ -61,7 +61,7 @@ StepSees _ old new = new ≡ old
 
 -- One step of a call that stood so: the one that was named. Of a rank that was refused for good before there is none, and it is
 -- refused again. Any other has added one event at most, and has seen more only by a load of the list of failures. If the call goes
--- on, fewer steps are left, and it doesn't come back to its look. The poll of a barrier that found somebody missing is answered, after
+-- on, fewer steps are left, and it does what its phase leads to. The poll of a barrier that found somebody missing is answered, after
 -- its last load, as it was when that was found.
 pub record Stepped {P : Type 0} (meld : P → P → P) (quiet : Bool) (name : Name) (was : UnderWay P) (own : Record) (now : Sight P)
     (next : Next P) (new : Record) (after : Sight P) : Type 0 where
@@ -72,7 +72,7 @@ pub record Stepped {P : Type 0} (meld : P → P → P) (quiet : Bool) (name : Na
   pub over : was.phase ≡ Over → (next ≡ Ends (Refused SelfFailed)) × (new ≡ own)
   pub adds : StepAdds quiet own was.asked was.phase (reply_in next) now.seen after.seen
   pub sees : StepSees was.phase own.seen new.seen
-  pub past : is_looking was.phase ≡ false → IsPast next
+  pub leads : LeadsTo was.phase next
   pub checks : (arrivals : Arrivals) → was.phase ≡ Waiting arrivals → (missing : Missing) → next ≡ Goes (Checking missing)
       → (alone : Bool) → (IsTrue alone → IsTrue quiet) → (old : Record) → (before : Sight P) → Stands meld alone name old before was own now
       → IsChecking meld name.limits alone (comm_of was.asked) missing after.seen old before.seen new after.seen
@@ -83,7 +83,7 @@ pub record Stepped {P : Type 0} (meld : P → P → P) (quiet : Bool) (name : Na
       → AnswersEarly meld name.limits alone was.asked missing earlier old before.seen reply new
 
 -- A call takes its turn in a phase, by one step or by all of them: it walks on, by the step that is named, comes nearer to its reply, adds
--- and sees what the phase may, doesn't come back to its look, and stands where it goes on, or is answered.
+-- and sees what the phase may, does what the phase leads to, and stands where it goes on, or is answered.
 pub record TakesTurn {P : Type 0} (meld : P → P → P) (quiet whole : Bool) (name : Name) (asked : Call P) (phase : Phase P) (group : List ℕ) (own : Record)
     (now : Sight P) (next : Next P) (left : List ℕ) (new : Record) (after : Sight P) : Type 0 where
   pub walks : Walks meld quiet name own.number now after
@@ -92,5 +92,5 @@ pub record TakesTurn {P : Type 0} (meld : P → P → P) (quiet whole : Bool) (n
   pub further : whole ≡ true → IsFurther phase next
   pub adds : whole ≡ false → StepAdds quiet own asked phase (reply_in next) now.seen after.seen
   pub sees : StepSees phase own.seen new.seen
-  pub past : is_looking phase ≡ false → IsPast next
+  pub leads : LeadsTo phase next
   pub turns : Turns meld quiet name asked phase group own now next left new after

@@ -3,7 +3,7 @@ use Rattle.std.proofs.Common.{◌≡◌, refl, codes, true, List, [], ◌∷◌,
 use Rattle.clap.specs.Words.{fault_of, is_simple_and_free, is_simple}
 use Rattle.clap.specs.declared.error.kind.ErrorKind.TheVariants.{MissingRequiredArgument, MissingSubcommand, UnknownArgument, InvalidSubcommand, ValueValidation}
 use Rattle.clap.proofs.OnLiterals.{clap_on_literals}
-use Rattle.ulfm_command.specs.CommandLines.{AsksHelp, AsksRun, AsksVersion, ulfm}
+use Rattle.ulfm_command.specs.CommandLines.{AsksCheck, AsksHelp, AsksRun, AsksSteps, AsksVersion, ulfm}
 
 -- the command is one whose faults and matches the command line crate tells
 pub is_told : is_simple_and_free ulfm ≡ true
@@ -17,7 +17,17 @@ is_matched = refl
 -- `ulfm run`
 run_is_run : (name : List ℕ) → AsksRun (name ∷ codes "run" ∷ [])
 unfolding clap_on_literals
-run_is_run name = (refl, refl)
+run_is_run name = (refl, record { rows = _; is_run = refl; steps_is = refl })
+
+-- `ulfm run --steps`
+steps_are_steps : (name : List ℕ) → AsksSteps (name ∷ codes "run" ∷ codes "--steps" ∷ [])
+unfolding clap_on_literals
+steps_are_steps name = (refl, record { rows = _; is_run = refl; steps_is = refl })
+
+-- `ulfm check`
+check_is_check : (name : List ℕ) → AsksCheck (name ∷ codes "check" ∷ [])
+unfolding clap_on_literals
+check_is_check name = (refl, refl)
 
 -- `ulfm --help`, `ulfm -h`, `ulfm run --help`, `ulfm race --help`
 help_is_help : (name : List ℕ) → AsksHelp (name ∷ codes "--help" ∷ []) × AsksHelp (name ∷ codes "-h" ∷ []) × AsksHelp (name ∷ codes "run" ∷ codes "--help" ∷ [])
@@ -35,8 +45,8 @@ nothing_is_asked : (name : List ℕ) → (fault_of ulfm [] ≡ MissingSubcommand
 unfolding clap_on_literals
 nothing_is_asked name = (refl, refl)
 
-others_are_unknown : (name : List ℕ) → (fault_of ulfm (name ∷ codes "check" ∷ []) ≡ UnknownArgument ∷ InvalidSubcommand ∷ [])
-    × (fault_of ulfm (name ∷ codes "run" ∷ codes "script" ∷ []) ≡ UnknownArgument ∷ []) × (fault_of ulfm (name ∷ codes "run" ∷ codes "--steps" ∷ []) ≡ UnknownArgument ∷ [])
+others_are_unknown : (name : List ℕ) → (fault_of ulfm (name ∷ codes "judge" ∷ []) ≡ UnknownArgument ∷ InvalidSubcommand ∷ [])
+    × (fault_of ulfm (name ∷ codes "run" ∷ codes "script" ∷ []) ≡ UnknownArgument ∷ []) × (fault_of ulfm (name ∷ codes "run" ∷ codes "--step" ∷ []) ≡ UnknownArgument ∷ [])
 unfolding clap_on_literals
 others_are_unknown name = (refl, refl, refl)
 

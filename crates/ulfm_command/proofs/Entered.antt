@@ -4,8 +4,8 @@ use Rattle.clap.specs.Words.{fault_of, subcommand_of}
 use Rattle.clap.specs.declared.error.kind.ErrorKind.{ErrorKind}
 use Rattle.clap.specs.declared.error.kind.ErrorKind.TheVariants.{DisplayHelp, DisplayVersion}
 use Rattle.ulfm_command.specs.declared.asked.Asked.{Asked}
-use Rattle.ulfm_command.specs.declared.asked.Asked.TheVariants.{Run, Race, Shown, Bad, Memory}
-use Rattle.ulfm_command.specs.CommandLines.{IsAskedBy, IsEntered, Named, NamesRace, NamesRun, Words, ulfm}
+use Rattle.ulfm_command.specs.declared.asked.Asked.TheVariants.{Run, RunSteps, Check, Race, Shown, Bad, Memory}
+use Rattle.ulfm_command.specs.CommandLines.{IsAskedBy, IsEntered, Named, NamesCheck, NamesRace, NamesRun, NamesSteps, Words, ulfm}
 
 no_kind : (k : ErrorKind) (kinds : List ErrorKind) → kinds ≡ [] → kinds ≡ k ∷ [] → ⊥
 no_kind k kinds none one =
@@ -15,11 +15,15 @@ no_kind k kinds none one =
 -- where no fault is found in the words, they ask for what the command asks for that they name
 pub entered_is : (words : Words) (named : Named) (asked : Asked) → fault_of ulfm words ≡ [] → named ≡ subcommand_of ulfm words → IsEntered named asked → IsAskedBy words asked
 entered_is words named Run free is entered = (free, subst NamesRun is entered)
+entered_is words named RunSteps free is entered = (free, subst NamesSteps is entered)
+entered_is words named Check free is entered = (free, subst NamesCheck is entered)
 entered_is words named (Race options) free is entered = (free, subst (λ (n : Named). NamesRace n options) is entered)
 entered_is words named (Bad reason) free is entered =
     record {
       no_run = λ asks. entered.0 (subst NamesRun (sym is) asks.1);
-      no_race = λ options asks. entered.1 options (subst (λ (n : Named). NamesRace n options) (sym is) asks.1);
+      no_steps = λ asks. entered.1 (subst NamesSteps (sym is) asks.1);
+      no_check = λ asks. entered.2 (subst NamesCheck (sym is) asks.1);
+      no_race = λ options asks. entered.3 options (subst (λ (n : Named). NamesRace n options) (sym is) asks.1);
       no_help = no_kind DisplayHelp (fault_of ulfm words) free;
       no_version = no_kind DisplayVersion (fault_of ulfm words) free;
     }

@@ -1,3 +1,4 @@
 pub mod Asking
 pub mod Entered
+pub mod Flags
 pub mod Numbers

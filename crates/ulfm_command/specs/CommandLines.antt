@@ -1,15 +1,17 @@
 -- The command lines of the program, and what each of them asks for.
 use Rattle.std.specs.Prelude.{◌≡◌, ◌⊎◌, ◌<◌, ◌^◌, ◌&&◌, ℕ, Bool, List, [], ◌∷◌, ⊤}
 use Rattle.std.specs.Prelude.{codes, true, false, pos, nat_le, nat_lt, Option, Some, None, option_map, Result, Ok, Err}
+use Rattle.std.specs.{Option.{option_map_or}, Str.{bytes_eq}}
 use Rattle.std.specs.Str.Parse.{IsNumeral, digits_value, without_leading_plus}
 use Rattle.clap.specs.Words.{App, IsAmong, Row, Rule, Text, app_of, fault_of, new_app, new_rule, one_of, subcommand_of, with_rule, with_subcommand}
+use Rattle.clap.specs.declared.builder.action.ArgAction.TheVariants.{SetTrue}
 use Rattle.clap.specs.declared.builder.command.Command.{Command}
 use Rattle.clap.specs.declared.builder.command.Command.TheViews.{out-Command}
 use Rattle.clap.specs.declared.builder.value_parser.ValueParser.{ValueParser}
 use Rattle.clap.specs.declared.builder.value_parser.ValueParser.TheVariants as vp
 use Rattle.clap.specs.declared.error.kind.ErrorKind.TheVariants.{DisplayHelp, DisplayVersion}
 use Rattle.ulfm_command.specs.declared.asked.Asked.{Asked}
-use Rattle.ulfm_command.specs.declared.asked.Asked.TheVariants.{Run, Race, Shown, Bad, Memory}
+use Rattle.ulfm_command.specs.declared.asked.Asked.TheVariants.{Run, RunSteps, Check, Race, Shown, Bad, Memory}
 use Rattle.ulfm_command.specs.declared.asked.RaceOptions.{RaceOptions}
 
 -- the words of a command line, the program's own name first
@@ -32,20 +34,32 @@ rounds_rule = record (number_rule (codes "rounds") (vp.Signed (pos 1) (pos 1000)
 abbrev pub fail_rule : Rule
 fail_rule = number_rule (codes "fail") (vp.Signed (pos 0) (pos 63))
 
+-- the option that says that a script is one of single steps
+abbrev pub steps_rule : Rule
+steps_rule = record (new_rule (codes "steps")) { long = Some (codes "steps"); action = Some SetTrue }
+
 -- the command that runs a script
 abbrev pub run : App
-run = new_app (codes "run")
+run = with_rule (new_app (codes "run")) steps_rule
+
+-- the command that judges a trace
+abbrev pub check : App
+check = new_app (codes "check")
 
 -- the command that runs a race
 abbrev pub race : App
 race = with_rule (with_rule (with_rule (new_app (codes "race")) ranks_rule) rounds_rule) fail_rule
 
--- the program as a command that has a version and two subcommands, of which one must be given
-abbrev pub ulfm : App
-ulfm =
+-- the program as a command that has a version and subcommands, of which one must be given: those that read their input
+abbrev pub readers : App
+readers =
     let named = new_app (codes "ulfm") in
     let top = record named { top = record named.top { has_version = true; subcommand_required = true } } in
-    with_subcommand (with_subcommand top run.top) race.top
+    with_subcommand (with_subcommand top run.top) check.top
+
+-- the program as a command, with all its subcommands
+abbrev pub ulfm : App
+ulfm = with_subcommand readers race.top
 
 -- the command is this one, and has no global option
 abbrev pub IsCommand : App → Command → Type 0
@@ -93,9 +107,27 @@ IsRaceRead rows (Some options) = IsRaceOf rows options
 abbrev pub Named : Type 0
 Named = Option (Text × List Row)
 
--- a run of a script was named
+-- whether an option that takes no value was given
+abbrev pub has_flag : Text → List Row → Bool
+has_flag name rows = option_map_or (λ text. bytes_eq text (codes "true")) (one_of name rows) false
+
+-- a run of a script was named, of single steps or of calls
+pub record NamesRunOf (named : Named) (steps : Bool) : Type 0 where
+  pub rows : List Row
+  pub is_run : named ≡ Some (codes "run", rows)
+  pub steps_is : has_flag (codes "steps") rows ≡ steps
+
+-- a run of a call script was named
 abbrev pub NamesRun : Named → Type 0
-NamesRun named = option_map (λ p. p.0) named ≡ Some (codes "run")
+NamesRun named = NamesRunOf named false
+
+-- a run of a step script was named
+abbrev pub NamesSteps : Named → Type 0
+NamesSteps named = NamesRunOf named true
+
+-- the judgement of a trace was named
+abbrev pub NamesCheck : Named → Type 0
+NamesCheck named = option_map (λ p. p.0) named ≡ Some (codes "check")
 
 -- a race with these options was named
 abbrev pub NamesRace : Named → RaceOptions → Type 0
@@ -104,14 +136,25 @@ NamesRace named options = (rows : List Row) × (named ≡ Some (codes "race", ro
 -- the command that was named asks for this
 abbrev pub IsEntered : Named → Asked → Type 0
 IsEntered named Run = NamesRun named
+IsEntered named RunSteps = NamesSteps named
+IsEntered named Check = NamesCheck named
 IsEntered named (Race options) = NamesRace named options
-IsEntered named (Bad reason) = (NamesRun named → ⊥) × ((options : RaceOptions) → NamesRace named options → ⊥)
+IsEntered named (Bad reason) =
+    (NamesRun named → ⊥) × (NamesSteps named → ⊥) × (NamesCheck named → ⊥) × ((options : RaceOptions) → NamesRace named options → ⊥)
 IsEntered named (Shown text) = ⊥
 IsEntered named Memory = ⊥
 
--- the command line crate finds no fault in the words, and they name a run of a script
+-- the command line crate finds no fault in the words, and they name a run of a call script
 abbrev pub AsksRun : Words → Type 0
 AsksRun words = (fault_of ulfm words ≡ []) × NamesRun (subcommand_of ulfm words)
+
+-- it finds no fault in them, and they name a run of a step script
+abbrev pub AsksSteps : Words → Type 0
+AsksSteps words = (fault_of ulfm words ≡ []) × NamesSteps (subcommand_of ulfm words)
+
+-- it finds no fault in them, and they name the judgement of a trace
+abbrev pub AsksCheck : Words → Type 0
+AsksCheck words = (fault_of ulfm words ≡ []) × NamesCheck (subcommand_of ulfm words)
 
 -- it finds no fault in them, and they name a race with these options
 abbrev pub AsksRace : Words → RaceOptions → Type 0
@@ -128,6 +171,8 @@ AsksVersion words = fault_of ulfm words ≡ DisplayVersion ∷ []
 -- there is nothing that the words ask for
 pub record IsBad (words : Words) : Type 0 where
   pub no_run : AsksRun words → ⊥
+  pub no_steps : AsksSteps words → ⊥
+  pub no_check : AsksCheck words → ⊥
   pub no_race : (options : RaceOptions) → AsksRace words options → ⊥
   pub no_help : IsAmong DisplayHelp (fault_of ulfm words) → ⊥
   pub no_version : IsAmong DisplayVersion (fault_of ulfm words) → ⊥
@@ -135,6 +180,8 @@ pub record IsBad (words : Words) : Type 0 where
 -- the words were read as bad: there is nothing that they ask for alone
 pub record IsRefused (words : Words) : Type 0 where
   pub no_run : AsksRun words → ⊥
+  pub no_steps : AsksSteps words → ⊥
+  pub no_check : AsksCheck words → ⊥
   pub no_race : (options : RaceOptions) → AsksRace words options → ⊥
   pub no_help : AsksHelp words → ⊥
   pub no_version : AsksVersion words → ⊥
@@ -142,6 +189,8 @@ pub record IsRefused (words : Words) : Type 0 where
 -- the words were read as asking for this
 abbrev pub IsAskedBy : Words → Asked → Type 0
 IsAskedBy words Run = AsksRun words
+IsAskedBy words RunSteps = AsksSteps words
+IsAskedBy words Check = AsksCheck words
 IsAskedBy words (Race options) = AsksRace words options
 IsAskedBy words (Shown text) = IsAmong DisplayHelp (fault_of ulfm words) ⊎ IsAmong DisplayVersion (fault_of ulfm words)
 IsAskedBy words (Bad reason) = IsRefused words

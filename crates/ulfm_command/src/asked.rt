@@ -55,8 +55,12 @@ impl fmt::Display for Reason {
 /// What a command line asks for.
 #[derive(Drop)]
 pub enum Asked {
-    /// A script is to be run.
+    /// A script of calls is to be run.
     Run,
+    /// A script of single steps is to be run.
+    RunSteps,
+    /// A trace is to be judged.
+    Check,
     /// A race is to be run, whose options are in their ranges.
     Race(RaceOptions),
     /// This text is to be shown: of help, or the version.

@@ -1,11 +1,11 @@
 //! The program's commands and their options, as the command line crate takes them.
 ghost use Rattle.std.specs.Prelude.{◌≡◌, IfOk, false};
 ghost use Rattle.clap.specs.Words.{rule_of};
-ghost use Rattle.ulfm_command.specs.CommandLines.{IsCommand, fail_rule, number_rule, race, ranks_rule, rounds_rule, run, ulfm};
+ghost use Rattle.ulfm_command.specs.CommandLines.{IsCommand, check, fail_rule, number_rule, race, ranks_rule, readers, rounds_rule, run, steps_rule, ulfm};
 
-use crate::texts::{RACE_HELP, RUN_HELP, ULFM_HELP, VERSION};
+use crate::texts::{CHECK_HELP, RACE_HELP, RUN_HELP, ULFM_HELP, VERSION};
 use clap::builder::ValueParser;
-use clap::{Arg, Command, value_parser};
+use clap::{Arg, ArgAction, Command, value_parser};
 use std::alloc::{AllocError, Global};
 
 /// An option that takes a number which this parser reads.
@@ -80,24 +80,56 @@ fn race_command<'a>(global: Global) -> Result<Command<'a>, AllocError>
         .arg(fail_option(global))
 }
 
-/// `ulfm run`.
-fn run_command<'a>(global: Global) -> Command<'a>
-    ensures { IsCommand run result }
+/// That a script is one of single steps.
+fn steps_option<'a>(global: Global) -> Arg<'a>
+    ensures rule { rule_of result ≡ steps_rule }
+    ensures local { result.global ≡ false }
 {
-    Command::new(global, "run")
-        .about("Runs the call script on standard input, and prints a line for each call")
-        .after_help(RUN_HELP)
+    Arg::new(global, "steps")
+        .long("steps")
+        .action(ArgAction::SetTrue)
+        .help("Runs a script of single atomic steps, and prints its trace")
 }
 
-/// `ulfm`, which wants a subcommand.
-pub(crate) fn ulfm_command<'a>(global: Global) -> Result<Command<'a>, AllocError>
-    ensures { IfOk result (IsCommand ulfm) }
+/// `ulfm run`.
+fn run_command<'a>(global: Global) -> Result<Command<'a>, AllocError>
+    ensures { IfOk result (IsCommand run) }
+{
+    Command::new(global, "run")
+        .about(
+            "Runs the script on standard input: of calls, each of which prints a line, or of single steps",
+        )
+        .after_help(RUN_HELP)
+        .arg(steps_option(global))
+}
+
+/// `ulfm check`.
+fn check_command<'a>(global: Global) -> Command<'a>
+    ensures { IsCommand check result }
+{
+    Command::new(global, "check")
+        .about(
+            "Judges the trace on standard input: whether it is legal, or which line can't be, and why",
+        )
+        .after_help(CHECK_HELP)
+}
+
+/// `ulfm`, which wants a subcommand, with those that read their input.
+fn reading_commands<'a>(global: Global) -> Result<Command<'a>, AllocError>
+    ensures { IfOk result (IsCommand readers) }
 {
     Command::new(global, "ulfm")
         .about("A fault tolerant agreement core, driven by scripts and by races of threads")
         .after_help(ULFM_HELP)
         .version(VERSION)
         .subcommand_required(true)
-        .subcommand(run_command(global))?
-        .subcommand(race_command(global)?)
+        .subcommand(run_command(global)?)?
+        .subcommand(check_command(global))
+}
+
+/// `ulfm`.
+pub(crate) fn ulfm_command<'a>(global: Global) -> Result<Command<'a>, AllocError>
+    ensures { IfOk result (IsCommand ulfm) }
+{
+    reading_commands(global)?.subcommand(race_command(global)?)
 }

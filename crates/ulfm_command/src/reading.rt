@@ -1,7 +1,7 @@
 //! What the words of a command line ask for.
-ghost use Rattle.std.specs.Prelude.{◌≡◌, IfOk, map};
+ghost use Rattle.std.specs.Prelude.{◌≡◌, IfOk, Some, codes, map};
 ghost use Rattle.clap.specs.Words.{FailsBy, fault_of, found_of, one_of, rows_of, subcommand_of, subcommand_rows_of};
-ghost use Rattle.ulfm_command.specs.CommandLines.{IsAskedBy, IsEntered, IsNumberRead, IsRaceRead, ulfm};
+ghost use Rattle.ulfm_command.specs.CommandLines.{IsAskedBy, IsEntered, IsNumberRead, IsRaceRead, has_flag, ulfm};
 
 use crate::asked::{Asked, RaceOptions, Reason};
 use crate::commands::ulfm_command;
@@ -46,7 +46,9 @@ fn read_command(matches: &ArgMatches<'_>) -> Asked
     match matches.subcommand() {
         Some((name, options)) => {
             if name == "run" {
-                Asked::Run
+                read_run(options)
+            } else if name == "check" {
+                Asked::Check
             } else if name == "race" {
                 match read_race(options) {
                     Some(race) => Asked::Race(race),
@@ -57,6 +59,28 @@ fn read_command(matches: &ArgMatches<'_>) -> Asked
             }
         }
         None => Asked::Bad(Reason::NoCommand),
+    }
+}
+
+/// Which sort of script is to be run.
+fn read_run(matches: &ArgMatches<'_>) -> Asked
+    ensures { IsEntered (Some (codes "run", rows_of (found_of matches.now))) result }
+{
+    if is_given(matches, "steps") {
+        Asked::RunSteps
+    } else {
+        Asked::Run
+    }
+}
+
+/// Whether an option that takes no value is given.
+fn is_given(matches: &ArgMatches<'_>, name: &str) -> bool
+    ensures { result ≡ has_flag name.now (rows_of (found_of matches.now)) }
+{
+    match matches.try_get_one::<bool>(name) {
+        Ok(Some(given)) => given,
+        Ok(None) => false,
+        Err(_) => false,
     }
 }
 

@@ -17,13 +17,15 @@ prints
 Exit statuses, and what standard error says:
   0  all was done, or help or the version was shown
   1  ulfm: line N: KIND         line N of the script has this fault
+  1                             the trace is illegal
   2  ulfm: bad command line     found before anything is read
   3  ulfm: out of memory        memory was refused, or a thread
   3  ulfm: read failed          standard input failed
   3  ulfm: write failed         standard output failed
   3  ulfm: held                 a rank of a race was held back
 
-'ulfm run --help' lists what a script may say, 'ulfm race --help' what a race prints.";
+'ulfm run --help' lists what a script may say, 'ulfm check --help' what a trace does, and
+'ulfm race --help' what a race prints.";
 
 /// What help of `ulfm run` shows behind its options.
 pub(crate) const RUN_HELP: &str =
@@ -53,9 +55,20 @@ most 1023, a communicator at most 255, each in decimal without leading zeros. F 
 of eight lower case hexadecimal digits. A line has at most 64 bytes without its newline,
 and a script at most 100000 lines.
 
-Nothing appears before the input ends or 8192 bytes of replies are full.
+With --steps a script of single atomic steps is run, and its trace is printed. The first
+line is 'ulfm-steps 1 RANKS COMMS ROUNDS', and each further line is one of these:
 
-Example:
+  call X          the rank of the call X, a line as above but no 'fail', begins it; no step
+  step R N        up to N atomic steps of R's call, N from 1 to 9999
+  before R K      R's steps up to its next one of the name K, which isn't made
+  finish R        all steps of R's call
+  fail R          rank R is declared failed, whole
+
+K is one of list, settle, arrive, revoke, revocation, mark, slot, comm, spawn, arrival.
+
+Nothing appears before the input ends or 8192 bytes of output are full.
+
+Examples:
 
     printf 'ulfm 1 1 1 2\\nagree 0 0 000000ff\\npoll 0 0\\n' | ulfm run
 
@@ -64,10 +77,63 @@ prints
     started
     agreed 000000ff failed 0 clean
 
+and with a declaration between a rank's look and its exchange
+
+    printf 'ulfm-steps 1 2 1 2\\ncall agree 1 0 00000005\\nbefore 1 settle\\nfail 1\\nfinish 1\\n' |
+        ulfm run --steps
+
+prints
+
+    ulfm-trace 1 2 1 2
+    call agree 1 0 00000005
+    look 1 0
+    call fail 1
+    event - fail 1
+    reply - 1 declared
+    event 1 settle 0 0 1 flag 00000005 known 0 acked 0
+    reply 1 2 started
+
 Exit statuses, and what standard error says:
   0  the script was read to its end
   1  ulfm: line N: KIND         line N has this fault, and all lines before it were answered:
-                                cut, long, lines, header, limits, verb, words, number, flag
+                                cut, long, lines, header, limits, verb, words, number, flag,
+                                and with --steps also step, open
+  2  ulfm: bad command line     nothing was read
+  3  ulfm: out of memory        memory was refused
+  3  ulfm: read failed          standard input failed
+  3  ulfm: write failed         standard output failed";
+
+/// What help of `ulfm check` shows behind its options.
+pub(crate) const CHECK_HELP: &str =
+    "A trace tells what ranks did, line by line. It is ASCII, and its lines end in one newline each,
+the last one too. The first line is 'ulfm-trace 1 RANKS COMMS ROUNDS', with the limits of
+'ulfm run --help'. B is a rank, or - for the outside. Each further line is one of these:
+
+  call X                            the call X begins, a line of a call script
+  look R L                          R's look has ended, and found L failures
+  event B fail R                    B makes this event
+  event B settle C K R flag F known A acked D
+  event B settle C K R ctx F known A acked D
+  event B mark C K R known A
+  event B arrive C K R
+  event B revoke C
+  event B spawn J C K
+  reply B P TEXT                    B's call is answered, by the first P events
+
+'ulfm run --steps' prints such traces. The answer is
+
+  legal                             the sequential object answers so, at each reply's point
+  illegal line N WHY                the lines before are a legal trace, and with line N they aren't
+
+and WHY the first of these that holds: text (not of this grammar), call (a call under way,
+or none), look (not due, or another number), event (may not happen), own (not its caller's
+to make), reply (no answer at its point).
+
+A line has at most 8192 bytes without its newline, and a trace at most 5000000 lines.
+
+Exit statuses, and what standard error says:
+  0  legal
+  1  illegal
   2  ulfm: bad command line     nothing was read
   3  ulfm: out of memory        memory was refused
   3  ulfm: read failed          standard input failed

@@ -1,4 +1,4 @@
-//! The examples of the public calls of `ulfm_comm`, `ulfm_member` and `ulfm_book`, each run as a test.
+//! The examples of the public calls of `ulfm_comm`, `ulfm_member`, `ulfm_book`, `ulfm_wait` and `ulfm_race`, each run as a test.
 //!
 //! A test has the name of the type, or of the module, and of the call. What stands in it between two empty lines is, word for
 //! word, the example in the call's documentation: `gate/examples_test.py` compares them.
@@ -10,5 +10,7 @@ mod members;
 mod open;
 #[cfg(test)]
 mod ranks;
+#[cfg(test)]
+mod waits;
 #[cfg(test)]
 mod worlds;

@@ -226,3 +226,33 @@ fn doing_is_looking(rt: HostRuntime) -> Result<(), Fail> {
 
     Ok(())
 }
+
+#[test]
+fn doing_asked(rt: HostRuntime) -> Result<(), Fail> {
+    let (_, member) = two(&rt, rt.alloc())?;
+    let (_, rank, _) = member.into_parts();
+
+    let asked = Call::IsRevoked {
+        rank: rank.number(),
+        comm: 0,
+    };
+    let doing = rank.begin(asked);
+    assert!(rt; doing.asked() == asked);
+
+    Ok(())
+}
+
+#[test]
+fn doing_is_checking(rt: HostRuntime) -> Result<(), Fail> {
+    let (_, member) = two(&rt, rt.alloc())?;
+    let (_, rank, _) = member.into_parts();
+
+    let asked = Call::IsRevoked {
+        rank: rank.number(),
+        comm: 0,
+    };
+    let doing = rank.begin(asked);
+    assert!(rt; !doing.is_checking());
+
+    Ok(())
+}

@@ -1,4 +1,4 @@
-//! Lines of step scripts and of traces: what stands in them, read and printed, and the engine that runs scripts of steps.
+//! Lines of step scripts and of traces: what stands in them, read and printed, and the trait of what runs the lines of steps.
 #![tactic(auto)]
 
 mod events;

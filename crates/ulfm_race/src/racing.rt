@@ -41,8 +41,25 @@ pub(crate) type Handle<'a> = PromisedHandle<Report, Promised<'a>>;
 /// said false; where several ranks met a fault, it is one of theirs. Whatever it answers, all its threads have ended. It answers only if
 /// they end: each polls until it is answered, and yields in between.
 ///
-/// With a gate that always says true, `race(rt, alloc, Plan { ranks: 4, rounds: 2, fail: None }, &gate)` answers, for each of the four
-/// ranks, fffffff0 and ffffffe1 agreed, nobody failed, and communicator 1 of four members.
+/// With a gate that always says true:
+///
+/// ```
+/// let plan = Plan {
+///     ranks: 4,
+///     rounds: 2,
+///     fail: None,
+/// };
+/// let outcome = race(&rt, alloc, plan, &AlwaysOpen)?;
+/// assert_eq!(rt; outcome.group.as_slice(), [0, 1, 2, 3].as_slice());
+/// let agreed = Reply::Agreed {
+///     value: FlagAnd { bits: 0xffff_fff0 },
+///     failed: 0,
+///     raised: false,
+/// };
+/// for replies in &outcome.replies {
+///     assert!(rt; replies.len() == 3 && replies[0] == agreed);
+/// }
+/// ```
 pub fn race<R: Threads + Wait + Sync, G: Gate + Sync>(
     rt: &R,
     alloc: Global,

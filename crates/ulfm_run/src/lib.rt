@@ -1,8 +1,8 @@
-//! Call scripts run over words, as users run them.
+//! Scripts of calls and of single steps run over words, as users run them.
 #![tactic(auto)]
 
 pub mod over_words;
 pub mod running;
 
 pub use over_words::WordsMachine;
-pub use running::run_calls;
+pub use running::{run_calls, run_steps};

@@ -1,9 +1,12 @@
 ghost use Rattle.ulfm_script.specs.Runs.{Runs};
+ghost use Rattle.ulfm_step_script.specs.StepScripts.{RunsSteps};
 
 use crate::over_words::WordsMachine;
 use std::alloc::Allocator;
 use std::io::{Read, Write};
 use ulfm_script::{RunFault, run_script};
+use ulfm_seats::StepTable;
+use ulfm_step_script::run_step_script;
 
 /// Runs the call script that the reader gives over the words of a new world, writes a line for each call, and flushes the writer once.
 ///
@@ -25,4 +28,23 @@ pub fn run_calls<A: Allocator + Copy + Drop, R: Read, W: Write>(
     ensures { Runs (R.remaining reader.old) (R.remaining reader.new) (W.contents writer.old) (W.contents writer.new) result }
 {
     run_script::<WordsMachine<A>, A, R, W>(alloc, reader, writer)
+}
+
+/// Runs the script of single steps that the reader gives over the words of a new world, writes a legal trace that follows it, and flushes
+/// the writer once.
+///
+/// The first line is `ulfm-steps 1 RANKS COMMS ROUNDS`, the world's limits; each other line is one that `read_step_line` reads, and gives its
+/// piece of the trace: the lines of calls that begin, looks that end, events, and replies with the number of events that they rest on. Want of
+/// memory is never printed as a reply.
+///
+/// What is written at `Ok` and at each fault is told at `run_step_script`: as of call scripts, with the fault `Open` besides, where a line
+/// begins a call of a rank that has one under way.
+pub fn run_steps<A: Allocator + Copy + Drop, R: Read, W: Write>(
+    alloc: A,
+    reader: &mut R,
+    writer: &mut W,
+) -> Result<(), RunFault>
+    ensures { RunsSteps (R.remaining reader.old) (R.remaining reader.new) (W.contents writer.old) (W.contents writer.new) result }
+{
+    run_step_script::<StepTable<A>, A, R, W>(alloc, reader, writer)
 }

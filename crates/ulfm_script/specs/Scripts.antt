@@ -1,20 +1,30 @@
--- What the text of a script asks for.
+-- What the text of a script asks for, whatever kind of script it is.
 use Rattle.std.specs.Prelude.{ℕ, ◌+◌, List, [], ◌∷◌, ◌++◌, length, Option, Some, None, Result, Ok, Err, ◌==◌, nat_lt, if◌then◌else◌}
 use Rattle.ulfm_model.specs.declared.limits.Limits.{Limits}
-use Rattle.ulfm_script.specs.declared.header_kind.HeaderKind.TheVariants.{Calls}
+use Rattle.ulfm_script.specs.declared.header_kind.HeaderKind.{HeaderKind}
 use Rattle.ulfm_script.specs.declared.line_kind.LineKind.{LineKind}
 use Rattle.ulfm_script.specs.declared.line_kind.LineKind.TheVariants.{Cut, Long, Lines, Header}
-use Rattle.ulfm_script.specs.{Calls.{ScriptCall, call_of}, Headers.{header_of}}
+use Rattle.ulfm_script.specs.Headers.{header_of}
 
--- the calls of some lines up to the first fault, if there is one: its line's number and its kind
-pub record Asked : Type 0 where
-  pub calls : List ScriptCall
+-- A kind of script: what a line asks for; the kind of its header; how a line is read, or the first fault in it; what running such items prints
+-- on a new world of these limits; and the fault that running them finds though no line alone shows it: its line's number, its kind, and what is
+-- printed before.
+pub record Language : Type 1 where
+  pub Item : Type 0
+  pub kind : HeaderKind
+  pub read : List ℕ → Result Item LineKind
+  pub Prints : Limits → List Item → List ℕ → Type 0
+  pub Finds : Limits → List Item → ℕ → LineKind → List ℕ → Type 0
+
+-- the items of some lines up to the first fault, if there is one: its line's number and its kind
+pub record Asked (X : Type 0) : Type 0 where
+  pub items : List X
   pub fault : Option (ℕ × LineKind)
 
 -- the same with the limits of the world, where the first line is a header
-pub record Script : Type 0 where
+pub record Script (X : Type 0) : Type 0 where
   pub limits : Option Limits
-  pub calls : List ScriptCall
+  pub items : List X
   pub fault : Option (ℕ × LineKind)
 
 -- the lines that a newline ends, where the first one has this beginning
@@ -27,51 +37,52 @@ abbrev pub rest_from : List ℕ → List ℕ → List ℕ
 rest_from front [] = front
 rest_from front (x ∷ xs) = if x == 10 then rest_from [] xs else rest_from (front ++ x ∷ []) xs
 
--- the call of a line of this number, or the first fault of the line
-abbrev pub call_at : ℕ → List ℕ → Result ScriptCall LineKind
-call_at number line = if nat_lt 64 (length line) then Err Long else (if nat_lt 100000 number then Err Lines else call_of line)
+-- the item of a line of this number, or the first fault of the line
+abbrev pub item_at : (lang : Language) → ℕ → List ℕ → Result lang.Item LineKind
+item_at lang number line = if nat_lt 64 (length line) then Err Long else (if nat_lt 100000 number then Err Lines else lang.read line)
 
 -- the limits of the first line, or its first fault
-abbrev pub header_at : List ℕ → Result Limits LineKind
-header_at line = if nat_lt 64 (length line) then Err Long else header_of Calls line
+abbrev pub header_at : Language → List ℕ → Result Limits LineKind
+header_at lang line = if nat_lt 64 (length line) then Err Long else header_of lang.kind line
 
 -- a fault in the line of this number
-abbrev pub stopped : ℕ → LineKind → Asked
-stopped number kind = record { calls = []; fault = Some (number, kind) }
+abbrev pub stopped : {X : Type 0} → ℕ → LineKind → Asked X
+stopped number kind = record { items = []; fault = Some (number, kind) }
 
 -- the text ends, or it ends inside the line of this number
-abbrev pub asked_last : ℕ → List ℕ → Asked
-asked_last number [] = record { calls = []; fault = None }
+abbrev pub asked_last : {X : Type 0} → ℕ → List ℕ → Asked X
+asked_last number [] = record { items = []; fault = None }
 asked_last number (x ∷ xs) = stopped number Cut
 
 -- a line, and the lines behind it
-abbrev pub asked_then : ℕ → Result ScriptCall LineKind → Asked → Asked
+abbrev pub asked_then : {X : Type 0} → ℕ → Result X LineKind → Asked X → Asked X
 asked_then number (Err kind) rest = stopped number kind
-asked_then number (Ok call) rest = record { calls = call ∷ rest.calls; fault = rest.fault }
+asked_then number (Ok item) rest = record { items = item ∷ rest.items; fault = rest.fault }
 
 -- lines from this number on, and what stands behind the last newline
-abbrev pub asked_by : ℕ → List (List ℕ) → List ℕ → Asked
-asked_by number [] rest = asked_last number rest
-asked_by number (line ∷ lines) rest = asked_then number (call_at number line) (asked_by (number + 1) lines rest)
+abbrev pub asked_by : (lang : Language) → ℕ → List (List ℕ) → List ℕ → Asked lang.Item
+asked_by lang number [] rest = asked_last number rest
+asked_by lang number (line ∷ lines) rest = asked_then number (item_at lang number line) (asked_by lang (number + 1) lines rest)
 
 -- a script without a header
-abbrev pub without_header : LineKind → Script
-without_header kind = record { limits = None; calls = []; fault = Some (1, kind) }
+abbrev pub without_header : {X : Type 0} → LineKind → Script X
+without_header kind = record { limits = None; items = []; fault = Some (1, kind) }
 
 -- a text without a newline; the empty text lacks its header
-abbrev pub no_lines : List ℕ → Script
+abbrev pub no_lines : {X : Type 0} → List ℕ → Script X
 no_lines [] = without_header Header
 no_lines (x ∷ xs) = without_header Cut
 
 -- a first line, and the lines behind it
-abbrev pub with_header : Result Limits LineKind → Asked → Script
+abbrev pub with_header : {X : Type 0} → Result Limits LineKind → Asked X → Script X
 with_header (Err kind) asked = without_header kind
-with_header (Ok limits) asked = record { limits = Some limits; calls = asked.calls; fault = asked.fault }
+with_header (Ok limits) asked = record { limits = Some limits; items = asked.items; fault = asked.fault }
 
-abbrev pub script_by : List (List ℕ) → List ℕ → Script
-script_by [] rest = no_lines rest
-script_by (line ∷ lines) rest = with_header (header_at line) (asked_by 2 lines rest)
+-- the same of lines, and of what stands behind the last newline
+abbrev pub script_by : (lang : Language) → List (List ℕ) → List ℕ → Script lang.Item
+script_by lang [] rest = no_lines rest
+script_by lang (line ∷ lines) rest = with_header (header_at lang line) (asked_by lang 2 lines rest)
 
 -- what a text asks for
-unfoldable pub script_of : List ℕ → Script
-script_of text = script_by (lines_from [] text) (rest_from [] text)
+unfoldable pub script_of : (lang : Language) → List ℕ → Script lang.Item
+script_of lang text = script_by lang (lines_from [] text) (rest_from [] text)

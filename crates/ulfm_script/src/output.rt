@@ -26,7 +26,9 @@ impl<A: Allocator> Output<A> {
         Ok(Output { bytes })
     }
 
-    /// Puts a text behind what waits, which is written first where there is no room for both.
+    /// Puts a text behind what waits, which is written first where there is no room for both. It runs for each line, from two calls: the
+    /// compiler leaves it out of line by itself, at thirty instructions a line.
+    #[inline(always)]
     pub(crate) fn put<W: Write>(&mut self, writer: &mut W, text: &[u8]) -> Result<(), RunFault>
         ensures { Puts (waiting self.old) (W.contents writer.old) text.now (waiting self.new) (W.contents writer.new) result }
     {

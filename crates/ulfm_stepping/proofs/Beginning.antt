@@ -1,14 +1,15 @@
 -- A call that begins.
-use Rattle.std.proofs.Common.{◌≡◌, ◌⊎◌, ℕ, Bool, true, false, List, [], ◌∷◌, ◌++◌, length, find, take, Option, Some, None, refl, ap, sym, ◌∙◌, subst, arith, inl, inr, IsTrue, IsFalse, if◌then◌else◌}
-use Rattle.std.proofs.Math.Seq.{take-length}
-use Rattle.ulfm_model.specs.declared.{call.Call.{Call}, event.Caller.{Caller}, event.Caller.TheVariants.{Rank}, refusal.Refusal.TheVariants.{SelfFailed}, reply.Reply.{Reply}, reply.Reply.TheVariants.{Refused}}
-use Rattle.ulfm_model.specs.{Answers.{polled_by, traits_of}, Records.{Fits, Record, is_shrink}}
-use Rattle.ulfm_words.specs.Steps.{IsOf, Name, Sight}
+use Rattle.std.proofs.Common.{◌≡◌, Bool, true, false, List, [], ◌∷◌, ◌++◌, length, find, take, Some, None, refl, ap, sym, ◌∙◌, subst, arith, inl, if◌then◌else◌}
+use Rattle.ulfm_model.specs.declared.{call.Call.{Call}, event.Caller.TheVariants.{Rank}, refusal.Refusal.TheVariants.{SelfFailed}, reply.Reply.{Reply}, reply.Reply.TheVariants.{Refused}}
+use Rattle.ulfm_model.specs.{Answers.{comm_of, traits_of}, Records.{Record}}
+use Rattle.ulfm_words.specs.Steps.{Name, Sight}
 use Rattle.ulfm_comm.specs.Phase.{Stands, UnderWay, is_looking}
-use Rattle.ulfm_comm.specs.declared.phases.phase.{Phase.{Phase}, Phase.TheVariants.{Begun, Over}}
-use Rattle.ulfm_trace_model.specs.declared.line.Line.TheVariants.{Called, Replied}
-use Rattle.ulfm_trace_model.specs.Traces.{AnswersRank, MayCome, Traced, Under, after, call_by, listed, record_of, same_caller}
-use Rattle.ulfm_stepping.specs.Stepping.{HasBegun, IsIdle, Begins}
+use Rattle.ulfm_comm.specs.declared.phases.phase.{Phase.TheVariants.{Begun}}
+use Rattle.ulfm_trace_model.specs.declared.line.Line.TheVariants.{Called}
+use Rattle.ulfm_model.proofs.LeftRuns.{left_keeps}
+use Rattle.ulfm_trace_model.specs.Traces.{AnswersRank, MayCome, Traced, Under, after, after_reply, call_by, same_caller, taken_in}
+use Rattle.ulfm_stepping.specs.Stepping.{HasBegun, IsIdle}
+use Rattle.ulfm_stepping.proofs.{Ending.{find_changed, find_gone}, Reseen.{reseen}, Turns.{EndsSo}}
 use Rattle.ulfm_trace_model.proofs.Callers.{same_rank}
 
 -- what is put behind a list without such an element is found
@@ -20,7 +21,7 @@ find_push {X} p (y ∷ ys) x none is = go (p y) none (λ more. find_push p ys x 
     go true none more = absurd (cc none)
     go false none more = more none
 
-module _ {P : Type 0} (meld : P → P → P) (name : Name) (now : Traced P) (pass : Sight P) (own : Record) (idle : IsIdle meld name now pass own) (asked : Call P) (mine : (traits_of asked).by ≡ Rank own.number) (doing : UnderWay P) (asked_is : doing.asked ≡ asked) where
+module _ {P : Type 0} (meld : P → P → P) (name : Name) (now : Traced P) (pass : Sight P) (own : Record) (idle : IsIdle meld name now pass own) (asked : Call P) (mine : (traits_of asked).by ≡ Rank own.number) where
   abbrev told : Traced P
   told = after now (Called asked)
 
@@ -34,8 +35,8 @@ module _ {P : Type 0} (meld : P → P → P) (name : Name) (now : Traced P) (pas
   call_is = find_push (λ (v : Under P). same_caller (traits_of v.asked).by (Rank own.number)) now.calls u idle.free (ap (λ by. same_caller by (Rank own.number)) mine ∙ same_rank own.number)
 
   -- it looks next
-  begun : own.refused ≡ false → doing.phase ≡ Begun → Stands meld false name own pass doing own pass → is_shrink (polled_by own asked) ≡ false → HasBegun meld name told pass own doing
-  begun in_use phase stands no_shrink =
+  pub begun : (doing : UnderWay P) → doing.asked ≡ asked → own.refused ≡ false → doing.phase ≡ Begun → Stands meld false name own pass doing own pass → HasBegun meld name told pass own doing
+  begun doing asked_is in_use phase stands =
       record {
         limits = idle.limits;
         history = idle.history;
@@ -43,33 +44,50 @@ module _ {P : Type 0} (meld : P → P → P) (name : Name) (now : Traced P) (pas
         call = call_is;
         asked = sym asked_is;
         old = own;
+        seen = idle.seen;
         record_is = idle.record_is;
         number = refl;
         looking = ap is_looking phase;
         in_use = in_use;
         stands = stands;
-        no_shrink = ap (λ a. is_shrink (polled_by own a)) asked_is ∙ no_shrink;
         begun = omega (arith, ap length idle.history);
         look = refl;
         own_is = refl;
       }
 
-  -- or it is refused at once
-  refused : own.refused ≡ true → MayCome meld told [] (Replied (Rank own.number) (length pass.seen) (Some (Refused SelfFailed)))
-  refused is =
-      let as_long = ap length idle.history in
-      record {
-        call = u;
-        is_open = call_is;
-        since_begin = omega (arith, as_long);
-        by_now = omega (arith, as_long);
-        answers = subst (λ o. AnswersRank meld told u (length pass.seen) (Refused SelfFailed) o) (sym idle.record_is) (inl (is, refl));
-        lists = refl;
-      }
+  -- or it is refused at once, and its record stays
+  module _ (is : own.refused ≡ true) where
+    abbrev answer : Reply P
+    answer = Refused SelfFailed
 
-  pub begins : doing.phase ≡ (if own.refused then Over else Begun) → Stands meld false name own pass doing own pass → is_shrink (polled_by own asked) ≡ false → Begins meld name now pass own asked doing
-  begins first stands no_shrink = (may_call, go own.refused refl)
-    where
-      go : (b : Bool) → own.refused ≡ b → (IsTrue own.refused × MayCome meld told [] (Replied (Rank own.number) (length pass.seen) (Some (Refused SelfFailed)))) ⊎ HasBegun meld name told pass own doing
-      go true is = inl (is, refused is)
-      go false is = inr (begun is (first ∙ ap (λ (b : Bool). if b then Over else Begun) is) stands no_shrink)
+    same : taken_in told u (length pass.seen) answer (reseen own idle.seen) ≡ reseen own idle.seen
+    same = ap (λ (b : Bool). record own { seen = idle.seen; refused = b }) (sym is)
+
+    stays : IsIdle meld name (after_reply told (Rank own.number) (length pass.seen) answer (Some u)) pass own
+    stays =
+        record {
+          limits = idle.limits;
+          history = idle.history;
+          free = find_gone (Rank own.number) told.calls;
+          seen = idle.seen;
+          record_is = find_changed own.number (taken_in told u (length pass.seen) answer) (λ x. (left_keeps told.limits.ranks (take (length pass.seen) told.history) (reseen x x.seen) asked answer).0) told.records (reseen own idle.seen) idle.record_is
+              ∙ ap Some same;
+          fits = idle.fits;
+        }
+
+    pub refused : EndsSo meld name told pass own.number (comm_of asked) (length pass.seen) answer own
+    refused =
+        let as_long = ap length idle.history in
+        record {
+          may = record {
+            call = u;
+            is_open = call_is;
+            since_begin = omega (arith, as_long);
+            by_now = omega (arith, as_long);
+            answers = subst (λ o. AnswersRank meld told u (length pass.seen) answer o) (sym idle.record_is) (inl (is, refl));
+            lists = refl;
+          };
+          number = refl;
+          list = tt;
+          idle = subst (λ o. IsIdle meld name (after_reply told (Rank own.number) (length pass.seen) answer o) pass own) (sym call_is) stays;
+        }

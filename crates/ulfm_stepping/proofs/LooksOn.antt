@@ -1,23 +1,23 @@
 -- One step of a call in its look: its end, where it comes, is told at once, with the number of failures that there are.
-use Rattle.std.proofs.Common.{◌≡◌, ◌⊎◌, ℕ, ◌≤◌, Bool, true, false, List, [], ◌∷◌, ◌++◌, length, take, Option, Some, None, is_some, refl, ap, ap₂, sym, ◌∙◌, subst, arith, append-nil, inl, inr, IsTrue, IsFalse}
-use Rattle.std.proofs.Math.Seq.{take-length}
+use Rattle.std.proofs.Common.{◌≡◌, ◌⊎◌, ℕ, ◌≤◌, Bool, true, false, List, [], length, Option, Some, None, refl, ap, sym, ◌∙◌, subst, arith, append-nil, inl, inr, IsFalse}
 use Rattle.std.specs.Prelude.{MatchOption}
-use Rattle.ulfm_model.specs.declared.{call.Call.{Call}, event.Caller.{Caller}, event.Caller.TheVariants.{Rank}, event.Event.{Event}, refusal.Refusal.TheVariants.{SelfFailed}, reply.Reply.{Reply}, reply.Reply.TheVariants.{Refused, Revoked, Started}}
-use Rattle.ulfm_model.specs.{Answers.{IsReply, IsSelfFailed, Sees, polled_by, refusal_of, traits_of}, History.{History, failures, has}, Records.{Record, is_shrink}, Runs.{Did}}
+use Rattle.ulfm_model.specs.declared.{call.Call.{Call}, event.Caller.TheVariants.{Rank}, reply.Reply.{Reply}}
+use Rattle.ulfm_model.specs.{Answers.{IsReply, IsSelfFailed, Sees, comm_of, polled_by, refusal_of}, History.{History, failures, has}, Records.{Fits, Record, is_shrink}}
+use Rattle.ulfm_model.specs.declared.limits.Limits.{Limits}
+use Rattle.ulfm_model.proofs.Lists.{prefix_trans}
 use Rattle.ulfm_words.specs.Steps.{IsOf, Name, Sight}
 use Rattle.ulfm_words.proofs.Trails.{did_prefix, did_quiet}
-use mathlib.Core.List.{IsPrefix}
-use Rattle.ulfm_comm.specs.{Calls.{Calls, EndsAs, EndsReply, wants_memory}, Ends.{IsEarlyRun, IsEndRun, IsRefusedAgain}, Phase.{Answered, IsPast, Stands, StandsAt, UnderWay, Waits, is_looking}, Step.{StepAdds}}
+use Rattle.ulfm_comm.specs.{Barrier.{IsChecking}, Calls.{EndsAs, EndsReply, wants_memory}, Ends.{IsEarlyRun, IsEndRun, IsRefusedAgain}, Phase.{Answered, Stands, StandsAt, UnderWay, Waits, is_looking}, Step.{StepAdds}}
 use Rattle.ulfm_comm.specs.declared.phases.phase.{Phase.{Phase}, Phase.TheVariants.{Over, Begun, Looking, Settling, Arriving, Revoking, Asking, Marking, Reading, ReadingOn, Spawning, Waiting, Checking}}
 use Rattle.ulfm_comm.proofs.AmongOthers.{did_among}
-use Rattle.ulfm_trace_model.specs.declared.line.Line.TheVariants.{Looked, Replied}
-use Rattle.ulfm_trace_model.specs.Traces.{AnswersRank, MayCome, Traced, Under, after, call_by, found_by, listed, record_of}
+use Rattle.ulfm_trace_model.specs.declared.line.Line.TheVariants.{Looked}
+use Rattle.ulfm_trace_model.specs.Traces.{MayCome, Traced, Under, after, call_by, record_of}
 use Rattle.ulfm_trace_model.proofs.Callers.{find_change}
-use Rattle.ulfm_stepping.specs.Stepping.{HasBegun, HasCalled, LooksOn, events_by}
-use Rattle.ulfm_stepping.proofs.{LookedAt.{begins_again, found_all, found_by_phase, squeeze}, Replying.{reply_answers}, Stepped.{found_is}}
+use Rattle.ulfm_stepping.specs.Stepping.{FoundAt, HasBegun, HasCalled}
+use Rattle.ulfm_stepping.proofs.{Ending.{ends_so, may_list}, LookedAt.{begins_again, found_all, found_by_phase, squeeze}, Replying.{reply_answers}, Reseen.{reseen}, Turns.{EndsSo, LooksOn}}
 
 -- a look makes no event
-no_event : {P : Type 0} (own : Record) (asked : Call P) (phase : Phase P) (reply : Option (Reply P)) (old new : History P) → is_looking phase ≡ true → StepAdds true own asked phase reply old new → new ≡ old
+pub no_event : {P : Type 0} (own : Record) (asked : Call P) (phase : Phase P) (reply : Option (Reply P)) (old new : History P) → is_looking phase ≡ true → StepAdds true own asked phase reply old new → new ≡ old
 no_event own asked Begun reply old new looking did = did_quiet true old new did refl
 no_event own asked Looking reply old new looking did = did_quiet true old new did refl
 no_event own asked Over reply old new looking adds = absurd (cc looking)
@@ -48,8 +48,35 @@ same_number meld name asked old before group own now (Spawning append context re
 same_number meld name asked old before group own now (Waiting arrivals) looking p = absurd (cc looking)
 same_number meld name asked old before group own now (Checking missing) looking p = absurd (cc looking)
 
+-- all that a call's last look found was seen, whatever it polls
+sees_all : {P : Type 0} (b : Bool) (look after : History P) (seen : List ℕ) → Sees b (failures look) after seen → failures look ≡ failures after → seen ≡ failures after
+sees_all false look after seen sees all = sees ∙ all
+sees_all true look after seen sees all = squeeze (failures look) seen (failures after) sees.0 sees.1 all
+
+-- a barrier's poll that makes its last load at the look's end found at the look who is missing
+found_now : {P : Type 0} (meld : P → P → P) (limits : Limits) (asked : Call P) (name : Name) (old : Record) (before : Sight P) (group : List ℕ) (own : Record) (now : Sight P) (found : ℕ) (phase : Phase P) → StandsAt meld false name asked old before phase group own now
+    → name.limits ≡ limits → before.seen ≡ now.seen → found ≡ length now.seen → FoundAt meld limits (comm_of asked) old before.seen own now.seen found phase
+found_now {P} meld limits asked name old before group own now found (Checking missing) p limits_is still found_is =
+    let i = p.2 in
+    let w = i.waits in
+    let begins = prefix_trans before.seen w.look p.1 (did_prefix false [] before.seen w.look w.looked.did) (did_prefix false [] w.look p.1 w.waited) in
+    let here : p.1 ≡ now.seen = squeeze before.seen p.1 now.seen begins (did_prefix false [] p.1 now.seen i.waited) still in
+    (p.1, subst (λ (l : Limits). IsChecking meld l false (comm_of asked) missing p.1 old before.seen own now.seen) limits_is i, ap length here ∙ sym found_is)
+found_now meld limits asked name old before group own now found Over p limits_is still found_is = tt
+found_now meld limits asked name old before group own now found Begun p limits_is still found_is = tt
+found_now meld limits asked name old before group own now found Looking p limits_is still found_is = tt
+found_now meld limits asked name old before group own now found (Settling request offer) p limits_is still found_is = tt
+found_now meld limits asked name old before group own now found (Arriving round) p limits_is still found_is = tt
+found_now meld limits asked name old before group own now found Revoking p limits_is still found_is = tt
+found_now meld limits asked name old before group own now found Asking p limits_is still found_is = tt
+found_now meld limits asked name old before group own now found (Marking marks shrinks) p limits_is still found_is = tt
+found_now meld limits asked name old before group own now found (Reading reading shrinks) p limits_is still found_is = tt
+found_now meld limits asked name old before group own now found (ReadingOn on made) p limits_is still found_is = tt
+found_now meld limits asked name old before group own now found (Spawning append context reach) p limits_is still found_is = tt
+found_now meld limits asked name old before group own now found (Waiting arrivals) p limits_is still found_is = tt
+
 module _ {P : Type 0} (meld : P → P → P) (name : Name) (now : Traced P) (pass after_it : Sight P) (own : Record) (doing : UnderWay P) (h : HasBegun meld name now pass own doing) (of : IsOf meld name after_it) (result : Option (Reply P)) (own' : Record) (doing' : UnderWay P)
-    (onward : pass.steps ≤ after_it.steps) (adds : StepAdds true own doing.asked doing.phase result pass.seen after_it.seen) (asked' : doing'.asked ≡ doing.asked) where
+    (adds : StepAdds true own doing.asked doing.phase result pass.seen after_it.seen) (asked' : doing'.asked ≡ doing.asked) (found' : ℕ) (found_is' : found' ≡ length after_it.seen) where
   still : pass.seen ≡ after_it.seen
   still = sym (no_event own doing.asked doing.phase result pass.seen after_it.seen h.looking adds)
 
@@ -57,26 +84,28 @@ module _ {P : Type 0} (meld : P → P → P) (name : Name) (now : Traced P) (pas
   history' = h.history ∙ still
 
   -- the look goes on
-  goes_on : is_looking doing'.phase ≡ true → Stands meld false name h.old pass doing' own' after_it → HasBegun meld name now after_it own' doing'
+  goes_on : is_looking doing'.phase ≡ true → Stands meld false name h.old pass doing' own' after_it → (own'.number ≡ own.number) × HasBegun meld name now after_it own' doing'
   goes_on looking stands =
-      let number' : own'.number ≡ own.number = same_number meld name doing'.asked h.old pass doing'.group own' after_it doing'.phase looking stands.at ∙ sym h.number in
-      record {
-        limits = h.limits;
-        history = history';
-        u = h.u;
-        call = subst (λ n. call_by now (Rank n) ≡ Some h.u) (sym number') h.call;
-        asked = h.asked ∙ sym asked';
-        old = h.old;
-        record_is = subst (λ n. record_of now n ≡ Some h.old) (sym number') h.record_is;
-        number = number' ∙ h.number;
-        looking = looking;
-        in_use = h.in_use;
-        stands = begins_again meld name h.old pass doing' own' after_it looking stands of ([], append-nil pass.seen ∙ still);
-        no_shrink = ap (λ a. is_shrink (polled_by h.old a)) asked' ∙ h.no_shrink;
-        begun = subst (λ w. h.u.begun ≤ length w) still h.begun;
-        look = h.look;
-        own_is = h.own_is;
-      }
+      let number' : own'.number ≡ own.number = same_number meld name doing'.asked h.old pass doing'.group own' after_it doing'.phase looking stands.at ∙ sym h.number in (
+        number',
+        record {
+          limits = h.limits;
+          history = history';
+          u = h.u;
+          call = subst (λ n. call_by now (Rank n) ≡ Some h.u) (sym number') h.call;
+          asked = h.asked ∙ sym asked';
+          old = h.old;
+          seen = h.seen;
+          record_is = subst (λ n. record_of now n ≡ Some (reseen h.old h.seen)) (sym number') h.record_is;
+          number = number' ∙ h.number;
+          looking = looking;
+          in_use = h.in_use;
+          stands = begins_again meld name h.old pass doing' own' after_it looking stands of ([], append-nil pass.seen ∙ still);
+          begun = subst (λ w. h.u.begun ≤ length w) still h.begun;
+          look = h.look;
+          own_is = h.own_is;
+        },
+      )
 
   -- it has ended
   module _ (seen' : own'.seen ≡ failures after_it.seen) where
@@ -87,107 +116,105 @@ module _ {P : Type 0} (meld : P → P → P) (name : Name) (now : Traced P) (pas
     u' = record h.u { look = Some (length own'.seen) }
 
     may_look : MayCome meld now [] (Looked own.number (length own'.seen))
-    may_look = (record { call = h.u; is_open = h.call; first = h.look; own = h.old; has_record = h.record_is; in_use = h.in_use }, ap length (seen' ∙ ap failures (sym history')))
+    may_look = (record { call = h.u; is_open = h.call; first = h.look; own = reseen h.old h.seen; has_record = h.record_is; in_use = h.in_use }, ap length (seen' ∙ ap failures (sym history')))
 
     call' : call_by told (Rank own.number) ≡ Some u'
     call' = find_change (Rank own.number) (λ u. record u { look = Some (length own'.seen) }) (λ u. refl) now.calls h.u h.call
 
-    look' : u'.look ≡ Some (length (failures after_it.seen))
-    look' = ap (λ s. Some (length s)) seen'
+    look' : u'.look ≡ Some (length (failures pass.seen))
+    look' = ap (λ s. Some (length s)) (seen' ∙ ap failures (sym still))
 
     -- and the call goes on
-    ends_on : is_looking doing'.phase ≡ false → Stands meld false name h.old pass doing' own' after_it → own' ≡ record h.old { seen = failures after_it.seen } → IsFalse (has (failures after_it.seen) h.old.number) → refusal_of h.old doing'.asked ≡ None
-        → HasCalled meld name told after_it own' doing'
+    ends_on : is_looking doing'.phase ≡ false → Stands meld false name h.old pass doing' own' after_it → own' ≡ record h.old { seen = own'.seen } → IsFalse (has (failures after_it.seen) h.old.number) → refusal_of h.old doing'.asked ≡ None
+        → (own'.number ≡ own.number) × HasCalled meld name told after_it own' found' doing'
     ends_on past stands same alive passes =
-        let number' : own'.number ≡ own.number = ap (λ (w : Record). w.number) same ∙ sym h.number in
-        record {
-          limits = h.limits;
-          history = history';
-          u = u';
-          call = subst (λ n. call_by told (Rank n) ≡ Some u') (sym number') call';
-          asked = h.asked ∙ sym asked';
-          old = h.old;
-          record_is = subst (λ n. record_of now n ≡ Some h.old) (sym number') h.record_is;
-          before = pass;
-          stood = after_it;
-          stands = stands;
-          waits = record { did = did_among after_it.seen after_it.seen ([], append-nil after_it.seen); onward = omega arith };
-          past = past;
-          in_use = h.in_use;
-          own_same = subst (λ w. own' ≡ record h.old { seen = failures w }) (sym still) same;
-          no_shrink = ap (λ a. is_shrink (polled_by h.old a)) asked' ∙ h.no_shrink;
-          begun = h.begun;
-          look = look' ∙ ap (λ w. Some (length (failures w))) (sym still);
-          rest = [];
-          since = append-nil pass.seen ∙ still;
-          own_is = sym h.own_is;
-          no_own = λ no_poll. h.own_is;
-          not_declared = subst (λ w. IsFalse (has (failures w) h.old.number)) (sym still) alive;
-          not_refused = passes;
-        }
+        let number' : own'.number ≡ own.number = ap (λ (w : Record). w.number) same ∙ sym h.number in (
+          number',
+          record {
+            limits = h.limits;
+            history = history';
+            u = u';
+            call = subst (λ n. call_by told (Rank n) ≡ Some u') (sym number') call';
+            asked = h.asked ∙ sym asked';
+            old = h.old;
+            seen = h.seen;
+            record_is = subst (λ n. record_of now n ≡ Some (reseen h.old h.seen)) (sym number') h.record_is;
+            before = pass;
+            stood = after_it;
+            stands = stands;
+            waits = record { did = did_among after_it.seen after_it.seen ([], append-nil after_it.seen); onward = omega arith };
+            past = past;
+            in_use = h.in_use;
+            own_same = same;
+            sees = λ other. seen' ∙ ap failures (sym still);
+            begun = h.begun;
+            look = look';
+            rest = [];
+            since = append-nil pass.seen ∙ still;
+            own_is = sym h.own_is;
+            no_own = λ no_poll. h.own_is;
+            not_declared = subst (λ w. IsFalse (has (failures w) h.old.number)) (sym still) alive;
+            not_refused = passes;
+            found_at = found_now meld name.limits doing'.asked name h.old pass doing'.group own' after_it found' doing'.phase stands.at refl still found_is';
+          },
+        )
 
     -- or it is answered
-    ends_reply : (reply : Reply P) → IsEndRun meld name.limits false pass.seen after_it.seen h.old doing.asked reply own'
-        → MayCome meld told (listed now.limits.ranks after_it.seen (traits_of doing.asked).comm reply) (Replied (Rank own.number) (length after_it.seen) (Some reply))
-    ends_reply reply ended =
-        let seen = seen' ∙ ap failures (sym still) in
-        let answers = reply_answers meld name.limits pass.seen after_it.seen h.old doing.asked reply own' ended [] (append-nil pass.seen ∙ still) [] refl (λ no_poll. inl refl) (λ other. seen) in
-        let whole : take (length after_it.seen) told.history ≡ after_it.seen = ap (take (length after_it.seen)) history' ∙ take-length after_it.seen in
-        let found : found_by told u' ≡ failures pass.seen = found_is told u' pass.seen (look' ∙ ap (λ w. Some (length (failures w))) (sym still)) ([], append-nil pass.seen ∙ sym h.history) in
-        let as_long : length told.history ≡ length after_it.seen = ap length history' in
-        let begun = subst (λ w. h.u.begun ≤ length w) still h.begun in
-        let there : IsSelfFailed (record { look = found_by told u'; history = take (length after_it.seen) told.history; own = u'.own }) h.old u'.asked reply ⊎ IsReply meld told.limits (record { look = found_by told u'; history = take (length after_it.seen) told.history; own = u'.own }) h.old u'.asked reply =
-        rw (h.asked, h.limits, found, whole, h.own_is) answers in
-        record {
-          call = u';
-          is_open = call';
-          since_begin = begun;
-          by_now = omega (arith, as_long);
-          answers = subst (λ o. AnswersRank meld told u' (length after_it.seen) reply o) (sym h.record_is) (inr (h.in_use, refl, there));
-          lists = ap₂ (λ w (a : Call P). listed now.limits.ranks w (traits_of a).comm reply) (sym whole) (sym h.asked);
-        }
+    ends_reply : (reply : Reply P) → IsEndRun meld name.limits false pass.seen after_it.seen h.old doing.asked reply own' → Fits meld name.limits after_it.seen own'
+        → EndsSo meld name told after_it own.number (comm_of doing.asked) (length after_it.seen) reply own'
+    ends_reply reply ended fits =
+        let answers = reply_answers meld name.limits pass.seen after_it.seen h.old doing.asked reply own' ended [] (append-nil pass.seen ∙ still) [] refl (λ no_poll. inl refl) (λ other. seen' ∙ ap failures (sym still)) in
+        let there = subst (λ es. IsSelfFailed (record { look = failures pass.seen; history = after_it.seen; own = es }) h.old doing.asked reply ⊎ IsReply meld name.limits (record { look = failures pass.seen; history = after_it.seen; own = es }) h.old doing.asked reply) (sym h.own_is) answers in
+        ends_so meld name told after_it own.number h.old h.seen u' doing.asked pass.seen after_it.seen [] [] reply own' h.limits history' call' h.record_is h.number h.in_use h.asked h.begun look' (append-nil pass.seen ∙ still) (append-nil after_it.seen)
+        there ended fits (may_list meld name.limits pass.seen after_it.seen h.old doing.asked own' fits reply ended)
 
   -- what the reply says was seen
   seen_of : (reply : Reply P) → IsEndRun meld name.limits false pass.seen after_it.seen h.old doing.asked reply own' → own'.seen ≡ failures after_it.seen
   seen_of reply ended =
-      let run = ended.run in
-      let span = run.span in
-      let sees : own'.seen ≡ failures span.look = subst (λ b. Sees b (failures span.look) after_it.seen own'.seen) h.no_shrink run.answer.leaves.seen in
+      let span = ended.run.span in
       let here : span.look ≡ after_it.seen = squeeze pass.seen span.look after_it.seen (did_prefix false [] pass.seen span.look span.looked) (did_prefix false _ span.look after_it.seen span.did) still in
-      sees ∙ ap failures here
+      sees_all (is_shrink (polled_by h.old doing.asked)) span.look after_it.seen own'.seen ended.run.answer.leaves.seen (ap failures here)
 
-  going : Stands meld false name h.old pass doing' own' after_it → LooksOn meld name now own doing None after_it own' doing'
+  -- a run that ended as it was when somebody was found missing ended now
+  ended_now : (reply : Reply P) → IsEarlyRun meld name.limits false pass.seen after_it.seen h.old doing.asked reply own' → IsEndRun meld name.limits false pass.seen after_it.seen h.old doing.asked reply own'
+  ended_now reply early =
+      let span = early.run.run.span in
+      let begins = prefix_trans pass.seen span.look early.found (did_prefix false [] pass.seen span.look span.looked) (did_prefix false _ span.look early.found span.did) in
+      let here : early.found ≡ after_it.seen = squeeze pass.seen early.found after_it.seen begins (did_prefix false [] early.found after_it.seen early.waited) still in
+      subst (λ w. IsEndRun meld name.limits false pass.seen w h.old doing.asked reply own') here early.run
+
+  abbrev Comes : Option (Reply P) → Type 0
+  Comes r = LooksOn meld name own.number (comm_of doing.asked) (length after_it.seen) found' now r after_it own' doing'
+
+  going : Stands meld false name h.old pass doing' own' after_it → Comes None
   going stands = go (is_looking doing'.phase) refl
     where
-      go : (b : Bool) → is_looking doing'.phase ≡ b → LooksOn meld name now own doing None after_it own' doing'
-      go true looking = inl (goes_on looking stands)
+      go : (b : Bool) → is_looking doing'.phase ≡ b → Comes None
+      go true looking = let on = goes_on looking stands in inl (refl, on.0, on.1)
       go false past =
-          let other = ap (λ a. is_shrink (polled_by h.old a)) asked' ∙ h.no_shrink in
-          let f = found_by_phase meld name doing'.asked h.old pass doing'.group own' after_it h.in_use other doing'.phase past stands.at in
+          let f = found_by_phase meld name doing'.asked h.old pass doing'.group own' after_it h.in_use doing'.phase past stands.at in
           let all = found_all doing'.asked h.old own' pass.seen after_it.seen f still in
-          let same = f.record_is ∙ ap (λ s. record h.old { seen = s }) all in
-          let seen' = ap (λ (w : Record). w.seen) same in
-          inr (may_look seen', ends_on seen' past stands same (subst (λ s. IsFalse (has s h.old.number)) all f.not_declared) f.not_refused)
+          inr (may_look all.1, ends_on all.1 past stands f.same (subst (λ s. IsFalse (has s h.old.number)) all.0 f.not_declared) f.not_refused)
 
-  answered : (reply : Reply P) → Answered meld false name doing.asked h.old pass reply own' after_it → LooksOn meld name now own doing (Some reply) after_it own' doing'
-  answered reply a = go a.ends
+  answered : (reply : Reply P) → wants_memory reply ≡ false → Answered meld false name doing.asked h.old pass reply own' after_it → Comes (Some reply)
+  answered reply has_memory a = go a.ends
     where
-      by_calls : (IsRefusedAgain h.old reply own' × (after_it ≡ pass)) ⊎ (IsEndRun meld name.limits false pass.seen after_it.seen h.old doing.asked reply own' ⊎ IsEarlyRun meld name.limits false pass.seen after_it.seen h.old doing.asked reply own') → LooksOn meld name now own doing (Some reply) after_it own' doing'
-      by_calls (inl again) = absurd (cc (again.0.refused, h.in_use))
-      by_calls (inr (inl ended)) = let seen' = seen_of reply ended in inr (may_look seen', ends_reply seen' reply ended)
-      by_calls (inr (inr early)) = inl (h.old, pass.seen, h.record_is, early)
+      ending : IsEndRun meld name.limits false pass.seen after_it.seen h.old doing.asked reply own' → Fits meld name.limits after_it.seen own' → Comes (Some reply)
+      ending ended fits = let seen' = seen_of reply ended in inr (may_look seen', ends_reply seen' reply ended fits)
 
-      by_memory : (b : Bool) → wants_memory reply ≡ b → EndsAs meld false name doing.asked h.old pass reply b own' after_it → LooksOn meld name now own doing (Some reply) after_it own' doing'
-      by_memory true wants e = absurd (cc (e.1, h.no_shrink))
-      by_memory false wants e = by_calls e.ends
+      by_calls : Fits meld name.limits after_it.seen own'
+          → (IsRefusedAgain h.old reply own' × (after_it ≡ pass)) ⊎ (IsEndRun meld name.limits false pass.seen after_it.seen h.old doing.asked reply own' ⊎ IsEarlyRun meld name.limits false pass.seen after_it.seen h.old doing.asked reply own') → Comes (Some reply)
+      by_calls fits (inl again) = absurd (cc (again.0.refused, h.in_use))
+      by_calls fits (inr (inl ended)) = ending ended fits
+      by_calls fits (inr (inr early)) = ending (ended_now reply early) fits
 
-      go : (IsRefusedAgain h.old reply own' × Waits false pass after_it) ⊎ EndsReply meld false name doing.asked h.old pass reply own' after_it → LooksOn meld name now own doing (Some reply) after_it own' doing'
+      go : (IsRefusedAgain h.old reply own' × Waits false pass after_it) ⊎ EndsReply meld false name doing.asked h.old pass reply own' after_it → Comes (Some reply)
       go (inl again) = absurd (cc (again.0.refused, h.in_use))
-      go (inr e) = by_memory (wants_memory reply) refl e
+      go (inr e) = let calls = subst (λ b. EndsAs meld false name doing.asked h.old pass reply b own' after_it) has_memory e in by_calls calls.fits calls.ends
 
-  pub looks_on : MatchOption result (Stands meld false name h.old pass doing' own' after_it) (λ reply. Answered meld false name doing.asked h.old pass reply own' after_it) → LooksOn meld name now own doing result after_it own' doing'
-  looks_on ends = go result ends
+  pub looks_on : ((reply : Reply P) → result ≡ Some reply → wants_memory reply ≡ false) → MatchOption result (Stands meld false name h.old pass doing' own' after_it) (λ reply. Answered meld false name doing.asked h.old pass reply own' after_it) → Comes result
+  looks_on has_memory ends = go result refl ends
     where
-      go : (r : Option (Reply P)) → MatchOption r (Stands meld false name h.old pass doing' own' after_it) (λ reply. Answered meld false name doing.asked h.old pass reply own' after_it) → LooksOn meld name now own doing r after_it own' doing'
-      go None stands = going stands
-      go (Some reply) a = answered reply a
+      go : (r : Option (Reply P)) → result ≡ r → MatchOption r (Stands meld false name h.old pass doing' own' after_it) (λ reply. Answered meld false name doing.asked h.old pass reply own' after_it) → Comes r
+      go None is stands = going stands
+      go (Some reply) is a = answered reply (has_memory reply is) a

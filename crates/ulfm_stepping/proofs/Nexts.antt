@@ -1,14 +1,9 @@
 -- What comes after a step, by its reply.
-use Rattle.std.proofs.Common.{◌≡◌, false, Option, Some, None, refl}
+use Rattle.std.proofs.Common.{◌≡◌, Option, Some, None, refl}
 use Rattle.ulfm_model.specs.declared.reply.Reply.{Reply}
-use Rattle.ulfm_comm.specs.Phase.{IsPast, is_looking, next_of, reply_in}
+use Rattle.ulfm_comm.specs.Phase.{next_of, reply_in}
 use Rattle.ulfm_comm.specs.declared.phases.phase.Phase.{Phase}
 
 pub reply_next : {P : Type 0} (reply : Option (Reply P)) (phase : Phase P) → reply_in (next_of reply phase) ≡ reply
 reply_next None phase = refl
 reply_next (Some reply) phase = refl
-
--- a call that goes on behind its look doesn't come back to it
-pub past_next : {P : Type 0} (reply : Option (Reply P)) (phase : Phase P) → IsPast (next_of reply phase) → reply ≡ None → is_looking phase ≡ false
-past_next None phase past is = past
-past_next (Some reply) phase past is = absurd (cc is)

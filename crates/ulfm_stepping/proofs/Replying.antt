@@ -1,11 +1,10 @@
 -- The reply that a step gives is an answer by the look that was printed and by exactly the events that were.
-use Rattle.std.proofs.Common.{◌≡◌, ◌⊎◌, ℕ, ◌==◌, ◌||◌, Bool, true, false, List, [], ◌∷◌, ◌++◌, Option, Some, None, refl, ap, ap₂, sym, ◌∙◌, subst, append-nil, append_assoc, inl, inr, IsTrue, IsFalse, if◌then◌else◌}
-use Rattle.std.proofs.lemmas.Bool.{eq-eqb}
+use Rattle.std.proofs.Common.{◌≡◌, ◌⊎◌, ℕ, ◌==◌, ◌||◌, Bool, true, false, List, [], ◌∷◌, ◌++◌, Option, Some, None, refl, ap, sym, ◌∙◌, subst, append_assoc, inl, inr, if◌then◌else◌}
 use Rattle.std.specs.Option.{option_and_then}
 use mathlib.Core.List.{IsPrefix}
 use Rattle.ulfm_model.specs.declared.call.Call.TheVariants as call
-use Rattle.ulfm_model.specs.declared.{call.Call.{Call}, call.Request.{Request}, call.Request.TheVariants.{Agree, Shrink, Barrier}, event.Caller.{Caller}, event.Caller.TheVariants.{Outside, Rank}, event.Entry.{Entry}, event.Event.{Event}, limits.Limits.{Limits}, refusal.Refusal.{Refusal}, reply.Reply.{Reply}, reply.Reply.TheVariants.{Revoked, Started}}
-use Rattle.ulfm_model.specs.{Answers.{IsReply, IsSelfFailed, PollReplies, RepliesBy, Sees, View, polled_by, refusal_of, traits_of}, History.{History, entries_by, failures, has}, Records.{Held, Record, held_at, is_shrink}, Runs.{Did, StandsIn}}
+use Rattle.ulfm_model.specs.declared.{call.Call.{Call}, call.Request.{Request}, call.Request.TheVariants.{Agree, Shrink, Barrier}, event.Caller.{Caller}, event.Caller.TheVariants.{Rank}, event.Entry.{Entry}, event.Event.{Event}, limits.Limits.{Limits}, refusal.Refusal.{Refusal}, reply.Reply.{Reply}, reply.Reply.TheVariants.{Revoked, Started}}
+use Rattle.ulfm_model.specs.{Answers.{IsReply, IsSelfFailed, PollReplies, RepliesBy, Sees, View, polled_by, refusal_of, traits_of}, History.{History, entries_by, failures, has}, Records.{Held, Record, held_at, is_shrink}, Runs.{StandsIn}}
 use Rattle.ulfm_model.proofs.Histories.{failures_begin}
 use Rattle.ulfm_words.proofs.Trails.{did_prefix}
 use Rattle.ulfm_comm.specs.Ends.{IsEndRun}

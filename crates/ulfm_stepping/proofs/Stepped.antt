@@ -1,24 +1,25 @@
 -- One step of a call that has looked: what it tells may come.
-use Rattle.std.proofs.Common.{◌≡◌, ◌⊎◌, ℕ, ◌≤◌, ◌==◌, Bool, true, false, List, [], ◌∷◌, ◌++◌, length, take, map, find, unwrap_or, Option, Some, None, is_some, refl, ap, ap₂, sym, ◌∙◌, subst, arith, append-nil, append_assoc, length-append, inl, inr, IsTrue, IsFalse, if◌then◌else◌}
-use Rattle.std.proofs.lemmas.List.{map-append}
-use Rattle.std.proofs.Math.Seq.{take-append_seam, take-length}
+use Rattle.std.proofs.Common.{◌≡◌, ◌⊎◌, ℕ, ◌<◌, ◌≤◌, ◌==◌, Bool, true, false, List, [], ◌∷◌, ◌++◌, length, Option, Some, None, is_some, refl, ap, ap₂, sym, ◌∙◌, subst, arith, append-nil, append_assoc, inl, inr, IsTrue, if◌then◌else◌}
 use Rattle.std.specs.Prelude.{MatchOption}
-use Rattle.std.specs.{List.{AllByRecursion}, Option.{option_map_or}}
+use Rattle.std.specs.Option.{option_map_or}
 use mathlib.Core.List.{IsPrefix}
 use Rattle.ulfm_model.specs.declared.call.Call.TheVariants as call
-use Rattle.ulfm_model.specs.declared.{call.Call.{Call}, call.Request.{Request}, call.Request.TheVariants.{Agree, Barrier, Shrink}, event.Caller.{Caller}, event.Caller.TheVariants.{Outside, Rank}, event.Entry.{Entry}, event.Event.{Event}, limits.Limits.{Limits}, refusal.Refusal.TheVariants.{SelfFailed}, reply.Reply.{Reply}, reply.Reply.TheVariants.{Refused, Revoked, Started}}
-use Rattle.ulfm_model.specs.{Answers.{CallAdds, PollAdds, IsReply, IsSelfFailed, MayOwn, polled_by, rank_of, refusal_of, traits_of}, History.{History, IsLegal, MayFollow, entries_by, failures, has, says}, Records.{Held, Record, held_at, is_shrink}, Runs.{Did}}
+use Rattle.ulfm_model.specs.declared.{call.Call.{Call}, call.Request.{Request}, call.Request.TheVariants.{Agree, Barrier, Shrink}, event.Caller.{Caller}, event.Caller.TheVariants.{Outside, Rank}, event.Event.{Event}, refusal.Refusal.TheVariants.{ProcFailed}, reply.Reply.{Reply}, reply.Reply.TheVariants.{Pending, Refused, Revoked, Started}}
+use Rattle.ulfm_model.specs.{Answers.{CallAdds, PollAdds, MayOwn, polled_by, rank_of, refusal_of, traits_of}, History.{History, IsLegal, MayFollow, entries_by, failures, says}, Records.{Fits, Held, Record, held_at, is_shrink}, Runs.{Did}}
 use Rattle.ulfm_model.specs.Terms.{comm_of}
-use Rattle.ulfm_model.proofs.Histories.{failures_begin, legal_parts}
+use Rattle.ulfm_model.proofs.{Histories.{legal_parts}, Lists.{prefix_trans}}
 use Rattle.ulfm_words.specs.Steps.{IsOf, Name, Sight}
-use Rattle.ulfm_comm.specs.{Calls.{Calls, EndsAs, EndsReply, wants_memory}, Ends.{IsEarlyRun, IsEndRun, IsRefusedAgain}, Phase.{Answered, Stands, StandsAt, UnderWay, Waits, is_looking}, Step.{Adds, Makes, StepAdds, StepSees}}
+use Rattle.ulfm_words.proofs.Trails.{did_prefix, did_quiet}
+use Rattle.ulfm_steps.specs.declared.{arrivals.Missing.{Missing}}
+use Rattle.ulfm_comm.specs.{Barrier.{AnswersEarly, IsChecking}, Calls.{Calls, EndsAs, EndsReply, wants_memory}, Ends.{IsEarlyRun, IsEndRun, IsRefusedAgain}, Phase.{Answered, LeadsTo, Stands, StandsAt, UnderWay, Waits, is_checking, is_making, next_of, reply_in}, Step.{Adds, Makes, StepAdds, Stepped}, StepsLeft.{FewerLeft, steps_left}}
 use Rattle.ulfm_comm.specs.declared.phases.phase.{Phase.{Phase}, Phase.TheVariants.{Over, Begun, Looking, Settling, Arriving, Revoking, Asking, Marking, Reading, ReadingOn, Spawning, Waiting, Checking}}
-use Rattle.ulfm_comm.proofs.{StepAdds.{adds_none}, AmongOthers.{did_among}, Polls.{polls_it}}
-use Rattle.ulfm_trace_model.specs.declared.line.Line.TheVariants.{Happened, Replied}
-use Rattle.ulfm_trace_model.specs.Traces.{AnswersRank, MayCome, Traced, Under, after, call_by, change_by, found_by, is_owned, listed, record_of, same_caller, with_event}
-use Rattle.ulfm_stepping.specs.Stepping.{EndsEarly, HasCalled, SaysStep, TellsStep, events_by}
+use Rattle.ulfm_comm.proofs.{StepAdds.{adds_none}, AmongOthers.{did_among}, Stands.{stands_lasts}}
+use Rattle.ulfm_trace_model.specs.declared.line.Line.TheVariants.{Happened}
+use Rattle.ulfm_trace_model.specs.Traces.{MayCome, Traced, Under, after, call_by, found_by, is_owned, record_of, same_caller, with_event}
 use Rattle.ulfm_trace_model.proofs.Callers.{find_change, same_rank}
-use Rattle.ulfm_stepping.proofs.Replying.{by_append, reply_answers}
+use Rattle.ulfm_stepping.specs.Stepping.{FoundAt, HasCalled, events_by, is_early, point_of}
+use Rattle.ulfm_stepping.proofs.{Ending.{ends_so, found_is, lists_none, may_list}, Nexts.{reply_next}, Phases.{IsBarrier, barrier_phase, checking_polls, making_shrinks, seen_stays, stands_same, stays_making, stays_past}}
+use Rattle.ulfm_stepping.proofs.{Replying.{by_append, reply_answers}, Reseen.{own_reseen, reseen}, Swapping.{answer_swaps}, Turns.{EndsSo, NextAt, SaysStep}}
 
 -- an event that needs no look may be added with any
 widened : {P : Type 0} (look : List ℕ) (r : ℕ) (x : Held) (asked : Call P) (event : Event P) → CallAdds [] r x asked event → CallAdds look r x asked event
@@ -40,99 +41,66 @@ widened look r x (call.Revoke rank c) event a = a
 widened look r x (call.IsRevoked rank c) event a = absurd a
 widened look r x (call.Free rank c) event a = absurd a
 
-adds_widened : {P : Type 0} (own : Record) (asked : Call P) (reply : Option (Reply P)) (old new : History P) → Adds true [] own asked reply old new → Adds true own.seen own asked reply old new
-adds_widened {P} own asked reply old new adds = record { events = adds.events; did = adds.did; few = go adds.few }
+adds_widened : {P : Type 0} (look : List ℕ) (own : Record) (asked : Call P) (reply : Option (Reply P)) (old new : History P) → Adds true [] own asked reply old new → Adds true look own asked reply old new
+adds_widened {P} look own asked reply old new adds = record { events = adds.events; did = adds.did; few = go adds.few }
   where
-    go : (adds.events ≡ []) ⊎ ((event : Event P) × (adds.events ≡ event ∷ []) × Makes [] own asked reply event) → (adds.events ≡ []) ⊎ ((event : Event P) × (adds.events ≡ event ∷ []) × Makes own.seen own asked reply event)
+    go : (adds.events ≡ []) ⊎ ((event : Event P) × (adds.events ≡ event ∷ []) × Makes [] own asked reply event) → (adds.events ≡ []) ⊎ ((event : Event P) × (adds.events ≡ event ∷ []) × Makes look own asked reply event)
     go (inl none) = inl none
-    go (inr (event, is, makes)) = inr (event, is, record { x = makes.x; held = makes.held; adds = widened own.seen own.number makes.x asked event makes.adds; wins = makes.wins })
+    go (inr (event, is, makes)) = inr (event, is, record { x = makes.x; held = makes.held; adds = widened look own.number makes.x asked event makes.adds; wins = makes.wins })
 
--- what a step adds, whatever the call does
-pub adds_of : {P : Type 0} (own : Record) (asked : Call P) (phase : Phase P) (reply : Option (Reply P)) (old new : History P) → StepAdds true own asked phase reply old new → Adds true own.seen own asked reply old new
-adds_of own asked Over reply old new did = adds_none true own.seen own asked reply old new did
-adds_of own asked Begun reply old new did = adds_none true own.seen own asked reply old new did
-adds_of own asked Looking reply old new did = adds_none true own.seen own asked reply old new did
-adds_of own asked (Settling request offer) reply old new adds = adds
-adds_of own asked (Arriving round) reply old new adds = adds
-adds_of own asked Revoking reply old new adds = adds
-adds_of own asked Asking reply old new did = adds_none true own.seen own asked reply old new did
-adds_of own asked (Marking marks shrinks) reply old new adds = adds
-adds_of own asked (Reading reading shrinks) reply old new did = adds_none true own.seen own asked reply old new did
-adds_of own asked (ReadingOn on made) reply old new did = adds_none true own.seen own asked reply old new did
-adds_of own asked (Spawning append context reach) reply old new adds = adds_widened own asked reply old new adds
-adds_of own asked (Waiting arrivals) reply old new did = adds_none true own.seen own asked reply old new did
-adds_of own asked (Checking missing) reply old new did = adds_none true own.seen own asked reply old new did
-
-seen_same : (own old : Record) (s : List ℕ) → own ≡ record old { seen = s } → own ≡ record old { seen = own.seen }
-seen_same own old s is = is ∙ ap (λ w. record old { seen = w }) (sym (ap (λ (r : Record). r.seen) is))
-
-module _ {P : Type 0} (meld : P → P → P) (alone : Bool) (name : Name) (asked : Call P) (old : Record) (before : Sight P) (group : List ℕ) (own : Record) (now : Sight P) (in_use : IsFalse old.refused) where
-  -- of the record only what was seen is new
-  pub stands_same : (phase : Phase P) → is_looking phase ≡ false → StandsAt meld alone name asked old before phase group own now → own ≡ record old { seen = own.seen }
-  stands_same Over past p = absurd (cc (p.0, in_use))
-  stands_same Begun past p = absurd (cc past)
-  stands_same Looking past p = absurd (cc past)
-  stands_same (Settling request offer) past p = seen_same own old _ p.0.looked.record_is
-  stands_same (Arriving round) past p = seen_same own old _ p.0.looked.record_is
-  stands_same Revoking past p = seen_same own old _ p.0.looked.record_is
-  stands_same Asking past p = seen_same own old _ p.0.looked.record_is
-  stands_same (Marking marks shrinks) past p = seen_same own old _ p.1.looked.record_is
-  stands_same (Reading reading shrinks) past p = seen_same own old _ p.1.marked.looked.record_is
-  stands_same (ReadingOn on made) past p = p.2.own_is ∙ ap (λ (w : Record). record w { seen = own.seen }) p.2.marked.looked.record_is
-  stands_same (Spawning append context reach) past p = p.1.decided.own_is ∙ ap (λ (w : Record). record w { seen = own.seen }) p.1.decided.marked.looked.record_is
-  stands_same (Waiting arrivals) past p = seen_same own old _ p.3.looked.record_is
-  stands_same (Checking missing) past p = seen_same own old _ p.2.waits.looked.record_is
-
-  -- and but for a shrink's poll, that was seen at the look
-  pub seen_stays : (phase : Phase P) → is_looking phase ≡ false → StandsAt meld alone name asked old before phase group own now → is_shrink (polled_by old asked) ≡ false → (seen : List ℕ) → StepSees phase own.seen seen → seen ≡ own.seen
-  seen_stays Over past p other seen is = is
-  seen_stays Begun past p other seen is = absurd (cc past)
-  seen_stays Looking past p other seen is = absurd (cc past)
-  seen_stays (Settling request offer) past p other seen is = is
-  seen_stays (Arriving round) past p other seen is = is
-  seen_stays Revoking past p other seen is = is
-  seen_stays Asking past p other seen is = is
-  seen_stays (Marking marks shrinks) past p other seen is = is
-  seen_stays (Reading reading shrinks) past p other seen is = is
-  seen_stays (ReadingOn on made) past p other seen is =
-      let polls = polls_it meld name.limits alone before.seen old p.2.mid (comm_of asked) true made.round p.1 p.2.decided p.2.marked in
-      let polled : polled_by old asked ≡ Some (Shrink made.round) = ap (polled_by old) p.0 ∙ polls in
-      absurd (cc (ap is_shrink polled, other))
-  seen_stays (Spawning append context reach) past p other seen is = is
-  seen_stays (Waiting arrivals) past p other seen is = is
-  seen_stays (Checking missing) past p other seen is = is
-
--- a change to another's call changes nothing for this one
-pub find_other : {P : Type 0} (by other : Caller) (f : Under P → Under P) → ((u : Under P) → (f u).asked ≡ u.asked) → same_caller other by ≡ false → ((c : Caller) → same_caller c other ≡ true → same_caller c by ≡ true → ⊥) → (xs : List (Under P))
-    → find (λ v. same_caller (traits_of v.asked).by by) (change_by other f xs) ≡ find (λ v. same_caller (traits_of v.asked).by by) xs
-find_other by other f keeps differ apart [] = refl
-find_other {P} by other f keeps differ apart (x ∷ xs) = go (same_caller (traits_of x.asked).by other) refl (find_other by other f keeps differ apart xs)
-  where
-    not_mine : (b : Bool) → same_caller (traits_of x.asked).by by ≡ b → same_caller (traits_of x.asked).by other ≡ true → b ≡ false
-    not_mine true is there = absurd (apart (traits_of x.asked).by there is)
-    not_mine false is there = refl
-
-    go : (b : Bool) → same_caller (traits_of x.asked).by other ≡ b → find (λ v. same_caller (traits_of v.asked).by by) (change_by other f xs) ≡ find (λ v. same_caller (traits_of v.asked).by by) xs
-        → find (λ v. same_caller (traits_of v.asked).by by) (if b then f x ∷ xs else x ∷ change_by other f xs) ≡ (if same_caller (traits_of x.asked).by by then Some x else find (λ v. same_caller (traits_of v.asked).by by) xs)
-    go true there rest =
-        let none = not_mine (same_caller (traits_of x.asked).by by) refl there in
-        let gone : same_caller (traits_of (f x).asked).by by ≡ false = ap (λ (a : Call P). same_caller (traits_of a).by by) (keeps x) ∙ none in
-        ap (λ (b : Bool). if b then Some (f x) else find (λ v. same_caller (traits_of v.asked).by by) xs) gone ∙ sym (ap (λ (b : Bool). if b then Some x else find (λ v. same_caller (traits_of v.asked).by by) xs) none)
-    go false there rest = ap (λ more. if same_caller (traits_of x.asked).by by then Some x else more) rest
-
--- what was seen at the look is what the judge knows of it
-pub found_is : {P : Type 0} (now : Traced P) (u : Under P) (start : History P) → u.look ≡ Some (length (failures start)) → IsPrefix start now.history → found_by now u ≡ failures start
-found_is now u start look begins =
-    let more = failures_begin start now.history begins in
-    ap (λ (n : Option ℕ). take (unwrap_or n 0) (failures now.history)) look ∙ (ap (take (length (failures start))) (sym more.1) ∙ take-append_seam (failures start) more.0)
+-- what a step adds, whatever the call does, by the failures that its look found
+module _ {P : Type 0} (look : List ℕ) (own : Record) (asked : Call P) (reply : Option (Reply P)) (old new : History P) where
+  pub adds_of : (phase : Phase P) → (is_making phase ≡ false → own.seen ≡ look) → StepAdds true own asked phase reply old new → Adds true look own asked reply old new
+  adds_of Over sees did = adds_none true look own asked reply old new did
+  adds_of Begun sees did = adds_none true look own asked reply old new did
+  adds_of Looking sees did = adds_none true look own asked reply old new did
+  adds_of (Settling request offer) sees adds = subst (λ s. Adds true s own asked reply old new) (sees refl) adds
+  adds_of (Arriving round) sees adds = subst (λ s. Adds true s own asked reply old new) (sees refl) adds
+  adds_of Revoking sees adds = subst (λ s. Adds true s own asked reply old new) (sees refl) adds
+  adds_of Asking sees did = adds_none true look own asked reply old new did
+  adds_of (Marking marks shrinks) sees adds = subst (λ s. Adds true s own asked reply old new) (sees refl) adds
+  adds_of (Reading reading shrinks) sees did = adds_none true look own asked reply old new did
+  adds_of (ReadingOn on made) sees did = adds_none true look own asked reply old new did
+  adds_of (Spawning append context reach) sees adds = adds_widened look own asked reply old new adds
+  adds_of (Waiting arrivals) sees did = adds_none true look own asked reply old new did
+  adds_of (Checking missing) sees did = adds_none true look own asked reply old new did
 
 -- a history without a step's event, or with it
 did_is : {P : Type 0} (own x y : History P) → Did true own x y → x ++ own ≡ y
 did_is own x y did = ap (λ w. x ++ w) (sym (did.quiet refl)) ∙ did.goes_on
 
-module _ {P : Type 0} (meld : P → P → P) (name : Name) (now : Traced P) (pass after_it : Sight P) (own : Record) (doing : UnderWay P) (h : HasCalled meld name now pass own doing) (of : IsOf meld name after_it) where
-  begins_now : IsPrefix h.before.seen now.history
-  begins_now = (h.rest, h.since ∙ sym h.history)
+-- a barrier's poll that makes its last load next
+checking_is : {P : Type 0} (phase : Phase P) → is_checking phase ≡ true → (missing : Missing) × (phase ≡ Checking missing)
+checking_is (Checking missing) is = (missing, refl)
+checking_is Over is = absurd (cc is)
+checking_is Begun is = absurd (cc is)
+checking_is Looking is = absurd (cc is)
+checking_is (Settling request offer) is = absurd (cc is)
+checking_is (Arriving round) is = absurd (cc is)
+checking_is Revoking is = absurd (cc is)
+checking_is Asking is = absurd (cc is)
+checking_is (Marking marks shrinks) is = absurd (cc is)
+checking_is (Reading reading shrinks) is = absurd (cc is)
+checking_is (ReadingOn on made) is = absurd (cc is)
+checking_is (Spawning append context reach) is = absurd (cc is)
+checking_is (Waiting arrivals) is = absurd (cc is)
+
+-- an event leaves what a call asks
+pub keeps_asked : {P : Type 0} (event : Event P) (u : Under P) → (with_event event u).asked ≡ u.asked
+keeps_asked {P} event u = go (is_owned u event)
+  where
+    go : (b : Bool) → (let v : Under P = if b then record u { own = u.own ++ event ∷ [] } else u in v.asked) ≡ u.asked
+    go true = refl
+    go false = refl
+
+module _ {P : Type 0} (meld : P → P → P) (name : Name) (now : Traced P) (pass after_it : Sight P) (own : Record) (found : ℕ) (doing : UnderWay P) (h : HasCalled meld name now pass own found doing) (of_old : IsOf meld name pass)
+    (result : Option (Reply P)) (own' : Record) (doing' : UnderWay P) (s : Stepped meld true name doing own pass (next_of result doing'.phase) own' after_it) (asked' : doing'.asked ≡ doing.asked)
+    (ends : MatchOption result (Stands meld false name h.old h.before doing' own' after_it) (λ reply. Answered meld false name doing.asked h.old h.before reply own' after_it)) where
+  abbrev start : History P
+  start = h.before.seen
+
+  abbrev look : List ℕ
+  look = failures start
 
   own_number : own.number ≡ h.old.number
   own_number = ap (λ (w : Record). w.number) h.own_same
@@ -140,208 +108,313 @@ module _ {P : Type 0} (meld : P → P → P) (name : Name) (now : Traced P) (pas
   own_held : (c : ℕ) → held_at h.old c ≡ held_at own c
   own_held c = sym (ap (λ (w : Record). held_at w c) h.own_same)
 
-  own_seen : own.seen ≡ failures h.before.seen
-  own_seen = ap (λ (w : Record). w.seen) h.own_same
+  begins_now : IsPrefix start now.history
+  begins_now = (h.rest, h.since ∙ sym h.history)
+
+  added : Adds true look own doing.asked result pass.seen after_it.seen
+  added = adds_of look own doing.asked result pass.seen after_it.seen doing.phase h.sees (subst (λ r. StepAdds true own doing.asked doing.phase r pass.seen after_it.seen) (reply_next result doing'.phase) s.adds)
+
+  -- but for a shrink's poll, what was seen is what the look found
+  seen_then : is_shrink (polled_by h.old doing.asked) ≡ false → own'.seen ≡ look
+  seen_then other = go (is_making doing.phase) refl
+    where
+      go : (b : Bool) → is_making doing.phase ≡ b → own'.seen ≡ look
+      go true making = absurd (cc (making_shrinks meld false name doing.asked h.old h.before doing.group own h.stood h.in_use doing.phase making h.stands.at, other))
+      go false not = seen_stays doing.phase h.past not own.seen own'.seen s.sees ∙ h.sees not
 
   -- the event of a step
-  module _ (reply : Option (Reply P)) (event : Event P) (makes : Makes own.seen own doing.asked reply event) (added : pass.seen ++ record { by = Rank own.number; event = event } ∷ [] ≡ after_it.seen) where
-    entry : Entry P
-    entry = record { by = Rank own.number; event = event }
-
-    may_own : MayOwn (found_by now h.u) h.old h.u.asked event
+  module _ (event : Event P) (makes : Makes look own doing.asked result event) (one_more : pass.seen ++ record { by = Rank own.number; event = event } ∷ [] ≡ after_it.seen) where
+    may_own : MayOwn (found_by now h.u) (reseen h.old h.seen) h.u.asked event
     may_own =
-        let found = found_is now h.u h.before.seen h.look begins_now in
-        subst (λ (a : Call P). MayOwn (found_by now h.u) h.old a event) (sym h.asked)
-        (subst (λ s. MayOwn s h.old doing.asked event) (sym found) (record {
+        let found_there = found_is now h.u start h.look begins_now in
+        own_reseen (found_by now h.u) h.old h.seen h.u.asked event (subst (λ (a : Call P). MayOwn (found_by now h.u) h.old a event) (sym h.asked)
+        (subst (λ s. MayOwn s h.old doing.asked event) (sym found_there) (record {
           not_declared = h.not_declared;
           not_refused = h.not_refused;
-          adds = (makes.x, own_held (comm_of doing.asked) ∙ makes.held, subst (λ n. CallAdds (failures h.before.seen) n makes.x doing.asked event) own_number (subst (λ s. CallAdds s own.number makes.x doing.asked event) own_seen makes.adds));
-        }))
+          adds = (makes.x, own_held (comm_of doing.asked) ∙ makes.held, subst (λ n. CallAdds look n makes.x doing.asked event) own_number makes.adds);
+        })))
 
     may_follow : MayFollow meld now.limits now.history event
     may_follow =
-        let legal = subst (IsLegal meld name.limits) (sym added) of.legal in
+        let legal = subst (IsLegal meld name.limits) (sym one_more) s.of.legal in
         let last = (legal_parts meld name.limits pass.seen (record { by = Rank own.number; event = event } ∷ []) legal).1.0 in
         subst (λ l. MayFollow meld l now.history event) (sym h.limits) (subst (λ w. MayFollow meld name.limits w event) (sym h.history) last)
 
-    pub may_happen : MayCome meld now [] (Happened (Rank own.number) (Some event))
-    may_happen = (may_follow, record { call = h.u; is_open = h.call; looked = subst (λ o. IsTrue (is_some o)) (sym h.look) refl; own = h.old; has_record = h.record_is; may_own = may_own })
+    may_happen : MayCome meld now [] (Happened (Rank own.number) (Some event))
+    may_happen = (may_follow, record { call = h.u; is_open = h.call; looked = subst (λ o. IsTrue (is_some o)) (sym h.look) refl; own = reseen h.old h.seen; has_record = h.record_is; may_own = may_own })
 
-    abbrev told : Traced P
-    told = after now (Happened (Rank own.number) (Some event))
+    abbrev next : Traced P
+    next = after now (Happened (Rank own.number) (Some event))
 
-    history_then : told.history ≡ after_it.seen
-    history_then = ap (λ w. w ++ record { by = Rank own.number; event = event } ∷ []) h.history ∙ added
+    abbrev u_next : Under P
+    u_next = record h.u { own = h.u.own ++ event ∷ [] }
+
+    history_then : next.history ≡ after_it.seen
+    history_then = ap (λ w. w ++ record { by = Rank own.number; event = event } ∷ []) h.history ∙ one_more
 
     owned : (traits_of h.u.asked).by ≡ Rank own.number
     owned = ap (λ (a : Call P). (traits_of a).by) h.asked ∙ (h.stands.mine ∙ ap Rank (sym own_number))
 
-    u_then : with_event event h.u ≡ record h.u { own = h.u.own ++ event ∷ [] }
+    u_then : with_event event h.u ≡ u_next
     u_then = by_owner (traits_of h.u.asked).by owned
       where
         by_owner : (by : Caller) → by ≡ Rank own.number → (if (if same_caller by Outside then option_map_or (λ r. r == rank_of h.u.asked) (says event).declares false else true) then record h.u { own = h.u.own ++ event ∷ [] } else h.u) ≡ record h.u { own = h.u.own ++ event ∷ [] }
         by_owner (Rank r) is = refl
         by_owner Outside is = absurd (cc is)
 
-    keeps_asked : (u : Under P) → (with_event event u).asked ≡ u.asked
-    keeps_asked u = go (is_owned u event)
-      where
-        go : (b : Bool) → (let v : Under P = if b then record u { own = u.own ++ event ∷ [] } else u in v.asked) ≡ u.asked
-        go true = refl
-        go false = refl
-
-    call_then : call_by told (Rank own.number) ≡ Some (record h.u { own = h.u.own ++ event ∷ [] })
-    call_then = find_change (Rank own.number) (with_event event) keeps_asked now.calls h.u h.call ∙ ap Some u_then
+    call_then : call_by next (Rank own.number) ≡ Some u_next
+    call_then = find_change (Rank own.number) (with_event event) (keeps_asked event) now.calls h.u h.call ∙ ap Some u_then
 
     own_then : events_by (Rank own.number) (h.rest ++ record { by = Rank own.number; event = event } ∷ []) ≡ h.u.own ++ event ∷ []
     own_then = by_append (Rank own.number) h.rest (record { by = Rank own.number; event = event } ∷ []) ∙ ap₂ (λ a b. a ++ b) h.own_is (ap (λ (b : Bool). if b then event ∷ [] else []) (same_rank own.number))
 
-    since_then : h.before.seen ++ (h.rest ++ record { by = Rank own.number; event = event } ∷ []) ≡ after_it.seen
-    since_then = sym (append_assoc h.before.seen h.rest (record { by = Rank own.number; event = event } ∷ [])) ∙ (ap (λ w. w ++ record { by = Rank own.number; event = event } ∷ []) h.since ∙ added)
+    since_then : start ++ (h.rest ++ record { by = Rank own.number; event = event } ∷ []) ≡ after_it.seen
+    since_then = sym (append_assoc start h.rest (record { by = Rank own.number; event = event } ∷ [])) ∙ (ap (λ w. w ++ record { by = Rank own.number; event = event } ∷ []) h.since ∙ one_more)
 
   -- The step has ended, and so much is said: `t`, with the call as `u`.
-  module _ (t : Traced P) (u : Under P) (rest : History P) (limits_t : t.limits ≡ name.limits) (history_t : t.history ≡ after_it.seen) (call_t : call_by t (Rank own.number) ≡ Some u) (record_t : record_of t own.number ≡ Some h.old)
-      (asked_t : u.asked ≡ doing.asked) (begun_t : u.begun ≡ h.u.begun) (look_t : u.look ≡ h.u.look) (since_t : h.before.seen ++ rest ≡ after_it.seen) (own_t : events_by (Rank own.number) rest ≡ u.own) where
+  module _ (t : Traced P) (u : Under P) (rest : History P) (limits_t : t.limits ≡ name.limits) (history_t : t.history ≡ after_it.seen) (call_t : call_by t (Rank own.number) ≡ Some u) (record_t : record_of t own.number ≡ Some (reseen h.old h.seen))
+      (asked_t : u.asked ≡ doing.asked) (begun_t : u.begun ≡ h.u.begun) (look_t : u.look ≡ h.u.look) (since_t : start ++ rest ≡ after_it.seen) (own_t : events_by (Rank own.number) rest ≡ u.own) where
     -- the call goes on
-    goes_on : (own' : Record) (doing' : UnderWay P) → doing'.asked ≡ doing.asked → is_looking doing'.phase ≡ false → Stands meld false name h.old h.before doing' own' after_it → StepSees doing.phase own.seen own'.seen
-        → ((traits_of doing.asked).polls ≡ false → u.own ≡ []) → HasCalled meld name t after_it own' doing'
-    goes_on own' doing' asked' past stands sees no_own =
-        let seen = seen_stays meld false name doing.asked h.old h.before doing.group own h.stood h.in_use doing.phase h.past h.stands.at h.no_shrink own'.seen sees ∙ own_seen in
-        let same : own' ≡ record h.old { seen = failures h.before.seen } = stands_same meld false name doing'.asked h.old h.before doing'.group own' after_it h.in_use doing'.phase past stands.at ∙ ap (λ s. record h.old { seen = s }) seen in
-        let number : own.number ≡ own'.number = own_number ∙ sym (ap (λ (w : Record). w.number) same) in
-        record {
-          limits = limits_t;
-          history = history_t;
-          u = u;
-          call = subst (λ n. call_by t (Rank n) ≡ Some u) number call_t;
-          asked = asked_t ∙ sym asked';
-          old = h.old;
-          record_is = subst (λ n. record_of t n ≡ Some h.old) number record_t;
-          before = h.before;
-          stood = after_it;
-          stands = stands;
-          waits = record { did = did_among after_it.seen after_it.seen ([], append-nil after_it.seen); onward = omega arith };
-          past = past;
-          in_use = h.in_use;
-          own_same = same;
-          no_shrink = ap (λ a. is_shrink (polled_by h.old a)) asked' ∙ h.no_shrink;
-          begun = subst (λ n. n ≤ length h.before.seen) (sym begun_t) h.begun;
-          look = look_t ∙ h.look;
-          rest = rest;
-          since = since_t;
-          own_is = subst (λ n. events_by (Rank n) rest ≡ u.own) number own_t;
-          no_own = λ no_poll. no_own (ap (λ (a : Call P). (traits_of a).polls) (sym asked') ∙ no_poll);
-          not_declared = h.not_declared;
-          not_refused = ap (refusal_of h.old) asked' ∙ h.not_refused;
-        }
+    goes_on : (leads : LeadsTo doing.phase (next_of None doing'.phase)) → Stands meld false name h.old h.before doing' own' after_it → (found' : ℕ) → FoundAt meld name.limits (comm_of doing'.asked) h.old start own' after_it.seen found' doing'.phase
+        → ((traits_of doing.asked).polls ≡ false → u.own ≡ []) → (own'.number ≡ own.number) × HasCalled meld name t after_it own' found' doing'
+    goes_on leads stands found' found_at no_own =
+        let past = stays_past doing.phase doing'.phase h.past leads in
+        let same = stands_same meld false name doing'.asked h.old h.before doing'.group own' after_it h.in_use doing'.phase past stands.at in
+        let number : own.number ≡ own'.number = own_number ∙ sym (ap (λ (w : Record). w.number) same) in (
+          sym number,
+          record {
+            limits = limits_t;
+            history = history_t;
+            u = u;
+            call = subst (λ n. call_by t (Rank n) ≡ Some u) number call_t;
+            asked = asked_t ∙ sym asked';
+            old = h.old;
+            seen = h.seen;
+            record_is = subst (λ n. record_of t n ≡ Some (reseen h.old h.seen)) number record_t;
+            before = h.before;
+            stood = after_it;
+            stands = stands;
+            waits = record { did = did_among after_it.seen after_it.seen ([], append-nil after_it.seen); onward = omega arith };
+            past = past;
+            in_use = h.in_use;
+            own_same = same;
+            sees = λ not. sees (is_making doing.phase) refl not;
+            begun = subst (λ n. n ≤ length start) (sym begun_t) h.begun;
+            look = look_t ∙ h.look;
+            rest = rest;
+            since = since_t;
+            own_is = subst (λ n. events_by (Rank n) rest ≡ u.own) number own_t;
+            no_own = λ no_poll. no_own (ap (λ (a : Call P). (traits_of a).polls) (sym asked') ∙ no_poll);
+            not_declared = h.not_declared;
+            not_refused = ap (refusal_of h.old) asked' ∙ h.not_refused;
+            found_at = found_at;
+          },
+        )
+      where
+        sees : (b : Bool) → is_making doing.phase ≡ b → is_making doing'.phase ≡ false → own'.seen ≡ look
+        sees true making not = absurd (cc (stays_making doing.phase doing'.phase making leads, not))
+        sees false before not = seen_stays doing.phase h.past before own.seen own'.seen s.sees ∙ h.sees before
 
     -- it is answered, at the present point
-    may_reply : (reply : Reply P) (new : Record) → IsEndRun meld name.limits false h.before.seen after_it.seen h.old doing.asked reply new → new.seen ≡ failures h.before.seen
+    ends_now : (reply : Reply P) → IsEndRun meld name.limits false start after_it.seen h.old doing.asked reply own' → Fits meld name.limits after_it.seen own'
         → ((traits_of doing.asked).polls ≡ false → (u.own ≡ []) ⊎ ((e : Event P) × (u.own ≡ e ∷ []) × ((reply ≡ Started) ⊎ (reply ≡ Revoked))))
-        → MayCome meld t (listed t.limits.ranks after_it.seen (traits_of doing.asked).comm reply) (Replied (Rank own.number) (length after_it.seen) (Some reply))
-    may_reply reply new ended seen few =
-        let start = h.before.seen in
-        let answers = reply_answers meld name.limits start after_it.seen h.old doing.asked reply new ended rest since_t u.own (subst (λ n. events_by (Rank n) rest ≡ u.own) own_number own_t) few (λ other. seen) in
-        let whole : take (length after_it.seen) t.history ≡ after_it.seen = ap (take (length after_it.seen)) history_t ∙ take-length after_it.seen in
-        let found : found_by t u ≡ failures start = found_is t u start (look_t ∙ h.look) (rest, since_t ∙ sym history_t) in
-        let grown : length start ≤ length after_it.seen = omega (arith, ap length since_t, length-append start rest) in
-        let as_long : length t.history ≡ length after_it.seen = ap length history_t in
-        let begun = subst (λ n. n ≤ length start) (sym begun_t) h.begun in
-        let there : IsSelfFailed (record { look = found_by t u; history = take (length after_it.seen) t.history; own = u.own }) h.old u.asked reply ⊎ IsReply meld t.limits (record { look = found_by t u; history = take (length after_it.seen) t.history; own = u.own }) h.old u.asked reply =
-        rw (asked_t, limits_t, found, whole) answers in
-        record {
-          call = u;
-          is_open = call_t;
-          since_begin = omega (arith, begun, grown);
-          by_now = omega (arith, as_long);
-          answers = subst (λ o. AnswersRank meld t u (length after_it.seen) reply o) (sym record_t) (inr (h.in_use, subst (λ o. IsTrue (is_some o)) (sym (look_t ∙ h.look)) refl, there));
-          lists = ap₂ (λ w (a : Call P). listed t.limits.ranks w (traits_of a).comm reply) (sym whole) (sym asked_t);
-        }
+        → EndsSo meld name t after_it own.number (comm_of doing.asked) (length after_it.seen) reply own'
+    ends_now reply ended fits few =
+        let answers = reply_answers meld name.limits start after_it.seen h.old doing.asked reply own' ended rest since_t u.own (subst (λ n. events_by (Rank n) rest ≡ u.own) own_number own_t) few seen_then in
+        ends_so meld name t after_it own.number h.old h.seen u doing.asked start after_it.seen rest [] reply own' limits_t history_t call_t record_t own_number h.in_use asked_t (subst (λ n. n ≤ length start) (sym begun_t) h.begun) (look_t ∙ h.look) since_t
+        (append-nil after_it.seen) answers ended fits (may_list meld name.limits start after_it.seen h.old doing.asked own' fits reply ended)
 
-  -- One step of the call, by what `Rank::step` promises of it.
-  module _ (result : Option (Reply P)) (own' : Record) (doing' : UnderWay P) (adds : StepAdds true own doing.asked doing.phase result pass.seen after_it.seen) (sees : StepSees doing.phase own.seen own'.seen) (asked' : doing'.asked ≡ doing.asked)
-      (past : result ≡ None → is_looking doing'.phase ≡ false) (ends : MatchOption result (Stands meld false name h.old h.before doing' own' after_it) (λ reply. Answered meld false name doing.asked h.old h.before reply own' after_it)) where
-    seen' : own'.seen ≡ failures h.before.seen
-    seen' = seen_stays meld false name doing.asked h.old h.before doing.group own h.stood h.in_use doing.phase h.past h.stands.at h.no_shrink own'.seen sees ∙ own_seen
+  abbrev Says : (Traced P → Type 0) → Type 0
+  Says Then = SaysStep meld now own.number pass.seen after_it.seen Then
 
-    added : Adds true own.seen own doing.asked result pass.seen after_it.seen
-    added = adds_of own doing.asked doing.phase result pass.seen after_it.seen adds
+  same_history : added.events ≡ [] → pass.seen ≡ after_it.seen
+  same_history none = sym (append-nil pass.seen) ∙ (ap (λ es. pass.seen ++ entries_by (Rank own.number) es) (sym none) ∙ did_is (entries_by (Rank own.number) added.events) pass.seen after_it.seen added.did)
 
-    -- it told nothing
-    module _ (none : added.events ≡ []) where
-      same_history : pass.seen ≡ after_it.seen
-      same_history = sym (append-nil pass.seen) ∙ (ap (λ es. pass.seen ++ entries_by (Rank own.number) es) (sym none) ∙ did_is (entries_by (Rank own.number) added.events) pass.seen after_it.seen added.did)
+  one_more : (event : Event P) → added.events ≡ event ∷ [] → pass.seen ++ record { by = Rank own.number; event = event } ∷ [] ≡ after_it.seen
+  one_more event one = ap (λ es. pass.seen ++ entries_by (Rank own.number) es) (sym one) ∙ did_is (entries_by (Rank own.number) added.events) pass.seen after_it.seen added.did
 
-      quiet_goes : is_looking doing'.phase ≡ false → Stands meld false name h.old h.before doing' own' after_it → HasCalled meld name now after_it own' doing'
-      quiet_goes past stands =
-          goes_on now h.u h.rest h.limits (h.history ∙ same_history) h.call h.record_is h.asked refl refl (h.since ∙ same_history) h.own_is own' doing' asked' past stands sees h.no_own
+  abbrev Few : Type 0
+  Few = (added.events ≡ []) ⊎ ((event : Event P) × (added.events ≡ event ∷ []) × Makes look own doing.asked result event)
 
-      quiet_ends : (reply : Reply P) → IsEndRun meld name.limits false h.before.seen after_it.seen h.old doing.asked reply own'
-          → MayCome meld now (listed now.limits.ranks after_it.seen (traits_of doing.asked).comm reply) (Replied (Rank own.number) (length after_it.seen) (Some reply))
-      quiet_ends reply ended =
-          may_reply now h.u h.rest h.limits (h.history ∙ same_history) h.call h.record_is h.asked refl refl (h.since ∙ same_history) h.own_is reply own' ended seen' (λ no_poll. inl (h.no_own no_poll))
+  -- whether it told an event or not, the call goes on
+  says_goes : result ≡ None → Stands meld false name h.old h.before doing' own' after_it → LeadsTo doing.phase (next_of None doing'.phase) → (found' : ℕ) → FoundAt meld name.limits (comm_of doing'.asked) h.old start own' after_it.seen found' doing'.phase → Few
+      → Says (λ t. (own'.number ≡ own.number) × HasCalled meld name t after_it own' found' doing')
+  says_goes going stands leads found' found_at (inl none) =
+      let same = same_history none in inl (same, goes_on now h.u h.rest h.limits (h.history ∙ same) h.call h.record_is h.asked refl refl (h.since ∙ same) h.own_is leads stands found' found_at h.no_own)
+  says_goes going stands leads found' found_at (inr (event, one, makes)) =
+      let more = one_more event one in
+      inr (
+        event,
+        more,
+        may_happen event makes more,
+        goes_on (next event makes more) (u_next event makes more) (h.rest ++ record { by = Rank own.number; event = event } ∷ []) h.limits (history_then event makes more) (call_then event makes more) h.record_is h.asked refl refl
+            (since_then event makes more) (own_then event makes more) leads stands found' found_at (λ no_poll. no_more (makes.wins no_poll)),
+      )
+    where
+      no_more : (result ≡ Some Started) ⊎ (result ≡ Some Revoked) → h.u.own ++ event ∷ [] ≡ []
+      no_more (inl is) = absurd (cc (is, going))
+      no_more (inr is) = absurd (cc (is, going))
 
-    -- it told one event
-    module _ (event : Event P) (one : added.events ≡ event ∷ []) (makes : Makes own.seen own doing.asked result event) where
-      one_more : pass.seen ++ record { by = Rank own.number; event = event } ∷ [] ≡ after_it.seen
-      one_more = ap (λ es. pass.seen ++ entries_by (Rank own.number) es) (sym one) ∙ did_is (entries_by (Rank own.number) added.events) pass.seen after_it.seen added.did
+  -- or is answered
+  says_ends : (reply : Reply P) → result ≡ Some reply → IsEndRun meld name.limits false start after_it.seen h.old doing.asked reply own' → Fits meld name.limits after_it.seen own' → Few
+      → Says (λ t. EndsSo meld name t after_it own.number (comm_of doing.asked) (length after_it.seen) reply own')
+  says_ends reply is ended fits (inl none) =
+      let same = same_history none in inl (same, ends_now now h.u h.rest h.limits (h.history ∙ same) h.call h.record_is h.asked refl refl (h.since ∙ same) h.own_is reply ended fits (λ no_poll. inl (h.no_own no_poll)))
+  says_ends reply is ended fits (inr (event, one, makes)) =
+      let more = one_more event one in
+      inr (
+        event,
+        more,
+        may_happen event makes more,
+        ends_now (next event makes more) (u_next event makes more) (h.rest ++ record { by = Rank own.number; event = event } ∷ []) h.limits (history_then event makes more) (call_then event makes more) h.record_is h.asked refl refl
+            (since_then event makes more) (own_then event makes more) reply ended fits (λ no_poll. inr (event, ap (λ es. es ++ event ∷ []) (h.no_own no_poll), how (makes.wins no_poll))),
+      )
+    where
+      how : (result ≡ Some Started) ⊎ (result ≡ Some Revoked) → (reply ≡ Started) ⊎ (reply ≡ Revoked)
+      how (inl started) = inl (cc (is, started))
+      how (inr revoked) = inr (cc (is, revoked))
 
-      abbrev next : Traced P
-      next = after now (Happened (Rank own.number) (Some event))
+  -- the poll of a barrier found somebody missing before its last load, and is answered as it was then
+  module _ (missing : Missing) (phase_is : doing.phase ≡ Checking missing) (polls : doing.asked ≡ call.Poll h.old.number (comm_of doing.asked)) (earlier : History P) (i : IsChecking meld name.limits false (comm_of doing.asked) missing earlier h.old start own pass.seen)
+      (still : pass.seen ≡ after_it.seen) where
+    says_early : (reply : Reply P) → is_early reply ≡ true → IsEndRun meld name.limits false start earlier h.old doing.asked reply own' → Fits meld name.limits after_it.seen own' → EndsSo meld name now after_it own.number (comm_of doing.asked) (length earlier) reply own'
+    says_early reply early ended fits =
+        let w = i.waits in
+        let from_start = prefix_trans start w.look earlier (did_prefix false [] start w.look w.looked.did) (did_prefix false [] w.look earlier w.waited) in
+        let to_now = did_prefix false [] earlier pass.seen i.waited in
+        let polling : (traits_of doing.asked).polls ≡ true = ap (λ (a : Call P). (traits_of a).polls) polls in
+        let answers = reply_answers meld name.limits start earlier h.old doing.asked reply own' ended from_start.0 from_start.1 (events_by (Rank h.old.number) from_start.0) refl (λ no_poll. absurd (cc (polling, no_poll))) seen_then in
+        let swapped = answer_swaps meld name.limits (record { look = look; history = earlier; own = events_by (Rank h.old.number) from_start.0 }) h.old h.u.own doing.asked reply
+        (record { one = λ no_poll e is. absurd (cc (polling, no_poll)); none = λ no_poll not_started not_revoked. absurd (cc (polling, no_poll)) }) answers in
+        ends_so meld name now after_it own.number h.old h.seen h.u doing.asked start earlier from_start.0 to_now.0 reply own' h.limits (h.history ∙ still) h.call h.record_is own_number h.in_use h.asked h.begun h.look from_start.1 (to_now.1 ∙ still)
+        swapped ended fits (lists_none name.limits.ranks earlier (comm_of doing.asked) reply own' early)
 
-      abbrev u_next : Under P
-      u_next = record h.u { own = h.u.own ++ event ∷ [] }
+  stands_now : Stands meld false name h.old h.before doing own pass
+  stands_now = stands_lasts meld false name h.old h.before doing own h.stood pass h.stands h.waits of_old
 
-      loud_goes : result ≡ None → is_looking doing'.phase ≡ false → Stands meld false name h.old h.before doing' own' after_it → HasCalled meld name next after_it own' doing'
-      loud_goes going past stands =
-          goes_on next u_next (h.rest ++ record { by = Rank own.number; event = event } ∷ []) h.limits (history_then result event makes one_more) (call_then result event makes one_more) h.record_is h.asked refl refl
-          (since_then result event makes one_more) (own_then result event makes one_more) own' doing' asked' past stands sees (λ no_poll. no_more (makes.wins no_poll))
-        where
-          no_more : (result ≡ Some Started) ⊎ (result ≡ Some Revoked) → h.u.own ++ event ∷ [] ≡ []
-          no_more (inl is) = absurd (cc (is, going))
-          no_more (inr is) = absurd (cc (is, going))
+  classified : (k : ℕ) → polled_by h.old doing.asked ≡ Some (Barrier k) → IsBarrier doing.phase
+  classified k polls = barrier_phase meld false name doing.asked h.old h.before doing.group own h.stood h.in_use k polls doing.phase h.past h.stands.at
 
-      loud_ends : (reply : Reply P) → result ≡ Some reply → IsEndRun meld name.limits false h.before.seen after_it.seen h.old doing.asked reply own'
-          → MayCome meld next (listed next.limits.ranks after_it.seen (traits_of doing.asked).comm reply) (Replied (Rank own.number) (length after_it.seen) (Some reply))
-      loud_ends reply is ended =
-          may_reply next u_next (h.rest ++ record { by = Rank own.number; event = event } ∷ []) h.limits (history_then result event makes one_more) (call_then result event makes one_more) h.record_is h.asked refl refl
-          (since_then result event makes one_more) (own_then result event makes one_more) reply own' ended seen' (λ no_poll. inr (event, ap (λ es. es ++ event ∷ []) (h.no_own no_poll), how (makes.wins no_poll)))
-        where
-          how : (result ≡ Some Started) ⊎ (result ≡ Some Revoked) → (reply ≡ Started) ⊎ (reply ≡ Revoked)
-          how (inl started) = inl (cc (is, started))
-          how (inr revoked) = inr (cc (is, revoked))
+  -- a barrier's poll that makes its last load next has just found who is missing
+  module _ (going : result ≡ None) (stands : Stands meld false name h.old h.before doing' own' after_it) (found' : ℕ) (found_is : found' ≡ length after_it.seen) where
+    abbrev FoundIn : Phase P → Type 0
+    FoundIn phase = FoundAt meld name.limits (comm_of doing'.asked) h.old start own' after_it.seen found' phase
 
-    says_goes : result ≡ None → Stands meld false name h.old h.before doing' own' after_it → (added.events ≡ []) ⊎ ((event : Event P) × (added.events ≡ event ∷ []) × Makes own.seen own doing.asked result event) → SaysStep meld now own.number (λ t. HasCalled meld name t after_it own' doing')
-    says_goes going stands (inl none) = inl (quiet_goes none (past going) stands)
-    says_goes going stands (inr (event, one, makes)) = inr (event, may_happen result event makes (one_more event one makes), loud_goes event one makes going (past going) stands)
-
-    says_ends : (reply : Reply P) → result ≡ Some reply → IsEndRun meld name.limits false h.before.seen after_it.seen h.old doing.asked reply own' → (added.events ≡ []) ⊎ ((event : Event P) × (added.events ≡ event ∷ []) × Makes own.seen own doing.asked result event)
-        → SaysStep meld now own.number (λ t. MayCome meld t (listed t.limits.ranks after_it.seen (traits_of doing.asked).comm reply) (Replied (Rank own.number) (length after_it.seen) (Some reply)))
-    says_ends reply is ended (inl none) = inl (quiet_ends none reply ended)
-    says_ends reply is ended (inr (event, one, makes)) = inr (event, may_happen result event makes (one_more event one makes), loud_ends event one makes reply is ended)
-
-    by_calls : (reply : Reply P) → result ≡ Some reply → Calls meld false name doing.asked h.old h.before reply own' after_it → TellsStep meld name now own doing (Some reply) after_it own' doing'
-    by_calls reply is calls = go calls.ends
+    found_checking : (missing : Missing) → doing'.phase ≡ Checking missing → FoundIn (Checking missing)
+    found_checking missing is = go (classified at.2.k (ap (polled_by h.old) (sym asked') ∙ checking_polls meld false name doing'.asked h.old h.before doing'.group own' after_it h.in_use missing at))
       where
-        go : (IsRefusedAgain h.old reply own' × (after_it ≡ h.before)) ⊎ (IsEndRun meld name.limits false h.before.seen after_it.seen h.old doing.asked reply own' ⊎ IsEarlyRun meld name.limits false h.before.seen after_it.seen h.old doing.asked reply own') → TellsStep meld name now own doing (Some reply) after_it own' doing'
+        at : StandsAt meld false name doing'.asked h.old h.before (Checking missing) doing'.group own' after_it
+        at = subst (λ phase. StandsAt meld false name doing'.asked h.old h.before phase doing'.group own' after_it) is stands.at
+
+        next_is : next_of result doing'.phase ≡ next_of None (Checking missing)
+        next_is = ap₂ next_of going is
+
+        go : IsBarrier doing.phase → FoundIn (Checking missing)
+        go (inl (arrivals, was)) =
+            let here = s.checks arrivals was missing next_is false (λ alone. absurd (cc alone)) h.old h.before stands_now in
+            (after_it.seen, subst (λ (a : Call P). IsChecking meld name.limits false (comm_of a) missing after_it.seen h.old start own' after_it.seen) (sym asked') here, sym found_is)
+        go (inr (before, was)) =
+            let fewer = subst (λ next. FewerLeft (steps_left name.limits own doing.asked doing.phase) name.limits own' doing.asked next) next_is s.nearer in
+            let less = subst (λ phase. 1 < steps_left name.limits own doing.asked phase) was fewer in
+            absurd (omega (arith, less))
+
+    found_then : FoundIn doing'.phase
+    found_then = go doing'.phase refl
+      where
+        go : (phase : Phase P) → doing'.phase ≡ phase → FoundIn phase
+        go (Checking missing) is = found_checking missing is
+        go Over is = tt
+        go Begun is = tt
+        go Looking is = tt
+        go (Settling request offer) is = tt
+        go (Arriving round) is = tt
+        go Revoking is = tt
+        go Asking is = tt
+        go (Marking marks shrinks) is = tt
+        go (Reading reading shrinks) is = tt
+        go (ReadingOn on made) is = tt
+        go (Spawning append context reach) is = tt
+        go (Waiting arrivals) is = tt
+
+  -- the call is answered
+  module _ (reply : Reply P) (is : result ≡ Some reply) (point : ℕ) (point_is : point ≡ point_of found (length after_it.seen) (is_checking doing.phase) reply) (calls : Calls meld false name doing.asked h.old h.before reply own' after_it) where
+    abbrev SaysReply : ℕ → Type 0
+    SaysReply n = Says (λ t. EndsSo meld name t after_it own.number (comm_of doing.asked) n reply own')
+
+    abbrev Ended : Type 0
+    Ended = (IsRefusedAgain h.old reply own' × (after_it ≡ h.before)) ⊎ (IsEndRun meld name.limits false start after_it.seen h.old doing.asked reply own' ⊎ IsEarlyRun meld name.limits false start after_it.seen h.old doing.asked reply own')
+
+    -- at the present point
+    present : (IsEarlyRun meld name.limits false start after_it.seen h.old doing.asked reply own' → ⊥) → SaysReply (length after_it.seen)
+    present never = go calls.ends
+      where
+        go : Ended → SaysReply (length after_it.seen)
         go (inl again) = absurd (cc (again.0.refused, h.in_use))
-        go (inr (inl ended)) = inr (says_ends reply is ended added.few)
-        go (inr (inr early)) = inl (h.old, h.before.seen, h.record_is, early)
+        go (inr (inl ended)) = says_ends reply is ended calls.fits added.few
+        go (inr (inr early)) = absurd (never early)
 
-    by_answer : (reply : Reply P) → result ≡ Some reply → Answered meld false name doing.asked h.old h.before reply own' after_it → TellsStep meld name now own doing (Some reply) after_it own' doing'
-    by_answer reply is answered = go answered.ends
+    early_is : (reply ≡ Pending) ⊎ (reply ≡ Refused ProcFailed) → is_early reply ≡ true
+    early_is (inl pending) = ap is_early pending
+    early_is (inr failed) = ap is_early failed
+
+    -- the last load of a barrier's poll
+    checked : (missing : Missing) → doing.phase ≡ Checking missing → SaysReply (point_of found (length after_it.seen) true reply)
+    checked missing phase_is = by_clause (s.early missing phase_is reply (ap (λ r. next_of r doing'.phase) is) false (λ alone. absurd (cc alone)) h.old h.before h.stands.fits polls there.0 there.1)
       where
-        by_memory : (b : Bool) → wants_memory reply ≡ b → EndsAs meld false name doing.asked h.old h.before reply b own' after_it → TellsStep meld name now own doing (Some reply) after_it own' doing'
-        by_memory true wants e = absurd (cc (e.1, h.no_shrink))
-        by_memory false wants e = by_calls reply is e
+        polls : doing.asked ≡ call.Poll h.old.number (comm_of doing.asked)
+        polls = let at = subst (λ phase. StandsAt meld false name doing.asked h.old h.before phase doing.group own h.stood) phase_is h.stands.at in at.0
 
-        go : (IsRefusedAgain h.old reply own' × Waits false h.before after_it) ⊎ EndsReply meld false name doing.asked h.old h.before reply own' after_it → TellsStep meld name now own doing (Some reply) after_it own' doing'
-        go (inl again) = absurd (cc (again.0.refused, h.in_use))
-        go (inr e) = by_memory (wants_memory reply) refl e
+        there : FoundAt meld name.limits (comm_of doing.asked) h.old start own pass.seen found (Checking missing)
+        there = subst (FoundAt meld name.limits (comm_of doing.asked) h.old start own pass.seen found) phase_is h.found_at
 
-    pub stepped : TellsStep meld name now own doing result after_it own' doing'
-    stepped = go result refl ends
+        still : pass.seen ≡ after_it.seen
+        still =
+            let did = subst (λ phase. StepAdds true own doing.asked phase (reply_in (next_of result doing'.phase)) pass.seen after_it.seen) phase_is s.adds in sym (did_quiet true pass.seen after_it.seen did refl)
+
+        late : is_early reply ≡ false → SaysReply (point_of found (length after_it.seen) true reply)
+        late not =
+            subst SaysReply (sym (ap (λ (b : Bool). if b then found else length after_it.seen) not)) (present (λ early. let sooner = early_is early.missing in cc (sooner, not)))
+
+        by_early : (b : Bool) → is_early reply ≡ b → IsEndRun meld name.limits false start there.0 h.old doing.asked reply own' → SaysReply (point_of found (length after_it.seen) true reply)
+        by_early true early ended =
+            subst SaysReply (there.2 ∙ sym (ap (λ (b : Bool). if b then found else length after_it.seen) early))
+            (inl (still, says_early missing phase_is polls there.0 there.1 still reply early ended calls.fits))
+        by_early false not ended = late not
+
+        by_clause : AnswersEarly meld name.limits false doing.asked missing there.0 h.old start reply own' → SaysReply (point_of found (length after_it.seen) true reply)
+        by_clause (inl (nobody, done)) = late (ap is_early done)
+        by_clause (inr (inl revoked)) = late (ap is_early revoked)
+        by_clause (inr (inr ended)) = by_early (is_early reply) refl ended
+
+    says_reply : SaysReply point
+    says_reply = go (is_checking doing.phase) refl
       where
-        go : (r : Option (Reply P)) → result ≡ r → MatchOption r (Stands meld false name h.old h.before doing' own' after_it) (λ reply. Answered meld false name doing.asked h.old h.before reply own' after_it) → TellsStep meld name now own doing r after_it own' doing'
-        go None is stands = says_goes is stands added.few
-        go (Some reply) is answered = by_answer reply is answered
+        never : is_checking doing.phase ≡ false → IsEarlyRun meld name.limits false start after_it.seen h.old doing.asked reply own' → ⊥
+        never not early = by (classified early.round early.open_is)
+          where
+            by : IsBarrier doing.phase → ⊥
+            by (inl (arrivals, was)) = subst (λ r. LeadsTo (Waiting arrivals) (next_of r doing'.phase)) is (subst (λ phase. LeadsTo phase (next_of result doing'.phase)) was s.leads)
+            by (inr (missing, was)) = let checks = ap is_checking was in cc (checks, not)
+
+        go : (b : Bool) → is_checking doing.phase ≡ b → SaysReply point
+        go true checking =
+            let c = checking_is doing.phase checking in
+            subst SaysReply (sym (point_is ∙ ap (λ b. point_of found (length after_it.seen) b reply) checking)) (checked c.0 c.1)
+        go false not = subst SaysReply (sym (point_is ∙ ap (λ b. point_of found (length after_it.seen) b reply) not)) (present (never not))
+
+  abbrev Comes : ℕ → ℕ → Option (Reply P) → Type 0
+  Comes point found' r = Says (NextAt meld name own.number (comm_of doing.asked) point found' r after_it own' doing')
+
+  pub comes : ((reply : Reply P) → result ≡ Some reply → wants_memory reply ≡ false) → (found' : ℕ) → found' ≡ length after_it.seen → (point : ℕ)
+      → ((reply : Reply P) → result ≡ Some reply → point ≡ point_of found (length after_it.seen) (is_checking doing.phase) reply) → Comes point found' result
+  comes has_memory found' found_is point point_is = go result refl ends
+    where
+      answered : (reply : Reply P) → result ≡ Some reply → (IsRefusedAgain h.old reply own' × Waits false h.before after_it) ⊎ EndsReply meld false name doing.asked h.old h.before reply own' after_it → Comes point found' (Some reply)
+      answered reply is (inl again) = absurd (cc (again.0.refused, h.in_use))
+      answered reply is (inr e) =
+          says_reply reply is point (point_is reply is) (subst (λ b. EndsAs meld false name doing.asked h.old h.before reply b own' after_it) (has_memory reply is) e)
+
+      go : (r : Option (Reply P)) → result ≡ r → MatchOption r (Stands meld false name h.old h.before doing' own' after_it) (λ reply. Answered meld false name doing.asked h.old h.before reply own' after_it) → Comes point found' r
+      go None is stands =
+          says_goes is stands (subst (λ r. LeadsTo doing.phase (next_of r doing'.phase)) is s.leads) found' (found_then is stands found' found_is) added.few
+      go (Some reply) is a = answered reply is a.ends

@@ -1,2 +1,4 @@
+pub mod Events
 pub mod Failing
+pub mod Seats
 pub mod Stepping

@@ -178,7 +178,7 @@ module _ {P : Type 0} (meld : P → P → P) where
       go false = spans_other now.history (record { by = by; event = event }) now.records u s
 
   -- the record of another rank, after a change of one
-  find_other_record : (r s : ℕ) (f : Record → Record) → ((own : Record) → (f own).number ≡ own.number) → s == r ≡ false → (records : List Record)
+  pub find_other_record : (r s : ℕ) (f : Record → Record) → ((own : Record) → (f own).number ≡ own.number) → s == r ≡ false → (records : List Record)
       → find (λ x. x.number == s) (map (λ own. if own.number == r then f own else own) records) ≡ find (λ x. x.number == s) records
   find_other_record r s f keeps differ [] = refl
   find_other_record r s f keeps differ (x ∷ xs) = go (x.number == r) refl (find_other_record r s f keeps differ xs)

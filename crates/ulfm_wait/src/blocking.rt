@@ -21,7 +21,14 @@ use ulfm_words::Words;
 /// that leaves.
 ///
 /// ```
-/// let reply = ulfm_wait::agree(rt, &mut member, 0, FlagAnd { bits: 6 })?;
+/// // Rank 1 of two was declared failed before, so nobody is waited for.
+/// let value = FlagAnd { bits: 0b0110 };
+/// let agreed = Polled::Agreed {
+///     value,
+///     failed: 1,
+///     raised: true,
+/// };
+/// assert!(rt; ulfm_wait::agree(&rt, &mut member, 0, value) == Ok(agreed));
 /// ```
 pub fn agree<W, P: Packed, A: Allocator + Copy, R: Wait>(
     rt: &R,
@@ -48,9 +55,14 @@ where
 /// after `OutOfMemory` of a poll the request is open as before, and may be polled.
 ///
 /// ```
-/// if let Polled::Shrunk { comm, .. } = ulfm_wait::shrink(rt, &mut member, 0)? {
-///     let reply = ulfm_wait::barrier(rt, &mut member, comm)?;
-/// }
+/// // Rank 1 of two was declared failed before, and is left out.
+/// let alone = Polled::Shrunk {
+///     comm: 1,
+///     context: 1,
+///     size: 1,
+/// };
+/// assert!(rt; ulfm_wait::shrink(&rt, &mut member, 0) == Ok(alone));
+/// assert!(rt; ulfm_wait::barrier(&rt, &mut member, 1) == Ok(Polled::Done));
 /// ```
 pub fn shrink<W, P: Packed, A: Allocator + Copy, R: Wait>(
     rt: &R,
@@ -76,7 +88,8 @@ where
 /// `Member::poll`, and leaves what that leaves.
 ///
 /// ```
-/// assert_eq!(rt; ulfm_wait::barrier(rt, &mut member, 0), Ok(Polled::Done));
+/// // Rank 1 of two was declared failed before, and can't arrive any more.
+/// assert!(rt; ulfm_wait::barrier(&rt, &mut member, 0) == Err(Refusal::ProcFailed));
 /// ```
 pub fn barrier<W, P: Packed, A: Allocator + Copy, R: Wait>(
     rt: &R,

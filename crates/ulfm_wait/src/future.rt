@@ -19,10 +19,6 @@ use ulfm_words::Words;
 ///
 /// While it is pending it wakes its own waker, so that an executor polls it again; so it does too when it is polled after its
 /// output. It makes no step before its first poll, and no return is promised.
-///
-/// ```
-/// let (pass, rank, reply) = block_on(rt, AgreeFuture::new(&world, pass, rank, 0, FlagAnd { bits: 6 }))?;
-/// ```
 #[derive(Drop)]
 pub struct AgreeFuture<'a, W: Words<P, A>, P: Packed, A: Allocator> {
     world: &'a World<W, P, A>,
@@ -35,6 +31,20 @@ pub struct AgreeFuture<'a, W: Words<P, A>, P: Packed, A: Allocator> {
 
 impl<'a, W: Words<P, A>, P: Packed, A: Allocator + Copy> AgreeFuture<'a, W, P, A> {
     /// The future of an agree on a flag, over a pass of this world's words which has seen what the rank has.
+    ///
+    /// ```
+    /// let (world, rank, pass) = member.into_parts();
+    /// // Rank 1 of two was declared failed before.
+    /// let value = FlagAnd { bits: 0b0110 };
+    /// let future = AgreeFuture::new(&world, pass, rank, 0, value);
+    /// let (_pass, _rank, reply) = block_on(&rt, future)?;
+    /// let agreed = Polled::Agreed {
+    ///     value,
+    ///     failed: 1,
+    ///     raised: true,
+    /// };
+    /// assert!(rt; reply == Ok(agreed));
+    /// ```
     pub fn new(
         world: &'a World<W, P, A>,
         pass: W::Pass,

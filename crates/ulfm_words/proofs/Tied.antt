@@ -111,5 +111,6 @@ module _ {P : Type 0} (meld : P → P → P) (pack : P → ℕ) (unpack : ℕ �
         made = made-set unpack limits ws i s.word m e z lt at is n within ms tied.made;
         same = λ p q. same-set ws (entries unpack limits ws ms) s i e tied.same within at lt word may there p q (same_or_not (key_in limits p) i) ∙ ap (λ (h : History P). word_at pack h p) (sym history);
         legal = rw history (legal_push meld limits (entries unpack limits ws ms) e tied.legal may);
-        room = omega (arith, fewer, length-append ms (m ∷ []), tied.room, more);
+        free = omega (arith, fewer, length-append ms (m ∷ []), tied.free);
+        room = omega (arith, tied.room, more);
       })

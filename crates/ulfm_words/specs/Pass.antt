@@ -40,7 +40,8 @@ module _ {P : Type 0} (unpack : ℕ → Option P) (limits : Limits) where
   abbrev pub sight_of : List ℕ → List Setting → List (Last × Bool) → Sight P
   sight_of words journal trail = record { name = plain_name limits; seen = entries words journal; steps = length trail; last = last_of trail }
 
--- the words are those of the journal's history, which is legal, and the journal has room for all that are not set
+-- the words are those of the journal's history, which is legal; no more are set and not set than the world has, and the journal has room
+-- for as many
 pub record IsTied {P : Type 0} (meld : P → P → P) (pack : P → ℕ) (unpack : ℕ → Option P) (limits : Limits) (words : List ℕ) (journal : List Setting)
     (capacity : ℕ) : Type 0 where
   pub may_open : MayOpen limits
@@ -48,7 +49,8 @@ pub record IsTied {P : Type 0} (meld : P → P → P) (pack : P → ℕ) (unpack
   pub made : AllByRecursion (IsMade unpack limits words) journal
   pub same : (p : Place) → IsWithin limits p → slice_index words (key_in limits p) ≡ word_at pack (entries unpack limits words journal) p
   pub legal : IsLegal meld limits (entries unpack limits words journal)
-  pub room : length journal + count_by is_zero words ≤ capacity
+  pub free : length journal + count_by is_zero words ≤ size_of limits
+  pub room : size_of limits ≤ capacity
 
 -- the step that set the i-th event of a history, from 0: the place is that of its event after those before it, and the word is its
 -- event's

@@ -139,6 +139,13 @@ impl<P: Packed, A: Allocator + Copy> PlainPass<P, A> {
         })
     }
 
+    /// How many events it has seen: no more than a world has words, at most 4,194,304. It is no atomic step.
+    pub fn count(&self) -> u32
+        ensures { result ≡ length self.now.seen }
+    {
+        self.journal.len() as u32
+    }
+
     /// The step that was set as the `i`-th, counted from 0; none past the last. It is no atomic step and takes no memory.
     pub fn nth(&self, i: usize) -> Option<Step>
         ensures { MatchOption result (length self.now.seen ≤ i) (IsNth P.pack P.unpack self.now.seen i) }

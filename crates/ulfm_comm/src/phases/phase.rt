@@ -1,6 +1,6 @@
 // A call that is under way.
 ghost use Rattle.std.specs.Prelude.{◌≡◌};
-ghost use Rattle.ulfm_comm.specs.Phase.{is_looking, next_step};
+ghost use Rattle.ulfm_comm.specs.Phase.{is_checking, is_looking, next_step};
 
 use std::alloc::Allocator;
 use std::marker::Model;
@@ -137,6 +137,22 @@ impl<P: Packed, A: Allocator> Doing<P, A> {
         self.phase.next()
     }
 
+    /// What is asked.
+    ///
+    /// ```
+    /// let asked = Call::IsRevoked {
+    ///     rank: rank.number(),
+    ///     comm: 0,
+    /// };
+    /// let doing = rank.begin(asked);
+    /// assert!(rt; doing.asked() == asked);
+    /// ```
+    pub fn asked(&self) -> Call<P>
+        ensures { result ≡ self.now.asked }
+    {
+        self.asked
+    }
+
     /// Whether its look goes on: that it has not ended yet. The step after which it does has ended it.
     ///
     /// ```
@@ -154,5 +170,21 @@ impl<P: Packed, A: Allocator> Doing<P, A> {
             Phase::Begun | Phase::Looking => true,
             _ => false,
         }
+    }
+
+    /// Whether it is a barrier's poll that makes its last load next, that of the revocation: who is missing is found.
+    ///
+    /// ```
+    /// let asked = Call::IsRevoked {
+    ///     rank: rank.number(),
+    ///     comm: 0,
+    /// };
+    /// let doing = rank.begin(asked);
+    /// assert!(rt; !doing.is_checking());
+    /// ```
+    pub fn is_checking(&self) -> bool
+        ensures { result ≡ is_checking self.now.phase }
+    {
+        matches!(self.phase, Phase::Checking { .. })
     }
 }

@@ -7,6 +7,6 @@ abbrev pub invariant-lines : goal.invariant-lines
 invariant-lines g l =
     let k = g.R.Read.remaining in
     let w = g.W.Write.contents in
+    let m = g.M.Interpreter in
     (l.number ≤ 100001)
-    × Going (unread k l.fn.input l.fn.reader) (unread k l.input l.reader) (w l.fn.writer) (w l.writer) (waiting l.output)
-    (g.M.Machine.state l.machine) l.number
+    × Going m.lang (m.HasRun l.machine) (unread k l.fn.input l.fn.reader) (unread k l.input l.reader) (w l.fn.writer) (w l.writer) (waiting l.output) l.number

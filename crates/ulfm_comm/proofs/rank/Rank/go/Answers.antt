@@ -12,7 +12,7 @@ returns-in-Over-clause-turn g c =
       further = λ is. tt;
       adds = λ not. did_none g.W.Words.alone (g.W.Words.sight c.args.pass.now).seen;
       sees = refl;
-      past = λ not. tt;
+      leads = tt;
       turns = λ alone only old before u.
           record {
             ends = inl (record { refused = u.at.0; reply_is = refl; record_is = u.at.1 }, record { did = u.at.2; onward = u.onward });

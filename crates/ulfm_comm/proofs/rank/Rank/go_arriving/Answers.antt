@@ -49,7 +49,7 @@ returns-then-not-set_arrival g c =
           adds_none g.W.Words.alone c.args.self.now.seen c.args.self.now c.args.asked.now (Some (Refused Twice)) (g.W.Words.sight c.args.pass.now).seen (g.W.Words.sight c.set_arrival.new.pass).seen
           (when_lost _ _ c.set_arrival.result c.if-not-set_arrival.true (outcome g at));
       sees = search rules;
-      past = search rules;
+      leads = search rules;
       turns = λ alone only old before stands.
           let at = (goal.at.returns-then-not-set_arrival g c).After-set_arrival in
           let lost = when_lost _ _ c.set_arrival.result c.if-not-set_arrival.true (outcome g at) in
@@ -76,7 +76,7 @@ returns g c =
           adds_arrived g.P.Meld.meld g.W.Words.alone (g.W.Words.name c.args.world.now.words).limits c.args.asked.now s.0 s.1.seen c.args.self.now (g.W.Words.sight c.args.pass.now).seen (g.W.Words.sight c.set_arrival.new.pass).seen
           c.requires.of.legal s.2.at.0 s.0.number c.args.round s.2.at.1 s.2.at.2 (when_won _ _ c.set_arrival.result c.if-not-set_arrival.false (outcome g at));
       sees = search rules;
-      past = search rules;
+      leads = search rules;
       turns = λ alone only old before stands.
           let at = (goal.at.returns g c).After-set_arrival in
           let won = when_won _ _ c.set_arrival.result c.if-not-set_arrival.false (outcome g at) in

@@ -30,7 +30,7 @@ returns g c =
       further = search rules;
       adds = t.adds;
       sees = search rules;
-      past = search rules;
+      leads = search rules;
       turns = λ alone only old before u.
           t.turns alone only old before
           (begins_looking g.P.Meld.meld alone (g.W.Words.name c.args.world.now.words) c.args.asked.now old before group c.args.self.now c.forget.new.self (g.W.Words.sight c.args.pass.now) c.requires.of c.forget.ensures u);

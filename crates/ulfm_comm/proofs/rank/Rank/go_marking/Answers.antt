@@ -37,7 +37,7 @@ returns-then-marks-seen g c =
       further = search rules;
       adds = adds g (goal.at.returns-then-marks-seen g c).After-advance _;
       sees = search rules;
-      past = search rules;
+      leads = search rules;
       turns = λ alone only old before stands.
           marking_goes g.P.Meld.meld (g.W.Words.name c.args.world.now.words) c.args.asked.now c.args.marks c.args.shrinks group c.args.self.now (g.W.Words.sight c.args.pass.now) c.requires.of
           c.held_comm-x.result.now c.comm_of.result c.held_comm-x.ensures c.comm_of.ensures c.deref.result.now c.failures-seen.result.now (members g (goal.at.returns-then-marks-seen g c).After-deref) c.failures-seen.ensures alone old before stands
@@ -54,7 +54,7 @@ returns g c =
       further = search rules;
       adds = adds g (goal.at.returns g c).After-advance _;
       sees = search rules;
-      past = search rules;
+      leads = search rules;
       turns = λ alone only old before stands.
           marking_reads g.P.Meld.meld (g.W.Words.name c.args.world.now.words) c.args.asked.now c.args.marks c.args.shrinks group c.args.self.now (g.W.Words.sight c.args.pass.now) c.requires.of
           c.held_comm-x.result.now c.comm_of.result c.held_comm-x.ensures c.comm_of.ensures c.deref.result.now c.failures-seen.result.now (members g (goal.at.returns g c).After-deref) c.failures-seen.ensures alone old before stands

@@ -49,9 +49,9 @@ reads : (g : _) (c : After-advance g) (next : Next g.row.P.Denot) (left : List �
     → (c.args.whole ≡ true → IsFurther (Reading c.args.reading c.args.shrinks) next) → new.seen ≡ c.args.self.now.seen → IsPast next
     → Turns g.P.Meld.meld g.W.Words.alone (g.W.Words.name c.args.world.now.words) c.args.asked.now (Reading c.args.reading c.args.shrinks) c.args.group.now.items c.args.self.now (g.W.Words.sight c.args.pass.now) next left new (g.W.Words.sight c.advance.new.pass)
     → TakesTurn g.P.Meld.meld g.W.Words.alone c.args.whole (g.W.Words.name c.args.world.now.words) c.args.asked.now (Reading c.args.reading c.args.shrinks) c.args.group.now.items c.args.self.now (g.W.Words.sight c.args.pass.now) next left new (g.W.Words.sight c.advance.new.pass)
-reads g c next left new nearer further sees past turns =
+reads g c next left new nearer further sees leads turns =
     let goes = c.advance.ensures.goes in
-    record { walks = record { of = goes.of; own = []; did = goes.did; onward = goes.onward }; named = search rules; nearer = nearer; further = further; adds = search rules; sees = sees; past = λ _. past; turns = turns }
+    record { walks = record { of = goes.of; own = []; did = goes.did; onward = goes.onward }; named = search rules; nearer = nearer; further = further; adds = search rules; sees = sees; leads = leads; turns = turns }
 
 pub returns-then-not-advance : goal.returns-then-not-advance
 returns-then-not-advance g c = reads g (goal.at.returns-then-not-advance g c).After-advance _ _ _ (search rules) (search rules) (search rules) (search rules) (λ alone only old before stands.

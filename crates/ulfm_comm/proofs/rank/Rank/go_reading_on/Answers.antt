@@ -66,7 +66,7 @@ returns-then-on-made g c =
       further = search rules;
       adds = search rules;
       sees = search rules;
-      past = search rules;
+      leads = search rules;
       turns = λ alone only old before s.
           let now = g.W.Words.sight c.args.pass.now in
           let after = g.W.Words.sight c.read_on.new.pass in
@@ -86,7 +86,7 @@ returns g c =
       further = search rules;
       adds = search rules;
       sees = search rules;
-      past = search rules;
+      leads = search rules;
       turns = λ alone only old before s.
           c.reached.ensures.turns alone old before (reached g (goal.at.returns g c).After-read_on alone only old before s c.if-on-made.false);
     }

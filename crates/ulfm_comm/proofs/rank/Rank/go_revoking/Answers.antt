@@ -66,7 +66,7 @@ returns-then-set_revocation g c =
           adds_revoked g.P.Meld.meld g.W.Words.alone (g.W.Words.name c.args.world.now.words).limits c.args.asked.now s.0 s.1.seen c.args.self.now (g.W.Words.sight c.args.pass.now).seen (g.W.Words.sight c.set_revocation.new.pass).seen
           c.requires.of.legal s.2.at.0 s.0.number s.2.at.1 (when_won _ _ c.set_revocation.result c.if-set_revocation.true (outcome g at));
       sees = search rules;
-      past = search rules;
+      leads = search rules;
       turns = λ alone only old before stands.
           subst (λ won. Answered g.P.Meld.meld alone (g.W.Words.name c.args.world.now.words) c.args.asked.now old before (revoked won) c.args.self.now (g.W.Words.sight c.set_revocation.new.pass)) c.if-set_revocation.true
           (answered g (goal.at.returns-then-set_revocation g c).After-set_revocation group alone only old before stands);
@@ -85,7 +85,7 @@ returns-else-set_revocation g c =
           adds_none g.W.Words.alone c.args.self.now.seen c.args.self.now c.args.asked.now (Some AlreadyRevoked) (g.W.Words.sight c.args.pass.now).seen (g.W.Words.sight c.set_revocation.new.pass).seen
           (when_lost _ _ c.set_revocation.result c.if-set_revocation.false (outcome g at));
       sees = search rules;
-      past = search rules;
+      leads = search rules;
       turns = λ alone only old before stands.
           subst (λ won. Answered g.P.Meld.meld alone (g.W.Words.name c.args.world.now.words) c.args.asked.now old before (revoked won) c.args.self.now (g.W.Words.sight c.set_revocation.new.pass)) c.if-set_revocation.false
           (answered g (goal.at.returns-else-set_revocation g c).After-set_revocation group alone only old before stands);

@@ -80,7 +80,7 @@ ends g c reply is = λ group whole.
       further = search rules;
       adds = λ not. subst (λ r. Adds g.W.Words.alone c.args.self.now.seen c.args.self.now c.args.asked.now (Some r) (g.W.Words.sight c.args.pass.now).seen (g.W.Words.sight c.contribute-settled.new.pass).seen) is (adds g c);
       sees = ap (λ (w : Record). w.seen) c.end_start.ensures.leaves ∙ start_keeps c.args.self.now _ c.args.request c.contribute-settled.result;
-      past = search rules;
+      leads = search rules;
       turns = λ alone only old before stands.
           subst (λ r. Answered g.P.Meld.meld alone (g.W.Words.name c.args.world.now.words) c.args.asked.now old before r c.end_start.new.self (g.W.Words.sight c.contribute-settled.new.pass)) is (answered g c group alone only old before stands);
     }

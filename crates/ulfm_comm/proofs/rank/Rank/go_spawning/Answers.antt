@@ -1,7 +1,7 @@
 use Rattle.std.proofs.Common.{rules, ◌≡◌, ℕ, List, true, false, ap, ◌∙◌}
 use Rattle.ulfm_model.specs.{Records.{Record}}
 use Rattle.ulfm_steps.specs.declared.item.Item.TheVariants.{Comm as OfComm}
-use Rattle.ulfm_comm.specs.{Phase.{IsFurther, IsPast, Turns, reply_in}, Spawning.{SpawnIs}, Step.{TakesTurn}, StepsLeft.{FewerLeft, steps_left}}
+use Rattle.ulfm_comm.specs.{Phase.{IsFurther, IsMaking, Turns, reply_in}, Spawning.{SpawnIs}, Step.{TakesTurn}, StepsLeft.{FewerLeft, steps_left}}
 use Rattle.ulfm_comm.proofs.Spawning.{item_is, may_step, may_take, spawn_adds, spawn_full, spawn_goes_on, spawn_makes, spawn_walks}
 use Rattle.ulfm_comm.specs.declared.{phases.phase.Next.{Next}, phases.phase.Phase.TheVariants.{Spawning}, phases.spawning.Spawned.{Spawned}}
 use Rattle.ulfm_comm.specs.declared.phases.spawning.Spawned.TheVariants as spawned
@@ -33,10 +33,10 @@ spawn-requires-clause-holds g c =
 spawns : (g : _) (c : After-spawn g) (result : Spawned) (next : Next g.row.P.Denot) (left : List ℕ) (new : Record)
     → SpawnIs g.P.Meld.meld g.W.Words.alone (g.W.Words.name c.args.world.now.words) c.comm_of-comm.result c.requires.stands.2.at.1.round c.args.context c.args.append c.spawn.new.append c.args.group.now.items c.args.self.now (g.W.Words.sight c.args.pass.now) result c.spawn.new.self (g.W.Words.sight c.spawn.new.pass)
     → (c.args.whole ≡ false → FewerLeft (steps_left (g.W.Words.name c.args.world.now.words).limits c.args.self.now c.args.asked.now (Spawning c.args.append c.args.context c.args.reach)) (g.W.Words.name c.args.world.now.words).limits new c.args.asked.now next)
-    → (c.args.whole ≡ true → IsFurther (Spawning c.args.append c.args.context c.args.reach) next) → new.seen ≡ c.args.self.now.seen → IsPast next
+    → (c.args.whole ≡ true → IsFurther (Spawning c.args.append c.args.context c.args.reach) next) → new.seen ≡ c.args.self.now.seen → IsMaking next
     → Turns g.P.Meld.meld g.W.Words.alone (g.W.Words.name c.args.world.now.words) c.args.asked.now (Spawning c.args.append c.args.context c.args.reach) c.args.group.now.items c.args.self.now (g.W.Words.sight c.args.pass.now) next left new (g.W.Words.sight c.spawn.new.pass)
     → TakesTurn g.P.Meld.meld g.W.Words.alone c.args.whole (g.W.Words.name c.args.world.now.words) c.args.asked.now (Spawning c.args.append c.args.context c.args.reach) c.args.group.now.items c.args.self.now (g.W.Words.sight c.args.pass.now) next left new (g.W.Words.sight c.spawn.new.pass)
-spawns g c result next left new is nearer further sees past turns =
+spawns g c result next left new is nearer further sees leads turns =
     let s = c.requires.stands in
     record {
       walks = spawn_walks g.P.Meld.meld false g.W.Words.alone (λ here. absurd (cc here)) (g.W.Words.name c.args.world.now.words) c.args.asked.now c.args.append c.args.context c.args.reach c.args.group.now.items s.0 s.1 c.args.self.now (g.W.Words.sight c.args.pass.now)
@@ -50,7 +50,7 @@ spawns g c result next left new is nearer further sees past turns =
           c.requires.of s.2 c.comm_of-comm.result c.comm_of-comm.ensures
           c.spawn.new.append c.spawn.new.self (g.W.Words.sight c.spawn.new.pass) (reply_in next) result is;
       sees = sees;
-      past = λ _. past;
+      leads = leads;
       turns = turns;
     }
 

@@ -1,5 +1,5 @@
 use Rattle.std.proofs.Common.{rules, ◌≡◌, ℕ, List, true, false, refl, ap, ◌∙◌, subst}
-use Rattle.ulfm_comm.specs.{Phase.{IsFurther, IsPast, Turns}, Step.{TakesTurn}, StepsLeft.{FewerLeft, steps_left}}
+use Rattle.ulfm_comm.specs.{Phase.{IsFurther, LeadsTo, Turns}, Step.{TakesTurn}, StepsLeft.{FewerLeft, steps_left}}
 use Rattle.ulfm_comm.specs.declared.{phases.phase.Next.{Next}, phases.phase.Phase.TheVariants.{Waiting}}
 use Rattle.ulfm_comm.specs.Barrier.{IsChecking}
 use Rattle.ulfm_model.specs.Terms.{comm_of}
@@ -32,11 +32,11 @@ returns-in-Some-clause-checks g c = λ which is group alone only old before stan
 
 -- the loads leave what the rank holds and has seen
 waits : (g : _) (c : After-advance g) (next : Next g.row.P.Denot) → (c.args.whole ≡ false → FewerLeft (steps_left (g.W.Words.name c.args.world.now.words).limits c.args.self.now c.args.asked.now (Waiting c.args.arrivals)) (g.W.Words.name c.args.world.now.words).limits c.args.self.now c.args.asked.now next)
-    → (c.args.whole ≡ true → IsFurther (Waiting c.args.arrivals) next) → IsPast next
+    → (c.args.whole ≡ true → IsFurther (Waiting c.args.arrivals) next) → LeadsTo (Waiting c.args.arrivals) next
     → ((group : List ℕ) → Turns g.P.Meld.meld g.W.Words.alone (g.W.Words.name c.args.world.now.words) c.args.asked.now (Waiting c.args.arrivals) group c.args.self.now (g.W.Words.sight c.args.pass.now) next group c.args.self.now (g.W.Words.sight c.advance.new.pass))
     → (group : List ℕ) → TakesTurn g.P.Meld.meld g.W.Words.alone c.args.whole (g.W.Words.name c.args.world.now.words) c.args.asked.now (Waiting c.args.arrivals) group c.args.self.now (g.W.Words.sight c.args.pass.now) next group c.args.self.now (g.W.Words.sight c.advance.new.pass)
-waits g c next nearer further past turns = λ group.
-    record { walks = search rules; named = search rules; nearer = nearer; further = further; adds = search rules; sees = refl; past = λ _. past; turns = turns group }
+waits g c next nearer further leads turns = λ group.
+    record { walks = search rules; named = search rules; nearer = nearer; further = further; adds = search rules; sees = refl; leads = leads; turns = turns group }
 
 pub returns-in-None-clause-turn : goal.returns-in-None-clause-turn
 returns-in-None-clause-turn g c = waits g (goal.at.returns-in-None-clause-turn g c).After-advance _ (search rules) (search rules) (search rules) (λ group alone only old before stands.

@@ -62,7 +62,7 @@ stepped g c =
       over = c.go.ensures.over;
       adds = c.go.ensures.turn.adds refl;
       sees = c.go.ensures.turn.sees;
-      past = c.go.ensures.turn.past;
+      leads = c.go.ensures.turn.leads;
       checks = c.go.ensures.checks;
       early = c.go.ensures.early;
     })

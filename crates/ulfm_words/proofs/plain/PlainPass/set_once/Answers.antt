@@ -38,7 +38,7 @@ room g c =
     let may = may_in g c in
     let some = word_some g.P.Packed.pack may.entry.event in
     let set : c.args.step.word ≢ 0 = omega (arith, may.word, some) in
-    omega (arith, count-set c.self.inside.row.words (key_in c.self.inside.row.limits c.args.step.place) c.args.step.word (was_zero g c) (below g c) set, c.self.invariant.room, c.self.inside.journal.ok.0)
+    omega (arith, count-set c.self.inside.row.words (key_in c.self.inside.row.limits c.args.step.place) c.args.step.word (was_zero g c) (below g c) set, c.self.invariant.free, c.self.invariant.room, c.self.inside.journal.ok.0)
 
 pushed : (g : _) (c : After-push g) → c.push.new.self.items ≡ c.self.inside.journal.items ++ record { place = c.args.step.place; by = c.args.step.by } ∷ []
 pushed g c = let fits = room g c in grind (arith, common_steps)

@@ -1,0 +1,148 @@
+#!/usr/bin/env python3
+"""Feeds changed scripts and traces to the program, and looks at each answer: it comes, in time, with a status and a line on standard error that
+belong together, and with as many lines of output as lines were read before a fault.
+
+    bench/fuzz.py run|steps|check SECONDS [SEED] [--program PATH] [--judge PATH]
+
+`run` and `steps` feed scripts to `ulfm run` and `ulfm run --steps`, `check` feeds traces to `ulfm check`. Where `check` is there, what `steps`
+prints at status 0 is judged, and must be legal. With --judge another judge of traces (a program with the same lines as `ulfm check`) reads each
+trace too, and must say the same, but of lines that end in a space, which the native one takes. It prints each difference with the text in hexadecimal, and at its end how many texts were tried and what was
+answered; its status is 1 where there is a difference.
+"""
+import argparse
+import collections
+import glob
+import os
+import random
+import re
+import subprocess
+import time
+
+TOP = os.path.dirname(os.path.dirname(os.path.realpath(__file__)))
+HEADS = {"run": b"ulfm", "steps": b"ulfm-steps", "check": b"ulfm-trace"}
+COMMANDS = {"run": ["run"], "steps": ["run", "--steps"], "check": ["check"]}
+FAULT = re.compile(rb"ulfm: line (\d+): (cut|long|lines|header|limits|verb|words|number|flag|step|open)\n")
+VERDICT = re.compile(rb"illegal line (\d+) (text|call|look|event|own|reply)\n")
+NAMES = [b"list", b"settle", b"arrive", b"revoke", b"revocation", b"mark", b"slot", b"comm", b"spawn", b"arrival"]
+VERBS = [b"get", b"ack", b"agree", b"shrink", b"barrier", b"poll", b"revoke", b"isrevoked", b"free"]
+
+
+def call(rng, ranks, comms):
+    """A call of a rank, mostly of one that there is."""
+    verb = rng.choice(VERBS + [b"agree", b"poll", b"poll", b"shrink"])
+    words = [verb, b"%d" % rng.randrange(ranks + (rng.random() < 0.03)), b"%d" % (rng.randrange(comms) if rng.random() < 0.4 else 0)]
+    if verb == b"ack":
+        words.append(b"%d" % rng.randrange(ranks + 2))
+    if verb == b"agree":
+        words.append(b"%08x" % rng.getrandbits(32))
+    return b" ".join(words)
+
+
+def script(rng, kind):
+    """A script of its grammar, mostly without a fault."""
+    ranks, comms, rounds = rng.randrange(1, 6), rng.randrange(1, 5), rng.randrange(1, 7)
+    lines = [b"%s 1 %d %d %d" % (HEADS[kind], ranks, comms, rounds)]
+    for _ in range(rng.randrange(40)):
+        rank = rng.randrange(ranks)
+        if rng.random() < 0.06:
+            lines.append(b"fail %d" % rank)
+        elif kind == "run":
+            lines.append(call(rng, ranks, comms))
+        else:
+            asked = call(rng, ranks, comms)
+            rank = int(asked.split()[1])
+            lines.append(rng.choice([b"finish %d" % rank, b"finish %d" % rank, b"step %d %d" % (rank, rng.randrange(1, 4)), b"before %d %s" % (rank, rng.choice(NAMES))]))
+            if rng.random() < 0.7:
+                lines += [b"finish %d" % rank, b"call " + asked]
+    return b"\n".join(lines) + b"\n"
+
+
+def changed(rng, text):
+    """The text with a change or some."""
+    lines = text.split(b"\n")
+    for _ in range(rng.choice([0, 1, 1, 1, 2, 3])):
+        at, other = rng.randrange(len(lines)), rng.randrange(len(lines))
+        way = rng.randrange(10)
+        if way == 0:
+            lines[at:at + 1] = []
+        elif way == 1:
+            lines.insert(at, lines[other])
+        elif way == 2:
+            lines[at], lines[other] = lines[other], lines[at]
+        elif way in (3, 4, 5):
+            numbers = list(re.finditer(rb"\d+", lines[at]))
+            if numbers:
+                it = rng.choice(numbers)
+                new = rng.choice([b"%d" % (int(it[0]) + 1), b"%d" % max(0, int(it[0]) - 1), b"0", b"255", b"256", b"1023", b"1024", b"9999", b"10000", b"00", b"-1", b""])
+                lines[at] = lines[at][:it.start()] + new + lines[at][it.end():]
+        elif way == 6:
+            words = lines[at].split(b" ")
+            words[rng.randrange(len(words))] = rng.choice(VERBS + NAMES + [b"", b"call", b"step", b"fail", b"event", b"reply", b"-", b"00000000", b"0000000G"])
+            lines[at] = b" ".join(words)
+        elif way == 7 and lines[at]:
+            place = rng.randrange(len(lines[at]))
+            lines[at] = lines[at][:place] + bytes([rng.randrange(256)]) + lines[at][place + 1:]
+        elif way == 8:
+            lines[at] += rng.choice([b" ", b"\r", b"\t", b" 0", b"x" * rng.choice([1, 60, 65, 8193])])
+        elif way == 9:
+            return b"\n".join(lines)[:rng.randrange(len(text) + 1)]
+        lines = lines or [b""]
+    return b"\n".join(lines)
+
+
+def answered(program, kind, text):
+    return subprocess.run([program, *COMMANDS[kind]], input=text, capture_output=True, timeout=60)
+
+
+def is_answer(kind, text, ran):
+    """Whether status, standard error and output belong together."""
+    if kind == "check":
+        verdict = VERDICT.fullmatch(ran.stdout)
+        lines = text.count(b"\n") + (not text.endswith(b"\n"))
+        return not ran.stderr and (ran.stdout == b"legal\n" and ran.returncode == 0 or bool(verdict) and ran.returncode == 1 and int(verdict[1]) <= lines + 1)
+    fault = FAULT.fullmatch(ran.stderr)
+    if ran.returncode not in (0, 1) or (ran.returncode == 0) == bool(fault) or (ran.returncode == 0 and ran.stderr):
+        return False
+    before = int(fault[1]) - 1 if fault else text.count(b"\n")
+    if kind == "run":
+        return ran.stdout.count(b"\n") == max(before - 1, 0)
+    return ran.stdout.count(b"\n") >= min(before, 1)
+
+
+def main():
+    words = argparse.ArgumentParser()
+    words.add_argument("kind", choices=sorted(COMMANDS))
+    words.add_argument("seconds", type=float)
+    words.add_argument("seed", type=int, nargs="?", default=1)
+    words.add_argument("--program", default=os.path.join(TOP, "crates/ulfm/out/ulfm"))
+    words.add_argument("--judge")
+    given = words.parse_args()
+    rng = random.Random(given.seed)
+    seeds = [open(name, "rb").read() for name in sorted(glob.glob(os.path.join(TOP, "examples", {"run": "*.ulfm", "steps": "*.steps", "check": "*.steps"}[given.kind])))]
+    judges = answered(given.program, "check", b"").returncode == 1
+    told, tried, wrong, end = collections.Counter(), 0, 0, time.monotonic() + given.seconds
+    while time.monotonic() < end:
+        text = rng.choice(seeds) if rng.random() < 0.3 else script(rng, "run" if given.kind == "run" else "steps")
+        if given.kind == "check":
+            text = answered(given.program, "steps", text).stdout
+        if rng.random() < 0.01:
+            text = bytes(rng.randrange(256) for _ in range(rng.randrange(200)))
+        text = changed(rng, text)
+        if given.judge and b" \n" in text:
+            continue
+        ran = answered(given.program, given.kind, text)
+        is_well = is_answer(given.kind, text, ran)
+        if is_well and judges and given.kind == "steps" and ran.returncode == 0:
+            is_well = answered(given.program, "check", ran.stdout).stdout == b"legal\n"
+        if is_well and given.judge and given.kind == "check":
+            is_well = subprocess.run([given.judge], input=text, capture_output=True, timeout=60).stdout == ran.stdout
+        tried, wrong = tried + 1, wrong + (not is_well)
+        told[(ran.stdout if given.kind == "check" else ran.stderr).split(b" ")[-1].strip().decode() or "ran"] += 1
+        if not is_well:
+            print(f"status {ran.returncode}, {ran.stderr!r}, {ran.stdout[-200:]!r}: {text.hex()}", flush=True)
+    print(f"{given.kind}: {tried} texts, {wrong} wrong; answered: {', '.join(f'{name} {count}' for name, count in told.most_common())}")
+    return int(wrong > 0)
+
+
+if __name__ == "__main__":
+    raise SystemExit(main())

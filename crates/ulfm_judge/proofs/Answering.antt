@@ -1,0 +1,136 @@
+-- That a reply may come is decided by tests that compute; and a reply that starts something has a round whose next number fits.
+use Rattle.std.proofs.Common.{◌≡◌, ◌⊎◌, ◌≤◌, ◌<◌, ◌+◌, ◌^◌, ℕ, Bool, true, false, List, [], ◌∷◌, length, filter, max, min, take, nat_le, Option, Some, None, is_some, if◌then◌else◌, refl, sym, ap, ◌∙◌, subst, IsTrue, IsFalse, inl, inr, arith}
+use Rattle.std.specs.Bool.{Decides}
+use Rattle.std.specs.List.{list_all, list_any}
+use Rattle.std.proofs.lemmas.Bool.Decides.{Decides-and, Decides-like, Decides-or, nat_tests}
+use Rattle.ulfm_model.specs.declared.{call.Call.{Call}, call.Request.{Request}, contribution.Offer.{Offer}, event.Caller.{Caller}, limits.Limits.{Limits}, refusal.Refusal.{Refusal}, reply.Reply.{Reply}}
+use Rattle.ulfm_model.specs.Answers.{IsPending, IsReply, IsSelfFailed, PollReplies, Replies, RepliesBy, View, comm_of, first_refusal, rank_of, refusal_of, refusal_on, traits_of}
+use Rattle.ulfm_model.specs.History.{decision, failed, failures, has, has_arrived, is_decided, is_revoked}
+use Rattle.ulfm_model.specs.Records.{Held, Record, free_ids, held_at, is_shrink}
+use Rattle.ulfm_model.specs.Terms.{tests_of}
+use Rattle.ulfm_record.specs.Kept.{FitsNext}
+use Rattle.ulfm_trace_model.specs.Traces.{AnswersCall, AnswersRank, MayReply, Traced, Under, call_by, listed, record_of, view_at}
+use Rattle.ulfm_judge.specs.ReplyTests.{by_record_test, call_test, looked_test, pending_test, polled_test, rank_test, replied_test, reply_test}
+use Rattle.ulfm_judge.proofs.Deciding.{false_decides, le_decides, never_decides, true_decides}
+use Rattle.ulfm_judge.proofs.Polling.{agree_decides, shrink_decides, start_decides}
+use Rattle.ulfm_judge.proofs.Replying.{acked_decides, barrier_decides, barrier_start_decides, fail_decides, freed_decides, group_decides, pending_decides, ranks_decide, refused_decides, revoke_decides, self_failed_decides, standing_decides}
+
+module _ {P : Type 0} (meld : P → P → P) (pack : P → ℕ) (tells : (x y : P) → pack x ≡ pack y → x ≡ y) where
+  module _ (limits : Limits) (view : View P) where
+    polled_decides : (r : ℕ) (x : Held) (request : Option Request) (reply : Reply P)
+        → Decides (polled_test meld pack limits view.look view.history r x request reply) (PollReplies meld limits view r x request reply)
+    polled_decides r x None reply = never_decides (λ q. q)
+    polled_decides r x (Some (Request.Agree k)) reply =
+        agree_decides pack tells (IsPending view x k) (pending_test view.look view.history x k) (pending_decides view x k)
+        (is_decided limits.ranks view.history x.comm k) (decision meld limits.ranks view.history x.comm k) reply
+    polled_decides r x (Some (Request.Shrink k)) reply =
+        shrink_decides pack tells (IsPending view x k) (pending_test view.look view.history x k) (pending_decides view x k)
+        (is_decided limits.ranks view.history x.comm k) (decision meld limits.ranks view.history x.comm k) limits view.history r x.comm k reply
+    polled_decides r x (Some (Request.Barrier k)) reply =
+        barrier_decides (is_revoked view.history x.comm) (list_all (has_arrived view.history x.comm k) x.group)
+        (list_all (has_arrived view.history x.comm k) (filter (has x.group) view.look)) reply
+
+    module _ (old : Record) where
+      replied_decides : (x : Held) (asked : Call P) (reply : Reply P)
+          → Decides (replied_test meld pack limits view.look view.history view.own old.number old.held x asked reply) (Replies meld limits view old x asked reply)
+      replied_decides x (Call.Fail rank) reply = never_decides (λ q. q)
+      replied_decides x (Call.GetFailed rank c) reply =
+          Decides-and _ _ (ranks_decide (failures view.history) view.look) (group_decides (length (failed limits.ranks view.history c)) reply)
+      replied_decides x (Call.Ack rank c count) reply =
+          Decides-and _ _ (ranks_decide (failures view.history) view.look) (acked_decides (max x.acked (min count (length (failed limits.ranks view.history c)))) reply)
+      replied_decides x (Call.Agree rank c value) reply = start_decides pack tells view old x (Offer.Flag value) reply
+      replied_decides x (Call.Shrink rank c) reply = start_decides pack tells view old x (Offer.Ctx (free_ids old.held)) reply
+      replied_decides x (Call.Barrier rank c) reply = barrier_start_decides view old x reply
+      replied_decides x (Call.Poll rank c) reply = polled_decides old.number x x.request reply
+      replied_decides x (Call.Revoke rank c) reply = revoke_decides view c reply
+      replied_decides x (Call.IsRevoked rank c) reply = standing_decides (is_revoked view.history c) reply
+      replied_decides x (Call.Free rank c) reply = freed_decides reply
+
+      by_record_decides : (held : Option Held) (asked : Call P) (reply : Reply P) (refusal : Option Refusal)
+          → Decides (by_record_test meld pack limits view.look view.history view.own old held asked reply refusal) (RepliesBy meld limits view old held asked reply refusal)
+      by_record_decides held asked reply (Some refusal) = refused_decides refusal reply
+      by_record_decides (Some x) asked reply None = replied_decides x asked reply
+      by_record_decides None asked reply None = never_decides (λ q. q)
+
+      -- a rank's call is answered so, after its look
+      looked_decides : (asked : Call P) (reply : Reply P)
+          → Decides (looked_test meld pack limits view.look view.history view.own old asked reply) (IsSelfFailed view old asked reply ⊎ IsReply meld limits view old asked reply)
+      looked_decides asked reply =
+          Decides-or _ _ (self_failed_decides view old asked reply)
+          (Decides-like _ (λ p. record { not_declared = p.0; replies = p.1 }) (λ q. (q.not_declared, q.replies))
+          (Decides-and _ _ (false_decides (has view.look old.number)) (by_record_decides (held_at old (comm_of asked)) asked reply (refusal_of old asked))))
+
+  by_test : (b x y : Bool) (X Y Z : Type 0) → Decides x X → Decides y (Y × Z) → Decides (if b then x else y) ((IsTrue b × X) ⊎ (IsFalse b × Y × Z))
+  by_test true x y X Y Z one other = Decides-like x (λ p. inl (refl, p)) (λ q. elim q [ inl a ↦ a.1 | inr b ↦ absurd (cc (b.0)) ]) one
+  by_test false x y X Y Z one other = Decides-like y (λ p. inr (refl, p.0, p.1)) (λ q. elim q [ inl a ↦ absurd (cc (a.0)) | inr b ↦ (b.1, b.2) ]) other
+
+  rank_decides : (now : Traced P) (u : Under P) (point : ℕ) (reply : Reply P) (own : Option Record)
+      → Decides (rank_test meld pack now u point reply own) (AnswersRank meld now u point reply own)
+  rank_decides now u point reply None = refused_decides Refusal.NoSuchRank reply
+  rank_decides now u point reply (Some old) =
+      by_test old.refused _ _ _ _ _ (refused_decides Refusal.SelfFailed reply)
+      (Decides-and _ _ (true_decides (is_some u.look)) (looked_decides now.limits (view_at now u point) old u.asked reply))
+
+  call_decides : (now : Traced P) (by : Caller) (u : Under P) (point : ℕ) (reply : Reply P) → Decides (call_test meld pack now by u point reply) (AnswersCall meld now by u point reply)
+  call_decides now Caller.Outside u point reply = fail_decides now.limits (view_at now u point) (rank_of u.asked) reply
+  call_decides now (Caller.Rank r) u point reply = rank_decides now u point reply (record_of now r)
+
+  -- a reply may come
+  pub reply_decides : (now : Traced P) (by : Caller) (point : ℕ) (group : List ℕ) (reply : Reply P)
+      → Decides (reply_test meld pack now by point group reply (call_by now by)) (MayReply meld now by point group reply)
+  reply_decides now by point group reply = by_call (call_by now by) refl
+    where
+      by_call : (call : Option (Under P)) → call_by now by ≡ call → Decides (reply_test meld pack now by point group reply call) (MayReply meld now by point group reply)
+      by_call None is = never_decides (λ q. cc (is, q.is_open))
+      by_call (Some u) is =
+          Decides-like _ (λ p. record { call = u; is_open = is; since_begin = p.0; by_now = p.1.0; answers = p.1.1.0; lists = p.1.1.1 })
+          (λ q.
+          let same : q.call ≡ u = cc (is, q.is_open) in
+          let Parts : Under P → Type 0 = λ v. (v.begun ≤ point) × ((point ≤ length now.history) × (AnswersCall meld now by v point reply × (group ≡ listed now.limits.ranks (take point now.history) (comm_of v.asked) reply))) in
+          subst Parts same (q.since_begin, (q.by_now, (q.answers, q.lists))))
+          (Decides-and _ _ (le_decides u.begun point)
+          (Decides-and _ _ (le_decides point (length now.history))
+          (Decides-and _ _ (call_decides now by u point reply) (ranks_decide group (listed now.limits.ranks (take point now.history) (comm_of u.asked) reply)))))
+
+-- where no test of several refuses, the first doesn't, and none of the others does
+none_first_test : (test : Bool × Refusal) (tests : List (Bool × Refusal)) → first_refusal (test ∷ tests) ≡ None → (test.0 ≡ false) × (first_refusal tests ≡ None)
+none_first_test test tests none = go test.0 refl none
+  where
+    go : (b : Bool) → test.0 ≡ b → (if b then Some test.1 else first_refusal tests) ≡ None → (test.0 ≡ false) × (first_refusal tests ≡ None)
+    go true is none = absurd (cc none)
+    go false is none = (is, none)
+
+round_left : (rounds next : ℕ) → rounds ≤ 4096 → nat_le rounds next ≡ false → next + 1 < 2 ^ 16
+round_left rounds next small left = grind (arith, nat_tests)
+
+round_before : (rounds next : ℕ) → rounds ≤ 4096 → nat_le rounds (next + 1) ≡ false → next + 1 < 2 ^ 16
+round_before rounds next small left = grind (arith, nat_tests)
+
+-- a request that the record's tests allow has a round whose next number fits
+allowed_fits : {P : Type 0} (own : Record) (x : Held) (asked : Call P) → own.limits.rounds ≤ 4096 → first_refusal (tests_of own x asked) ≡ None → FitsNext ((traits_of asked).starts x)
+allowed_fits own x (Call.Agree rank c value) small none =
+    let used : Bool × Refusal = (nat_le own.limits.rounds (x.next_agreement + 1), Refusal.RoundsUsedUp) in
+    let rest = none_first_test (is_some x.request, Refusal.Busy) (used ∷ []) none in
+    round_before own.limits.rounds x.next_agreement small (none_first_test used [] rest.1).0
+allowed_fits own x (Call.Shrink rank c) small none =
+    let used : Bool × Refusal = (nat_le own.limits.rounds x.next_agreement, Refusal.RoundsUsedUp) in
+    let other : Bool × Refusal = (list_any (λ y. is_shrink y.request) own.held, Refusal.ShrinkOpen) in
+    let rest = none_first_test (is_some x.request, Refusal.Busy) (other ∷ used ∷ []) none in
+    let last = none_first_test other (used ∷ []) rest.1 in
+    round_left own.limits.rounds x.next_agreement small (none_first_test used [] last.1).0
+allowed_fits own x (Call.Barrier rank c) small none =
+    let used : Bool × Refusal = (nat_le own.limits.rounds x.next_barrier, Refusal.RoundsUsedUp) in
+    let rest = none_first_test (is_some x.request, Refusal.Busy) (used ∷ []) none in
+    round_left own.limits.rounds x.next_barrier small (none_first_test used [] rest.1).0
+allowed_fits own x _ small none = tt
+
+-- an answer that says that something has started
+pub started_fits : {P : Type 0} (meld : P → P → P) (limits : Limits) (view : View P) (old : Record) (asked : Call P) (reply : Reply P) → old.limits.rounds ≤ 4096
+    → IsSelfFailed view old asked reply ⊎ IsReply meld limits view old asked reply
+    → (x : Held) → reply ≡ Reply.Started → held_at old (comm_of asked) ≡ Some x → FitsNext ((traits_of asked).starts x)
+started_fits meld limits view old asked reply small (inl failed) x starts holds = absurd (cc (starts, failed.reply_is))
+started_fits {P} meld limits view old asked reply small (inr answer) x starts holds = by_refusal (refusal_of old asked) refl answer.replies
+  where
+    by_refusal : (o : Option Refusal) → refusal_of old asked ≡ o → RepliesBy meld limits view old (held_at old (comm_of asked)) asked reply o → FitsNext ((traits_of asked).starts x)
+    by_refusal (Some refusal) is e = absurd (cc (starts, e))
+    by_refusal None is e = allowed_fits old x asked small (ap (λ w. refusal_on old w asked) (sym holds) ∙ is)

@@ -1,0 +1,180 @@
+-- What a reply leaves: of its rank's record, of all records, and of the calls under way.
+use Rattle.std.proofs.Common.{◌≡◌, ℕ, zero, suc, ◌<◌, ◌≤◌, ◌==◌, Bool, true, false, cond, not, List, [], ◌∷◌, ◌++◌, drop, map, filter, length, Option, Some, None, is_some, get_or, set, refl, ap, ap₂, sym, ◌∙◌, subst, arith, nat_eq, if◌then◌else◌, inl, inr}
+use Rattle.std.specs.Prelude.{IfOk, OnOk, Result, Ok, Err, find, take}
+use Rattle.std.proofs.Math.Seq.{take-append_seam}
+use Rattle.std.specs.List.{AllByRecursion, IsDistinct, position}
+use Rattle.std.proofs.lemmas.Bool.{eq-eqb, eqb-true, ne_eqb}
+use Rattle.std.proofs.lemmas.List.Quantifiers.{position-Some}
+use Rattle.std.proofs.lemmas.Map.Keys.{IsDistinct-head, IsDistinct-tail}
+use Rattle.ulfm_model.specs.declared.{call.Call.{Call}, event.Caller.{Caller}, limits.Limits.{Limits}, reply.Reply.{Reply}}
+use Rattle.ulfm_model.specs.{Answers.{Effect, comm_of, left_by, left_with, printed, traits_of}, History.{History, first_ranks}, Records.{Held, Record, held_at}}
+use Rattle.ulfm_model.proofs.Lists.{any_none, distinct_push, each_from, each_push, find_holds, none_distinct}
+use Rattle.ulfm_record.specs.{declared.record.RankRecord.{RankRecord}, Kept.{FitsNext, record_of}}
+use Rattle.ulfm_trace_model.specs.declared.line.{Line.{Line}, Why.{Why}}
+use Rattle.ulfm_trace_model.specs.Traces.{AnswersCall, AnswersRank, MayReply, Takes, Traced, Under, after_reply, call_by, caller_of, record_of as record_at, records_after, same_caller, view_at}
+use Rattle.ulfm_judge.specs.ReplyTests.{reply_test}
+use Rattle.ulfm_judge.specs.{declared.calls.OpenCall.{OpenCall}, Kept.{MayLeave, traced_of, under_of}}
+use Rattle.ulfm_judge.proofs.Answering.{reply_decides, started_fits}
+
+-- a reply leaves a record's number
+by_effect : (now : Record) (c : ℕ) (effect : Effect) → (left_with now c effect).number ≡ now.number
+by_effect now c Effect.Keeps = refl
+by_effect now c Effect.Ends = refl
+by_effect now c Effect.ForGood = refl
+
+pub left_number : {P : Type 0} (ranks : ℕ) (h : History P) (now : Record) (asked : Call P) (reply : Reply P) → (left_by ranks h now asked reply).number ≡ now.number
+left_number ranks h now asked (Reply.Refused refusal) = by_effect now (comm_of asked) (printed refusal).2
+left_number ranks h now asked _ = refl
+
+all_below : (n : ℕ) → AllByRecursion (λ r. r < n) (first_ranks n)
+all_below zero = tt
+all_below (suc n) =
+    each_push (λ r. r < suc n) (first_ranks n) n (each_from (λ r. r < n) (λ r. r < suc n) (λ r less. omega (arith, less)) (first_ranks n) (all_below n)) (omega arith)
+
+-- all ranks differ
+pub ranks_distinct : (n : ℕ) → IsDistinct nat_eq (first_ranks n)
+ranks_distinct zero = none_distinct nat_eq
+ranks_distinct (suc n) =
+    distinct_push nat_eq (first_ranks n) n (ranks_distinct n)
+    (any_none (λ r. nat_eq r n) (first_ranks n) (each_from (λ r. r < n) (λ r. nat_eq r n ≡ false) (λ r less. ne_eqb r n (λ same. omega (arith, less, same))) (first_ranks n) (all_below n)))
+
+module _ {X Y : Type 0} (v : X → Y) (number : Y → ℕ) (r : ℕ) (f : Y → Y) where
+  -- the elements with those of number r changed
+  abbrev changed : List X → List Y
+  changed xs = map (λ x. if number x == r then f x else x) (map v xs)
+
+  unchanged : (xs : List X) → AllByRecursion (λ n. (n == r) ≡ false) (map (λ x. number (v x)) xs) → changed xs ≡ map v xs
+  unchanged [] apart = refl
+  unchanged (x ∷ xs) apart = ap₂ (λ z zs. z ∷ zs) (ap (λ (b : Bool). if b then f (v x) else v x) apart.0) (unchanged xs apart.1)
+
+  changed_at : (xs : List X) (i : ℕ) (d y : X) → IsDistinct nat_eq (map (λ x. number (v x)) xs) → v y ≡ f (v (get_or xs i d)) → i < length xs → (number (v (get_or xs i d)) == r) ≡ true
+      → ((k : ℕ) → k < i → (number (v (get_or xs k d)) == r) ≡ false) → map v (set xs i y) ≡ changed xs
+  changed_at [] i d y distinct is within here before = absurd (omega (arith, within))
+  changed_at (x ∷ xs) zero d y distinct is within here before =
+      let same : number (v x) ≡ r = eqb-true (number (v x)) r here in
+      let apart : AllByRecursion (λ n. (n == r) ≡ false) (map (λ x. number (v x)) xs) =
+      each_from (λ n. nat_eq (number (v x)) n ≡ false) (λ n. (n == r) ≡ false) (λ n differs. turned n (subst (λ w. nat_eq w n ≡ false) same differs)) (map (λ x. number (v x)) xs)
+      (IsDistinct-head nat_eq (number (v x)) (map (λ x. number (v x)) xs) distinct) in
+      ap₂ (λ z zs. z ∷ zs) (is ∙ sym (ap (λ (b : Bool). if b then f (v x) else v x) here)) (sym (unchanged xs apart))
+    where
+      turned : (n : ℕ) → nat_eq r n ≡ false → (n == r) ≡ false
+      turned n differs = ne_eqb n r (λ same. absurd (cc (eq-eqb r n (sym same), differs)))
+  changed_at (x ∷ xs) (suc i) d y distinct is within here before =
+      ap₂ (λ z zs. z ∷ zs) (sym (ap (λ (b : Bool). if b then f (v x) else v x) (before 0 (omega arith))))
+      (changed_at xs i d y (IsDistinct-tail nat_eq (number (v x)) (map (λ x. number (v x)) xs) distinct) is (omega (arith, within)) here (λ k less. before (suc k) (omega (arith, less))))
+
+  -- where none has the number, none is changed
+  pub none_changed : (xs : List X) → find (λ y. number y == r) (map v xs) ≡ None → map v xs ≡ changed xs
+  none_changed [] none = refl
+  none_changed (x ∷ xs) none = go (number (v x) == r) none (λ more. none_changed xs more)
+    where
+      go : (b : Bool) → cond b (Some (v x)) (find (λ y. number y == r) (map v xs)) ≡ None → (find (λ y. number y == r) (map v xs) ≡ None → map v xs ≡ changed xs)
+          → v x ∷ map v xs ≡ cond b (f (v x)) (v x) ∷ changed xs
+      go true none rest = absurd (cc none)
+      go false none rest = ap (λ zs. v x ∷ zs) (rest none)
+
+  -- where the numbers differ, a write at the first of number r changes those of it
+  pub one_changed : (xs : List X) (i : ℕ) (d y : X) → IsDistinct nat_eq (map (λ x. number (v x)) xs) → position (λ x. number (v x) == r) xs ≡ Some i → v y ≡ f (v (get_or xs i d))
+      → map v (set xs i y) ≡ changed xs
+  one_changed xs i d y distinct at is = let first = position-Some (λ (x : X). number (v x) == r) xs i d at in changed_at xs i d y distinct is first.0 first.1 first.2
+
+-- the calls of others, as the definitions see them
+pub others_stay : {P A : Type 0} (by : Caller) (calls : List (OpenCall P A))
+    → map under_of (filter (λ v. not (same_caller (traits_of v.asked).by by)) calls) ≡ filter (λ v. not (same_caller (caller_of v) by)) (map under_of calls)
+others_stay by [] = refl
+others_stay by (x ∷ xs) =
+    let rest = others_stay by xs in
+    elim (same_caller (traits_of x.asked).by by) as (λ b.
+    map under_of (cond (not b) (x ∷ filter (λ v. not (same_caller (traits_of v.asked).by by)) xs) (filter (λ v. not (same_caller (traits_of v.asked).by by)) xs))
+    ≡ cond (not b) (under_of x ∷ filter (λ v. not (same_caller (caller_of v) by)) (map under_of xs)) (filter (λ v. not (same_caller (caller_of v) by)) (map under_of xs)))
+    [ true ↦ rest | false ↦ ap (λ zs. under_of x ∷ zs) rest ]
+
+each_limits : {A : Type 0} (limits : Limits) (records : List (RankRecord A)) → AllByRecursion (λ own. own.limits ≡ limits) (map (record_of limits) records)
+each_limits limits [] = tt
+each_limits limits (x ∷ xs) = (refl, each_limits limits xs)
+
+module _ {P A : Type 0} (meld : P → P → P) (pack : P → ℕ) (tells : (x y : P) → pack x ≡ pack y → x ≡ y)
+    (limits : Limits) (h : History P) (records : List (RankRecord A)) (calls : List (OpenCall P A)) (group : List ℕ) where
+  abbrev now : Traced P
+  now = traced_of limits h records calls
+
+  -- an answer that says that something has started
+  pub may_leave : (by : Caller) (u : Under P) (point : ℕ) (reply : Reply P) → limits.rounds ≤ 4096 → AnswersCall meld now by u point reply → MayLeave now by u reply
+  may_leave Caller.Outside u point reply small answers = λ r own x is has starts holds. absurd (cc is)
+  may_leave (Caller.Rank s) u point reply small answers = λ r own x is has starts holds.
+      let same : s ≡ r = cc is in
+      let own_answers = subst (AnswersRank meld now u point reply) (ap (record_at now) same ∙ has) answers in
+      let limited = (find_holds (λ (y : Record). y.number == r) (λ y. y.limits ≡ limits) (map (record_of limits) records) own (each_limits limits records) has).0 in
+      by_refused own x starts holds (subst (λ (l : Limits). l.rounds ≤ 4096) (sym limited) small) own_answers
+    where
+      by_refused : (own : Record) (x : Held) → reply ≡ Reply.Started → held_at own (comm_of u.asked) ≡ Some x → own.limits.rounds ≤ 4096 → AnswersRank meld now u point reply (Some own)
+          → FitsNext ((traits_of u.asked).starts x)
+      by_refused own x starts holds few (inl refused) = absurd (cc (starts, refused.1))
+      by_refused own x starts holds few (inr a) = started_fits meld limits (view_at now u point) own u.asked reply few a.2 x starts holds
+
+  module _ (by : Caller) (point : ℕ) (reply : Reply P) where
+    abbrev line : Line P
+    line = Line.Replied by point (Some reply)
+
+    abbrev IsTest : Under P → Bool → Type 0
+    IsTest u b = reply_test meld pack now by point group reply (Some u) ≡ b
+
+    at_call : (u : Under P) → call_by now by ≡ Some u → (b : Bool) → IsTest u b → reply_test meld pack now by point group reply (call_by now by) ≡ b
+    at_call u there b is = ap (λ o. reply_test meld pack now by point group reply o) there ∙ is
+
+    -- a reply to a caller that has no call open
+    pub no_call_replied : call_by now by ≡ None → Takes meld now group line now (Some Why.Call)
+    no_call_replied none = (inl (refl, λ is_open. absurd (cc (ap is_some none, is_open))), refl)
+
+    -- one that isn't an answer
+    pub not_answered : (u : Under P) → call_by now by ≡ Some u → IsTest u false → Takes meld now group line now (Some Why.Reply)
+    not_answered u there is = (
+      inr (
+        refl,
+        ap is_some there,
+        λ may.
+            let yes_it : reply_test meld pack now by point group reply (call_by now by) ≡ true = (reply_decides meld pack tells now by point group reply).1 may in
+            absurd (cc (yes_it, at_call u there false is)),
+      ),
+      refl,
+    )
+
+    -- one that is
+    pub answered : (u : Under P) → call_by now by ≡ Some u → IsTest u true → MayReply meld now by point group reply
+    answered u there is = (reply_decides meld pack tells now by point group reply).0 (at_call u there true is)
+
+    -- so what it says that has started has a round whose next number fits
+    pub leaves : (u : Under P) → call_by now by ≡ Some u → IsTest u true → limits.rounds ≤ 4096 → MayLeave now by u reply
+    leaves u there is small =
+        let may = answered u there is in
+        let same : may.call ≡ u = cc (there, may.is_open) in
+        may_leave by u point reply small (subst (λ v. AnswersCall meld now by v point reply) same may.answers)
+
+    -- and it is taken
+    pub taken : (u : Under P) (new : List (RankRecord A)) (others : List (OpenCall P A)) → call_by now by ≡ Some u → IsTest u true
+        → map (record_of limits) new ≡ records_after now by u point reply → others ≡ filter (λ v. not (same_caller (traits_of v.asked).by by)) calls
+        → Takes meld now group line (traced_of limits h new others) None
+    taken u new others there is left stay =
+        let others_are : map under_of others ≡ filter (λ v. not (same_caller (caller_of v) by)) (map under_of calls) = ap (map under_of) stay ∙ others_stay by calls in (
+          answered u there is,
+          ap₂ (λ (rs : List Record) (us : List (Under P)). record now { records = rs; calls = us }) left others_are ∙ sym (ap (after_reply now by point reply) there),
+        )
+
+-- a word tells its value apart from others
+pub packs_apart : {P : Type 0} (pack : P → ℕ) (unpack : ℕ → Option P) → ((x : P) → unpack (pack x) ≡ Some x) → (x y : P) → pack x ≡ pack y → x ≡ y
+packs_apart pack unpack back x y e = let same : Some x ≡ Some y = sym (back x) ∙ (ap unpack e ∙ back y) in cc same
+
+-- what follows where a call went well
+pub on_ok : {X E : Type 0} (result : Result X E) (Q R : Type 0) → (Q → R) → OnOk result Q → OnOk result R
+on_ok (Ok x) Q R goes q = goes q
+on_ok (Err e) Q R goes q = tt
+
+-- what is kept stands for what lines said, before a line and after it
+pub stands_on : {P E : Type 0} (meld : P → P → P) (group : List ℕ) (told : Line P) (result : Result (Option Why) E) (old new now : Traced P) → old ≡ now
+    → IfOk result (λ why. Takes meld old group told new why) → IfOk result (λ why. (next : Traced P) × Takes meld now group told next why × (new ≡ next))
+stands_on meld group told (Ok why) old new now same takes = (new, subst (λ w. Takes meld w group told new why) same takes, refl)
+stands_on meld group told (Err e) old new now same takes = tt
+
+-- what a slice lent of a list leaves, where it keeps its length
+pub written : {X : Type 0} (n : ℕ) (new old : List X) → length new ≡ n → take n (new ++ drop (length new) old) ≡ new
+written n new old same = ap (λ m. take m (new ++ drop (length new) old)) (sym same) ∙ take-append_seam new (drop (length new) old)

@@ -1,0 +1,263 @@
+-- Tests that compute: which replies are answers. That each decides what the definitions say is proved.
+use Rattle.std.specs.Prelude.{ℕ, ◌+◌, ◌==◌, nat_le, nat_lt, max, min, Bool, true, false, not, ◌&&◌, ◌||◌, if◌then◌else◌}
+use Rattle.std.specs.Prelude.{List, [], ◌∷◌, length, filter, take, Option, Some, None, is_some}
+use Rattle.std.specs.{List.{list_all, list_any}, Option.{option_map_or}, Cmp.Lexicographic.{pointwise}}
+use Rattle.ulfm_laws.specs.declared.body.Body.{Body}
+use Rattle.ulfm_model.specs.declared.{call.Call.{Call}, call.Request.{Request}, event.Caller.{Caller}, event.Event.{Event}, limits.Limits.{Limits}}
+use Rattle.ulfm_model.specs.declared.{contribution.Contribution.{Contribution}, contribution.Offer.{Offer}, contribution.Slot.{Slot}}
+use Rattle.ulfm_model.specs.declared.{refusal.Refusal.{Refusal}, reply.Reply.{Reply}}
+use Rattle.ulfm_model.specs.Answers.{comm_of, printed, rank_of, refusal_of}
+use Rattle.ulfm_model.specs.Computed.{lowest_id}
+use Rattle.ulfm_model.specs.History.{Decision, History, decision, failed, failures, has, has_arrived, is_decided, is_made, is_revoked}
+use Rattle.ulfm_model.specs.History.{made_of, members, slot, spawns}
+use Rattle.ulfm_model.specs.Records.{Held, Record, free_ids, held_at}
+use Rattle.ulfm_trace_model.specs.Traces.{Traced, Under, found_by, listed, record_of}
+use Rattle.ulfm_judge.specs.Tests.{arrives_test, ids_test, revokes_test}
+
+-- whether two refusals are one, by their numbers
+abbrev pub same_refusal : Refusal → Refusal → Bool
+same_refusal r s = (printed r).0 == (printed s).0
+
+-- whether two tests answer the same
+abbrev pub same_answer : Bool → Bool → Bool
+same_answer a b = if a then b else not b
+
+-- whether two lists of ranks are one
+abbrev pub same_ranks : List ℕ → List ℕ → Bool
+same_ranks xs ys = pointwise ◌==◌ xs ys
+
+-- the entry of a list that has one alone
+abbrev pub only_of : {X : Type 0} → List X → Option X
+only_of (x ∷ []) = Some x
+only_of _ = None
+
+-- whether a list has one entry alone, which passes a test
+abbrev pub only_test : {X : Type 0} → (X → Bool) → List X → Bool
+only_test p xs = option_map_or p (only_of xs) false
+
+-- whether an event declares a rank
+abbrev pub fails_test : {P : Type 0} → ℕ → Event P → Bool
+fails_test r (Event.Fail s) = s == r
+fails_test r _ = false
+
+-- whether a reply is this refusal
+abbrev pub refused_test : {P : Type 0} → Refusal → Reply P → Bool
+refused_test refusal (Reply.Refused r) = same_refusal r refusal
+refused_test refusal _ = false
+
+-- whether a declaration is answered so, by the history and the outside's own events
+abbrev pub fail_test : {P : Type 0} → Limits → History P → List (Event P) → ℕ → Reply P → Bool
+fail_test limits h own r Reply.Declared = only_test (fails_test r) own && has (failures h) r
+fail_test limits h own r Reply.AlreadyFailed = (length own == 0) && has (failures h) r
+fail_test limits h own r (Reply.Refused refusal) = same_refusal refusal Refusal.NoSuchRank && ((length own == 0) && nat_le limits.ranks r)
+fail_test limits h own r _ = false
+
+-- whether a call starts a request
+abbrev pub starts_test : {P : Type 0} → Call P → Bool
+starts_test (Call.Agree rank c value) = true
+starts_test (Call.Shrink rank c) = true
+starts_test (Call.Barrier rank c) = true
+starts_test _ = false
+
+-- whether a reply refuses for good, by the history and the rank's own events
+abbrev pub self_failed_test : {P : Type 0} → History P → List (Event P) → ℕ → Call P → Reply P → Bool
+self_failed_test h own r asked reply =
+    refused_test Refusal.SelfFailed reply && (has (failures h) r && (not (starts_test asked) || (length own == 0)))
+
+-- whether two offers are one, where pack tells flags apart
+abbrev pub same_offer : {P : Type 0} → (P → ℕ) → Offer P → Offer P → Bool
+same_offer pack (Offer.Flag x) (Offer.Flag y) = pack x == pack y
+same_offer pack (Offer.Ctx x) (Offer.Ctx y) = x.bits == y.bits
+same_offer pack _ _ = false
+
+-- whether a contribution has this offer and these counts
+abbrev pub given_test : {P : Type 0} → (P → ℕ) → Offer P → ℕ → ℕ → Contribution P → Bool
+given_test pack offer known acked given = same_offer pack given.offer offer && ((given.known.count == known) && (given.acked.count == acked))
+
+-- whether an event is such a contribution of a rank to a round
+abbrev pub gives_test : {P : Type 0} → (P → ℕ) → ℕ → ℕ → ℕ → Offer P → ℕ → ℕ → Event P → Bool
+gives_test pack c k r offer known acked (Event.Settle d l s given) = (d == c) && ((l == k) && ((s == r) && given_test pack offer known acked given))
+gives_test pack c k r offer known acked _ = false
+
+-- whether such a contribution stands there
+abbrev pub stands_test : {P : Type 0} → (P → ℕ) → Offer P → ℕ → ℕ → Option (Slot P) → Bool
+stands_test pack offer known acked (Some (Slot.Given given)) = given_test pack offer known acked given
+stands_test pack offer known acked _ = false
+
+-- whether a contribution stands there
+abbrev pub is_given : {P : Type 0} → Option (Slot P) → Bool
+is_given (Some (Slot.Given given)) = true
+is_given _ = false
+
+-- whether the start of an agree or of a shrink is answered so, by the rank's own events, by what stands at its place, and by how many
+-- failures its look found on the communicator
+abbrev pub start_test : {P : Type 0} → (P → ℕ) → List (Event P) → Option (Slot P) → ℕ → ℕ → Held → Offer P → Reply P → Bool
+start_test pack own stood known r x offer Reply.Started =
+    only_test (gives_test pack x.comm x.next_agreement r offer known x.acked) own && stands_test pack offer known x.acked stood
+start_test pack own stood known r x offer (Reply.Refused refusal) = same_refusal refusal Refusal.Twice && ((length own == 0) && is_given stood)
+start_test pack own stood known r x offer _ = false
+
+-- whether the start of a barrier is answered so, by whether the rank has arrived, and its own events
+abbrev pub barrier_start_test : {P : Type 0} → Bool → List (Event P) → ℕ → Held → Reply P → Bool
+barrier_start_test arrived own r x Reply.Started = arrived && only_test (arrives_test x.comm x.next_barrier r) own
+barrier_start_test arrived own r x (Reply.Refused refusal) = arrived && (same_refusal refusal Refusal.Twice && (length own == 0))
+barrier_start_test arrived own r x _ = false
+
+-- whether a revocation is answered so
+abbrev pub revoke_test : {P : Type 0} → Bool → List (Event P) → ℕ → Reply P → Bool
+revoke_test revoked own c Reply.Revoked = revoked && only_test (revokes_test c) own
+revoke_test revoked own c Reply.AlreadyRevoked = revoked && (length own == 0)
+revoke_test revoked own c _ = false
+
+-- whether it is answered so, whether a communicator is revoked
+abbrev pub standing_test : {P : Type 0} → Bool → Reply P → Bool
+standing_test revoked (Reply.Standing told) = same_answer told revoked
+standing_test revoked _ = false
+
+-- whether a reply says that a communicator was given back
+abbrev pub freed_test : {P : Type 0} → Reply P → Bool
+freed_test Reply.Freed = true
+freed_test _ = false
+
+-- whether a reply says this size of the failed group
+abbrev pub group_test : {P : Type 0} → ℕ → Reply P → Bool
+group_test size (Reply.FailedGroup count) = count == size
+group_test size _ = false
+
+-- whether a reply says that so many are acknowledged
+abbrev pub acked_test : {P : Type 0} → ℕ → Reply P → Bool
+acked_test now (Reply.Acked count) = count == now
+acked_test now _ = false
+
+-- whether a reply says that the request stays open
+abbrev pub pending_said : {P : Type 0} → Reply P → Bool
+pending_said Reply.Pending = true
+pending_said _ = false
+
+-- whether a member that the look didn't find declared is unsettled
+abbrev pub pending_test : {P : Type 0} → List ℕ → History P → Held → ℕ → Bool
+pending_test look h x k = list_any (λ r. not (has look r) && not (is_some (slot h x.comm k r))) x.group
+
+-- whether a body is this flag
+abbrev pub flag_test : {P : Type 0} → (P → ℕ) → Body P → P → Bool
+flag_test pack (Body.Flag x) value = pack x == pack value
+flag_test pack _ value = false
+
+-- whether a body is a clash
+abbrev pub clash_test : {P : Type 0} → Body P → Bool
+clash_test Body.Clash = true
+clash_test _ = false
+
+-- whether a body is an empty set of ids
+abbrev pub no_ids_test : {P : Type 0} → Body P → Bool
+no_ids_test (Body.Ctx mask) = mask.bits == 0
+no_ids_test _ = false
+
+-- whether a body is a set of ids with this one as its least
+abbrev pub least_test : {P : Type 0} → Body P → ℕ → Bool
+least_test (Body.Ctx mask) context = nat_lt 0 mask.bits && (context == lowest_id mask.bits)
+least_test _ context = false
+
+-- whether a communicator was made of this round
+abbrev pub made_test : Option (ℕ × ℕ) → ℕ → ℕ → Bool
+made_test (Some made) c k = (made.0 == c) && (made.1 == k)
+made_test None c k = false
+
+-- whether an agree's poll is answered so, by whether the round is pending, whether it is decided, and its decision
+abbrev pub agree_test : {P : Type 0} → (P → ℕ) → Bool → Bool → Decision P → Reply P → Bool
+agree_test pack late decided made Reply.Pending = late
+agree_test pack late decided made (Reply.Agreed value count raised) =
+    decided && (flag_test pack made.body value && ((count == length made.failed) && same_answer raised made.raised))
+agree_test pack late decided made (Reply.Refused refusal) = decided && (same_refusal refusal Refusal.Mismatch && clash_test made.body)
+agree_test pack late decided made _ = false
+
+-- whether no room is left for what a shrink would make
+abbrev pub full_test : {P : Type 0} → Limits → History P → ℕ → ℕ → ℕ → Decision P → Bool
+full_test limits h r c k made =
+    ids_test made.body && (not (has made.failed r) && ((length (spawns h) + 1 == limits.comms) && not (is_made h c k)))
+
+-- whether a decided shrink is refused so
+abbrev pub unmade_test : {P : Type 0} → Limits → History P → ℕ → ℕ → ℕ → Decision P → Refusal → Bool
+unmade_test limits h r c k made refusal =
+    (same_refusal refusal Refusal.NoContext && no_ids_test made.body)
+    || ((same_refusal refusal Refusal.NoRoom && full_test limits h r c k made) || (same_refusal refusal Refusal.Mismatch && clash_test made.body))
+
+-- whether a decided shrink made this communicator
+abbrev pub shrunk_test : {P : Type 0} → Limits → History P → ℕ → ℕ → ℕ → Decision P → ℕ → ℕ → ℕ → Bool
+shrunk_test limits h r c k made j context size =
+    least_test made.body context && (not (has made.failed r) && (nat_lt 0 j && (made_test (made_of h j) c k && (size == length (members limits.ranks h j)))))
+
+-- whether a shrink's poll is answered so
+abbrev pub shrink_test : {P : Type 0} → Limits → History P → ℕ → ℕ → ℕ → Bool → Bool → Decision P → Reply P → Bool
+shrink_test limits h r c k late decided made Reply.Pending = late
+shrink_test limits h r c k late decided made (Reply.Shrunk j context size) = decided && shrunk_test limits h r c k made j context size
+shrink_test limits h r c k late decided made (Reply.Refused refusal) = decided && unmade_test limits h r c k made refusal
+shrink_test limits h r c k late decided made _ = false
+
+-- whether a barrier's poll is answered so: by whether its communicator is revoked, whether all have arrived, and whether all have whom the
+-- look found declared
+abbrev pub barrier_test : {P : Type 0} → Bool → Bool → Bool → Reply P → Bool
+barrier_test revoked all known Reply.Done = not revoked && all
+barrier_test revoked all known Reply.Pending = not revoked && (not all && known)
+barrier_test revoked all known (Reply.Refused refusal) =
+    if revoked then same_refusal refusal Refusal.IsRevoked else (not all && (not known && same_refusal refusal Refusal.ProcFailed))
+barrier_test revoked all known _ = false
+
+module _ {P : Type 0} (meld : P → P → P) (pack : P → ℕ) (limits : Limits) (look : List ℕ) (h : History P) where
+  -- whether the poll of a request is answered so
+  abbrev pub polled_test : ℕ → Held → Option Request → Reply P → Bool
+  polled_test r x None reply = false
+  polled_test r x (Some (Request.Agree k)) reply =
+      agree_test pack (pending_test look h x k) (is_decided limits.ranks h x.comm k) (decision meld limits.ranks h x.comm k) reply
+  polled_test r x (Some (Request.Shrink k)) reply =
+      shrink_test limits h r x.comm k (pending_test look h x k) (is_decided limits.ranks h x.comm k) (decision meld limits.ranks h x.comm k) reply
+  polled_test r x (Some (Request.Barrier k)) reply =
+      barrier_test (is_revoked h x.comm) (list_all (has_arrived h x.comm k) x.group) (list_all (has_arrived h x.comm k) (filter (has x.group) look)) reply
+
+module _ {P : Type 0} (meld : P → P → P) (pack : P → ℕ) (limits : Limits) (look : List ℕ) (h : History P) (own : List (Event P)) where
+  -- whether a call that the record doesn't refuse is answered so, where the rank holds these
+  abbrev pub replied_test : ℕ → List Held → Held → Call P → Reply P → Bool
+  replied_test r held x (Call.Fail rank) reply = false
+  replied_test r held x (Call.GetFailed rank c) reply = same_ranks (failures h) look && group_test (length (failed limits.ranks h c)) reply
+  replied_test r held x (Call.Ack rank c count) reply =
+      same_ranks (failures h) look && acked_test (max x.acked (min count (length (failed limits.ranks h c)))) reply
+  replied_test r held x (Call.Agree rank c value) reply =
+      start_test pack own (slot h x.comm x.next_agreement r) (length (filter (has x.group) look)) r x (Offer.Flag value) reply
+  replied_test r held x (Call.Shrink rank c) reply =
+      start_test pack own (slot h x.comm x.next_agreement r) (length (filter (has x.group) look)) r x (Offer.Ctx (free_ids held)) reply
+  replied_test r held x (Call.Barrier rank c) reply = barrier_start_test (has_arrived h x.comm x.next_barrier r) own r x reply
+  replied_test r held x (Call.Poll rank c) reply = polled_test meld pack limits look h r x x.request reply
+  replied_test r held x (Call.Revoke rank c) reply = revoke_test (is_revoked h c) own c reply
+  replied_test r held x (Call.IsRevoked rank c) reply = standing_test (is_revoked h c) reply
+  replied_test r held x (Call.Free rank c) reply = freed_test reply
+
+  -- the same, by what the rank holds and the refusal by its record
+  abbrev pub by_record_test : Record → Option Held → Call P → Reply P → Option Refusal → Bool
+  by_record_test old held asked reply (Some refusal) = refused_test refusal reply
+  by_record_test old (Some x) asked reply None = replied_test old.number old.held x asked reply
+  by_record_test old None asked reply None = false
+
+  -- whether a rank's call is answered so, after its look
+  abbrev pub looked_test : Record → Call P → Reply P → Bool
+  looked_test old asked reply =
+      self_failed_test h own old.number asked reply
+      || (not (has look old.number) && by_record_test old (held_at old (comm_of asked)) asked reply (refusal_of old asked))
+
+-- whether a rank's call is answered so, by its record
+abbrev pub rank_test : {P : Type 0} → (P → P → P) → (P → ℕ) → Traced P → Under P → ℕ → Reply P → Option Record → Bool
+rank_test meld pack now u point reply None = refused_test Refusal.NoSuchRank reply
+rank_test meld pack now u point reply (Some old) =
+    if old.refused then refused_test Refusal.SelfFailed reply
+    else (is_some u.look && looked_test meld pack now.limits (found_by now u) (take point now.history) u.own old u.asked reply)
+
+-- whether a caller's call is answered so
+abbrev pub call_test : {P : Type 0} → (P → P → P) → (P → ℕ) → Traced P → Caller → Under P → ℕ → Reply P → Bool
+call_test meld pack now Caller.Outside u point reply = fail_test now.limits (take point now.history) u.own (rank_of u.asked) reply
+call_test meld pack now (Caller.Rank r) u point reply = rank_test meld pack now u point reply (record_of now r)
+
+-- whether a reply may come, by the call of its caller
+abbrev pub reply_test : {P : Type 0} → (P → P → P) → (P → ℕ) → Traced P → Caller → ℕ → List ℕ → Reply P → Option (Under P) → Bool
+reply_test meld pack now by point group reply None = false
+reply_test meld pack now by point group reply (Some u) =
+    nat_le u.begun point && (nat_le point (length now.history) && (call_test meld pack now by u point reply
+    && same_ranks group (listed now.limits.ranks (take point now.history) (comm_of u.asked) reply)))

@@ -1,0 +1,107 @@
+-- Tests that compute: which event may come next, and which may be a call's own. That each decides what the definitions say is proved.
+use Rattle.std.specs.Prelude.{ℕ, ◌+◌, ◌-◌, ◌==◌, nat_le, nat_lt, Bool, true, false, not, ◌&&◌, ◌||◌}
+use Rattle.std.specs.Prelude.{List, length, Option, Some, None, is_some, slice_get}
+use Rattle.std.specs.Option.{option_map_or}
+use Rattle.ulfm_laws.specs.declared.body.Body.{Body}
+use Rattle.ulfm_model.specs.declared.{call.Call.{Call}, call.Request.{Request}, event.Caller.{Caller}, event.Event.{Event}, limits.Limits.{Limits}}
+use Rattle.ulfm_model.specs.Answers.{comm_of, refusal_of}
+use Rattle.ulfm_model.specs.History.{History, decision, failed, failures, has, has_arrived, is_decided, is_made, is_revoked, members, slot, spawns}
+use Rattle.ulfm_model.specs.Records.{Held, Record, held_at}
+use Rattle.ulfm_trace_model.specs.Traces.{Traced, Under, call_by, found_by, record_of}
+
+-- whether this number stands there
+abbrev pub at_test : Option ℕ → ℕ → Bool
+at_test o r = option_map_or (λ x. x == r) o false
+
+-- whether a rank has a place in a round
+abbrev pub place_test : {P : Type 0} → Limits → History P → ℕ → ℕ → ℕ → Bool
+place_test limits h c k r = nat_le c (length (spawns h)) && (has (members limits.ranks h c) r && nat_lt k limits.rounds)
+
+-- whether a body is a set of ids that isn't empty
+abbrev pub ids_test : {P : Type 0} → Body P → Bool
+ids_test (Body.Ctx mask) = nat_lt 0 mask.bits
+ids_test _ = false
+
+module _ {P : Type 0} (meld : P → P → P) (limits : Limits) (h : History P) where
+  -- whether a communicator of this number may be made of a round
+  abbrev pub spawn_test : ℕ → ℕ → ℕ → Bool
+  spawn_test j c k =
+      (j == length (spawns h) + 1) && (nat_lt j limits.comms && (nat_le c (length (spawns h)) && (nat_lt k limits.rounds
+      && (is_decided limits.ranks h c k && (ids_test (decision meld limits.ranks h c k).body && not (is_made h c k))))))
+
+  -- whether an event may come next
+  abbrev pub follow_test : Event P → Bool
+  follow_test (Event.Fail r) = nat_lt r limits.ranks && not (has (failures h) r)
+  follow_test (Event.Settle c k r given) =
+      place_test limits h c k r && (not (is_some (slot h c k r)) && nat_le given.known.count (length (failed limits.ranks h c)))
+  follow_test (Event.Mark c k r mark) =
+      place_test limits h c k r && (not (is_some (slot h c k r)) && at_test (slice_get (failed limits.ranks h c) (mark.known.count - 1)) r)
+  follow_test (Event.Arrive c k r) = place_test limits h c k r && not (has_arrived h c k r)
+  follow_test (Event.Revoke c) = nat_le c (length (spawns h)) && not (is_revoked h c)
+  follow_test (Event.Spawn j c k) = spawn_test j c k
+
+-- whether an event marks, in round k, a member that the look found declared
+abbrev pub marks_test : {P : Type 0} → List ℕ → Held → ℕ → Event P → Bool
+marks_test look x k (Event.Mark c l r mark) = (c == x.comm) && ((l == k) && (has look r && has x.group r))
+marks_test look x k _ = false
+
+-- whether an event makes a communicator of this round
+abbrev pub makes_test : {P : Type 0} → ℕ → ℕ → Event P → Bool
+makes_test c k (Event.Spawn j d l) = (d == c) && (l == k)
+makes_test c k _ = false
+
+-- whether an event is a contribution of a rank to a round
+abbrev pub settles_test : {P : Type 0} → ℕ → ℕ → ℕ → Event P → Bool
+settles_test c k r (Event.Settle d l s given) = (d == c) && ((l == k) && (s == r))
+settles_test c k r _ = false
+
+-- whether an event is a rank's arrival in a round
+abbrev pub arrives_test : {P : Type 0} → ℕ → ℕ → ℕ → Event P → Bool
+arrives_test c k r (Event.Arrive d l s) = (d == c) && ((l == k) && (s == r))
+arrives_test c k r _ = false
+
+-- whether an event revokes a communicator
+abbrev pub revokes_test : {P : Type 0} → ℕ → Event P → Bool
+revokes_test c (Event.Revoke d) = d == c
+revokes_test c _ = false
+
+-- whether the poll of a request may add an event
+abbrev pub poll_test : {P : Type 0} → List ℕ → Held → Option Request → Event P → Bool
+poll_test look x (Some (Request.Agree k)) event = marks_test look x k event
+poll_test look x (Some (Request.Shrink k)) event = marks_test look x k event || makes_test x.comm k event
+poll_test look x _ event = false
+
+-- whether a call of rank r may add an event, on a communicator that the rank holds
+abbrev pub adds_test : {P : Type 0} → List ℕ → ℕ → Held → Call P → Event P → Bool
+adds_test look r x (Call.Agree rank c value) event = settles_test x.comm x.next_agreement r event
+adds_test look r x (Call.Shrink rank c) event = settles_test x.comm x.next_agreement r event
+adds_test look r x (Call.Barrier rank c) event = arrives_test x.comm x.next_barrier r event
+adds_test look r x (Call.Poll rank c) event = poll_test look x x.request event
+adds_test look r x (Call.Revoke rank c) event = revokes_test x.comm event
+adds_test look r x _ event = false
+
+-- the same, by what the rank holds
+abbrev pub adds_on_test : {P : Type 0} → List ℕ → ℕ → Option Held → Call P → Event P → Bool
+adds_on_test look r None asked event = false
+adds_on_test look r (Some x) asked event = adds_test look r x asked event
+
+-- whether an event may be the call's own
+abbrev pub own_test : {P : Type 0} → List ℕ → Record → Call P → Event P → Bool
+own_test look old asked event =
+    not (has look old.number) && (not (is_some (refusal_of old asked)) && adds_on_test look old.number (held_at old (comm_of asked)) asked event)
+
+-- whether a look is due, by the rank's record and the look that was made
+abbrev pub due_test : Option Record → Option ℕ → Bool
+due_test None look = false
+due_test (Some own) look = not (is_some look) && not own.refused
+
+-- whether an event is one that a rank may add, by its call and its record
+abbrev pub own_call_test : {P : Type 0} → Traced P → Option (Under P) → Option Record → Event P → Bool
+own_call_test now None own event = false
+own_call_test now (Some u) None event = false
+own_call_test now (Some u) (Some own) event = is_some u.look && own_test (found_by now u) own u.asked event
+
+-- whether an event is one that its caller may add
+abbrev pub own_by_test : {P : Type 0} → Traced P → Caller → Event P → Bool
+own_by_test now Caller.Outside event = true
+own_by_test now (Caller.Rank r) event = own_call_test now (call_by now (Caller.Rank r)) (record_of now r) event

@@ -1,0 +1,113 @@
+//! Events: whether one is its caller's own, and what the judge keeps of it.
+ghost use Rattle.std.specs.Prelude.{◌≡◌, ◌==◌, false, IfOk, List, OnOk, ℕ, Some, map};
+ghost use Rattle.std.specs.Option.{option_map_or};
+ghost use Rattle.ulfm_model.specs.History.{says};
+ghost use Rattle.ulfm_judge.specs.Kept.{traced_of, under_of};
+ghost use Rattle.ulfm_judge.specs.Tests.{own_by_test};
+ghost use Rattle.ulfm_trace_model.specs.Traces.{Takes, change_by, is_owned, with_event};
+ghost use Rattle.ulfm_trace_model.specs.declared.line.Line.{Line};
+
+use crate::allowed::may_follow;
+use crate::calls::{OpenCall, first_of, place_by, place_of_rank};
+use crate::own::may_own;
+use std::alloc::{AllocError, Allocator};
+use ulfm_history::reads::failures;
+use ulfm_laws::meld::Meld;
+use ulfm_model::call::Call;
+use ulfm_model::event::{Caller, Entry, Event};
+use ulfm_model::limits::Limits;
+use ulfm_record::record::RankRecord;
+use ulfm_trace_model::line::Why;
+
+/// Whether an event declares a rank.
+fn declares<P: Copy>(rank: u16, event: &Event<P>) -> bool
+    ensures { result ≡ option_map_or (λ r. r == rank) (says event.now).declares false }
+{
+    match *event {
+        Event::Fail { rank: r } => r == rank,
+        _ => false,
+    }
+}
+
+/// Whether an event in a call's caller's name is the call's own.
+fn is_owned<P: Meld, A: Allocator>(u: &OpenCall<P, A>, event: &Event<P>) -> bool
+    ensures { result ≡ is_owned (under_of u.now) event.now }
+{
+    match u.asked {
+        Call::Fail { rank } => declares(rank, event),
+        _ => true,
+    }
+}
+
+/// Adds an event to the call of its caller.
+fn add_own<P: Meld, A: Allocator + Copy + Drop>(
+    calls: &mut [OpenCall<P, A>],
+    by: Caller,
+    event: Event<P>,
+) -> Result<(), AllocError>
+    ensures { OnOk result (map under_of calls.new ≡ change_by by (with_event event) (map under_of calls.old)) }
+{
+    let Some(i) = place_by(calls, by) else {
+        return Ok(());
+    };
+    let u = &mut calls[i];
+    if is_owned(u, &event) {
+        u.own.push(event)?;
+    }
+    Ok(())
+}
+
+/// Whether an event is one that its caller may add.
+fn is_own<P: Meld, A: Allocator + Copy + Drop>(
+    alloc: A,
+    limits: Limits,
+    history: &[Entry<P>],
+    records: &[RankRecord<A>],
+    calls: &[OpenCall<P, A>],
+    by: Caller,
+    event: &Event<P>,
+) -> Result<bool, AllocError>
+    ensures { IfOk result (λ b. b ≡ own_by_test (traced_of limits history.now records.now calls.now) by event.now) }
+{
+    let Caller::Rank(rank) = by else {
+        return Ok(true);
+    };
+    let Some(i) = place_by(calls, by) else {
+        return Ok(false);
+    };
+    let Some(j) = place_of_rank(records, rank) else {
+        return Ok(false);
+    };
+    let u = &calls[i];
+    let own = &records[j];
+    let Some(count) = u.look else {
+        return Ok(false);
+    };
+    let known = failures(alloc, history)?;
+    let found = first_of(&known, count);
+    Ok(may_own(limits, found, own, &u.asked, event))
+}
+
+/// Takes in an event.
+pub(crate) fn happen<P: Meld, A: Allocator + Copy + Drop>(
+    alloc: A,
+    limits: Limits,
+    history: &mut Vec<Entry<P>, A>,
+    records: &[RankRecord<A>],
+    calls: &mut [OpenCall<P, A>],
+    by: Caller,
+    event: Event<P>,
+) -> Result<Option<Why>, AllocError>
+    ensures { (group : List ℕ) → let old = traced_of limits history.old.items records.now calls.old in
+        IfOk result (λ why. Takes P.meld old group (Line.Happened by (Some event)) (traced_of limits history.new.items records.now calls.new) why) }
+{
+    if !may_follow(alloc, limits, history, &event)? {
+        return Ok(Some(Why::Event));
+    }
+    if !is_own(alloc, limits, history, records, calls, by, &event)? {
+        return Ok(Some(Why::Own));
+    }
+    add_own(calls, by, event)?;
+    history.push(Entry { by, event })?;
+    Ok(None)
+}

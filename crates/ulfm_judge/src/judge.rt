@@ -1,0 +1,192 @@
+//! The judge of traces.
+ghost use Rattle.std.specs.Prelude.{◌≡◌, IfOk, List, ℕ, map};
+ghost use Rattle.ulfm_judge.specs.Kept.{Stands, traced_of};
+ghost use Rattle.ulfm_model.specs.History.{first_ranks};
+ghost use Rattle.ulfm_model.specs.Records.{new_record};
+ghost use Rattle.ulfm_model.specs.Words.{MayOpen};
+ghost use Rattle.ulfm_record.specs.Kept.{record_of};
+ghost use Rattle.ulfm_trace_model.specs.Traces.{Takes, Traced, nothing};
+ghost use Rattle.ulfm_trace_model.specs.declared.line.Line.{Line};
+
+use crate::calls::{OpenCall, begin, look, place_by};
+use crate::closing::take_reply;
+use crate::events::happen;
+use std::alloc::{AllocError, Allocator};
+use std::marker::Model;
+use ulfm_history::groups::first_ranks;
+use ulfm_laws::meld::{Meld, Packed};
+use ulfm_model::event::{Caller, Entry, Event};
+use ulfm_model::limits::Limits;
+use ulfm_model::reply::Reply;
+use ulfm_record::held::HeldComm;
+use ulfm_record::record::RankRecord;
+use ulfm_trace_model::line::{Line, Why};
+
+/// Judges the lines of a trace one after another. It is slow and plain: it keeps all that the lines said, and each answer walks it
+/// as the definitions do.
+#[derive(Drop)]
+pub struct Judge<P: Packed, A: Allocator> {
+    alloc: A,
+    limits: Limits,
+    history: Vec<Entry<P>, A>,
+    records: Vec<RankRecord<A>, A>,
+    calls: Vec<OpenCall<P, A>, A>,
+}
+
+impl<P: Packed, A: Allocator> Model for Judge<P, A> {
+    ghost Value = { Traced P };
+
+    ghost view = { λ a. traced_of a.limits a.history.items a.records.items a.calls.items };
+
+    ghost invariant = { λ a. MayOpen a.limits × (map (λ own. own.number) a.records.items ≡ first_ranks a.limits.ranks) };
+}
+
+/// A new rank's record: it holds the world's communicator alone.
+fn new_record<A: Allocator + Copy + Drop>(
+    alloc: A,
+    limits: Limits,
+    number: u16,
+) -> Result<RankRecord<A>, AllocError>
+    ensures { IfOk result (λ own. record_of limits own ≡ new_record limits number) }
+{
+    let group = first_ranks(alloc, limits.ranks)?;
+    let mut held = Vec::new(alloc);
+    held.push(HeldComm::new(0, 0, group))?;
+    let seen = Vec::new(alloc);
+    Ok(RankRecord {
+        number,
+        held,
+        seen,
+        refused: false,
+    })
+}
+
+/// A new record of each rank.
+fn new_records<A: Allocator + Copy + Drop>(
+    alloc: A,
+    limits: Limits,
+) -> Result<Vec<RankRecord<A>, A>, AllocError>
+    ensures { IfOk result (λ records. map (record_of limits) records.items ≡ map (new_record limits) (first_ranks limits.ranks)) }
+{
+    let mut records = Vec::new(alloc);
+    for number in 0..limits.ranks {
+        let record = new_record(alloc, limits, number)?;
+        records.push(record)?;
+    }
+    Ok(records)
+}
+
+/// Takes in an event, if the line tells one.
+fn happen_told<P: Packed, A: Allocator + Copy + Drop>(
+    alloc: A,
+    limits: Limits,
+    history: &mut Vec<Entry<P>, A>,
+    records: &[RankRecord<A>],
+    calls: &mut [OpenCall<P, A>],
+    by: Caller,
+    event: Option<Event<P>>,
+) -> Result<Option<Why>, AllocError>
+    ensures { (group : List ℕ) → let old = traced_of limits history.old.items records.now calls.old in
+        IfOk result (λ why. Takes P.meld old group (Line.Happened by event) (traced_of limits history.new.items records.now calls.new) why) }
+{
+    match event {
+        Some(event) => happen(alloc, limits, history, records, calls, by, event),
+        None => Ok(Some(Why::Event)),
+    }
+}
+
+/// Takes in a reply, if the line tells one.
+fn reply_told<P: Packed, A: Allocator + Copy + Drop>(
+    alloc: A,
+    limits: Limits,
+    history: &[Entry<P>],
+    records: &mut [RankRecord<A>],
+    calls: &mut Vec<OpenCall<P, A>, A>,
+    by: Caller,
+    point: u32,
+    reply: Option<Reply<P>>,
+    group: &[u16],
+) -> Result<Option<Why>, AllocError>
+    requires may { MayOpen limits }
+    requires numbers { map (λ own. own.number) records.old ≡ first_ranks limits.ranks }
+    ensures numbers { map (λ own. own.number) records.new ≡ map (λ own. own.number) records.old }
+    ensures taken { let old = traced_of limits history.now records.old calls.old.items in
+        IfOk result (λ why. Takes P.meld old group.now (Line.Replied by point reply) (traced_of limits history.now records.new calls.new.items) why) }
+{
+    match reply {
+        Some(reply) => {
+            take_reply(
+                alloc, limits, history, records, calls, by, point, reply, group,
+            )
+        },
+        None => match place_by(calls, by) {
+            Some(_) => Ok(Some(Why::Reply)),
+            None => Ok(Some(Why::Call)),
+        },
+    }
+}
+
+/// Takes in a line, on what is kept.
+fn take_line<P: Packed, A: Allocator + Copy + Drop>(
+    alloc: A,
+    limits: Limits,
+    history: &mut Vec<Entry<P>, A>,
+    records: &mut [RankRecord<A>],
+    calls: &mut Vec<OpenCall<P, A>, A>,
+    line: &Line<P>,
+    group: &[u16],
+) -> Result<Option<Why>, AllocError>
+    requires may { MayOpen limits }
+    requires numbers { map (λ own. own.number) records.old ≡ first_ranks limits.ranks }
+    ensures numbers { map (λ own. own.number) records.new ≡ map (λ own. own.number) records.old }
+    ensures taken { let old = traced_of limits history.old.items records.old calls.old.items in
+        IfOk result (λ why. Takes P.meld old group.now line.now (traced_of limits history.new.items records.new calls.new.items) why) }
+{
+    match *line {
+        Line::Called(asked) => begin(alloc, history, calls, asked),
+        Line::Looked { rank, failures } => look(alloc, history, records, calls, rank, failures),
+        Line::Happened { by, event } => {
+            happen_told(alloc, limits, history, records, calls, by, event)
+        }
+        Line::Replied { by, point, reply } => {
+            reply_told(
+                alloc, limits, history, records, calls, by, point, reply, group,
+            )
+        }
+    }
+}
+
+impl<P: Packed, A: Allocator + Copy + Drop> Judge<P, A> {
+    /// A judge of a trace behind a header with these limits: nothing was said yet.
+    pub fn open(alloc: A, limits: Limits) -> Result<Judge<P, A>, AllocError>
+        requires { MayOpen limits }
+        ensures { IfOk result (λ judge. Stands judge (nothing limits)) }
+    {
+        let records = new_records(alloc, limits)?;
+        Ok(Judge {
+            alloc,
+            limits,
+            history: Vec::new(alloc),
+            records,
+            calls: Vec::new(alloc),
+        })
+    }
+
+    /// Judges one line, with the ranks that it lists where it is a reply, after those that were taken before: why it may not come,
+    /// or nothing where it may. A line that may not come changes nothing. After an error, which is want of memory, part of the line
+    /// may be taken in: such a judge is to be used no more.
+    pub fn take(&mut self, line: &Line<P>, group: &[u16]) -> Result<Option<Why>, AllocError>
+        ensures { (now : Traced P) → Stands self.old now
+            → IfOk result (λ why. (next : Traced P) × Takes P.meld now group.now line.now next why × Stands self.new next) }
+    {
+        take_line(
+            self.alloc,
+            self.limits,
+            &mut self.history,
+            &mut self.records,
+            &mut self.calls,
+            line,
+            group,
+        )
+    }
+}

@@ -1,0 +1,13 @@
+use Rattle.std.proofs.Common.{sym}
+use Rattle.ulfm_model.specs.Runs.{new_state}
+use Rattle.ulfm_script.proofs.CallLemmas.{prints_on}
+use Rattle.ulfm_script.proofs.call_script.CallLinesInterpreter.run.Goals as goal
+
+pub returns-in_ok-answer-in-Ok : goal.returns-in_ok-answer-in-Ok
+returns-in_ok-answer-in-Ok g c =
+    λ limits calls out ran. (
+      c.in-Ok.call,
+      sym c.in-Ok.ensures.exact,
+      prints_on (new_state limits) (g.M.Machine.state c.args.self.now.machine) (g.M.Machine.state c.answer.new.machine) calls c.in-Ok.call out
+          c.answer.new.text.items ran c.in_ok-answer-in-Ok.ensures,
+    )

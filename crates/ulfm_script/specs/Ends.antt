@@ -1,0 +1,155 @@
+-- How running the text of a script ends, whatever kind of script it is.
+use Rattle.std.specs.Prelude.{◌≡◌, ◌⊎◌, ℕ, ◌+◌, ◌≤◌, List, [], ◌∷◌, ◌++◌, length, Option, Some, None, IfSome, Result, Ok, Err}
+use Rattle.std.specs.Io.KnownBytes.{Appends, Consumes, IsAtEnd, prepend_known}
+use Rattle.ulfm_model.specs.declared.limits.Limits.{Limits}
+use Rattle.ulfm_script.specs.declared.line_kind.LineKind.{LineKind}
+use Rattle.ulfm_script.specs.declared.fault.RunFault.{RunFault}
+use Rattle.ulfm_script.specs.declared.fault.RunFault.TheVariants.{Line, Memory, Read, Write}
+use Rattle.ulfm_script.specs.{Buffers.{HasNoNewline, IsOfLine}, Written.{Begins, Holds, WritesPart}}
+use Rattle.ulfm_script.specs.Scripts.{Language, header_at, script_of, without_header}
+
+-- what these items print on a new world of these limits; a script without a header prints nothing
+abbrev pub PrintsFrom : (lang : Language) → Option Limits → List lang.Item → List ℕ → Type 0
+PrintsFrom lang None items out = out ≡ []
+PrintsFrom lang (Some limits) items out = lang.Prints limits items out
+
+-- the first items of a text print this, or nothing is printed
+abbrev pub PrintsSome : Language → List ℕ → List ℕ → Type 0
+PrintsSome lang text out =
+    let script = script_of lang text in
+    (out ≡ []) ⊎ ((first : List lang.Item) × Begins first script.items × PrintsFrom lang script.limits first out)
+
+-- all items of a text print this
+abbrev pub PrintsAll : Language → List ℕ → List ℕ → Type 0
+PrintsAll lang text out = let script = script_of lang text in PrintsFrom lang script.limits script.items out
+
+-- the bytes that a reader has left, or that a writer has, where they are known
+abbrev pub Known : Type 0
+Known = Option (List ℕ)
+
+-- the reader's text, where it is known
+abbrev pub IsTextOf : Known → List ℕ → Type 0
+IsTextOf known text = IfSome known (λ xs. text ≡ xs)
+
+-- how a run ended
+abbrev pub RunEnd : Type 0
+RunEnd = Result (Unit {0}) RunFault
+
+-- what is said of an output
+abbrev pub Claim : Type 1
+Claim = List ℕ → Type 0
+
+-- The run of a reader's whole text, which has this first fault or none: what all items up to there print is told.
+pub record RunsAll (lang : Language) (known : Known) (fault : Option (ℕ × LineKind)) (Told : Claim) : Type 0 where
+  pub text : List ℕ
+  pub out : List ℕ
+  pub whole : IsTextOf known text
+  pub faults : (script_of lang text).fault ≡ fault
+  pub printed : PrintsAll lang text out
+  pub told : Told out
+
+-- The run of a reader's whole text that found a fault which no line alone shows: what the items before it print is told.
+pub record FindsFault (lang : Language) (known : Known) (number : ℕ) (kind : LineKind) (Told : Claim) : Type 0 where
+  pub text : List ℕ
+  pub limits : Limits
+  pub out : List ℕ
+  pub whole : IsTextOf known text
+  pub opened : (script_of lang text).limits ≡ Some limits
+  pub finds : lang.Finds limits (script_of lang text).items number kind out
+  pub printed : PrintsSome lang text out
+  pub told : Told out
+
+-- whole lines without a fault, the header among them, or no line at all
+abbrev pub HasNoFault : Language → List ℕ → Type 0
+HasNoFault lang text = (text ≡ []) ⊎ ((script_of lang text).fault ≡ None)
+
+-- A run that stopped inside a line: what was taken of the reader's bytes are lines without a fault, of which the output of all items is
+-- told, and then a part of the line that was under work.
+pub record StopsInLine (lang : Language) (known left : Known) (IsPart Told : Claim) : Type 0 where
+  pub lines : List ℕ
+  pub part : List ℕ
+  pub out : List ℕ
+  pub taken : Consumes known left (lines ++ part)
+  pub right : HasNoFault lang lines
+  pub partly : IsPart part
+  pub printed : PrintsAll lang lines out
+  pub told : Told out
+
+-- A run whose writer failed: a part of what some first items print is told.
+pub record StopsInOutput (lang : Language) (known : Known) (ToldInPart : Claim) : Type 0 where
+  pub text : List ℕ
+  pub out : List ℕ
+  pub whole : IsTextOf known text
+  pub printed : PrintsSome lang text out
+  pub told : ToldInPart out
+
+-- How the run of a reader's text ended, where these bytes were read and not taken. At its end, the whole text was read and has no fault,
+-- and what all its items print is told. At the fault of a line, it is the text's first one, or one that no line alone shows, and what all
+-- items before it print is told. Where memory was refused, what all items print is told that were taken before the line under work. Where the
+-- reader failed, what all items print that it gave whole. Where the writer failed, a part of what the first items print.
+abbrev pub Ends : Language → Known → Known → List ℕ → Claim → Claim → RunEnd → Type 0
+Ends lang known left ahead Told ToldInPart (Ok done) = RunsAll lang known None Told × IsAtEnd left
+Ends lang known left ahead Told ToldInPart (Err (Line number kind)) =
+    RunsAll lang known (Some (number, kind)) Told ⊎ FindsFault lang known number kind Told
+Ends lang known left ahead Told ToldInPart (Err Memory) = StopsInLine lang known (prepend_known ahead left) IsOfLine Told
+Ends lang known left ahead Told ToldInPart (Err Read) = StopsInLine lang known left HasNoNewline Told × (ahead ≡ [])
+Ends lang known left ahead Told ToldInPart (Err Write) = StopsInOutput lang known ToldInPart
+
+-- a run through a buffer that the caller sees: what was to be taken, what the reader has left and what is read ahead; what the writer had
+-- and has
+abbrev pub EndsThrough : Language → Known → Known → List ℕ → Known → Known → RunEnd → Type 0
+EndsThrough lang known left ahead old new result = Ends lang known left ahead (Appends old new) (WritesPart old new) result
+
+-- the same, but for what waits to be written
+abbrev pub EndsUpTo : Language → Known → Known → List ℕ → Known → Known → List ℕ → RunEnd → Type 0
+EndsUpTo lang known left ahead old new waiting result = Ends lang known left ahead (Holds old new waiting) (WritesPart old new) result
+
+-- a run through a buffer of its own, which reads at most 8192 bytes ahead: what the reader had and has left, what the writer had and has
+abbrev pub EndsAlone : Language → Known → Known → Known → Known → RunEnd → Type 0
+EndsAlone lang known left old new result = (ahead : List ℕ) × (length ahead ≤ 8192) × EndsThrough lang known left ahead old new result
+
+-- what a machine has run and printed: its world's limits, the items, and the output
+abbrev pub Stage : Language → Type 1
+Stage lang = Limits → List lang.Item → List ℕ → Type 0
+
+-- a machine was opened by the first line, and printed this
+pub record IsOpened (lang : Language) (HasRun : Stage lang) (old new : Known) (text : List ℕ) : Type 0 where
+  pub line : List ℕ
+  pub limits : Limits
+  pub free : HasNoNewline line
+  pub header : header_at lang line ≡ Ok limits
+  pub taken : Consumes old new (line ++ 10 ∷ [])
+  pub new_one : HasRun limits [] text
+
+-- A machine was opened by the first line; or the text's script has no header; or memory was refused or the reader failed, and a part of the
+-- first line was taken. Where the reader failed, nothing is pending.
+abbrev pub Opens : {M : Type 0} → (lang : Language) → (M → Stage lang) → (M → List ℕ) → Known → Known → List ℕ → Result M RunFault → Type 0
+Opens lang HasRun text old new bytes (Ok machine) = IsOpened lang (HasRun machine) old new (text machine)
+Opens lang HasRun text old new bytes (Err (Line number kind)) =
+    (all : List ℕ) × IsTextOf old all × (number ≡ 1) × (script_of lang all ≡ without_header kind)
+Opens lang HasRun text old new bytes (Err Memory) = (part : List ℕ) × IsOfLine part × Consumes old new part
+Opens lang HasRun text old new bytes (Err Read) = (part : List ℕ) × HasNoNewline part × (bytes ≡ []) × Consumes old new part
+Opens lang HasRun text old new bytes (Err Write) = ⊥
+
+-- a line with this item or fault can't be run behind these items: it has the fault, or running it finds the fault
+abbrev pub HasFault : (lang : Language) → Limits → List lang.Item → List ℕ → Result lang.Item LineKind → LineKind → Type 0
+HasFault lang limits items out read kind =
+    (read ≡ Err kind)
+    ⊎ ((item : lang.Item) × (read ≡ Ok item) × ((behind : List lang.Item) → lang.Finds limits (items ++ item ∷ behind) (length items + 2) kind out))
+
+-- a line with this item or fault was run behind these items, and printed this
+abbrev pub TakesItem : (lang : Language) → Stage lang → Limits → List lang.Item → List ℕ → Result lang.Item LineKind → List ℕ
+    → Result (Unit {0}) LineKind → Type 0
+TakesItem lang HasRun limits items out read text (Ok done) = (item : lang.Item) × (read ≡ Ok item) × HasRun limits (items ++ item ∷ []) (out ++ text)
+TakesItem lang HasRun limits items out read text (Err kind) = HasFault lang limits items out read kind
+
+-- a line with this item or fault was run behind these items, and what it prints is written or waits
+abbrev pub RunsLine : (lang : Language) → Stage lang → Limits → List lang.Item → List ℕ → ℕ → Result lang.Item LineKind → Known → List ℕ → Known
+    → List ℕ → RunEnd → Type 0
+RunsLine lang HasRun limits items out number read old bytes new rest (Ok done) =
+    (text : List ℕ) × TakesItem lang HasRun limits items out read text (Ok tt) × Holds old new rest (bytes ++ text)
+RunsLine lang HasRun limits items out number read old bytes new rest (Err (Line n kind)) =
+    (n ≡ number) × HasFault lang limits items out read kind × Holds old new rest bytes
+RunsLine lang HasRun limits items out number read old bytes new rest (Err Memory) = Holds old new rest bytes
+RunsLine lang HasRun limits items out number read old bytes new rest (Err Write) = WritesPart old new bytes
+RunsLine lang HasRun limits items out number read old bytes new rest (Err Read) = ⊥

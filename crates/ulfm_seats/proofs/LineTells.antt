@@ -1,0 +1,188 @@
+-- What one line of a step script tells: a call that begins, a call of a rank that the world doesn't have, and steps.
+use Rattle.std.proofs.Common.{◌≡◌, ℕ, ◌<◌, ◌≤◌, ◌==◌, true, false, List, [], ◌∷◌, ◌++◌, length, find, get_or, set, Option, Some, None, is_some, refl, ap, sym, ◌∙◌, subst, arith, append-nil, inl, inr, IsTrue}
+use Rattle.std.specs.Prelude.{slice_get}
+use Rattle.std.proofs.lemmas.Bool.{eqb-true}
+use Rattle.ulfm_laws.specs.{Flags.{flag_meld}, declared.flag_and.FlagAnd.{FlagAnd}}
+use Rattle.ulfm_model.specs.declared.call.Call.TheVariants as call
+use Rattle.ulfm_model.specs.declared.{call.Call.{Call}, event.Caller.{Caller}, refusal.Refusal.{Refusal}, reply.Reply.{Reply}}
+use Rattle.ulfm_model.specs.{Answers.{rank_of, traits_of}, Records.{Record}}
+use Rattle.ulfm_comm.specs.Phase.{UnderWay}
+use Rattle.ulfm_words.specs.Steps.{IsOf, Name, Sight}
+use Rattle.ulfm_trace_model.specs.declared.{line.Line.{Line}, step_line.StepLine.TheVariants.{Before, Called, Failed, Finished, Stepped}}
+use Rattle.ulfm_trace_model.specs.{Follows.{AreOf, IsPiece}, Traces.{AnswersRank, AreLegalAfter, IsOpen, MayCome, Told, Traced, Under, after, after_reply, call_by, caller_of, record_of, said_by, same_caller, taken_in}}
+use Rattle.ulfm_trace_model.proofs.Callers.{same_rank}
+use Rattle.ulfm_lines.specs.{LineTexts.{lines_text}, StepLines.{IsByRank, ScriptStep}, Stepped.{TellsStep}}
+use Rattle.ulfm_lines.specs.declared.step_machine.Taken.TheVariants.{Open, Run}
+use Rattle.ulfm_stepping.specs.Stepping.{replied}
+use Rattle.ulfm_stepping.specs.{Seats.{Sits, SitsAt as SitsWith, begun_piece, reply_piece}, declared.told.Answer.{Answer}}
+use Rattle.ulfm_seats.specs.{Lines.{BeginsCall, IsWalkOf, WalksBy, unknown_piece}, Table.{IsNobody, StandsFor}, Walks.{FlagSeat, Walks}}
+use Rattle.ulfm_seats.proofs.{Pieces.{AllBy, are_by, find_no_record, piece_call, piece_entries, piece_history}, Standing.{find_last, get_there, ranks_differ, reply_frees, stands_on, stands_seat, tells_step}}
+
+-- a call of a rank is its own
+pub by_its_rank : (asked : Call FlagAnd) → IsByRank asked → (traits_of asked).by ≡ Caller.Rank (rank_of asked)
+by_its_rank (call.Fail rank) own = absurd (own rank refl)
+by_its_rank (call.GetFailed rank c) own = refl
+by_its_rank (call.Ack rank c count) own = refl
+by_its_rank (call.Agree rank c value) own = refl
+by_its_rank (call.Shrink rank c) own = refl
+by_its_rank (call.Barrier rank c) own = refl
+by_its_rank (call.Poll rank c) own = refl
+by_its_rank (call.Revoke rank c) own = refl
+by_its_rank (call.IsRevoked rank c) own = refl
+by_its_rank (call.Free rank c) own = refl
+
+module _ (name : Name) (pass : Sight FlagAnd) (seats : List FlagSeat) (now : Traced FlagAnd) (stands : StandsFor name pass seats now) where
+  -- a call of a rank that the world doesn't have
+  module _ (r : ℕ) (asked : Call FlagAnd) (above : name.limits.ranks ≤ r) (mine : (traits_of asked).by ≡ Caller.Rank r) where
+    abbrev unknown : List (Told FlagAnd)
+    unknown = unknown_piece r (length pass.seen) asked
+
+    abbrev begun : Traced FlagAnd
+    begun = after now (Line.Called asked)
+
+    abbrev refused : Reply FlagAnd
+    refused = Reply.Refused Refusal.NoSuchRank
+
+    abbrev u : Under FlagAnd
+    u = record { asked = asked; begun = length now.history; look = None; own = [] }
+
+    nobody : IsNobody now r
+    nobody = stands.beyond r above
+
+    call_is : call_by begun (Caller.Rank r) ≡ Some u
+    call_is = find_last (λ (v : Under FlagAnd). same_caller (caller_of v) (Caller.Rank r)) now.calls u nobody.free (ap (λ c. same_caller c (Caller.Rank r)) mine ∙ same_rank r)
+
+    may_refuse : MayCome flag_meld begun [] (Line.Replied (Caller.Rank r) (length pass.seen) (Some refused))
+    may_refuse =
+        let as_long : length now.history ≡ length pass.seen = ap length stands.history in
+        record {
+          call = u;
+          is_open = call_is;
+          since_begin = omega (arith, as_long);
+          by_now = omega (arith, as_long);
+          answers = subst (λ o. AnswersRank flag_meld begun u (length pass.seen) refused o) (sym nobody.record_is) refl;
+          lists = refl;
+        }
+
+    unknown_legal : AreLegalAfter flag_meld now unknown
+    unknown_legal = (ap (call_by now) mine ∙ nobody.free, (may_refuse, tt))
+
+    unknown_by : AllBy (Caller.Rank r) unknown
+    unknown_by = (mine, (refl, tt))
+
+    unknown_is : IsPiece now (Called asked) unknown
+    unknown_is = (replied r (length pass.seen) [] refused ∷ [], refl, inr (replied r (length pass.seen) [] refused, refl, ap (λ c. same_caller (Caller.Rank r) c) mine ∙ same_rank r))
+
+    no_record : (t : Traced FlagAnd) (point : ℕ) (answered : Option (Under FlagAnd)) → record_of t r ≡ None → record_of (after_reply t (Caller.Rank r) point refused answered) r ≡ None
+    no_record t point None none = none
+    no_record t point (Some v) none = ap (λ (rs : List Record). find (λ x. x.number == r) rs) (find_no_record r (taken_in t v point refused) t.records none) ∙ none
+
+    still_nobody : (s : ℕ) → same_caller (Caller.Rank r) (Caller.Rank s) ≡ true → IsNobody (said_by now unknown) s
+    still_nobody s same =
+        subst (IsNobody (said_by now unknown)) (eqb-true r s same)
+        (record { record_is = no_record begun (length pass.seen) (call_by begun (Caller.Rank r)) nobody.record_is; free = reply_frees begun (Caller.Rank r) (length pass.seen) refused })
+
+    pub unknown_tells : (text more : List ℕ) → more ≡ text ++ lines_text unknown → TellsStep (StandsFor name pass seats) now (Called asked) Run text more
+    unknown_tells text more told =
+        tells_step (StandsFor name pass seats) now (Called asked) unknown text more unknown_legal unknown_is
+        (stands_on name pass seats now stands unknown (Caller.Rank r) unknown_by pass (piece_history now unknown ∙ (append-nil now.history ∙ stands.history)) stands.of (omega arith)
+        (piece_call now unknown (Caller.Rank r) Caller.Outside unknown_by refl ∙ stands.no_declaration) (λ s below. ranks_differ r s (λ same. absurd (omega (arith, same, below, above)))) (λ s over same. still_nobody s same))
+        told
+
+  -- a rank that the world has
+  module _ (r : ℕ) (seat : FlagSeat) (there : slice_get seats r ≡ Some seat) where
+    number : seat.own.number ≡ r
+    number = (stands.each r seat there).number
+
+    -- a call that begins
+    pub begin_tells : (asked : Call FlagAnd) (left : FlagSeat) (text more : List ℕ) → (traits_of asked).by ≡ Caller.Rank seat.own.number → BeginsCall name asked pass seat text left more
+        → TellsStep (StandsFor name pass (set seats r left)) now (Called asked) Run text more
+    begin_tells asked left text more mine b =
+        tells_step (StandsFor name pass (set seats r left)) now (Called asked) piece text more (b.tells.legal now sits) (reply_piece seat.own.number [] b.answer, refl, b.tells.at_once)
+        (stands_seat name pass seats now stands piece (Caller.Rank seat.own.number) (mine, all b.answer) pass (piece_history now piece ∙ (ap (λ h. now.history ++ h) (none b.answer) ∙ (append-nil now.history ∙ stands.history)))
+        stands.of (omega arith) r (ap Caller.Rank number) seat left there b.tells.number (b.tells.sits now sits))
+        b.told
+      where
+        piece : List (Told FlagAnd)
+        piece = begun_piece seat.own.number asked b.answer
+
+        sits : Sits flag_meld name now pass seat
+        sits = (stands.each r seat there).sits
+
+        all : (answer : Option (Answer FlagAnd)) → AllBy (Caller.Rank seat.own.number) (reply_piece seat.own.number [] answer)
+        all None = tt
+        all (Some answer) = (refl, tt)
+
+        none : (answer : Option (Answer FlagAnd)) → piece_entries (reply_piece seat.own.number [] answer) ≡ []
+        none None = refl
+        none (Some answer) = refl
+
+    -- a call is under way exactly where the seat has one
+    open_there : (own : Record) (found : ℕ) (call : Option (UnderWay FlagAnd)) → SitsWith flag_meld name now pass own found call → IsOpen now (Caller.Rank own.number) → IsTrue (is_some call)
+    open_there own found None sits is_open = absurd (cc (ap is_some sits.free, is_open))
+    open_there own found (Some doing) sits is_open = refl
+
+    there_open : (own : Record) (found : ℕ) (call : Option (UnderWay FlagAnd)) → SitsWith flag_meld name now pass own found call → IsTrue (is_some call) → IsOpen now (Caller.Rank own.number)
+    there_open own found None sits is = absurd (cc is)
+    there_open own found (Some doing) (inl begun) is = ap is_some begun.call
+    there_open own found (Some doing) (inr called) is = ap is_some called.call
+
+    -- a call of a rank that has one under way
+    pub open_tells : (asked : Call FlagAnd) (text : List ℕ) (left : List FlagSeat) → (traits_of asked).by ≡ Caller.Rank r → IsTrue (is_some seat.call) → TellsStep (StandsFor name pass left) now (Called asked) Open text text
+    open_tells asked text left mine is =
+        ((asked, refl, subst (IsOpen now) (ap Caller.Rank number ∙ sym mine) (there_open seat.own seat.found seat.call (stands.each r seat there).sits is)), refl)
+
+    -- what lines say is what the pass has seen
+    said_seen : (t : Traced FlagAnd) (later : Sight FlagAnd) (own : Record) (found : ℕ) (call : Option (UnderWay FlagAnd)) → SitsWith flag_meld name t later own found call → t.history ≡ later.seen
+    said_seen t later own found None sits = sits.history
+    said_seen t later own found (Some doing) (inl begun) = begun.history
+    said_seen t later own found (Some doing) (inr called) = called.history
+
+    -- steps of its call
+    module _ (later : Sight FlagAnd) (left : FlagSeat) (of : IsOf flag_meld name later) (text more : List ℕ) where
+      walk_tells : (step : ScriptStep) (most : ℕ) (w : Walks name most pass seat text later left more) → IsPiece now step w.piece → TellsStep (StandsFor name later (set seats r left)) now step Run text more
+      walk_tells step most w is_piece =
+          let goes = w.goes now (stands.each r seat there).sits in
+          tells_step (StandsFor name later (set seats r left)) now step w.piece text more goes.legal is_piece
+          (stands_seat name pass seats now stands w.piece (Caller.Rank seat.own.number) (are_by (Caller.Rank seat.own.number) w.piece w.by) later (said_seen (said_by now w.piece) later left.own left.found left.call goes.sits) of w.onward
+          r (ap Caller.Rank number) seat left there w.number goes.sits)
+          w.told
+
+      pub walks_tell : (step : ScriptStep) → IsWalkOf r step → WalksBy step name pass seat text later left more → TellsStep (StandsFor name later (set seats r left)) now step Run text more
+      walks_tell (Called asked) is w = absurd w
+      walks_tell (Stepped rank count) is w = walk_tells (Stepped rank count) count w (subst (λ n. AreOf (Caller.Rank n) w.piece) (number ∙ sym is) w.by, w.few)
+      walks_tell (Before rank step) is w = walk_tells (Before rank step) w.0 w.1 (subst (λ n. AreOf (Caller.Rank n) w.1.piece) (number ∙ sym is) w.1.by)
+      walks_tell (Finished rank) is w =
+          walk_tells (Finished rank) w.0.0 w.0.1 (
+            subst (λ n. AreOf (Caller.Rank n) w.0.1.piece) (number ∙ sym is) w.0.1.by,
+            λ is_open. w.0.1.ends (open_there seat.own seat.found seat.call (stands.each r seat there).sits (subst (λ n. IsOpen now (Caller.Rank n)) (is ∙ sym number) is_open)) w.1,
+          )
+      walks_tell (Failed rank) is w = absurd w
+
+  -- steps of a rank that the world doesn't have are none
+  pub nobody_walks : (r : ℕ) → name.limits.ranks ≤ r → (step : ScriptStep) → IsWalkOf r step → (text : List ℕ) → TellsStep (StandsFor name pass seats) now step Run text text
+  nobody_walks r above step is text =
+      tells_step (StandsFor name pass seats) now step [] text text tt (none step is) stands (sym (append-nil text))
+    where
+      none : (line : ScriptStep) → IsWalkOf r line → IsPiece now line []
+      none (Called asked) is = absurd is
+      none (Stepped rank count) is = (tt, omega arith)
+      none (Before rank step) is = tt
+      none (Finished rank) is = (tt, λ is_open. absurd (cc (ap is_some (stands.beyond r above).free, subst (λ n. IsOpen now (Caller.Rank n)) is is_open)))
+      none (Failed rank) is = absurd is
+
+-- the seat of a rank that the world has
+module _ (name : Name) (pass : Sight FlagAnd) (seats : List FlagSeat) (now : Traced FlagAnd) (stands : StandsFor name pass seats now) (r : ℕ) (d : FlagSeat) where
+  pub above_all : length seats ≤ r → name.limits.ranks ≤ r
+  above_all over = omega (arith, over, stands.size)
+
+  pub number_there : r < length seats → (get_or seats r d).own.number ≡ r
+  number_there below = (stands.each r (get_or seats r d) (get_there seats r d below)).number
+
+  pub sits_there : r < length seats → Sits flag_meld name now pass (get_or seats r d)
+  sits_there below = (stands.each r (get_or seats r d) (get_there seats r d below)).sits
+
+-- a seat without a call
+pub no_call : {X : Type 0} (call : Option X) → is_some call ≡ false → call ≡ None
+no_call None is = refl
+no_call (Some x) is = absurd (cc is)

@@ -1,0 +1,24 @@
+-- A line run on the elements of a machine's vector of seats, as a line run on the machine.
+use Rattle.std.proofs.Common.{◌≡◌, ℕ, false, List, length, sym, subst}
+use Rattle.std.specs.{Prelude.{Result, Ok, Err, is_err, IfOk, OnOk, Vec}, Vec.{with_items}}
+use Rattle.std.proofs.lemmas.List.{with_items_is}
+use Rattle.ulfm_laws.specs.declared.flag_and.FlagAnd.{FlagAnd}
+use Rattle.ulfm_words.specs.Steps.{Name, Sight}
+use Rattle.ulfm_trace_model.specs.Traces.{Traced}
+use Rattle.ulfm_lines.specs.{StepLines.{ScriptStep}, Stepped.{TellsStep}}
+use Rattle.ulfm_lines.specs.declared.step_machine.Taken.{Taken}
+use Rattle.ulfm_seats.specs.{Table.{StandsFor}, Walks.{FlagSeat}}
+
+-- the elements that a line left fill the vector
+module _ {Z : Type 0} (name : Name) (after : Sight FlagAnd) (v : Vec FlagSeat Z) (new : List FlagSeat) (fills : length new ≡ v.len) where
+  pub ran_stands : (next : Traced FlagAnd) → StandsFor name after new next → StandsFor name after (with_items v new).items next
+  ran_stands next stands = subst (λ ss. StandsFor name after ss next) (sym (with_items_is v new fills)) stands
+
+  pub ran_tells : {E : Type 0} (now : Traced FlagAnd) (step : ScriptStep) (text more : List ℕ) (result : Result Taken E) → IfOk result (λ taken. TellsStep (StandsFor name after new) now step taken text more)
+      → IfOk result (λ taken. TellsStep (StandsFor name after (with_items v new).items) now step taken text more)
+  ran_tells now step text more result tells = subst (λ ss. IfOk result (λ taken. TellsStep (StandsFor name after ss) now step taken text more)) (sym (with_items_is v new fills)) tells
+
+  -- it stands for what lines say, where no memory was refused
+  pub ran_next : {T E : Type 0} (result : Result T E) → is_err result ≡ false → OnOk result ((next : Traced FlagAnd) × StandsFor name after new next) → (next : Traced FlagAnd) × StandsFor name after (with_items v new).items next
+  ran_next (Ok taken) kept stands = (stands.0, ran_stands stands.0 stands.1)
+  ran_next (Err fault) kept stands = absurd (cc kept)

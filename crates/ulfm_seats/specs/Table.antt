@@ -1,0 +1,44 @@
+-- What the machine of step scripts stands for.
+use Rattle.std.specs.Prelude.{◌≡◌, ℕ, ◌≤◌, List, length, slice_get, Some, None}
+use Rattle.ulfm_laws.specs.{Flags.{flag_meld}, declared.flag_and.FlagAnd.{FlagAnd}}
+use Rattle.ulfm_model.specs.declared.event.Caller.{Caller}
+use Rattle.ulfm_model.specs.Records.{Record}
+use Rattle.ulfm_words.specs.Steps.{IsOf, Name, Sight}
+use Rattle.ulfm_trace_model.specs.Traces.{Traced, call_by, record_of}
+use Rattle.ulfm_stepping.specs.Seats.{Sits}
+use Rattle.ulfm_seats.specs.Walks.{FlagSeat}
+
+-- what contracts see of the machine: its words, its pass, and the ranks in the order of their numbers
+pub record Table : Type 0 where
+  pub name : Name
+  pub pass : Sight FlagAnd
+  pub seats : List FlagSeat
+
+-- a rank without a call
+abbrev pub idle_seat : Record → FlagSeat
+idle_seat own = record { own = own; call = None; found = 0 }
+
+-- the world doesn't have this rank: it has no record, and no call under way
+pub record IsNobody (now : Traced FlagAnd) (r : ℕ) : Type 0 where
+  pub record_is : record_of now r ≡ None
+  pub free : call_by now (Caller.Rank r) ≡ None
+
+-- the seat is that of rank r, who sits so
+pub record SitsAt (name : Name) (now : Traced FlagAnd) (pass : Sight FlagAnd) (r : ℕ) (seat : FlagSeat) : Type 0 where
+  pub number : seat.own.number ≡ r
+  pub sits : Sits flag_meld name now pass seat
+
+-- The lines so far say what the pass has seen, and no declaration is under way. Each rank of the world sits in its seat, in the order of
+-- their numbers, and the world has no others.
+pub record StandsFor (name : Name) (pass : Sight FlagAnd) (seats : List FlagSeat) (now : Traced FlagAnd) : Type 0 where
+  pub of : IsOf flag_meld name pass
+  pub limits : now.limits ≡ name.limits
+  pub history : now.history ≡ pass.seen
+  pub no_declaration : call_by now Caller.Outside ≡ None
+  pub size : length seats ≡ name.limits.ranks
+  pub each : (r : ℕ) (seat : FlagSeat) → slice_get seats r ≡ Some seat → SitsAt name now pass r seat
+  pub beyond : (r : ℕ) → name.limits.ranks ≤ r → IsNobody now r
+
+-- the machine stands for what lines say
+abbrev pub IsTable : Table → Traced FlagAnd → Type 0
+IsTable table now = StandsFor table.name table.pass table.seats now

@@ -1,0 +1,99 @@
+//! The machine of step scripts: a world over plain words, one pass, and each rank with its call under way.
+ghost use Rattle.std.specs.Prelude.{◌≡◌, map, IfOk};
+ghost use Rattle.ulfm_seats.specs.Table.{IsTable, idle_seat};
+
+use crate::running::run_line;
+use std::alloc::{AllocError, Allocator};
+use std::marker::Model;
+use ulfm_comm::{Rank, World};
+use ulfm_laws::FlagAnd;
+use ulfm_lines::{StepMachine, Taken, Teller};
+use ulfm_model::Limits;
+use ulfm_stepping::Seat;
+use ulfm_trace_model::StepLine;
+use ulfm_words::{PlainPass, PlainWords};
+
+/// Ranks over plain words, each of which may have a call under way, and the one pass that all steps are made over.
+///
+/// Once memory was refused in a line, it refuses every further line.
+#[derive(Drop)]
+pub struct StepTable<A: Allocator + Copy + Drop> {
+    world: World<PlainWords<FlagAnd>, FlagAnd, A>,
+    pass: PlainPass<FlagAnd, A>,
+    // In the order of their numbers.
+    seats: Vec<Seat<FlagAnd, A>, A>,
+    // The ranks that a reply lists.
+    group: Vec<u16, A>,
+    // Whether memory was refused.
+    failed: bool,
+}
+
+impl<A: Allocator + Copy + Drop> Model for StepTable<A> {
+    ghost use Rattle.std.specs.Prelude.{◌≡◌, false};
+    ghost use Rattle.ulfm_laws.specs.declared.flag_and.FlagAnd.{FlagAnd};
+    ghost use Rattle.ulfm_words.specs.Pass.{plain_name};
+    ghost use Rattle.ulfm_trace_model.specs.Traces.{Traced};
+    ghost use Rattle.ulfm_seats.specs.Table.{StandsFor, Table};
+
+    ghost Value = { Table };
+
+    ghost view = { λ a. record { name = plain_name a.world.words.limits; pass = a.pass; seats = a.seats.items } };
+
+    ghost invariant = { λ a. a.failed ≡ false → (now : Traced FlagAnd) × StandsFor (plain_name a.world.words.limits) a.pass a.seats.items now };
+}
+
+// A seat for each rank, in order.
+fn seats_of<A: Allocator + Copy + Drop>(
+    alloc: A,
+    ranks: Vec<Rank<FlagAnd, A>, A>,
+) -> Result<Vec<Seat<FlagAnd, A>, A>, AllocError>
+    ensures { IfOk result (λ seats. seats.items ≡ map idle_seat ranks.items) }
+{
+    let mut seats = Vec::with_capacity(alloc, ranks.len())?;
+    for own in ranks {
+        seats.push(Seat::new(own))?;
+    }
+    Ok(seats)
+}
+
+impl<A: Allocator + Copy + Drop> StepMachine<A> for StepTable<A> {
+    ghost Stands = { IsTable };
+
+    fn open(alloc: A, limits: Limits) -> Result<Self, AllocError> {
+        let Ok(words) = PlainWords::open(limits) else {
+            unreachable!()
+        };
+        let Ok((world, ranks)) = World::open(alloc, words) else {
+            return Err(AllocError);
+        };
+        let pass = world.pass(alloc)?;
+        let seats = seats_of(alloc, ranks)?;
+        Ok(StepTable {
+            world,
+            pass,
+            seats,
+            group: Vec::new(alloc),
+            failed: false,
+        })
+    }
+
+    fn run(
+        &mut self,
+        step: &StepLine<FlagAnd>,
+        teller: &mut Teller<A>,
+    ) -> Result<Taken, AllocError> {
+        if self.failed {
+            return Err(AllocError);
+        }
+        let taken = run_line(
+            &self.world,
+            &mut self.pass,
+            &mut self.seats,
+            step,
+            &mut self.group,
+            teller,
+        );
+        self.failed = taken.is_err();
+        taken
+    }
+}

@@ -1,0 +1,6 @@
+//! The engine that runs scripts of single steps, and writes the traces that follow them.
+#![tactic(auto)]
+
+pub mod engine;
+
+pub use engine::{run_step_script, run_step_script_through};

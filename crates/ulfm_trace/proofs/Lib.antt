@@ -1,0 +1,4 @@
+pub mod Beginnings
+pub mod Checking
+pub mod TextLines
+pub mod Verdicts
