@@ -374,7 +374,7 @@ impl Write for Taken {
         self.calls = self.calls.wrapping_add(1);
         if self.calls == self.failing {
             match self.how {
-                Failing::ByError => return Err(io::Error::from(ErrorKind::Interrupted)),
+                Failing::ByError => return Err(io::Error::from(ErrorKind::BrokenPipe)),
                 Failing::ByNothing => return Ok(0),
                 Failing::AtFlush => {}
             }

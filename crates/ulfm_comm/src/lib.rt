@@ -1,7 +1,6 @@
 //! A world, its ranks and their calls, over any words.
 #![tactic(auto)]
 
-mod answers;
 pub mod calls;
 mod groups;
 pub mod job;

@@ -20,9 +20,8 @@ use ulfm_laws::meld::Packed;
 use ulfm_model::call::{Call, Request};
 use ulfm_model::limits::Limits;
 use ulfm_model::refusal::Refusal;
-use ulfm_record::held::{self, HeldComm, place_of, take_in};
+use ulfm_record::held::{self, HeldComm, place_of, refusal_on, take_in};
 use ulfm_record::ids::free_ids;
-use ulfm_record::refuse::refusal_on;
 use ulfm_steps::{Append, Look, ReadOn};
 use ulfm_words::Words;
 

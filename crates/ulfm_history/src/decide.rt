@@ -8,9 +8,9 @@ ghost use Rattle.ulfm_history.specs.Walked.{decision_of};
 use crate::groups::{failed_among, first_of, members, round_among, union_of};
 use crate::reads::{has_rank, slot};
 use std::alloc::{AllocError, Allocator};
-use ulfm_laws::body::Body;
 use ulfm_laws::meld::Meld;
 use ulfm_laws::meld_all::meld_all;
+use ulfm_laws::summary::Body;
 use ulfm_model::contribution::{Contribution, Offer, Slot};
 use ulfm_model::event::Entry;
 

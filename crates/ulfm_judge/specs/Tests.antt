@@ -2,7 +2,7 @@
 use Rattle.std.specs.Prelude.{ℕ, ◌+◌, ◌-◌, ◌==◌, nat_le, nat_lt, Bool, true, false, not, ◌&&◌, ◌||◌}
 use Rattle.std.specs.Prelude.{List, length, Option, Some, None, is_some, slice_get}
 use Rattle.std.specs.Option.{option_map_or}
-use Rattle.ulfm_laws.specs.declared.body.Body.{Body}
+use Rattle.ulfm_laws.specs.declared.summary.Body.{Body}
 use Rattle.ulfm_model.specs.declared.{call.Call.{Call}, call.Request.{Request}, event.Caller.{Caller}, event.Event.{Event}, limits.Limits.{Limits}}
 use Rattle.ulfm_model.specs.Answers.{comm_of, refusal_of}
 use Rattle.ulfm_model.specs.History.{History, decision, failed, failures, has, has_arrived, is_decided, is_made, is_revoked, members, slot, spawns}

@@ -9,8 +9,8 @@ use ulfm_history::groups::{failed, members};
 use ulfm_history::reads::{
     count_made, has_arrived, has_rank, is_declared, is_made, is_revoked, slot,
 };
-use ulfm_laws::body::Body;
 use ulfm_laws::meld::Meld;
+use ulfm_laws::summary::Body;
 use ulfm_model::event::{Entry, Event};
 use ulfm_model::limits::Limits;
 

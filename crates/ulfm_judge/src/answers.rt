@@ -22,10 +22,9 @@ use ulfm_model::event::{Entry, Event};
 use ulfm_model::limits::Limits;
 use ulfm_model::refusal::Refusal;
 use ulfm_model::reply::Reply;
-use ulfm_record::held::{HeldComm, place_of};
+use ulfm_record::held::{HeldComm, place_of, refusal_of};
 use ulfm_record::ids::free_ids;
 use ulfm_record::record::RankRecord;
-use ulfm_record::refuse::refusal_of;
 
 /// Whether a call starts a request.
 fn starts<P: Copy>(asked: &Call<P>) -> bool

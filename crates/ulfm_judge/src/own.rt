@@ -8,9 +8,8 @@ use ulfm_history::reads::has_rank;
 use ulfm_model::call::{Call, Request, comm_of};
 use ulfm_model::event::Event;
 use ulfm_model::limits::Limits;
-use ulfm_record::held::{HeldComm, place_of};
+use ulfm_record::held::{HeldComm, place_of, refusal_of};
 use ulfm_record::record::RankRecord;
-use ulfm_record::refuse::refusal_of;
 
 /// Whether an event marks, in this round, a member that the look found declared.
 fn marks_declared<P: Copy, A: Allocator>(

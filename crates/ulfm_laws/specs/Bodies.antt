@@ -3,8 +3,8 @@ use Rattle.std.specs.Prelude.{◌≡◌, refl}
 use Rattle.std.proofs.Common.{ap}
 use Rattle.ulfm_laws.specs.Lawful.{IsLawful}
 use Rattle.ulfm_laws.specs.Masks.{mask_meld, mask_lawful}
-use Rattle.ulfm_laws.specs.declared.body.Body.{Body}
-use Rattle.ulfm_laws.specs.declared.body.Body.TheVariants.{Unit, Flag, Ctx, Clash}
+use Rattle.ulfm_laws.specs.declared.summary.Body.{Body}
+use Rattle.ulfm_laws.specs.declared.summary.Body.TheVariants.{Unit, Flag, Ctx, Clash}
 
 -- nothing yet
 abbrev pub body_unit : {P : Type 0} → Body P

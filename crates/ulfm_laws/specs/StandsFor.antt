@@ -3,10 +3,10 @@ use Rattle.std.specs.Prelude.{◌≡◌, ◌↔◌, ◌⊎◌, ℕ, ◌==◌, Li
 use Rattle.std.specs.Int.{bit_at}
 use Rattle.std.specs.List.{range_with_len}
 use Rattle.ulfm_laws.specs.Combined.{combined}
-use Rattle.ulfm_laws.specs.declared.acked.Acked.{Acked}
+use Rattle.ulfm_laws.specs.declared.counts.Acked.{Acked}
 use Rattle.ulfm_laws.specs.declared.ctx_mask.CtxMask.{CtxMask}
 use Rattle.ulfm_laws.specs.declared.flag_and.FlagAnd.{FlagAnd}
-use Rattle.ulfm_laws.specs.declared.known.Known.{Known}
+use Rattle.ulfm_laws.specs.declared.counts.Known.{Known}
 
 -- 0 to 31: the places of the bits of a word, and the context ids
 unfoldable pub places : List ℕ

@@ -9,20 +9,16 @@
 //! What each kind stands for as a set, and what follows from the laws, are the contracts of [`meanings`].
 #![tactic(auto)]
 
-pub mod acked;
-pub mod body;
+pub mod counts;
 pub mod ctx_mask;
 pub mod flag_and;
-pub mod known;
 pub mod meanings;
 pub mod meld;
 pub mod meld_all;
 pub mod summary;
 
-pub use acked::Acked;
-pub use body::Body;
+pub use counts::{Acked, Known};
 pub use ctx_mask::CtxMask;
 pub use flag_and::FlagAnd;
-pub use known::Known;
 pub use meld::{Meld, Packed};
-pub use summary::Summary;
+pub use summary::{Body, Summary};

@@ -2,7 +2,7 @@
 use Rattle.std.proofs.Common.{◌≡◌, IsTrue, ℕ, [], ◌∷◌, ◌++◌, append-nil, Some, true, false, refl, arith, inl, inr}
 use Rattle.std.specs.Prelude.{bit_and}
 use mathlib.Core.List.{IsPrefix}
-use Rattle.ulfm_laws.specs.declared.body.Body.TheVariants.{Unit as NoBody}
+use Rattle.ulfm_laws.specs.declared.summary.Body.TheVariants.{Unit as NoBody}
 use Rattle.ulfm_model.specs.declared.call.Call.TheVariants.{Agree as Ask, Poll}
 use Rattle.ulfm_model.specs.declared.reply.Reply.TheVariants.{Started, Shrunk, Refused}
 use Rattle.ulfm_model.specs.declared.refusal.Refusal.TheVariants.{SelfFailed, IsRevoked, ProcFailed}

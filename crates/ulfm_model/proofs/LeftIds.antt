@@ -5,8 +5,8 @@ use Rattle.std.specs.Int.{bit_at}
 use Rattle.std.specs.List.{AllByRecursion, cons_option}
 use Rattle.std.proofs.lemmas.Bool.{and_from, eq-eqb}
 use Rattle.std.proofs.lemmas.Nat.Bits.{bit_at_and, bit_at-lt}
-use Rattle.ulfm_laws.specs.declared.body.Body.{Body}
-use Rattle.ulfm_laws.specs.declared.body.Body.TheVariants.{Unit as NoBody, Flag, Ctx, Clash}
+use Rattle.ulfm_laws.specs.declared.summary.Body.{Body}
+use Rattle.ulfm_laws.specs.declared.summary.Body.TheVariants.{Unit as NoBody, Flag, Ctx, Clash}
 use Rattle.ulfm_laws.specs.declared.ctx_mask.CtxMask.{CtxMask}
 use Rattle.ulfm_laws.specs.Bodies.{body_unit, body_meld}
 use Rattle.ulfm_laws.specs.Combined.{combined}

@@ -4,7 +4,7 @@ use Rattle.std.specs.List.{list_any, AllByRecursion, IsDistinct}
 use Rattle.std.proofs.lemmas.Bool.Decides.{nat_tests}
 use Rattle.std.proofs.lemmas.Bool.{eq-eqb, lt-ltb, le-ltb, cases_lt}
 use Rattle.std.proofs.lemmas.Map.Keys.{IsDistinct-head, IsDistinct-tail}
-use Rattle.ulfm_laws.specs.declared.body.Body.{Body}
+use Rattle.ulfm_laws.specs.declared.summary.Body.{Body}
 use Rattle.ulfm_laws.specs.Bodies.{body_unit, body_meld}
 use Rattle.ulfm_laws.specs.Counts.{acked_le}
 use Rattle.ulfm_laws.specs.Combined.{combined}

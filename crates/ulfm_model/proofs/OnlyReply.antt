@@ -2,7 +2,7 @@
 use Rattle.std.proofs.Common.{◌≡◌, ℕ, zero, suc, ◌+◌, ◌-◌, ◌<◌, ◌^◌, ◌==◌, ◌||◌, Bool, true, false, List, [], ◌∷◌, length, Option, Some, None, is_some, refl, ap, ap₂, sym, ◌∙◌, arith, inl, inr, if◌then◌else◌, slice_get}
 use Rattle.std.specs.List.{list_all, list_any, position_from}
 use Rattle.std.proofs.lemmas.Bool.{and_from, and_parts, eq-eqb, eqb-true, false_from_ne_true, ne_eqb, or_left, or_right}
-use Rattle.ulfm_laws.specs.declared.body.Body.TheVariants.{Ctx as OfIds}
+use Rattle.ulfm_laws.specs.declared.summary.Body.TheVariants.{Ctx as OfIds}
 use Rattle.ulfm_laws.specs.declared.ctx_mask.CtxMask.{CtxMask}
 use Rattle.ulfm_model.specs.declared.call.Request.{Request}
 use Rattle.ulfm_model.specs.declared.call.Request.TheVariants.{Agree, Shrink, Barrier}

@@ -4,8 +4,8 @@ use Rattle.std.specs.Prelude.{⊤}
 use Rattle.std.specs.List.{AllByRecursion, cons_option, list_all}
 use Rattle.std.proofs.lemmas.Bool.{eqb-true}
 use Rattle.std.proofs.lemmas.List.Elements.{Contains-push_cases}
-use Rattle.ulfm_laws.specs.declared.body.Body.{Body}
-use Rattle.ulfm_laws.specs.declared.body.Body.TheVariants.{Unit as NoBody, Flag as OfFlags, Ctx as OfIds, Clash}
+use Rattle.ulfm_laws.specs.declared.summary.Body.{Body}
+use Rattle.ulfm_laws.specs.declared.summary.Body.TheVariants.{Unit as NoBody, Flag as OfFlags, Ctx as OfIds, Clash}
 use Rattle.ulfm_laws.specs.Bodies.{body_unit, body_meld}
 use Rattle.ulfm_laws.specs.Combined.{combined}
 use Rattle.ulfm_model.specs.declared.contribution.Contribution.{Contribution}

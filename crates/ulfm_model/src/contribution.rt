@@ -1,9 +1,8 @@
 ghost use Rattle.std.specs.Prelude.{◌≡◌, ◌≤◌, ◌<◌};
 
 use std::alloc::AllocError;
-use ulfm_laws::acked::Acked;
+use ulfm_laws::counts::{Acked, Known};
 use ulfm_laws::ctx_mask::CtxMask;
-use ulfm_laws::known::Known;
 
 /// What a rank offers to an agreement round: a flag to an agree, the context ids that are free at it to a shrink.
 #[derive(Clone, Copy, Debug, PartialEq, Eq)]

@@ -21,9 +21,8 @@ use ulfm_model::event::{Caller, Entry};
 use ulfm_model::limits::Limits;
 use ulfm_model::refusal::Refusal;
 use ulfm_model::reply::Reply;
-use ulfm_record::held::{HeldComm, place_of};
+use ulfm_record::held::{HeldComm, place_of, refusal_of};
 use ulfm_record::record::RankRecord;
-use ulfm_record::refuse::refusal_of;
 
 /// The history after a call, and its reply.
 #[derive(Drop)]

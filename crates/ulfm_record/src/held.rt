@@ -1,14 +1,17 @@
-//! The communicators that a rank holds.
+//! The communicators that a rank holds, and when these refuse a call.
 ghost use Rattle.std.specs.Prelude.{◌≡◌, ◌==◌, ◌<◌, ◌≤◌, ◌++◌, ◌∷◌, [], Some, None, filter, not, position, vec_capacity, vec_len};
 ghost use Rattle.std.specs.List.{list_any};
 ghost use Rattle.ulfm_model.specs.Records.{change_at, is_shrink};
-ghost use Rattle.ulfm_model.specs.Answers.{opened};
-ghost use Rattle.ulfm_model.specs.Terms.{new_held};
-ghost use Rattle.ulfm_record.specs.Kept.{FitsNext, HasNext};
+ghost use Rattle.ulfm_model.specs.Answers.{first_refusal, opened, refusal_of as refusal_by};
+ghost use Rattle.ulfm_model.specs.Terms.{new_held, tests_of};
+ghost use Rattle.ulfm_record.specs.Kept.{FitsNext, HasNext, record_of, tested};
 
+use crate::record::RankRecord;
 use std::alloc::Allocator;
 use std::marker::Model;
-use ulfm_model::call::Request;
+use ulfm_model::call::{Call, Request, comm_of};
+use ulfm_model::limits::Limits;
+use ulfm_model::refusal::Refusal;
 
 /// A communicator that a rank holds.
 #[derive(Drop)]
@@ -158,5 +161,48 @@ pub fn take_in<A: Allocator>(held: &mut Vec<HeldComm<A>, A>, comm: u16, made: He
     if let Some(i) = place {
         let parent = &mut held[i];
         parent.request = None;
+    }
+}
+
+/// The first refusal of a call on a communicator that the rank holds beside these, if its tests have one: a request that is
+/// open already, rounds that are used up, a second shrink, a poll with no request, the world's communicator given back.
+pub fn refusal_on<P: Copy, A: Allocator>(
+    limits: Limits,
+    held: &[HeldComm<A>],
+    x: &HeldComm<A>,
+    asked: &Call<P>,
+) -> Option<Refusal>
+    ensures { result ≡ first_refusal (tests_of (tested limits held.now) x.now asked.now) }
+{
+    let busy = x.request.is_some();
+    let rounds = limits.rounds;
+    match *asked {
+        Call::Agree { .. } if busy => Some(Refusal::Busy),
+        Call::Agree { .. } if u32::from(rounds) <= u32::from(x.next_agreement) + 1 => {
+            Some(Refusal::RoundsUsedUp)
+        }
+        Call::Shrink { .. } if busy => Some(Refusal::Busy),
+        Call::Shrink { .. } if is_shrinking(held) => Some(Refusal::ShrinkOpen),
+        Call::Shrink { .. } if rounds <= x.next_agreement => Some(Refusal::RoundsUsedUp),
+        Call::Barrier { .. } if busy => Some(Refusal::Busy),
+        Call::Barrier { .. } if rounds <= x.next_barrier => Some(Refusal::RoundsUsedUp),
+        Call::Poll { .. } if !busy => Some(Refusal::Idle),
+        Call::Free { comm, .. } if comm == 0 => Some(Refusal::WorldKept),
+        Call::Free { .. } if busy => Some(Refusal::Busy),
+        _ => None,
+    }
+}
+
+/// The refusal of a call by the rank's record, if it has one; `NoSuchComm` where the rank doesn't hold the communicator.
+pub fn refusal_of<P: Copy, A: Allocator>(
+    limits: Limits,
+    own: &RankRecord<A>,
+    asked: &Call<P>,
+) -> Option<Refusal>
+    ensures { result ≡ refusal_by (record_of limits own.now) asked.now }
+{
+    match place_of(&own.held, comm_of(asked)) {
+        Some(i) => refusal_on(limits, &own.held, &own.held[i], asked),
+        None => Some(Refusal::NoSuchComm),
     }
 }

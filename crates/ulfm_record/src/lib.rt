@@ -7,7 +7,6 @@ pub mod held;
 pub mod ids;
 pub mod leaves;
 pub mod record;
-pub mod refuse;
 
 pub use held::HeldComm;
 pub use record::RankRecord;

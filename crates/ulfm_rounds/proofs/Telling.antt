@@ -4,7 +4,7 @@ use Rattle.std.specs.Prelude.{find, ⊤}
 use Rattle.std.proofs.lemmas.Bool.{eqb-true}
 use mathlib.Core.List.{IsPrefix}
 use Rattle.ulfm_laws.specs.declared.ctx_mask.CtxMask.{CtxMask}
-use Rattle.ulfm_laws.specs.declared.body.Body.TheVariants.{Ctx as OfIds}
+use Rattle.ulfm_laws.specs.declared.summary.Body.TheVariants.{Ctx as OfIds}
 use Rattle.ulfm_model.specs.declared.{call.Request.{Request}, call.Request.TheVariants.{Agree, Shrink}, contribution.Offer.{Offer}, contribution.Offer.TheVariants.{Flag}, contribution.Slot.TheVariants.{Given}, event.Caller.TheVariants.{Rank}, limits.Limits.{Limits}, refusal.Refusal.{Refusal}, refusal.Refusal.TheVariants.{Mismatch, NoContext, NoRoom, SelfFailed}, reply.Reply.{Reply}, reply.Reply.TheVariants.{Agreed, Pending, Refused, Shrunk, Started}}
 use Rattle.ulfm_model.specs.declared.call.Call.TheVariants as call
 use Rattle.ulfm_model.specs.{Answers.{AgreeReplies, Contributes, PollReplies, ShrinkReplies, SpawnReplies, StartReplies, left_by, opened}, History.{Decision, Exists, History, decision, failures, has, is_decided, members, slot}, Records.{Fits, Held, Record, change_at, held_at}, Runs.{IsCall, IsRun, IsSpan}}

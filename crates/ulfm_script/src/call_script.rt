@@ -6,11 +6,11 @@ ghost use Rattle.ulfm_script.specs.Buffers.{pending, unread};
 ghost use Rattle.ulfm_script.specs.Runs.{Answered, Prints, Runs, RunsThrough, call_scripts};
 ghost use Rattle.ulfm_script.specs.Spelling.{IsSpelled};
 
+use crate::buffers::Input;
 use crate::calls::read_call;
 use crate::engine::{run_text, run_text_through};
 use crate::fault::RunFault;
 use crate::header_kind::HeaderKind;
-use crate::input::Input;
 use crate::interpreter::Interpreter;
 use crate::last_group::LastGroup;
 use crate::line_kind::LineKind;

@@ -5,12 +5,11 @@ ghost use Rattle.ulfm_script.specs.Buffers.{pending, waiting, unread};
 ghost use Rattle.ulfm_script.specs.Ends.{EndsAlone, EndsThrough, EndsUpTo, Opens, RunsLine};
 ghost use Rattle.ulfm_script.specs.Scripts.{item_at};
 
+use crate::buffers::{Input, LineEnd, Output};
 use crate::fault::RunFault;
 use crate::header::read_header;
-use crate::input::{Input, LineEnd};
 use crate::interpreter::Interpreter;
 use crate::line_kind::LineKind;
-use crate::output::Output;
 use std::alloc::Allocator;
 use std::io::{Read, Write};
 

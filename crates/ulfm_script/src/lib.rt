@@ -1,29 +1,28 @@
 //! Scripts: the text of calls, the engine that runs scripts of any kind, and scripts of calls on it.
 #![tactic(auto)]
 
+pub mod buffers;
 pub mod call_script;
 pub mod calls;
 pub mod engine;
 pub mod fault;
 pub mod header;
 pub mod header_kind;
-pub mod input;
 pub mod interpreter;
 pub mod last_group;
 pub mod laws;
 pub mod line_kind;
 pub mod machine;
-mod output;
 pub mod printing;
 pub mod words;
 
+pub use buffers::{Input, LineEnd};
 pub use call_script::{run_script, run_script_through};
 pub use calls::read_call;
 pub use engine::{run_text, run_text_through};
 pub use fault::RunFault;
 pub use header::{print_header, read_header};
 pub use header_kind::HeaderKind;
-pub use input::{Input, LineEnd};
 pub use interpreter::Interpreter;
 pub use last_group::LastGroup;
 pub use laws::{prints_the_replies, stops_at_the_first_fault};

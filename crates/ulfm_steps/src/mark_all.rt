@@ -7,7 +7,7 @@ ghost use Rattle.ulfm_steps.specs.Marks.{HasMarked, MarksOnce, MarksTake, MarkSt
 
 use crate::group::is_member;
 use std::alloc::Allocator;
-use ulfm_laws::known::Known;
+use ulfm_laws::counts::Known;
 use ulfm_laws::meld::Packed;
 use ulfm_model::contribution::{MarkCount, Slot};
 use ulfm_model::event::Caller;

@@ -1,8 +1,7 @@
 use std::fmt::Write;
 use std::test::Fail;
-use ulfm_laws::acked::Acked;
+use ulfm_laws::counts::{Acked, Known};
 use ulfm_laws::flag_and::FlagAnd;
-use ulfm_laws::known::Known;
 use ulfm_model::contribution::{Contribution, Offer, Slot};
 use ulfm_model::event::{Caller, Entry, Event};
 use ulfm_model::laws;

@@ -1,10 +1,9 @@
 ghost use Rattle.std.specs.Prelude.{◌≤◌};
 
 use std::test::Fail;
-use ulfm_laws::acked::Acked;
+use ulfm_laws::counts::{Acked, Known};
 use ulfm_laws::ctx_mask::CtxMask;
 use ulfm_laws::flag_and::FlagAnd;
-use ulfm_laws::known::Known;
 use ulfm_model::contribution::{Contribution, MarkCount, Offer, Slot};
 use ulfm_model::limits::Limits;
 use ulfm_model::place::Place;

@@ -5,7 +5,7 @@ use crate::past::{
 };
 use std::alloc::{AllocError, Allocator};
 use ulfm_laws::FlagAnd;
-use ulfm_laws::body::Body;
+use ulfm_laws::summary::Body;
 use ulfm_model::{Call, Entry, Event, Limits, Offer, Refusal, Reply, Request, Slot};
 
 /// A call, with what its reply rests on.

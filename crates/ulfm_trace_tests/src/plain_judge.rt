@@ -8,7 +8,7 @@ use crate::past::{
 };
 use std::alloc::{AllocError, Allocator};
 use ulfm_laws::FlagAnd;
-use ulfm_laws::body::Body;
+use ulfm_laws::summary::Body;
 use ulfm_model::{Call, Caller, Entry, Event, Limits, Refusal, Reply};
 use ulfm_trace_model::{Line, Why};
 

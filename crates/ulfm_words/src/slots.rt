@@ -4,12 +4,10 @@ ghost use Rattle.ulfm_model.specs.Laws.{summary_of};
 ghost use Rattle.ulfm_model.specs.declared.contribution.Slot.{Slot};
 ghost use Rattle.ulfm_words.specs.Slots.{slot_in, IsSlotWord, IsFlag, IsExact, given_if, are_counts, mark_if, is_mark_word};
 
-use ulfm_laws::acked::Acked;
-use ulfm_laws::body::Body;
+use ulfm_laws::counts::{Acked, Known};
 use ulfm_laws::ctx_mask::CtxMask;
-use ulfm_laws::known::Known;
 use ulfm_laws::meld::Packed;
-use ulfm_laws::summary::Summary;
+use ulfm_laws::summary::{Body, Summary};
 use ulfm_model::contribution::{Contribution, MarkCount, Offer, Slot};
 
 /// The word of a slot: bit 0 is 1; bits 1 and 2 tell a mark, a flag and a mask of context ids apart; bits 3 to 13 are how

@@ -1,0 +1,77 @@
+use Rattle.std.proofs.Common.{◌≡◌, slice_set, ap, sym, subst, ◌∙◌, arith}
+use Rattle.ulfm_model.specs.declared.event.Caller.TheVariants.{Rank}
+use Rattle.ulfm_model.specs.declared.refusal.Refusal.TheVariants.{OutOfMemory}
+use Rattle.ulfm_model.specs.declared.reply.Reply.TheVariants.{Refused}
+use Rattle.ulfm_model.specs.Answers.{traits_of}
+use Rattle.ulfm_comm.specs.Jobs.{StepsBy}
+use Rattle.ulfm_comm.proofs.{Jobs.{at_error, missing_step}, Others.{by_rank, mine, other_about, other_begins, other_job, other_made, other_polls, other_step, out_polls}}
+use Rattle.ulfm_comm.proofs.job.call_by.Goals as goal
+use Rattle.ulfm_comm.proofs.job.call_by.Goals.{After-call-reply, In-Shrunk}
+
+pub returns-then-rank-ranks-clause-step : goal.returns-then-rank-ranks-clause-step
+returns-then-rank-ranks-clause-step g c =
+    missing_step g.P.Meld.meld g.W.Words.alone (g.W.Words.name c.args.world.now.words) (g.W.Words.sight c.args.pass.now) c.args.ranks.now c.requires.job c.args.asked c.rank_of-rank.result
+    (by_rank c.args.asked c.requires.other ∙ ap Rank (sym c.rank_of-rank.ensures)) c.if-rank-ranks.true
+
+pub call-reply-requires-clause-mine : goal.call-reply-requires-clause-mine
+call-reply-requires-clause-mine g c =
+    mine g.P.Meld.meld g.W.Words.alone (g.W.Words.name c.args.world.now.words) (g.W.Words.sight c.args.pass.now) c.args.ranks.now c.requires.job c.args.asked c.requires.other c.rank_of-rank.result c.index-ranks-rank.result c.rank_of-rank.ensures (omega (arith, c.if-rank-ranks.false))
+
+-- the call is one step, unless memory ran out
+stepped : (g : _) (c : After-call-reply g) → (c.call-reply.result ≡ Refused OutOfMemory → ⊥)
+    → StepsBy g.P.Meld.meld g.W.Words.alone (g.W.Words.name c.args.world.now.words) c.args.asked (g.W.Words.sight c.args.pass.now) c.args.ranks.now c.call-reply.result (g.W.Words.sight c.call-reply.new.pass) (slice_set c.args.ranks.now c.rank_of-rank.result c.call-reply.new.self)
+stepped g c kept =
+    other_step g.P.Meld.meld g.W.Words.alone (g.W.Words.name c.args.world.now.words) (g.W.Words.sight c.args.pass.now) c.args.ranks.now c.requires.job c.args.asked c.requires.other c.rank_of-rank.result c.index-ranks-rank.result c.rank_of-rank.ensures (omega (arith, c.if-rank-ranks.false)) c.call-reply.new.self (g.W.Words.sight c.call-reply.new.pass) c.call-reply.result c.call-reply.ensures.ends kept
+
+pub returns-in-OutOfMemory : goal.returns-in-OutOfMemory
+returns-in-OutOfMemory g c =
+    let out = c.in-Refused.is ∙ ap Refused c.in-OutOfMemory.is in
+    record {
+      step = tt;
+      job = other_job g.P.Meld.meld g.W.Words.alone (g.W.Words.name c.args.world.now.words) (g.W.Words.sight c.args.pass.now) c.args.ranks.now c.requires.job c.args.asked c.requires.other c.rank_of-rank.result c.index-ranks-rank.result c.rank_of-rank.ensures (omega (arith, c.if-rank-ranks.false)) c.call-reply.new.self (g.W.Words.sight c.call-reply.new.pass) c.call-reply.result c.call-reply.ensures.ends out;
+      begins = other_begins g.P.Meld.meld g.W.Words.alone (g.W.Words.name c.args.world.now.words) (g.W.Words.sight c.args.pass.now) c.args.ranks.now c.requires.job c.args.asked c.requires.other c.rank_of-rank.result c.index-ranks-rank.result c.rank_of-rank.ensures (omega (arith, c.if-rank-ranks.false)) c.call-reply.new.self (g.W.Words.sight c.call-reply.new.pass) c.call-reply.result c.call-reply.ensures.ends out;
+      about = tt;
+      memory = out_polls g.P.Meld.meld g.W.Words.alone (g.W.Words.name c.args.world.now.words) (g.W.Words.sight c.args.pass.now) c.args.ranks.now c.requires.job c.args.asked c.requires.other c.rank_of-rank.result c.index-ranks-rank.result c.rank_of-rank.ensures (omega (arith, c.if-rank-ranks.false)) c.call-reply.new.self (g.W.Words.sight c.call-reply.new.pass) c.call-reply.result c.call-reply.ensures.ends out;
+    }
+
+pub returns-in_default-refusal : goal.returns-in_default-refusal
+returns-in_default-refusal g c =
+    let at = (goal.at.returns-in_default-refusal g c).After-call-reply in
+    let step = subst (λ r. StepsBy g.P.Meld.meld g.W.Words.alone (g.W.Words.name c.args.world.now.words) c.args.asked (g.W.Words.sight c.args.pass.now) c.args.ranks.now r (g.W.Words.sight c.call-reply.new.pass) (slice_set c.args.ranks.now c.rank_of-rank.result c.call-reply.new.self)) c.in-Refused.is (stepped g at (λ out. c.in_default-refusal.not-OutOfMemory (cc (c.in-Refused.is, out)))) in
+    record { step = step; job = step.job; begins = step.begins; about = tt; memory = tt }
+
+-- where a communicator was made
+made : (g : _) (c : In-Shrunk g) → c.call-reply.result ≡ Refused OutOfMemory → ⊥
+made g c out = cc (out, c.in-Shrunk.is)
+
+pub returns-in_ok-put_members-in-Shrunk : goal.returns-in_ok-put_members-in-Shrunk
+returns-in_ok-put_members-in-Shrunk g c =
+    let at = goal.at.returns-in_ok-put_members-in-Shrunk g c in
+    let step = subst (λ r. StepsBy g.P.Meld.meld g.W.Words.alone (g.W.Words.name c.args.world.now.words) c.args.asked (g.W.Words.sight c.args.pass.now) c.args.ranks.now r (g.W.Words.sight c.call-reply.new.pass) (slice_set c.args.ranks.now c.rank_of-rank.result c.call-reply.new.self)) c.in-Shrunk.is (stepped g at.After-call-reply (made g at.In-Shrunk)) in
+    let about = other_made g.P.Meld.meld g.W.Words.alone (g.W.Words.name c.args.world.now.words) (g.W.Words.sight c.args.pass.now) c.args.ranks.now c.requires.job c.args.asked c.requires.other c.rank_of-rank.result c.index-ranks-rank.result c.rank_of-rank.ensures (omega (arith, c.if-rank-ranks.false)) c.call-reply.new.self (g.W.Words.sight c.call-reply.new.pass) c.call-reply.result c.call-reply.ensures.ends (made g at.In-Shrunk) c.in-Shrunk.comm c.in-Shrunk.context c.in-Shrunk.size c.in-Shrunk.is (traits_of c.args.asked).comm c.put_members.new.found.items c.in_ok-put_members-in-Shrunk.ensures in
+    record { step = step; job = step.job; begins = step.begins; about = rw c.in-Shrunk.is at about; memory = tt }
+
+pub returns-in_err-put_members-in-Shrunk-clause-job : goal.returns-in_err-put_members-in-Shrunk-clause-job
+returns-in_err-put_members-in-Shrunk-clause-job g c =
+    let at = goal.at.returns-in_err-put_members-in-Shrunk-clause-job g c in (stepped g at.After-call-reply (made g at.In-Shrunk)).job
+
+pub returns-in_err-put_members-in-Shrunk-clause-begins : goal.returns-in_err-put_members-in-Shrunk-clause-begins
+returns-in_err-put_members-in-Shrunk-clause-begins g c =
+    let at = goal.at.returns-in_err-put_members-in-Shrunk-clause-begins g c in (stepped g at.After-call-reply (made g at.In-Shrunk)).begins
+
+pub returns-in_err-put_members-in-Shrunk-clause-memory : goal.returns-in_err-put_members-in-Shrunk-clause-memory
+returns-in_err-put_members-in-Shrunk-clause-memory g c =
+    let at = goal.at.returns-in_err-put_members-in-Shrunk-clause-memory g c in
+    at_error _ (other_polls g.P.Meld.meld g.W.Words.alone (g.W.Words.name c.args.world.now.words) (g.W.Words.sight c.args.pass.now) c.args.ranks.now c.requires.job c.args.asked c.requires.other c.rank_of-rank.result c.index-ranks-rank.result c.rank_of-rank.ensures (omega (arith, c.if-rank-ranks.false)) c.call-reply.new.self (g.W.Words.sight c.call-reply.new.pass) c.call-reply.result c.call-reply.ensures.ends (made g at.In-Shrunk) c.in-Shrunk.comm c.in-Shrunk.context c.in-Shrunk.size c.in-Shrunk.is)
+
+pub returns-in_default : goal.returns-in_default
+returns-in_default g c =
+    let kept : c.call-reply.result ≡ Refused OutOfMemory → ⊥ = c.in_default.not-Refused OutOfMemory in
+    let step = other_step g.P.Meld.meld g.W.Words.alone (g.W.Words.name c.args.world.now.words) (g.W.Words.sight c.args.pass.now) c.args.ranks.now c.requires.job c.args.asked c.requires.other c.rank_of-rank.result c.index-ranks-rank.result c.rank_of-rank.ensures (omega (arith, c.if-rank-ranks.false)) c.call-reply.new.self (g.W.Words.sight c.call-reply.new.pass) c.call-reply.result c.call-reply.ensures.ends kept in
+    record {
+      step = step;
+      job = step.job;
+      begins = step.begins;
+      about = other_about g.P.Meld.meld g.W.Words.alone (g.W.Words.name c.args.world.now.words) (g.W.Words.sight c.args.pass.now) c.args.ranks.now c.requires.job c.args.asked c.requires.other c.rank_of-rank.result c.index-ranks-rank.result c.rank_of-rank.ensures (omega (arith, c.if-rank-ranks.false)) c.call-reply.new.self (g.W.Words.sight c.call-reply.new.pass) c.call-reply.result c.call-reply.ensures.ends kept (traits_of c.args.asked).comm c.make_room_for.new.found.items c.in_default.not-Shrunk c.in_default.not-Refused;
+      memory = tt;
+    }

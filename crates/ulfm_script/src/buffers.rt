@@ -1,0 +1,196 @@
+//! What stands between a script's lines and the devices: a buffer over a reader, and one over a writer.
+ghost use Rattle.std.specs.Prelude.{◌≡◌, ◌≤◌, ◌<◌, [], length, IfOk};
+ghost use Rattle.ulfm_script.specs.Written.{WritesAll};
+
+use crate::fault::RunFault;
+use std::alloc::{AllocError, Allocator};
+use std::io::{Read, Write};
+
+/// How many bytes are read at once, and how many may wait to be written.
+const SIZE: usize = 8192;
+
+/// A buffer over a reader: the bytes that were read, from `start` to `end` those that are not yet taken.
+#[derive(Drop)]
+pub struct Input<A: Allocator> {
+    bytes: Vec<u8, A>,
+    start: usize,
+    end: usize,
+    ghost ordered: { start ≤ end },
+    ghost within: { end ≤ length bytes.items },
+    ghost room: { 0 < length bytes.items },
+    ghost small: { length bytes.items ≤ 8192 },
+}
+
+/// How a line ends.
+#[derive(Clone, Copy, PartialEq, Eq)]
+pub enum LineEnd {
+    /// With a newline, which is taken too.
+    Newline,
+    /// With the end of the text, inside the line.
+    Cut,
+    /// The text ended before; there is no further line.
+    Done,
+}
+
+impl<A: Allocator> Input<A> {
+    ghost use Rattle.ulfm_script.specs.Buffers.{pending, unread, Fills, TakesByte, TakesLine};
+
+    /// Nothing is read yet. Only memory can be refused, for 8 KB.
+    pub fn new(alloc: A) -> Result<Input<A>, AllocError>
+        ensures { IfOk result (λ input. pending input ≡ []) }
+    {
+        let bytes = vec![in alloc; 0; SIZE]?;
+        Ok(Input {
+            bytes,
+            start: 0,
+            end: 0,
+        })
+    }
+
+    /// The bytes that were read and not yet taken, at most 8192.
+    pub fn pending(&self) -> &[u8]
+        ensures is { result.now ≡ pending self.now }
+        ensures few { length result.now ≤ 8192 }
+    {
+        &self.bytes[self.start..self.end]
+    }
+
+    /// Reads where no byte is left to take. Any error of the reader is a fault, of whatever kind.
+    #[tactic(auto, using(crate::proofs::ByteLemmas::filled, crate::proofs::ByteLemmas::none_pending))]
+    fn fill<R: Read>(&mut self, reader: &mut R) -> Result<(), RunFault>
+        ensures { Fills (unread R.remaining self.old reader.old) (unread R.remaining self.new reader.new) (pending self.new) result }
+    {
+        if self.start < self.end {
+            return Ok(());
+        }
+        match reader.read(self.bytes.as_mut_slice()) {
+            Ok(count) => {
+                self.start = 0;
+                self.end = count;
+                Ok(())
+            }
+            Err(_) => Err(RunFault::Read),
+        }
+    }
+
+    /// Takes the next byte, if there is one.
+    fn next_byte<R: Read>(&mut self, reader: &mut R) -> Result<Option<u8>, RunFault>
+        ensures { TakesByte (unread R.remaining self.old reader.old) (unread R.remaining self.new reader.new) (pending self.new) result }
+    {
+        if let Err(fault) = self.fill(reader) {
+            return Err(fault);
+        }
+        if self.start == self.end {
+            return Ok(None);
+        }
+        let byte = self.bytes[self.start];
+        self.start += 1;
+        Ok(Some(byte))
+    }
+
+    /// Takes a line up to its newline, and keeps as many of its first bytes as `kept` says, in place of what the vector held: one more
+    /// than a line may have shows whether it is too long.
+    ///
+    /// A fault is `Read`, where the reader failed, or `Memory`; a part of the line was taken then.
+    pub fn read_line<R: Read>(
+        &mut self,
+        reader: &mut R,
+        line: &mut Vec<u8, A>,
+        kept: usize,
+    ) -> Result<LineEnd, RunFault>
+        requires { 0 < kept }
+        ensures { TakesLine kept (unread R.remaining self.old reader.old) (unread R.remaining self.new reader.new) (pending self.new)
+            line.new.items result }
+    {
+        line.clear();
+        // no line has as many bytes as this loop has turns
+        'bytes: for _ in 0..u64::MAX {
+            match self.next_byte(reader) {
+                Err(fault) => return Err(fault),
+                Ok(Some(b'\n')) => return Ok(LineEnd::Newline),
+                Ok(Some(byte)) => {
+                    if line.len() < kept {
+                        if line.push(byte).is_err() {
+                            return Err(RunFault::Memory);
+                        }
+                    }
+                }
+                Ok(None) => {
+                    if line.is_empty() {
+                        return Ok(LineEnd::Done);
+                    }
+                    return Ok(LineEnd::Cut);
+                }
+            }
+        }
+        Err(RunFault::Memory)
+    }
+}
+
+/// The bytes that wait to be written.
+#[derive(Drop)]
+pub(crate) struct Output<A: Allocator> {
+    bytes: Vec<u8, A>,
+}
+
+impl<A: Allocator> Output<A> {
+    ghost use Rattle.ulfm_script.specs.Buffers.{waiting, Puts, Drains};
+
+    /// Nothing waits.
+    pub(crate) fn new(alloc: A) -> Result<Output<A>, AllocError>
+        ensures { IfOk result (λ output. waiting output ≡ []) }
+    {
+        let bytes = Vec::with_capacity(alloc, SIZE)?;
+        Ok(Output { bytes })
+    }
+
+    /// Puts a text behind what waits, which is written first where there is no room for both. It runs for each line, from two calls: the
+    /// compiler leaves it out of line by itself, at thirty instructions a line.
+    #[inline(always)]
+    pub(crate) fn put<W: Write>(&mut self, writer: &mut W, text: &[u8]) -> Result<(), RunFault>
+        ensures { Puts (waiting self.old) (W.contents writer.old) text.now (waiting self.new) (W.contents writer.new) result }
+    {
+        if self.bytes.capacity() - self.bytes.len() < text.len() {
+            self.drain(writer)?;
+        }
+        if self.bytes.extend_from_slice(text).is_err() {
+            return Err(RunFault::Memory);
+        }
+        Ok(())
+    }
+
+    /// Writes all that waits.
+    fn drain<W: Write>(&mut self, writer: &mut W) -> Result<(), RunFault>
+        ensures { Drains (waiting self.old) (W.contents writer.old) (waiting self.new) (W.contents writer.new) result }
+    {
+        write_out(self.bytes.as_slice(), writer)?;
+        self.bytes.clear();
+        Ok(())
+    }
+
+    /// Writes all that waits, and flushes the writer.
+    pub(crate) fn finish<W: Write>(&mut self, writer: &mut W) -> Result<(), RunFault>
+        ensures { Drains (waiting self.old) (W.contents writer.old) (waiting self.new) (W.contents writer.new) result }
+    {
+        self.drain(writer)?;
+        if writer.flush().is_err() {
+            return Err(RunFault::Write);
+        }
+        Ok(())
+    }
+}
+
+/// Writes all bytes. Any error of the writer is a fault, of whatever kind, and so is a write that takes nothing.
+fn write_out<W: Write>(bytes: &[u8], writer: &mut W) -> Result<(), RunFault>
+    ensures { WritesAll bytes.now (W.contents writer.old) (W.contents writer.new) result }
+{
+    let mut written = 0;
+    while written < bytes.len() {
+        match writer.write(&bytes[written..]) {
+            Ok(0) => return Err(RunFault::Write),
+            Ok(count) => written += count,
+            Err(_) => return Err(RunFault::Write),
+        }
+    }
+    Ok(())
+}
