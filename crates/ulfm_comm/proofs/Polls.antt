@@ -5,7 +5,7 @@ use mathlib.Core.List.{IsPrefix}
 use Rattle.std.specs.List.{AllByRecursion, list_all}
 use Rattle.std.proofs.lemmas.List.{length-take}
 use Rattle.std.proofs.lemmas.Bool.{ne_eqb}
-use Rattle.ulfm_laws.specs.{declared.{body.Body.{Body}, body.Body.TheVariants.{Unit as NoBody, Flag as OfFlags, Ctx as OfIds, Clash}, ctx_mask.CtxMask.{CtxMask}, summary.Summary.{Summary}}}
+use Rattle.ulfm_laws.specs.{declared.{summary.Body.{Body}, summary.Body.TheVariants.{Unit as NoBody, Flag as OfFlags, Ctx as OfIds, Clash}, ctx_mask.CtxMask.{CtxMask}, summary.Summary.{Summary}}}
 use Rattle.ulfm_model.specs.declared.call.Call.TheVariants as call
 use Rattle.ulfm_model.specs.declared.{call.Call.{Call}, call.Request.{Request}, call.Request.TheVariants.{Agree, Shrink}, contribution.Contribution.{Contribution}, contribution.Slot.TheVariants.{Given}, event.Caller.TheVariants.{Rank}, event.Event.{Event}, event.Event.TheVariants.{Fail, Settle, Mark, Arrive, Revoke, Spawn}, limits.Limits.{Limits}, refusal.Refusal.TheVariants.{Idle, Mismatch}, reply.Reply.{Reply}, reply.Reply.TheVariants.{Agreed, Pending, Refused}}
 use Rattle.ulfm_model.specs.{Answers.{AgreeReplies, IsPending, MarksDeclared, PollAdds, PollReplies, Sees, View, closed, first_refusal, left_by, polled_by, refusal_of, refusal_on}, History.{Decision, History, IsLegal, body_of, decision, entries_by, failed, failures, has, is_decided, known_of, members, round, round_among, slot}, Laws.{all_of}, Records.{Fits, FitsRequest, Held, Record, held_at, is_shrink}, Runs.{Did, IsRun, unsettled_of}}

@@ -1,6 +1,6 @@
 -- The poll of an agreement: its marks, and its reading of the round.
 use Rattle.std.specs.Prelude.{◌≡◌, ℕ, ◌<◌, ◌≤◌, Bool, [], Some, length, nat_lt, take}
-use Rattle.ulfm_laws.specs.declared.{body.Body.{Body}, body.Body.TheVariants.{Unit as Nothing, Flag as OfFlag, Ctx as OfIds, Clash}, summary.Summary.{Summary}}
+use Rattle.ulfm_laws.specs.declared.{summary.Body.{Body}, summary.Body.TheVariants.{Unit as Nothing, Flag as OfFlag, Ctx as OfIds, Clash}, summary.Summary.{Summary}}
 use Rattle.ulfm_model.specs.declared.call.Call.TheVariants as call
 use Rattle.ulfm_model.specs.declared.{call.Call.{Call}, limits.Limits.{Limits}, refusal.Refusal.TheVariants.{Mismatch}, reply.Reply.{Reply}}
 use Rattle.ulfm_model.specs.declared.reply.Reply.TheVariants.{Agreed, Refused}

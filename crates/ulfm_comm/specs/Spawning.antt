@@ -1,7 +1,7 @@
 -- The poll of a shrink once its round is decided: how it comes by its communicator.
 use Rattle.std.specs.Prelude.{◌≡◌, ◌⊎◌, ℕ, ◌<◌, ◌≤◌, Bool, true, false, List, [], ◌∷◌, Some, length, take, IsFalse, ◌+◌, ◌^◌, ◌-◌, not, ◌++◌, nat_eq, slice_get}
 use mathlib.Core.List.{IsPrefix}
-use Rattle.ulfm_laws.specs.declared.{body.Body.TheVariants.{Ctx as OfIds}, ctx_mask.CtxMask.{CtxMask}, summary.Summary.{Summary}}
+use Rattle.ulfm_laws.specs.declared.{summary.Body.TheVariants.{Ctx as OfIds}, ctx_mask.CtxMask.{CtxMask}, summary.Summary.{Summary}}
 use Rattle.ulfm_model.specs.declared.call.Call.TheVariants as call
 use Rattle.ulfm_model.specs.declared.{call.Call.{Call}, event.Caller.TheVariants.{Rank}, event.Event.{Event}, limits.Limits.{Limits}, event.Caller.{Caller}}
 use Rattle.ulfm_model.specs.declared.{event.Event.TheVariants.{Spawn}, place.Place.TheVariants.{Comm as CommAt}}

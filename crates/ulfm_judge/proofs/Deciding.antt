@@ -3,7 +3,7 @@ use Rattle.std.proofs.Common.{◌≡◌, ◌≤◌, ◌<◌, ◌+◌, ◌-◌, �
 use Rattle.std.specs.Bool.{Decides}
 use Rattle.std.proofs.lemmas.Bool.{leb-true, le-leb, ltb-true, lt-ltb, eqb-true, eq-eqb}
 use Rattle.std.proofs.lemmas.Bool.Decides.{Decides-and, Decides-like, Decides-or}
-use Rattle.ulfm_laws.specs.declared.{body.Body.{Body}, ctx_mask.CtxMask.{CtxMask}}
+use Rattle.ulfm_laws.specs.declared.{summary.Body.{Body}, ctx_mask.CtxMask.{CtxMask}}
 use Rattle.ulfm_model.specs.declared.{call.Call.{Call}, call.Request.{Request}, contribution.Contribution.{Contribution}, event.Caller.{Caller}, event.Event.{Event}, limits.Limits.{Limits}}
 use Rattle.ulfm_model.specs.{Answers.{CallAdds, MarksDeclared, MayOwn, PollAdds, comm_of, refusal_of}, History.{History, IsPlace, MayFollow, MaySpawn, decision, failed, failures, has, has_arrived, is_decided, is_made, is_revoked, members, slot, spawns}, Records.{Held, Record, held_at}}
 use Rattle.ulfm_trace_model.specs.Traces.{IsLookDue, MayAdd, MayAddBy, Traced, Under, call_by, found_by, record_of}

@@ -4,7 +4,7 @@ use Rattle.std.proofs.Common.{ap, le_trans, lit<, lit≤, lt_of_le_of_lt}
 use Rattle.std.proofs.Math.Nat.{le-max_left, max-le, min-le_right, sub-le}
 use Rattle.std.proofs.lemmas.Bool.{le-leb}
 use Rattle.ulfm_laws.specs.Ranges.{is_acked_count}
-use Rattle.ulfm_laws.specs.declared.{acked.Acked.{Acked}, ctx_mask.CtxMask.{CtxMask}, known.Known.{Known}}
+use Rattle.ulfm_laws.specs.declared.{counts.Acked.{Acked}, ctx_mask.CtxMask.{CtxMask}, counts.Known.{Known}}
 
 -- all context ids but i, which is below 32: all bits but bit i
 abbrev pub all_but : ℕ → CtxMask

@@ -2,7 +2,7 @@
 use Rattle.std.proofs.Common.{◌≡◌, ◌≢◌, ℕ, ◌<◌, ◌≤◌, List, [], ◌∷◌, ◌++◌, length, Option, Some, None, Result, Ok, Err, Bool, true, false, cond, refl, sym, ap, subst, ◌∙◌, inl, inr, arith, rules}
 use Rattle.std.specs.{Prelude.{◌⊎◌, ⊤, codes, min}, Coded.{le_prop}, Fmt.{decimal}, Str.{bytes_eq}}
 use Rattle.std.proofs.lemmas.{Bool.{cases_lt, lt-leb, le-leb, lt-ltb, le-ltb}, Slice.Eq.{bytes_eq-Decides}}
-use Rattle.ulfm_laws.specs.{Counts.{same_acked, same_known}, declared.{acked.Acked.{Acked}, flag_and.FlagAnd.{FlagAnd}, known.Known.{Known}}}
+use Rattle.ulfm_laws.specs.{Counts.{same_acked, same_known}, declared.{counts.Acked.{Acked}, flag_and.FlagAnd.{FlagAnd}, counts.Known.{Known}}}
 use Rattle.ulfm_model.specs.declared.{contribution.Contribution.{Contribution}, contribution.MarkCount.{MarkCount}, contribution.Offer.{Offer}, event.Event.TheVariants.{Fail, Settle, Mark, Arrive, Revoke, Spawn}}
 use Rattle.ulfm_model.specs.Computed.{given_at, mark_at}
 use Rattle.ulfm_model.proofs.OnlyMarks.{same_mark}

@@ -1,6 +1,6 @@
 -- What refusals mean.
 use Rattle.std.proofs.Common.{◌≡◌, ◌⊎◌, ℕ, Bool, Some, None, inl, inr, refl, ap, sym, ◌∙◌, subst, not, is_some, [], ◌∷◌, arith, IsTrue}
-use Rattle.ulfm_laws.specs.declared.{body.Body.TheVariants.{Clash}}
+use Rattle.ulfm_laws.specs.declared.{summary.Body.TheVariants.{Clash}}
 use Rattle.ulfm_model.specs.declared.{call.Call.{Call}, call.Request.{Request}, call.Request.TheVariants.{Agree, Shrink}, contribution.Offer.{Offer}, contribution.Offer.TheVariants.{Ctx, Flag}, contribution.Slot.TheVariants.{Given}, limits.Limits.{Limits}, refusal.Refusal.{Refusal}, refusal.Refusal.TheVariants.{Idle, Mismatch, NoContext, NoRoom, SelfFailed, Twice}, reply.Reply.{Reply}, reply.Reply.TheVariants.{Refused}}
 use Rattle.ulfm_model.specs.declared.call.Call.TheVariants as call
 use Rattle.ulfm_model.specs.{Answers.{AgreeReplies, IsReply, IsSelfFailed, PollReplies, Replies, RepliesBy, ShrinkReplies, StartReplies, View, first_refusal, refusal_of, refusal_on}, History.{Decision, Exists, History, decision, failures, is_decided, slot, spawns}, Records.{Fits, Held, Record, free_ids, held_at}, Runs.{IsRun}}
