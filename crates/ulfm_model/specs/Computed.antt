@@ -4,7 +4,7 @@ use Rattle.std.specs.Prelude.{ℕ, ◌+◌, ◌==◌, nat_lt, min, max, Bool, tr
 use Rattle.std.specs.Prelude.{List, [], ◌∷◌, ◌++◌, length, filter, filter_map, find, unwrap_or, Option, Some, None, is_some}
 use Rattle.std.specs.{Int.{bit_at}, List.{enumerate_from, position_from}}
 pub use Rattle.ulfm_laws.specs.Within.{acked_at, known_at}
-use Rattle.ulfm_laws.specs.{Within.{acked_known, known_from_one, some_known}, declared.body.Body.{Body}}
+use Rattle.ulfm_laws.specs.{Within.{acked_known, known_from_one, some_known}, declared.summary.Body.{Body}}
 use Rattle.ulfm_model.specs.declared.{call.Call.{Call}, call.Request.{Request}, event.Caller.{Caller}, event.Event.{Event}, limits.Limits.{Limits}}
 use Rattle.ulfm_model.specs.declared.{contribution.Contribution.{Contribution}, contribution.MarkCount.{MarkCount}, contribution.Offer.{Offer}}
 use Rattle.ulfm_model.specs.declared.{contribution.Slot.{Slot}, refusal.Refusal.{Refusal}, reply.Reply.{Reply}}

@@ -2,7 +2,7 @@
 use Rattle.std.proofs.Common.{◌≡◌, ℕ, suc, ◌+◌, ◌<◌, ◌==◌, ◌&&◌, Bool, true, false, ◌||◌, List, [], ◌∷◌, length, map, Some, is_some, slice_get, refl, ap, sym, ◌∙◌, arith, IsTrue}
 use Rattle.std.specs.List.{list_all, list_any}
 use Rattle.std.proofs.lemmas.Bool.{and_parts, eqb-true}
-use Rattle.ulfm_laws.specs.{declared.body.Body.TheVariants.{Ctx}, declared.ctx_mask.CtxMask.{CtxMask}, declared.summary.Summary.{Summary}}
+use Rattle.ulfm_laws.specs.{declared.summary.Body.TheVariants.{Ctx}, declared.ctx_mask.CtxMask.{CtxMask}, declared.summary.Summary.{Summary}}
 use Rattle.ulfm_model.specs.declared.limits.Limits.{Limits}
 use Rattle.ulfm_model.specs.{History.{Decision, Exists, History, IsLegal, decision, first_ranks, is_decided, is_made, round_among, slot, spawns}, Laws.{all_of}}
 use Rattle.ulfm_model.proofs.{Decisions.{decision_stays}, Histories.{members_stay}, Stable.{decision_is}}

@@ -1,6 +1,6 @@
 -- What the word of a slot says of its round.
 use Rattle.std.proofs.Common.{◌≡◌, ℕ, Option, Some, refl, ap, sym, ◌∙◌, arith}
-use Rattle.ulfm_laws.specs.{declared.body.Body.{Body}, declared.body.Body.TheVariants.{Unit as Nothing, Flag as OfFlags, Ctx as OfIds, Clash}, declared.summary.Summary.{Summary}, Bodies.{body_unit}, Counts.{acked_unit, same_acked, same_known}, Masks.{same_mask}}
+use Rattle.ulfm_laws.specs.{declared.summary.Body.{Body}, declared.summary.Body.TheVariants.{Unit as Nothing, Flag as OfFlags, Ctx as OfIds, Clash}, declared.summary.Summary.{Summary}, Bodies.{body_unit}, Counts.{acked_unit, same_acked, same_known}, Masks.{same_mask}}
 use Rattle.ulfm_model.specs.declared.{contribution.Offer.{Offer}, contribution.Offer.TheVariants.{Flag, Ctx}, contribution.Slot.{Slot}, contribution.Slot.TheVariants.{Given, Mark as Marked}}
 use Rattle.ulfm_model.specs.{History.{body_of}, Laws.{summary_of}}
 use Rattle.ulfm_words.specs.Slots.{tag_in, known_in, acked_in, payload_in, slot_in}
