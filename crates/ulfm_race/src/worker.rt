@@ -3,13 +3,12 @@ ghost use Rattle.std.specs.Prelude.{◌≡◌, ◌<◌, Bool, List, [], ◌∷�
 ghost use Rattle.std.specs.List.{AllByRecursion};
 ghost use mathlib.Core.List.{IsPrefix};
 ghost use Rattle.boxcar.specs.Table.{Shows};
-ghost use Rattle.ulfm_model.specs.Records.{Fits, new_record};
+ghost use Rattle.ulfm_model.specs.Records.{new_record};
 ghost use Rattle.ulfm_laws.specs.Flags.{flag_meld};
-ghost use Rattle.ulfm_words.specs.Steps.{IsOf};
 ghost use Rattle.ulfm_model.specs.declared.reply.Reply.{Reply as ReplyOf};
 ghost use Rattle.ulfm_wait.specs.Waits.{IsPolledOn};
 ghost use Rattle.ulfm_race.specs.declared.plan.Plan.{Plan as PlanOf};
-ghost use Rattle.ulfm_race.specs.Races.{IsAnswered, IsKept, IsPlan, IsReady, IsReported, SaysAgree, flag_of, is_refused, limits_of};
+ghost use Rattle.ulfm_race.specs.Races.{AreOf, IsAnswered, IsKept, IsPlan, IsReady, IsReported, SaysAgree, flag_of, is_refused, limits_of};
 
 use crate::plan::{Gate, Plan, RaceFault, Turn};
 use std::alloc::Global;
@@ -51,9 +50,8 @@ pub(crate) fn work<G: Gate, R: Wait>(
 ) -> Report
     requires plan { IsPlan plan }
     requires limits { world.now.words.limits ≡ limits_of plan }
-    requires of { IsOf flag_meld world.now.words pass }
     requires new { rank ≡ new_record (limits_of plan) rank.number }
-    requires fits { Fits flag_meld world.now.words.limits pass.seen rank }
+    requires own { AreOf world.now.words rank pass }
     ensures { IsReported world.now.words said.now plan rank.number result.rank result.told result.tokens.items result.fault }
 {
     let mut rank = rank;
@@ -97,10 +95,8 @@ fn fault_in(ended: &Result<bool, RaceFault>) -> Option<RaceFault>
 
 // The rank of a worker that stopped is declared.
 fn declare(world: &Shared, rank: &Own, pass: &mut BookPass<FlagAnd>, stopped: bool)
-    requires of { IsOf flag_meld world.now.words pass.old }
-    requires fits { Fits flag_meld world.now.words.limits pass.old.seen rank.now }
-    ensures of { IsOf flag_meld world.now.words pass.new }
-    ensures fits { Fits flag_meld world.now.words.limits pass.new.seen rank.now }
+    requires own { AreOf world.now.words rank.now pass.old }
+    ensures own { AreOf world.now.words rank.now pass.new }
     ensures seen { IsPrefix pass.old.seen pass.new.seen }
 {
     if stopped {
@@ -120,12 +116,10 @@ fn take_turns<G: Gate, R: Wait>(
     tokens: &mut Vec<Token>,
 ) -> Result<bool, RaceFault>
     requires limits { world.now.words.limits ≡ limits_of plan }
-    requires of { IsOf flag_meld world.now.words pass.old }
-    requires fits { Fits flag_meld world.now.words.limits pass.old.seen rank.old }
+    requires own { AreOf world.now.words rank.old pass.old }
     requires shown { AllByRecursion (Shows said.now) tokens.old.items }
     requires ready { IsReady plan rank.old.number 0 rank.old pass.old.seen (map (λ t. t.value) tokens.old.items) }
-    ensures of { IsOf flag_meld world.now.words pass.new }
-    ensures fits { Fits flag_meld world.now.words.limits pass.new.seen rank.new }
+    ensures own { AreOf world.now.words rank.new pass.new }
     ensures shown { AllByRecursion (Shows said.now) tokens.new.items }
     ensures answered { IfOk result (λ _. IsAnswered plan pass.new.seen rank.old.number rank.new (map (λ t. t.value) tokens.new.items)) }
 {
@@ -183,10 +177,8 @@ fn polled<G: Gate, R: Wait>(
     rank: &mut Own,
     pass: &mut BookPass<FlagAnd>,
 ) -> Result<Result<Polled<FlagAnd>, Refusal>, RaceFault>
-    requires of { IsOf flag_meld world.now.words pass.old }
-    requires fits { Fits flag_meld world.now.words.limits pass.old.seen rank.old }
-    ensures of { IsOf flag_meld world.now.words pass.new }
-    ensures fits { Fits flag_meld world.now.words.limits pass.new.seen rank.new }
+    requires own { AreOf world.now.words rank.old pass.old }
+    ensures own { AreOf world.now.words rank.new pass.new }
     ensures polls { IfOk result (λ answer. IsPolledOn flag_meld false world.now.words 0 rank.old pass.old answer rank.new pass.new) }
 {
     for _ in rt.forever() {
@@ -247,10 +239,8 @@ fn agree<G: Gate, R: Wait>(
     pass: &mut BookPass<FlagAnd>,
     round: u16,
 ) -> Result<Reply<FlagAnd>, RaceFault>
-    requires of { IsOf flag_meld world.now.words pass.old }
-    requires fits { Fits flag_meld world.now.words.limits pass.old.seen rank.old }
-    ensures of { IsOf flag_meld world.now.words pass.new }
-    ensures fits { Fits flag_meld world.now.words.limits pass.new.seen rank.new }
+    requires own { AreOf world.now.words rank.old pass.old }
+    ensures own { AreOf world.now.words rank.new pass.new }
     ensures says { IfOk result (λ reply. (plan : PlanOf) → (said : List (ReplyOf _))
         → world.now.words.limits ≡ limits_of plan → round < plan.rounds → IsReady plan rank.old.number round rank.old pass.old.seen said
         → SaysAgree plan rank.old.number round said rank.new pass.new.seen reply) }
@@ -276,10 +266,8 @@ fn shrink<G: Gate, R: Wait>(
     rank: &mut Own,
     pass: &mut BookPass<FlagAnd>,
 ) -> Result<Reply<FlagAnd>, RaceFault>
-    requires of { IsOf flag_meld world.now.words pass.old }
-    requires fits { Fits flag_meld world.now.words.limits pass.old.seen rank.old }
-    ensures of { IsOf flag_meld world.now.words pass.new }
-    ensures fits { Fits flag_meld world.now.words.limits pass.new.seen rank.new }
+    requires own { AreOf world.now.words rank.old pass.old }
+    ensures own { AreOf world.now.words rank.new pass.new }
     ensures says { IfOk result (λ reply. (plan : PlanOf) → (said : List (ReplyOf _)) → world.now.words.limits ≡ limits_of plan
         → IsReady plan rank.old.number plan.rounds rank.old pass.old.seen said → IsAnswered plan pass.new.seen rank.old.number rank.new (said ++ reply ∷ [])) }
 {
@@ -317,12 +305,10 @@ pub(crate) fn agree_all<G: Gate, R: Wait>(
     tokens: &mut Vec<Token>,
 ) -> Result<bool, RaceFault>
     requires limits { world.now.words.limits ≡ limits_of plan }
-    requires of { IsOf flag_meld world.now.words pass.old }
-    requires fits { Fits flag_meld world.now.words.limits pass.old.seen rank.old }
+    requires own { AreOf world.now.words rank.old pass.old }
     requires shown { AllByRecursion (Shows said.now) tokens.old.items }
     requires ready { IsReady plan rank.old.number 0 rank.old pass.old.seen (map (λ t. t.value) tokens.old.items) }
-    ensures of { IsOf flag_meld world.now.words pass.new }
-    ensures fits { Fits flag_meld world.now.words.limits pass.new.seen rank.new }
+    ensures own { AreOf world.now.words rank.new pass.new }
     ensures shown { AllByRecursion (Shows said.now) tokens.new.items }
     ensures says { IfOk result (λ goes. MatchBool goes
         (IsReady plan rank.old.number plan.rounds rank.new pass.new.seen (map (λ t. t.value) tokens.new.items))

@@ -10,23 +10,28 @@ use Rattle.ulfm_script.specs.{Buffers.{HasNoNewline}, Headers.{header_of}, Scrip
 abbrev pub asked_from : (lang : Language) → ℕ → List ℕ → Asked lang.Item
 asked_from lang number text = asked_by lang number (lines_from [] text) (rest_from [] text)
 
-lines_step : (front line rest : List ℕ) → HasNoNewline line → lines_from front (line ++ 10 ∷ rest) ≡ (front ++ line) ∷ lines_from [] rest
+-- a line up to its newline is the first of the lines behind it
+pub lines_step : (front line rest : List ℕ) → HasNoNewline line → lines_from front (line ++ 10 ∷ rest) ≡ (front ++ line) ∷ lines_from [] rest
 lines_step front [] rest h = rw append-nil refl
 lines_step front (x ∷ xs) rest h = rw (ne_eqb x 10 h.0) (lines_step (front ++ x ∷ []) xs rest h.1 ∙ ap (λ (t : List ℕ). t ∷ lines_from [] rest) (append_assoc front (x ∷ []) xs))
 
-rest_step : (front line rest : List ℕ) → HasNoNewline line → rest_from front (line ++ 10 ∷ rest) ≡ rest_from [] rest
+-- what is left behind the last newline is left behind a line too
+pub rest_step : (front line rest : List ℕ) → HasNoNewline line → rest_from front (line ++ 10 ∷ rest) ≡ rest_from [] rest
 rest_step front [] rest h = refl
 rest_step front (x ∷ xs) rest h = rw (ne_eqb x 10 h.0) (rest_step (front ++ x ∷ []) xs rest h.1)
 
-lines_none : (front line : List ℕ) → HasNoNewline line → lines_from front line ≡ []
+-- a text without a newline has no whole line
+pub lines_none : (front line : List ℕ) → HasNoNewline line → lines_from front line ≡ []
 lines_none front [] h = refl
 lines_none front (x ∷ xs) h = rw (ne_eqb x 10 h.0) (lines_none (front ++ x ∷ []) xs h.1)
 
-rest_all : (front line : List ℕ) → HasNoNewline line → rest_from front line ≡ front ++ line
+-- and is left whole
+pub rest_all : (front line : List ℕ) → HasNoNewline line → rest_from front line ≡ front ++ line
 rest_all front [] h = sym (append-nil front)
 rest_all front (x ∷ xs) h = rw (ne_eqb x 10 h.0) (rest_all (front ++ x ∷ []) xs h.1 ∙ append_assoc front (x ∷ []) xs)
 
-regroup : (done line rest : List ℕ) → (done ++ (line ++ 10 ∷ [])) ++ rest ≡ done ++ (line ++ 10 ∷ rest)
+-- a line may be told with what stands before it, or with what comes behind
+pub regroup : (done line rest : List ℕ) → (done ++ (line ++ 10 ∷ [])) ++ rest ≡ done ++ (line ++ 10 ∷ rest)
 regroup done line rest = append_assoc done (line ++ 10 ∷ []) rest ∙ ap (λ (t : List ℕ). done ++ t) (append_assoc line (10 ∷ []) rest)
 
 -- the first 65 bytes of a line tell its item

@@ -1,28 +1,8 @@
 -- The lines of a text, one after another.
-use Rattle.std.proofs.Common.{◌≡◌, ℕ, List, [], ◌∷◌, ◌++◌, refl, sym, ap, ◌∙◌, append_assoc}
-use Rattle.std.proofs.lemmas.{Bool.{ne_eqb}, List.{append-nil}}
+use Rattle.std.proofs.Common.{◌≡◌, ℕ, List, [], ◌∷◌, ◌++◌, sym, ap, ◌∙◌, append_assoc}
+use Rattle.std.proofs.lemmas.{List.{append-nil}}
 use Rattle.ulfm_script.specs.{Buffers.{HasNoNewline}, Scripts.{lines_from, rest_from}}
-
-lines_step : (front line rest : List ℕ) → HasNoNewline line → lines_from front (line ++ 10 ∷ rest) ≡ (front ++ line) ∷ lines_from [] rest
-lines_step front [] rest h = rw append-nil refl
-lines_step front (x ∷ xs) rest h =
-    rw (ne_eqb x 10 h.0)
-    (lines_step (front ++ x ∷ []) xs rest h.1 ∙ ap (λ (t : List ℕ). t ∷ lines_from [] rest) (append_assoc front (x ∷ []) xs))
-
-rest_step : (front line rest : List ℕ) → HasNoNewline line → rest_from front (line ++ 10 ∷ rest) ≡ rest_from [] rest
-rest_step front [] rest h = refl
-rest_step front (x ∷ xs) rest h = rw (ne_eqb x 10 h.0) (rest_step (front ++ x ∷ []) xs rest h.1)
-
-lines_none : (front line : List ℕ) → HasNoNewline line → lines_from front line ≡ []
-lines_none front [] h = refl
-lines_none front (x ∷ xs) h = rw (ne_eqb x 10 h.0) (lines_none (front ++ x ∷ []) xs h.1)
-
-rest_all : (front line : List ℕ) → HasNoNewline line → rest_from front line ≡ front ++ line
-rest_all front [] h = sym (append-nil front)
-rest_all front (x ∷ xs) h = rw (ne_eqb x 10 h.0) (rest_all (front ++ x ∷ []) xs h.1 ∙ append_assoc front (x ∷ []) xs)
-
-regroup : (done line rest : List ℕ) → (done ++ (line ++ 10 ∷ [])) ++ rest ≡ done ++ (line ++ 10 ∷ rest)
-regroup done line rest = append_assoc done (line ++ 10 ∷ []) rest ∙ ap (λ (t : List ℕ). done ++ t) (append_assoc line (10 ∷ []) rest)
+use Rattle.ulfm_script.proofs.ScriptLemmas.{lines_step, rest_step, lines_none, rest_all, regroup}
 
 -- whatever stands behind this text, it has these lines, and then those of what stands behind it
 pub record Comes (done : List ℕ) (lines : List (List ℕ)) : Type 0 where

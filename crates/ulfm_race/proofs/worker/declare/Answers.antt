@@ -3,6 +3,9 @@ use Rattle.ulfm_laws.specs.Flags.{flag_meld}
 use Rattle.ulfm_model.proofs.LeftRuns.{fail_fits}
 use Rattle.ulfm_race.proofs.worker.declare.Goals as goal
 
-pub returns-then-stopped-clause-fits : goal.returns-then-stopped-clause-fits
-returns-then-stopped-clause-fits c =
-    fail_fits flag_meld c.args.world.now.words.limits false c.args.pass.now.seen c.fail.new.pass.seen c.args.rank.now _ _ c.fail.ensures.run c.requires.fits
+pub returns-then-stopped-clause-own : goal.returns-then-stopped-clause-own
+returns-then-stopped-clause-own c = record {
+  of = c.fail.ensures.of;
+  fits =
+    fail_fits flag_meld c.args.world.now.words.limits false c.args.pass.now.seen c.fail.new.pass.seen c.args.rank.now _ _ c.fail.ensures.run c.requires.own.fits;
+}

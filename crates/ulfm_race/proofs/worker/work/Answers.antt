@@ -14,11 +14,11 @@ returns g c =
     let said = map (λ t. t.value) c.take_turns-ended.new.tokens.items in
     let seen = c.declare.new.pass.seen in
     let here = c.told-told.ensures.all refl in
-    let legal = subst (λ l. IsLegal flag_meld l seen) c.requires.limits c.declare.ensures.of.legal in
+    let legal = subst (λ l. IsLegal flag_meld l seen) c.requires.limits c.declare.ensures.own.of.legal in
     record {
       name_is = c.told-told.ensures.name_is;
-      legal = subst (IsLegal flag_meld limits) (sym here) c.declare.ensures.of.legal;
-      fits = subst (λ h. Fits flag_meld limits h rank) (sym here) c.declare.ensures.fits;
+      legal = subst (IsLegal flag_meld limits) (sym here) c.declare.ensures.own.of.legal;
+      fits = subst (λ h. Fits flag_meld limits h rank) (sym here) c.declare.ensures.own.fits;
       shown = c.take_turns-ended.ensures.shown;
       answered = λ none.
           let is = ok_holds (IsAnswered plan c.take_turns-ended.new.pass.seen number rank said) c.take_turns-ended.result c.take_turns-ended.ensures.answered (c.fault_in-fault.ensures none) in
