@@ -1,6 +1,6 @@
 #!/usr/bin/env python3
 """Compares what the program's help names with its completion files, its man page, README.md, docs/GUIDE.md and docs/FORMATS.md: commands,
-options, verbs, replies, kinds of line faults, lines of traces, reasons of the judge, limits, and statuses with what standard error says.
+options, verbs, replies, refusals, kinds of line faults, lines of traces, reasons of the judge, limits, and statuses with what standard error says.
 
     gate/commands_test.py [PROGRAM]     PROGRAM is crates/ulfm/out/ulfm, if it isn't given
 
@@ -167,6 +167,11 @@ def trace_limits_of(text):
     return set(re.findall(r"line has at most (\d+) bytes(?: without its newline)? and a trace at most (\d+) lines", plain))
 
 
+def refusals_of(text):
+    """The refusals, each a number and a name, of a page of plain lines, and of the table in FORMATS."""
+    return set(re.findall(r"(?:^ *|(?<=, )|(?<=`refused ))(\d+ [a-z]+(?:-[a-z]+)*)(?=,|` \||$)", text, re.M))
+
+
 def step_words_of(text):
     """The lines of step scripts and the names of steps that a page of plain lines has."""
     text = (re.split("With --steps|STEP SCRIPTS", text) + [""])[1]
@@ -297,6 +302,7 @@ def main():
     for where, text in pages.items():
         differs("calls and replies", where, calls_of(text), calls_of_formats(formats))
         differs("line faults", where, kinds_of(text), kinds_of_formats(formats))
+        differs("refusals", where, refusals_of(text), refusals_of(formats))
         differs("step scripts", where, step_words_of(text), step_words_of_formats(formats))
     for where, text in ({"ulfm --help": top, "ulfm.1": man}).items():
         differs("statuses", where, statuses_of(text), statuses_of_formats(formats))
