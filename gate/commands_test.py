@@ -1,6 +1,6 @@
 #!/usr/bin/env python3
-"""Compares what the program's help names with its completion files, its man page, README.md and docs/FORMATS.md: commands, options,
-verbs, replies, kinds of line faults, limits, and statuses with what standard error says.
+"""Compares what the program's help names with its completion files, its man page, README.md, docs/GUIDE.md and docs/FORMATS.md: commands,
+options, verbs, replies, refusals, kinds of line faults, lines of traces, reasons of the judge, limits, and statuses with what standard error says.
 
     gate/commands_test.py [PROGRAM]     PROGRAM is crates/ulfm/out/ulfm, if it isn't given
 
@@ -133,6 +133,45 @@ def calls_of_formats(text):
     return calls
 
 
+def calls_of_guide(text):
+    """The same of the table in the guide, whose second cell is the library's call."""
+    rows = re.findall(r"^\| `(\w+(?: [RCNF])+)` \| `.*` \| (`.*`) \|$", text, re.M)
+    return {call: tuple(sorted(re.findall(r"`([^`]*)`", replies))) for call, replies in rows}
+
+
+def trace_lines_of(text):
+    """The lines of traces that a page of plain lines lists, behind what it says of their header."""
+    text = text.split("ulfm-trace 1 RANKS COMMS ROUNDS")[-1]
+    return set(re.findall(r"^ *((?:call|look|event|reply) [A-Z][A-Za-z ]*?)(?:  +\S.*)?$", text, re.M))
+
+
+def trace_lines_of_formats(text):
+    table = text.split("### Lines of traces")[1].split("\n###")[0]
+    return set(re.findall(r"^\| `((?:call|look|event|reply) [^`]*)` \|", table, re.M))
+
+
+def reasons_of(text):
+    """The judge's reasons, in order, of a page of plain lines."""
+    found = re.search(r"\btext(?: \([^)]*\))?((?:,| or) [a-z]+(?: \([^)]*\))?)+\.", " ".join(text.split()))
+    return re.findall(r"[a-z]+", re.sub(r" \([^)]*\)| or\b", "", found.group(0))) if found else []
+
+
+def reasons_of_formats(text):
+    table = text.split("### The judge")[1].split("\n## ")[0].split("| Reason |")[1]
+    return re.findall(r"^\| `([a-z]+)` \|", table, re.M)
+
+
+def trace_limits_of(text):
+    """The greatest line of a trace, and how many there may be."""
+    plain = " ".join(text.replace(",", "").split())
+    return set(re.findall(r"line has at most (\d+) bytes(?: without its newline)? and a trace at most (\d+) lines", plain))
+
+
+def refusals_of(text):
+    """The refusals, each a number and a name, of a page of plain lines, and of the table in FORMATS."""
+    return set(re.findall(r"(?:^ *|(?<=, )|(?<=`refused ))(\d+ [a-z]+(?:-[a-z]+)*)(?=,|` \||$)", text, re.M))
+
+
 def step_words_of(text):
     """The lines of step scripts and the names of steps that a page of plain lines has."""
     text = (re.split("With --steps|STEP SCRIPTS", text) + [""])[1]
@@ -153,8 +192,12 @@ def statuses_of(text):
 
 
 def statuses_of_formats(text):
-    table = text.split("## Exit statuses and standard error")[1]
-    return set(re.findall(r"^\| ([0-3]) \| `([^`]*)` \|", table, re.M))
+    return statuses_of_table(text.split("## Exit statuses and standard error")[1])
+
+
+def statuses_of_table(text):
+    """The same of a page's table of statuses."""
+    return set(re.findall(r"^\| ([0-3]) \| `([^`]*)` \|", text.split("| Status | Standard error |")[1].split("\n\n")[0], re.M))
 
 
 def kinds_of_formats(text):
@@ -178,6 +221,40 @@ def limits_of_formats(text):
     limits["line"] = re.search(r"the line has over (\d+) bytes", plain).group(1)
     limits["lines"] = str(int(re.search(r"this is line (\d+)", plain).group(1)) - 1)
     return limits
+
+
+def limits_of_guide(text):
+    """The same of the table in the guide, without those of single words of a line."""
+    rows = re.findall(r"^\| ([a-z].*) \| (\d+ to \d+|at most \d+(?: \d+)?) \|$", text.replace(",", ""), re.M)
+    named = {
+        "ranks of a world": ("ranks",),
+        "communicators of a world": ("comms",),
+        "rounds of each sort": ("rounds",),
+        "words of a world": ("size",),
+        "bytes of a script": ("line", "lines"),
+        "bytes of a trace": ("trace line", "trace lines"),
+        "ranks of a race": ("--ranks",),
+        "rounds of a race": ("--rounds",),
+    }
+    limits = {}
+    for what, span in rows:
+        for begin, names in named.items():
+            if what.startswith(begin):
+                limits |= zip(names, span.removeprefix("at most ").split(" ") if span.startswith("at") else [span])
+    return limits
+
+
+def of_readme(text):
+    """The verbs, the ranges of a world and the statuses that README has in a line or two each."""
+    plain = " ".join(text.replace(",", "").split())
+    verbs = re.search(r"Its verbs are ((?:`[a-z]+` )+and `[a-z]+`)", plain)
+    ranges = re.search(r"a world has (\d+ to \d+) ranks (\d+ to \d+) communicators and (\d+ to \d+) rounds", plain)
+    statuses = re.search(r"The exit status is (.*?)\.(?: |$)", plain)
+    return (
+        set(re.findall(r"`([a-z]+)`", verbs.group(1))) if verbs else set(),
+        dict(zip(("ranks", "comms", "rounds"), ranges.groups())) if ranges else {},
+        set(re.findall(r"\b(\d)\b", statuses.group(1))) if statuses else set(),
+    )
 
 
 def limits_of(text):
@@ -225,16 +302,31 @@ def main():
     for where, text in pages.items():
         differs("calls and replies", where, calls_of(text), calls_of_formats(formats))
         differs("line faults", where, kinds_of(text), kinds_of_formats(formats))
+        differs("refusals", where, refusals_of(text), refusals_of(formats))
         differs("step scripts", where, step_words_of(text), step_words_of_formats(formats))
     for where, text in ({"ulfm --help": top, "ulfm.1": man}).items():
         differs("statuses", where, statuses_of(text), statuses_of_formats(formats))
     together = statuses_of(helps["run"]) | statuses_of(helps["race"])
     differs("statuses", "ulfm run --help with ulfm race --help", together, statuses_of_formats(formats))
+    limits = limits_of_formats(formats)
     for where, text in {"help": helps["run"] + helps["race"], "ulfm.1": man}.items():
-        differs("limits", where, limits_of(text), limits_of_formats(formats))
-    for where in ("README.md", "docs/FORMATS.md"):
-        named = set(re.findall(r"\bulfm (run|race|[a-z]+)(?= (?:<|--)|`)", read(where)))
-        differs("commands", where, named & commands, commands - {"help"})
+        differs("limits", where, limits_of(text), limits)
+    for where, text in {"ulfm check --help": helps["check"], "ulfm.1": man}.items():
+        differs("lines of traces", where, trace_lines_of(text), trace_lines_of_formats(formats))
+        differs("reasons of the judge", where, reasons_of(text), reasons_of_formats(formats))
+        differs("limits of traces", where, trace_limits_of(text), trace_limits_of(formats))
+    guide, readme = read("docs/GUIDE.md"), of_readme(read("README.md"))
+    (longest, most), = trace_limits_of(formats)
+    shorter = {name: span for name, span in limits.items() if name not in ("rank", "comm")}
+    differs("calls and replies", "docs/GUIDE.md", calls_of_guide(guide), calls_of_formats(formats))
+    differs("statuses", "docs/GUIDE.md", statuses_of_table(guide), statuses_of_formats(formats))
+    differs("limits", "docs/GUIDE.md", limits_of_guide(guide), shorter | {"trace line": longest, "trace lines": most})
+    differs("verbs", "README.md", readme[0], {call.split()[0] for call in calls_of_formats(formats)})
+    differs("limits", "README.md", readme[1], {name: limits[name] for name in ("ranks", "comms", "rounds")})
+    differs("statuses", "README.md", readme[2], {status for status, _ in statuses_of_formats(formats)} | {"0"})
+    for where in ("README.md", "docs/GUIDE.md", "docs/FORMATS.md"):
+        named = set(re.findall(r"\bulfm ([a-z]+)(?= (?:<|--|\|)|`|$)", read(where), re.M))
+        differs("commands", where, (named & commands) - {"help"}, commands - {"help"})
         for name, rest in re.findall(r"\bulfm (run|race)((?: (?:--[a-z]+|[0-9NKR]+))+)", read(where)):
             differs(f"options of ulfm {name}", where, options_of(rest) - wanted[name], set())
     print("commands: all pages agree" if differences == 0 else f"commands: {differences} differences")

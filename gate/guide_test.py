@@ -3,8 +3,9 @@
 
 A block ```sh has commands; the block ```text behind it, if one comes before the next commands, is what they must print. Of the blocks
 ```rust the first is the program that docs/first_crate takes, and each other stands in the recovery's source. The copy has the built program,
-where there is one, and nothing else that was built. The guide's refusals are those of the model, by number and name, and docs/LIMITATIONS.md
-has each greatest limit. The last line is 'N passed, M failed'.
+where there is one, and nothing else that was built. The guide's refusals are those of the model, by number and name, docs/FORMATS.md prints
+them as the model does, and docs/MPI.md names each. The guide and docs/LIMITATIONS.md have each greatest limit, and each call on a member, on the
+outside or of `ulfm_wait` that the guide or docs/MPI.md shows is one of the library. The last line is 'N passed, M failed'.
 """
 
 import os
@@ -19,7 +20,12 @@ PROGRAM = "crates/ulfm/out/ulfm"
 RECOVERY = "crates/ulfm_recovery_example/src/main.rt"
 REFUSED = re.compile(r"^\| (\d+) \| `(\w+)` \|", re.M)
 NUMBERED = re.compile(r"Refusal::(\w+) => (\d+),")
+PRINTED = re.compile(r"Refusal::(\w+) => \"([a-z-]+)\",")
+# those that no script prints
+UNPRINTED = ("OutOfMemory", "Twice")
 GREATEST = re.compile(r"pub const MAX_\w+: \w+ = ([\d_]+);")
+CALLED = re.compile(r"`[^`]*?\b(member|outside|ulfm_wait)(?:\.|::)(\w+)\([^`]*`")
+PUBLIC = re.compile(r"^ *pub fn (\w+)", re.M)
 BLOCK = re.compile(r"^```(sh|text|rust)\n(.*?)^```$", re.M | re.S)
 
 
@@ -68,10 +74,39 @@ def has_refusals(guide, source):
     return False
 
 
-def has_limits(page, source):
+def prints_refusals(formats, source):
+    printed, numbers = dict(PRINTED.findall(source)), dict(NUMBERED.findall(source))
+    wanted = {f"{number} {printed[name]}" for name, number in numbers.items() if name not in UNPRINTED}
+    found = set(re.findall(r"^\| `refused (\d+ [a-z-]+)` \|", formats, re.M))
+    if wanted and found == wanted:
+        return True
+    print(f"the refusals of docs/FORMATS.md aren't the model's: {sorted(found ^ wanted)}")
+    return False
+
+
+def names_refusals(page, source):
+    missing = [name for name, _ in NUMBERED.findall(source) if not re.search(rf"`(?:Refusal::)?{name}`", page)]
+    if missing:
+        print(f"docs/MPI.md lacks the refusals {missing}")
+    return not missing and bool(NUMBERED.search(source))
+
+
+def has_calls(name, page):
+    """Whether each call that a page shows is one of the library."""
+    files = {"member": ("member",), "outside": ("outside",), "ulfm_wait": ("blocking", "future")}
+    shown, known = set(CALLED.findall(page)), set()
+    for owner, sources in files.items():
+        crate = "ulfm_wait" if owner == "ulfm_wait" else "ulfm_member"
+        known |= {(owner, call) for it in sources for call in PUBLIC.findall(read(f"crates/{crate}/src/{it}.rt"))}
+    if shown - known:
+        print(f"{name} has calls that the library hasn't: {sorted(shown - known)}")
+    return bool(shown) and shown <= known
+
+
+def has_limits(name, page, source):
     missing = [it for it in GREATEST.findall(source) if f"{int(it):,}" not in page]
     if missing:
-        print(f"docs/LIMITATIONS.md lacks the limits {missing}")
+        print(f"{name} lacks the limits {missing}")
     return not missing and bool(GREATEST.search(source))
 
 
@@ -82,10 +117,12 @@ def read(file):
 
 def main():
     guide, recovery = read("docs/GUIDE.md"), read(RECOVERY)
+    mpi, refusals, limits = read("docs/MPI.md"), read("crates/ulfm_model/src/refusal.rt"), read("crates/ulfm_model/src/limits.rt")
     shown = [body for kind, body in BLOCK.findall(guide) if kind == "rust"][1:]
     results = [stands_in(recovery, it) for it in shown]
-    results.append(has_refusals(guide, read("crates/ulfm_model/src/refusal.rt")))
-    results.append(has_limits(read("docs/LIMITATIONS.md"), read("crates/ulfm_model/src/limits.rt")))
+    results += [has_refusals(guide, refusals), prints_refusals(read("docs/FORMATS.md"), refusals), names_refusals(mpi, refusals)]
+    results += [has_limits(it, read(it), limits) for it in ("docs/GUIDE.md", "docs/LIMITATIONS.md")]
+    results += [has_calls(it, read(it)) for it in ("docs/GUIDE.md", "docs/MPI.md")]
     with tempfile.TemporaryDirectory(prefix="guide-") as folder:
         copy = laid_out(folder)
         results += [passes(command, text, copy) for command, text in commands_in(guide)]

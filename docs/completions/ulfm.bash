@@ -19,6 +19,7 @@ _ulfm() {
     esac
     case $before in
         --ranks | --rounds | --fail) words= ;;
+        '<' | '>') words= && compopt -o default ;;
     esac
     mapfile -t COMPREPLY < <(compgen -W "$words" -- "$word")
 }

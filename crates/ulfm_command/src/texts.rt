@@ -50,10 +50,15 @@ Each further line is a call of rank R on communicator C, and is answered in one 
   isrevoked R C   yes, no
   free R C        freed
 
-A call that can't be made is answered 'refused NUMBER NAME'. N is at most 9999, a rank at
-most 1023, a communicator at most 255, each in decimal without leading zeros. F is a flag
-of eight lower case hexadecimal digits. A line has at most 64 bytes without its newline,
-and a script at most 100000 lines.
+A call that can't be made is answered 'refused NUMBER NAME', and the script goes on:
+
+  1 self-failed, 2 no-such-comm, 3 busy, 4 shrink-open, 5 rounds-used-up, 6 idle,
+  7 mismatch, 8 no-context, 9 no-room, 10 is-revoked, 11 proc-failed, 12 world-kept,
+  13 no-such-rank
+
+N is at most 9999, a rank at most 1023, a communicator at most 255, each in decimal without
+leading zeros. F is a flag of eight lower case hexadecimal digits. A line has at most 64
+bytes without its newline, and a script at most 100000 lines.
 
 With --steps a script of single atomic steps is run, and its trace is printed. The first
 line is 'ulfm-steps 1 RANKS COMMS ROUNDS', and each further line is one of these:
