@@ -8,15 +8,22 @@ use std::sync::Wait;
 use std::test::Fail;
 use std::thread::Threads;
 
-/// Memory of another allocator, of which the allocation of one number is refused. They are counted from 1.
+/// Which allocations are refused: the one of a number, counted from 1, or this one and all behind it.
+#[derive(Clone, Copy)]
+struct Refused {
+    from: u32,
+    and_later: bool,
+}
+
+/// Memory of another allocator, of which some allocations are refused.
 struct Refusing<B: Allocator> {
     inner: B,
     asked: Cell<u32>,
-    refused: u32,
+    refused: Refused,
 }
 
 impl<B: Allocator> Refusing<B> {
-    fn new(inner: B, refused: u32) -> Refusing<B> {
+    fn new(inner: B, refused: Refused) -> Refusing<B> {
         Refusing {
             inner,
             asked: Cell::new(0),
@@ -24,9 +31,9 @@ impl<B: Allocator> Refusing<B> {
         }
     }
 
-    /// Whether so much was asked for that the refusal came.
+    /// Whether so much was asked for that a refusal came.
     fn has_refused(&self) -> bool {
-        self.asked.get() >= self.refused
+        self.asked.get() >= self.refused.from
     }
 }
 
@@ -41,7 +48,8 @@ unsafe impl<B: Allocator> Allocator for Refusing<B> {
     ghost dealloc_token = { λ heap ty ptr. B.dealloc_token heap.inner ty ptr };
 
     fn allocate(&self, size: usize, align: usize) -> Result<*mut u8, AllocError> {
-        if count(&self.asked) == self.refused {
+        let number = count(&self.asked);
+        if number == self.refused.from || (number > self.refused.from && self.refused.and_later) {
             return Err(AllocError);
         }
         self.inner.allocate(size, align)
@@ -62,14 +70,14 @@ impl<B: Allocator> Drop for Refusing<B> {
     }
 }
 
-/// The row's run with one allocation refused: whether there is one of this number. Then memory is told, and a beginning of the row's bytes
-/// was written, of a verdict nothing; else these are the row's bytes.
-fn refuse_one<T: Threads + Wait + Sync>(
+/// The row's run with these allocations refused: whether there are any. Then memory is told, and a beginning of the row's bytes was written, of
+/// a verdict nothing; else these are the row's bytes. Where one alone is refused, the run may ask for less and have it.
+fn refuse<T: Threads + Wait + Sync>(
     rt: &T,
     alloc: Global,
     words: &[&str],
     row: &Row,
-    refused: u32,
+    refused: Refused,
 ) -> Result<bool, Fail> {
     let memory = Refusing::new(alloc, refused);
     let mut input = row.script.as_bytes();
@@ -85,11 +93,12 @@ fn refuse_one<T: Threads + Wait + Sync>(
         &mut errors,
         false,
     );
-    if !memory.has_refused() {
+    let has_refused = memory.has_refused();
+    if !has_refused || (status == row.status && !refused.and_later) {
         require(output.as_slice() == row.output.as_bytes())?;
         require(errors.as_slice() == row.errors.as_bytes())?;
         require(status == row.status)?;
-        return Ok(false);
+        return Ok(has_refused);
     }
     require(errors.as_slice() == b"ulfm: out of memory\n".as_slice())?;
     require(status == 3)?;
@@ -98,16 +107,26 @@ fn refuse_one<T: Threads + Wait + Sync>(
     Ok(true)
 }
 
-/// The first allocation of the row's run is refused, then the second, up to a run in which none is.
+/// The first allocation of the row's run is refused, then the second, up to a run in which none is: alone, and with all behind it.
 fn refuse_each<T: Threads + Wait + Sync>(
     rt: &T,
     alloc: Global,
     words: &[&str],
     row: &Row,
 ) -> Result<(), Fail> {
-    for refused in 1..2000u32 {
-        if !refuse_one(rt, alloc, words, row, refused)? {
-            return require(refused > 1);
+    for from in 1..2000u32 {
+        let later = Refused {
+            from,
+            and_later: true,
+        };
+        let alone = Refused {
+            from,
+            and_later: false,
+        };
+        let is_refused = refuse(rt, alloc, words, row, later)?;
+        require(refuse(rt, alloc, words, row, alone)? || !is_refused)?;
+        if !is_refused {
+            return require(from > 1);
         }
     }
     Err(Fail::from("an allocation was refused in each run"))
