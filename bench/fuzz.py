@@ -2,12 +2,13 @@
 """Feeds changed scripts and traces to the program, and looks at each answer: it comes, in time, with a status and a line on standard error that
 belong together, and with as many lines of output as lines were read before a fault.
 
-    bench/fuzz.py run|steps|check SECONDS [SEED] [--program PATH] [--judge PATH]
+    bench/fuzz.py run|steps|check|all SECONDS [SEED] [--program PATH] [--judge PATH]
 
-`run` and `steps` feed scripts to `ulfm run` and `ulfm run --steps`, `check` feeds traces to `ulfm check`. Where `check` is there, what `steps`
-prints at status 0 is judged, and must be legal. With --judge another judge of traces (a program with the same lines as `ulfm check`) reads each
-trace too, and must say the same, but of lines that end in a space, which the native one takes. It prints each difference with the text in hexadecimal, and at its end how many texts were tried and what was
-answered; its status is 1 where there is a difference.
+`run` and `steps` feed scripts to `ulfm run` and `ulfm run --steps`, `check` feeds traces to `ulfm check`, and `all` does these in turn. What `steps`
+prints at status 0 is judged by `ulfm check`, and must be legal. With --judge another judge of traces (a program with the same lines as `ulfm check`) reads each
+trace too, and must say the same, but of lines that end in a space, which the native one takes. It prints each difference with the text in hexadecimal, and
+every ten minutes and at its end how many texts were tried and what was answered; its status is 1 where there is a difference. A program that ends by a signal,
+or hasn't ended after a minute, is one.
 """
 import argparse
 import collections
@@ -91,7 +92,12 @@ def changed(rng, text):
 
 
 def answered(program, kind, text):
-    return subprocess.run([program, *COMMANDS[kind]], input=text, capture_output=True, timeout=60)
+    """What the program gives for a text; a status below 0 where it was ended by a signal, or after a minute."""
+    words = [program, *COMMANDS[kind]]
+    try:
+        return subprocess.run(words, input=text, capture_output=True, timeout=60)
+    except subprocess.TimeoutExpired as late:
+        return subprocess.CompletedProcess(words, -1, late.stdout or b"", b"no answer after a minute\n")
 
 
 def is_answer(kind, text, ran):
@@ -109,39 +115,67 @@ def is_answer(kind, text, ran):
     return ran.stdout.count(b"\n") >= min(before, 1)
 
 
+class Fuzzer:
+    """Feeds changed texts of one kind, and counts what was answered."""
+
+    def __init__(self, kind, rng, given):
+        self.kind, self.rng, self.given = kind, rng, given
+        names = {"run": "*.ulfm", "steps": "*.steps", "check": "*.steps"}[kind]
+        self.seeds = [open(name, "rb").read() for name in sorted(glob.glob(os.path.join(TOP, "examples", names)))]
+        self.told, self.tried, self.wrong = collections.Counter(), 0, 0
+
+    def text(self):
+        rng = self.rng
+        if rng.random() < 0.01:
+            return bytes(rng.randrange(256) for _ in range(rng.randrange(200)))
+        text = rng.choice(self.seeds) if rng.random() < 0.3 else script(rng, "run" if self.kind == "run" else "steps")
+        if self.kind == "check":
+            text = answered(self.given.program, "steps", text).stdout
+        return changed(rng, text)
+
+    def is_well(self, text, ran):
+        """Whether the answer is well formed, and other judges say what they must."""
+        if not is_answer(self.kind, text, ran):
+            return False
+        if self.kind == "steps" and ran.returncode == 0:
+            return answered(self.given.program, "check", ran.stdout).stdout == b"legal\n"
+        if self.kind == "check" and self.given.judge and b" \n" not in text:
+            return subprocess.run([self.given.judge], input=text, capture_output=True, timeout=60).stdout == ran.stdout
+        return True
+
+    def step(self):
+        text = self.text()
+        ran = answered(self.given.program, self.kind, text)
+        self.tried += 1
+        self.told[(ran.stdout if self.kind == "check" else ran.stderr).split(b" ")[-1].strip().decode() or "ran"] += 1
+        if not self.is_well(text, ran):
+            self.wrong += 1
+            print(f"{self.kind}: status {ran.returncode}, {ran.stderr!r}, {ran.stdout[-200:]!r}: {text.hex()}", flush=True)
+
+    def __str__(self):
+        answers = ", ".join(f"{name} {count}" for name, count in self.told.most_common())
+        return f"{self.kind}: {self.tried} texts, {self.wrong} wrong; answered: {answers}"
+
+
 def main():
     words = argparse.ArgumentParser()
-    words.add_argument("kind", choices=sorted(COMMANDS))
+    words.add_argument("kind", choices=[*sorted(COMMANDS), "all"])
     words.add_argument("seconds", type=float)
     words.add_argument("seed", type=int, nargs="?", default=1)
     words.add_argument("--program", default=os.path.join(TOP, "crates/ulfm/out/ulfm"))
     words.add_argument("--judge")
     given = words.parse_args()
     rng = random.Random(given.seed)
-    seeds = [open(name, "rb").read() for name in sorted(glob.glob(os.path.join(TOP, "examples", {"run": "*.ulfm", "steps": "*.steps", "check": "*.steps"}[given.kind])))]
-    judges = answered(given.program, "check", b"").returncode == 1
-    told, tried, wrong, end = collections.Counter(), 0, 0, time.monotonic() + given.seconds
-    while time.monotonic() < end:
-        text = rng.choice(seeds) if rng.random() < 0.3 else script(rng, "run" if given.kind == "run" else "steps")
-        if given.kind == "check":
-            text = answered(given.program, "steps", text).stdout
-        if rng.random() < 0.01:
-            text = bytes(rng.randrange(256) for _ in range(rng.randrange(200)))
-        text = changed(rng, text)
-        if given.judge and b" \n" in text:
-            continue
-        ran = answered(given.program, given.kind, text)
-        is_well = is_answer(given.kind, text, ran)
-        if is_well and judges and given.kind == "steps" and ran.returncode == 0:
-            is_well = answered(given.program, "check", ran.stdout).stdout == b"legal\n"
-        if is_well and given.judge and given.kind == "check":
-            is_well = subprocess.run([given.judge], input=text, capture_output=True, timeout=60).stdout == ran.stdout
-        tried, wrong = tried + 1, wrong + (not is_well)
-        told[(ran.stdout if given.kind == "check" else ran.stderr).split(b" ")[-1].strip().decode() or "ran"] += 1
-        if not is_well:
-            print(f"status {ran.returncode}, {ran.stderr!r}, {ran.stdout[-200:]!r}: {text.hex()}", flush=True)
-    print(f"{given.kind}: {tried} texts, {wrong} wrong; answered: {', '.join(f'{name} {count}' for name, count in told.most_common())}")
-    return int(wrong > 0)
+    fuzzers = [Fuzzer(kind, rng, given) for kind in (COMMANDS if given.kind == "all" else [given.kind])]
+    begun = told = time.monotonic()
+    while time.monotonic() < begun + given.seconds:
+        for fuzzer in fuzzers:
+            fuzzer.step()
+        if time.monotonic() > told + 600:
+            told = time.monotonic()
+            print(*fuzzers, sep="\n", flush=True)
+    print(*fuzzers, sep="\n")
+    return int(any(fuzzer.wrong for fuzzer in fuzzers))
 
 
 if __name__ == "__main__":

@@ -8,6 +8,8 @@ use std::sync::Wait;
 use std::test::Fail;
 use std::thread::Threads;
 
+mod forged;
+mod memory;
 mod races;
 mod steps;
 
@@ -403,12 +405,15 @@ fn require(holds: bool) -> Result<(), Fail> {
     Err(Fail::from("a condition doesn't hold"))
 }
 
-/// A script and its output, both longer than the buffers that they go through.
+/// The bytes that a buffer of a run holds.
+const BUFFER: u32 = 8192;
+
+/// A script and its output, both a little longer than the buffers that they go through.
 fn long_texts(alloc: Global) -> Result<(Vec<u8>, Vec<u8>), Fail> {
     let mut script = Vec::from_slice(alloc, b"ulfm 1 1 1 1\n")?;
     let mut output = Vec::new(alloc);
-    for _ in 0..1250 {
-        script.extend_from_slice(b"fail 9\n")?;
+    for _ in 0..440 {
+        script.extend_from_slice(b"isrevoked 1023 255\n")?;
         output.extend_from_slice(b"refused 13 no-such-rank\n")?;
     }
     Ok((script, output))
@@ -432,15 +437,16 @@ fn count_lines(text: &[u8]) -> usize {
     text.iter().filter(|byte| **byte == b'\n').count()
 }
 
-/// One read after another fails, and the output is that of the lines that were given whole before.
-fn fail_each_read<T: Threads + Wait + Sync>(
+/// One read after another fails, from this one on, and the output is that of the lines that were given whole before.
+fn fail_reads_from<T: Threads + Wait + Sync>(
     rt: &T,
     alloc: Global,
-    script: &[u8],
-    output: &[u8],
+    texts: (&[u8], &[u8]),
     most: usize,
+    first: u32,
 ) -> Result<(), Fail> {
-    for failing in 1..20_000u32 {
+    let (script, output) = texts;
+    for failing in first..20_000u32 {
         let mut input = Pieces {
             text: script,
             most,
@@ -453,7 +459,7 @@ fn fail_each_read<T: Threads + Wait + Sync>(
             rt,
             alloc,
             alloc,
-            &["ulfm", "run"],
+            &RUN,
             &mut input,
             &mut written,
             &mut errors,
@@ -473,80 +479,107 @@ fn fail_each_read<T: Threads + Wait + Sync>(
     Err(Fail::from("a read never failed"))
 }
 
+/// Of the long script the reads about the end of the first buffer fail, and those behind it.
 #[test]
 fn each_read_fails(rt: HostRuntime) -> Result<(), Fail> {
     let alloc = rt.alloc();
-    let (script, output) = long_texts(alloc)?;
     for most in [1, 7, 10_000] {
-        fail_each_read(&rt, alloc, SCRIPT.as_bytes(), OUTPUT.as_bytes(), most)?;
-        fail_each_read(&rt, alloc, &script, &output, most)?;
+        fail_reads_from(&rt, alloc, (SCRIPT.as_bytes(), OUTPUT.as_bytes()), most, 1)?;
     }
-    Ok(())
+    let (script, output) = long_texts(alloc)?;
+    fail_reads_from(&rt, alloc, (&script, &output), 7, BUFFER / 7 - 2)?;
+    fail_reads_from(&rt, alloc, (&script, &output), 10_000, 1)
 }
 
-/// One write after another fails, and what was taken before is a beginning of the output.
+/// How a row's writes fail: so many bytes are taken at a time, and a call fails in this way.
+#[derive(Clone, Copy)]
+struct Failure {
+    most: usize,
+    how: Failing,
+}
+
+/// The write of this number fails, and what was taken before is a beginning of the output. False where no write has this number: then the
+/// whole output was taken.
+fn fail_write<T: Threads + Wait + Sync>(
+    rt: &T,
+    alloc: Global,
+    words: &[&str],
+    texts: (&[u8], &[u8]),
+    failure: Failure,
+    failing: u32,
+) -> Result<bool, Fail> {
+    let (script, output) = texts;
+    let mut input = script;
+    let mut taken = Taken {
+        bytes: Vec::new(alloc),
+        most: failure.most,
+        calls: 0,
+        failing,
+        how: failure.how,
+    };
+    let mut errors = Vec::new(alloc);
+    let status = answer(
+        rt,
+        alloc,
+        alloc,
+        words,
+        &mut input,
+        &mut taken,
+        &mut errors,
+        false,
+    );
+    if taken.calls < failing {
+        require(taken.bytes.as_slice() == output)?;
+        require(status < 2)?;
+        return Ok(false);
+    }
+    require(output.starts_with(taken.bytes.as_slice()))?;
+    require(errors.as_slice() == b"ulfm: write failed\n".as_slice())?;
+    require(status == 3)?;
+    Ok(true)
+}
+
+/// One write after another fails.
 fn fail_each_write<T: Threads + Wait + Sync>(
     rt: &T,
     alloc: Global,
     words: &[&str],
-    script: &[u8],
-    output: &[u8],
-    most: usize,
-    how: Failing,
+    texts: (&[u8], &[u8]),
+    failure: Failure,
 ) -> Result<(), Fail> {
     for failing in 1..40_000u32 {
-        let mut input = script;
-        let mut taken = Taken {
-            bytes: Vec::new(alloc),
-            most,
-            calls: 0,
-            failing,
-            how,
-        };
-        let mut errors = Vec::new(alloc);
-        let status = answer(
-            rt,
-            alloc,
-            alloc,
-            words,
-            &mut input,
-            &mut taken,
-            &mut errors,
-            false,
-        );
-        if taken.calls < failing {
-            require(taken.bytes.as_slice() == output)?;
-            require(status < 2)?;
+        if !fail_write(rt, alloc, words, texts, failure, failing)? {
             return Ok(());
         }
-        require(output.starts_with(taken.bytes.as_slice()))?;
-        require(errors.as_slice() == b"ulfm: write failed\n".as_slice())?;
-        require(status == 3)?;
     }
     Err(Fail::from("a write never failed"))
 }
 
+/// Of the long output the first writes of 7 bytes fail, and those about the end of the first buffer.
 #[test]
 fn each_write_fails(rt: HostRuntime) -> Result<(), Fail> {
     let alloc = rt.alloc();
     let (script, output) = long_texts(alloc)?;
     for how in [Failing::ByError, Failing::ByNothing] {
         for most in [1, 7, 10_000] {
-            fail_each_write(
-                &rt,
-                alloc,
-                &RUN,
-                SCRIPT.as_bytes(),
-                OUTPUT.as_bytes(),
-                most,
-                how,
-            )?;
+            let texts = (SCRIPT.as_bytes(), OUTPUT.as_bytes());
+            fail_each_write(&rt, alloc, &RUN, texts, Failure { most, how })?;
         }
-        for most in [7, 10_000] {
-            fail_each_write(&rt, alloc, &RUN, &script, &output, most, how)?;
+        let texts = (script.as_slice(), output.as_slice());
+        fail_each_write(&rt, alloc, &RUN, texts, Failure { most: 10_000, how })?;
+        for failing in [
+            1,
+            2,
+            BUFFER / 7 - 1,
+            BUFFER / 7,
+            BUFFER / 7 + 1,
+            BUFFER / 7 + 2,
+        ] {
+            let failure = Failure { most: 7, how };
+            require(fail_write(&rt, alloc, &RUN, texts, failure, failing)?)?;
         }
     }
-    fail_each_write(&rt, alloc, &RUN, &script, &output, 1, Failing::ByError)
+    Ok(())
 }
 
 /// A flush that fails is a failing write, at the end of a run, at a line fault, and after help.
@@ -677,17 +710,12 @@ fn each_growth_is_refused(rt: HostRuntime) -> Result<(), Fail> {
 /// Each kind of line fault is told by its name.
 #[test]
 fn each_kind_is_told(rt: HostRuntime) -> Result<(), Fail> {
-    let mut many = Vec::from_slice(rt.alloc(), b"ulfm 1 1 1 1\n")?;
-    for _ in 0..100_000 {
-        many.extend_from_slice(b"fail 9\n")?;
-    }
-    let rows: [(&[u8], &[u8]); 9] = [
+    let rows: [(&[u8], &[u8]); 8] = [
         (b"ulfm 1 1 1 1\nfail 0", b"ulfm: line 2: cut\n"),
         (
             b"ulfm 1 1 1 1\nfail 0000000000000000000000000000000000000000000000000000000000000\n",
             b"ulfm: line 2: long\n",
         ),
-        (&many, b"ulfm: line 100001: lines\n"),
         (b"ulfm 2 1 1 1\n", b"ulfm: line 1: header\n"),
         (b"ulfm 1 1025 1 1\n", b"ulfm: line 1: limits\n"),
         (b"ulfm 1 1 1 1\n\n", b"ulfm: line 2: verb\n"),
@@ -711,6 +739,42 @@ fn each_kind_is_told(rt: HostRuntime) -> Result<(), Fail> {
         );
         assert_eq!(rt; errors.as_slice(), wanted);
         assert_eq!(rt; status, 1);
+    }
+    Ok(())
+}
+
+/// The last line that a script may have is answered, and one more is a fault behind the same output.
+#[test]
+fn last_line(rt: HostRuntime) -> Result<(), Fail> {
+    let alloc = rt.alloc();
+    let mut script = Vec::from_slice(alloc, b"ulfm 1 1 1 1\n")?;
+    let mut wanted = Vec::new(alloc);
+    for _ in 2..100_001 {
+        script.extend_from_slice(b"fail 9\n")?;
+        wanted.extend_from_slice(b"refused 13 no-such-rank\n")?;
+    }
+    let rows: [(&[u8], &[u8], u8); 2] = [
+        (b"", b"", 0),
+        (b"fail 9\n", b"ulfm: line 100001: lines\n", 1),
+    ];
+    for (more, told, ends) in rows {
+        script.extend_from_slice(more)?;
+        let mut input = script.as_slice();
+        let mut output = Vec::new(alloc);
+        let mut errors = Vec::new(alloc);
+        let status = answer(
+            &rt,
+            alloc,
+            alloc,
+            &RUN,
+            &mut input,
+            &mut output,
+            &mut errors,
+            false,
+        );
+        assert_eq!(rt; errors.as_slice(), told);
+        assert_eq!(rt; status, ends);
+        assert!(rt; output == wanted);
     }
     Ok(())
 }

@@ -4,6 +4,8 @@
 #[cfg(test)]
 mod calls;
 #[cfg(test)]
+mod largest;
+#[cfg(test)]
 mod member;
 #[cfg(test)]
 mod places;

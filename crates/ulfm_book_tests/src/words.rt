@@ -174,6 +174,7 @@ fn set_once(rt: HostRuntime) -> Result<(), Fail> {
     Ok(())
 }
 
+/// Rounds that are out of their range are told first, also where the world would be too large as well.
 #[test]
 fn faults_in_order(rt: HostRuntime) -> Result<(), Fail> {
     let too_many = limits(1024, 4097);

@@ -44,16 +44,19 @@ const THREE: Limits = Limits {
     rounds: 4,
 };
 
-// Rank 0 asks for the failed group, into a vector that gets no memory: its record has the failure, and is else as it was.
+// Rank 0 asks for the failed group, into a vector that has a rank in it and gets no more memory: the vector is as it was, and so is its record
+// but for the failures.
 fn get_refused(rt: &impl Abort, alloc: Global, full: &LocalHeap) -> Result<(), Fail> {
     let words = PlainWords::<FlagAnd>::open(THREE)?;
     let mut first = first_member(rt, alloc, words, 3)?;
-    let mut found = Vec::new(full);
+    let mut found = Vec::with_capacity(full, 1)?;
+    found.push(7)?;
+    assert!(rt; first.fail(2) == Ok(true));
     assert!(rt; first.fail(1) == Ok(true));
     let refused = first.get_failed(0, &mut found);
     assert!(rt; refused == Err(Refusal::OutOfMemory));
-    assert!(rt; found.is_empty());
-    assert_eq!(rt; first.failures(), [1].as_slice());
+    assert_eq!(rt; found.as_slice(), [7].as_slice());
+    assert_eq!(rt; first.failures(), [2, 1].as_slice());
     assert!(rt; first.members(0) == Some([0, 1, 2].as_slice()));
     assert!(rt; first.context(0) == Some(0));
     Ok(())
@@ -62,10 +65,7 @@ fn get_refused(rt: &impl Abort, alloc: Global, full: &LocalHeap) -> Result<(), F
 #[test]
 fn refused_memory_leaves_the_record(rt: HostRuntime) -> Result<(), Fail> {
     let heap = LocalHeap::new(rt.alloc(), 16)?;
-    let all_of_it = Vec::<u8, &LocalHeap>::with_capacity(&heap, 16)?;
-    get_refused(&rt, rt.alloc(), &heap)?;
-    drop(all_of_it);
-    Ok(())
+    get_refused(&rt, rt.alloc(), &heap)
 }
 
 #[test]

@@ -364,25 +364,6 @@ fn line_faults(rt: HostRuntime) -> Result<(), Fail> {
     Ok(())
 }
 
-/// No script has more than 100,000 lines.
-#[test]
-fn last_line(rt: HostRuntime) -> Result<(), Fail> {
-    let mut script = Vec::from_slice(rt.alloc(), b"ulfm 1 1 1 1\n")?;
-    for _ in 2..100_001 {
-        script.extend_from_slice(b"fail 9\n")?;
-    }
-    let (_, end) = run(&rt, &script)?;
-    assert_eq!(rt; end, Ok(()));
-    script.extend_from_slice(b"x")?;
-    let (_, end) = run(&rt, &script)?;
-    assert_eq!(rt; end, line(100_001, LineKind::Cut));
-    script.extend_from_slice(b"\n")?;
-    let (out, end) = run(&rt, &script)?;
-    assert_eq!(rt; end, line(100_001, LineKind::Lines));
-    assert_eq!(rt; out.len(), 99_999 * b"refused 13 no-such-rank\n".len());
-    Ok(())
-}
-
 fn count_lines(text: &[u8]) -> usize {
     text.iter().filter(|byte| **byte == b'\n').count()
 }

@@ -1,12 +1,12 @@
-//! Scripts of single steps, and traces, through the program; devices and memory that fail at each call in turn.
+//! Scripts of single steps, and traces, through the program; devices that fail at each call in turn.
 use crate::program::answer;
-use crate::tests::{Failing, Pieces, Row, fail_each_write, require, run_in, run_rows};
+use crate::tests::{Failing, Failure, Pieces, Row, fail_each_write, require, run_rows};
 use std::alloc::Global;
 use std::sync::Wait;
 use std::test::Fail;
 use std::thread::Threads;
 
-const STEP_ROWS: [Row; 17] = [
+pub(crate) const STEP_ROWS: [Row; 17] = [
     Row {
         name: "contribution_in_flight",
         script: "ulfm-steps 1 3 2 4\ncall agree 2 0 00000005\nbefore 2 settle\nfail 2\nfinish 2\ncall agree 0 0 0000000f\nfinish 0\ncall agree 1 0 00000007\nfinish 1\ncall poll 0 0\nfinish 0\ncall poll 2 0\nfinish 2\n",
@@ -133,7 +133,7 @@ fn step_rows(rt: HostRuntime) -> Result<(), Fail> {
     run_rows(&rt, rt.alloc(), &STEPS, &STEP_ROWS)
 }
 
-const TRACE_ROWS: [Row; 4] = [
+pub(crate) const TRACE_ROWS: [Row; 4] = [
     Row {
         name: "another_implementation",
         script: "ulfm-trace 1 3 1 2\ncall fail 2\nevent - fail 2\nreply - 1 declared\ncall agree 0 0 0000000f\nlook 0 1\nevent 0 settle 0 0 0 flag 0000000f known 1 acked 0\nreply 0 2 started\ncall agree 1 0 00000007\nlook 1 1\nevent 1 settle 0 0 1 flag 00000007 known 1 acked 0\nreply 1 3 started\nevent - mark 0 0 2 known 1\ncall poll 0 0\nlook 0 1\nreply 0 4 agreed 00000007 failed 1 raised\ncall poll 1 0\nlook 1 1\nreply 1 4 agreed 00000007 failed 1 raised\n",
@@ -169,12 +169,12 @@ fn trace_rows(rt: HostRuntime) -> Result<(), Fail> {
     run_rows(&rt, rt.alloc(), &CHECK, &TRACE_ROWS)
 }
 
-const STEPS: [&str; 3] = ["ulfm", "run", "--steps"];
+pub(crate) const STEPS: [&str; 3] = ["ulfm", "run", "--steps"];
 
-const CHECK: [&str; 2] = ["ulfm", "check"];
+pub(crate) const CHECK: [&str; 2] = ["ulfm", "check"];
 
 /// The row of this name.
-fn row_of<'a>(rows: &'a [Row], name: &str) -> Result<&'a Row, Fail> {
+pub(crate) fn row_of<'a>(rows: &'a [Row], name: &str) -> Result<&'a Row, Fail> {
     match rows.iter().find(|row| row.name == name) {
         Some(row) => Ok(row),
         None => Err(Fail::from("there is no such row")),
@@ -276,11 +276,10 @@ fn fail_each_write_of<T: Threads + Wait + Sync>(
     words: &[&str],
     row: &Row,
 ) -> Result<(), Fail> {
-    let script = row.script.as_bytes();
-    let output = row.output.as_bytes();
+    let texts = (row.script.as_bytes(), row.output.as_bytes());
     for how in [Failing::ByError, Failing::ByNothing] {
         for most in [1, 7, 10_000] {
-            fail_each_write(rt, alloc, words, script, output, most, how)?;
+            fail_each_write(rt, alloc, words, texts, Failure { most, how })?;
         }
     }
     Ok(())
@@ -292,35 +291,4 @@ fn each_write_fails(rt: HostRuntime) -> Result<(), Fail> {
     fail_each_write_of(&rt, rt.alloc(), &STEPS, script)?;
     let trace = row_of(&TRACE_ROWS, "trace_judged_b")?;
     fail_each_write_of(&rt, rt.alloc(), &CHECK, trace)
-}
-
-/// Memory is refused in a heap of each size, up to one in which the row's bytes come. Of a script a beginning of them was written
-/// before, of a trace nothing.
-fn refuse_each_growth<T: Threads + Wait + Sync>(
-    rt: &T,
-    alloc: Global,
-    words: &[&str],
-    row: &Row,
-) -> Result<(), Fail> {
-    for step in 1..8000usize {
-        let size = step.wrapping_mul(16);
-        let (output, status) = run_in(rt, alloc, size, words, row.script.as_bytes())?;
-        if status == row.status {
-            return require(output.as_slice() == row.output.as_bytes());
-        }
-        require(status == 3)?;
-        if words == CHECK.as_slice() {
-            require(output.is_empty())?;
-        }
-        require(row.output.as_bytes().starts_with(output.as_slice()))?;
-    }
-    Err(Fail::from("memory was refused at each size"))
-}
-
-#[test]
-fn each_growth_is_refused(rt: HostRuntime) -> Result<(), Fail> {
-    let script = row_of(&STEP_ROWS, "contribution_in_flight")?;
-    refuse_each_growth(&rt, rt.alloc(), &STEPS, script)?;
-    let trace = row_of(&TRACE_ROWS, "trace_judged_b")?;
-    refuse_each_growth(&rt, rt.alloc(), &CHECK, trace)
 }
