@@ -1,5 +1,6 @@
 -- How many steps a call makes at most.
-use Rattle.std.proofs.Common.{◌≡◌, ℕ, ◌+◌, ◌-◌, ◌<◌, ◌≤◌, Bool, true, false, List, length, filter, max, Option, Some, refl, ap, sym, ◌∙◌, subst, length-append, arith}
+use Rattle.std.proofs.Common.{◌≡◌, ℕ, ◌+◌, ◌-◌, ◌<◌, ◌≤◌, Bool, true, false, List, [], length, filter, take, max, min, Option, Some, None, refl, ap, sym, ◌∙◌, subst, length-append, arith}
+use Rattle.std.proofs.lemmas.List.{length-take}
 use mathlib.Core.List.{IsPrefix}
 use Rattle.ulfm_model.specs.declared.call.Call.TheVariants as call
 use Rattle.ulfm_model.specs.declared.{call.Call.{Call}, call.Request.{Request}, call.Request.TheVariants.{Agree, Shrink, Barrier}, limits.Limits.{Limits}}
@@ -8,9 +9,10 @@ use Rattle.ulfm_model.specs.Terms.{comm_of, request_of}
 use Rattle.ulfm_steps.specs.{Arriving.{arrivals_left, in_order}, Marks.{marks_left}, Rounds.{reads_left}}
 use Rattle.ulfm_steps.specs.declared.{arrivals.{Arrivals.{Arrivals}}, mark_all.MarkAll.{MarkAll}, read_round.ReadRound.{ReadRound}}
 use Rattle.ulfm_steps.proofs.Arriving.{in_order_few}
-use Rattle.ulfm_comm.specs.{Polls.{agreement}, StepsLeft.{FewerLeft, after_look, after_round, group_of, polling, steps_left}}
+use Rattle.ulfm_words.specs.Steps.{Sight}
+use Rattle.ulfm_comm.specs.{Bound.{call_bound, poll_bound, step_bound}, Polls.{agreement}, StepsLeft.{FewerLeft, Spends, after_look, after_round, group_of, polling, steps_left, with_look}}
 use Rattle.ulfm_comm.specs.declared.{phases.phase.Next.{Next}, phases.phase.Next.TheVariants.{Goes, Ends}}
-use Rattle.ulfm_comm.specs.declared.phases.phase.Phase.TheVariants.{Looking, Marking, Reading, Waiting}
+use Rattle.ulfm_comm.specs.declared.phases.phase.Phase.TheVariants.{Begun, Looking, Marking, Reading, Waiting}
 
 -- what was seen makes no difference to what may follow a look
 pub after_look_same : {P : Type 0} (limits : Limits) (own : Record) (seen : List ℕ) (asked : Call P) → after_look limits (record own { seen = seen }) asked ≡ after_look limits own asked
@@ -76,3 +78,49 @@ pub looks_up : {P : Type 0} (limits : Limits) (own new : Record) (asked : Call P
 looks_up limits own new asked kept more longer =
     let same = ap (λ (w : Record). after_look limits w asked) kept ∙ after_look_same limits own new.seen asked in
     omega (arith, more, longer, same)
+
+module _ {P : Type 0} (limits : Limits) (own new : Record) (asked : Call P) (kept : new ≡ record own { seen = new.seen }) where
+  -- what comes after the look is no longer for what it has found
+  same_after : after_look limits new asked ≡ after_look limits own asked
+  same_after = ap (λ (w : Record). after_look limits w asked) kept ∙ after_look_same limits own new.seen asked
+
+  -- a look that goes on spends no more loads than it had left
+  pub looks_on : (now after : ℕ) → after + (limits.ranks - length new.seen) ≤ now + (limits.ranks - length own.seen)
+      → after + (limits.ranks - length new.seen + after_look limits new asked) ≤ now + (limits.ranks - length own.seen + after_look limits own asked)
+  looks_on now after few = omega (arith, few, same_after)
+
+  -- nor does one that has ended, with what comes next
+  pub looks_over : (now after : Sight P) → after.steps + (limits.ranks - length new.seen - 1) ≤ now.steps + (limits.ranks - length own.seen)
+      → (left : Record) (next : Next P) → FewerLeft (with_look limits new asked) limits left asked next → Spends (steps_left limits own asked Looking) limits left asked next now after
+  looks_over now after few left (Goes phase) fewer = omega (arith, few, fewer, same_after)
+  looks_over now after few left (Ends reply) fewer = omega (arith, few)
+
+-- a call that begins its look, behind what was seen or at the last of all ranks, has as many steps left as it had before
+pub resumed_left : {P : Type 0} (limits : Limits) (own resumed : Record) (asked : Call P) → own.limits.ranks ≡ limits.ranks → 0 < limits.ranks → resumed ≡ record own { seen = take (own.limits.ranks - 1) own.seen }
+    → steps_left limits resumed asked Looking ≤ steps_left limits own asked Begun
+resumed_left limits own resumed asked ranks some is =
+    let same = ap (λ (w : Record). after_look limits w asked) is ∙ after_look_same limits own (take (own.limits.ranks - 1) own.seen) asked in
+    let size : length resumed.seen ≡ min (own.limits.ranks - 1) (length own.seen) = ap (λ (w : Record). length w.seen) is ∙ length-take (own.limits.ranks - 1) own.seen in
+    omega (arith, same, size, ranks, some)
+
+-- a call that begins may make as many steps as its bound says
+pub begun_bound : {P : Type 0} (limits : Limits) (own : Record) (asked : Call P) → own.refused ≡ false → length own.seen < limits.ranks → steps_left limits own asked Begun ≤ step_bound limits own asked
+begun_bound {P} limits own asked in_use more = rw in_use (by_call asked)
+  where
+    by_request : (n : ℕ) (request : Option Request) → max 1 (limits.ranks - length own.seen) + polling limits n request ≤ poll_bound limits.ranks (length own.seen) n limits.comms request
+    by_request n None = omega (arith, more)
+    by_request n (Some (Agree k)) = omega (arith, more)
+    by_request n (Some (Shrink k)) = omega (arith, more)
+    by_request n (Some (Barrier k)) = omega (arith, more)
+
+    by_call : (asked : Call P) → steps_left limits own asked Begun ≤ call_bound limits.ranks (length own.seen) (length (group_of (held_at own (comm_of asked)))) limits.comms (request_of (held_at own (comm_of asked))) asked
+    by_call (call.Fail rank) = omega (arith, more)
+    by_call (call.GetFailed rank c) = omega (arith, more)
+    by_call (call.Ack rank c count) = omega (arith, more)
+    by_call (call.Agree rank c value) = omega (arith, more)
+    by_call (call.Shrink rank c) = omega (arith, more)
+    by_call (call.Barrier rank c) = omega (arith, more)
+    by_call (call.Poll rank c) = by_request (length (group_of (held_at own c))) (request_of (held_at own c))
+    by_call (call.Revoke rank c) = omega (arith, more)
+    by_call (call.IsRevoked rank c) = omega (arith, more)
+    by_call (call.Free rank c) = omega (arith, more)

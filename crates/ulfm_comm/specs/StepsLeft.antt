@@ -1,5 +1,5 @@
 -- Which atomic step a call makes next, and how many it makes at most.
-use Rattle.std.specs.Prelude.{◌≡◌, ℕ, ◌+◌, ◌-◌, ◌*◌, ◌<◌, Bool, true, false, List, [], length, max, Option, Some, None, ⊤}
+use Rattle.std.specs.Prelude.{◌≡◌, ℕ, ◌+◌, ◌-◌, ◌*◌, ◌<◌, ◌≤◌, Bool, true, false, List, [], length, max, Option, Some, None, ⊤}
 use Rattle.ulfm_model.specs.declared.call.Call.TheVariants as call
 use Rattle.ulfm_model.specs.declared.{call.Call.{Call}, call.Request.{Request}, call.Request.TheVariants.{Agree, Shrink, Barrier}, limits.Limits.{Limits}}
 use Rattle.ulfm_model.specs.declared.place.Place.TheVariants.{List as ListAt, Comm as CommAt, Revoked as RevokedAt, Slot as SlotAt, Arrival as ArrivalAt}
@@ -69,7 +69,7 @@ after_round limits own true = limits.ranks - length own.seen + 2 * (limits.comms
 -- how many steps a call makes from here on, at most, by what it does next
 abbrev pub steps_left : {P : Type 0} → Limits → Record → Call P → Phase P → ℕ
 steps_left limits own asked Over = 0
-steps_left limits own asked Begun = limits.ranks + after_look limits own asked
+steps_left limits own asked Begun = max 1 (limits.ranks - length own.seen) + after_look limits own asked
 steps_left limits own asked Looking = limits.ranks - length own.seen + after_look limits own asked
 steps_left limits own asked (Settling request offer) = 1
 steps_left limits own asked (Arriving round) = 1
@@ -88,3 +88,12 @@ steps_left limits own asked (Checking missing) = 1
 abbrev pub FewerLeft : {P : Type 0} → ℕ → Limits → Record → Call P → Next P → Type 0
 FewerLeft most limits own asked (Goes phase) = steps_left limits own asked phase < most
 FewerLeft most limits own asked (Ends reply) = ⊤
+
+-- how many are left after a step, at most: none where the call has ended
+abbrev pub left_in : {P : Type 0} → Limits → Record → Call P → Next P → ℕ
+left_in limits own asked (Goes phase) = steps_left limits own asked phase
+left_in limits own asked (Ends reply) = 0
+
+-- the steps that a call makes, with those that are left then, are no more than so many
+abbrev pub Spends : {P : Type 0} → ℕ → Limits → Record → Call P → Next P → Sight P → Sight P → Type 0
+Spends most limits own asked next old new = new.steps + left_in limits own asked next ≤ old.steps + most
