@@ -182,7 +182,8 @@ impl<P: Packed, A: Allocator> Rank<P, A> {
     pub(crate) fn resume(&mut self)
         ensures { self.new ≡ record self.old { seen = take (self.old.limits.ranks - 1) self.old.seen } }
     {
-        self.seen.truncate((self.limits.ranks as usize).saturating_sub(1));
+        let most = (self.limits.ranks as usize).saturating_sub(1);
+        self.seen.truncate(most);
     }
 
     // From now on it is refused.

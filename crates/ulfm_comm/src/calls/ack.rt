@@ -39,7 +39,8 @@ impl<P: Packed, A: Allocator + Copy> Rank<P, A> {
         requires fits { Fits P.meld (W.name world.now.words).limits (W.sight pass.old).seen self.old }
         ensures calls { Calls P.meld W.alone (W.name world.now.words) (Asked self.old.number comm count) self.old (W.sight pass.old) (reply_of Answered result)
             self.new (W.sight pass.new) }
-        ensures steps { (W.sight pass.new).steps ≤ (W.sight pass.old).steps + step_bound {P = P} (W.name world.now.words).limits self.old (Asked self.old.number comm count) }
+        ensures steps { (W.sight pass.new).steps
+            ≤ (W.sight pass.old).steps + step_bound {P = P} (W.name world.now.words).limits self.old (Asked self.old.number comm count) }
     {
         let rank = self.number();
         acked(self.call(world, pass, Call::Ack { rank, comm, count }))

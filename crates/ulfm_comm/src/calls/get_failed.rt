@@ -44,7 +44,8 @@ impl<P: Packed, A: Allocator + Copy> Rank<P, A> {
             self.new (W.sight pass.new) }
         ensures group { IfOk result (λ _. found.new.items ≡ failed (W.name world.now.words).limits.ranks (W.sight pass.new).seen comm) }
         ensures kept { OnErr result (found.new.items ≡ found.old.items) }
-        ensures steps { (W.sight pass.new).steps ≤ (W.sight pass.old).steps + step_bound {P = P} (W.name world.now.words).limits self.old (Asked self.old.number comm) }
+        ensures steps { (W.sight pass.new).steps
+            ≤ (W.sight pass.old).steps + step_bound {P = P} (W.name world.now.words).limits self.old (Asked self.old.number comm) }
     {
         let rank = self.number();
         counted(self.call(world, pass, Call::GetFailed { rank, comm }))?;

@@ -67,7 +67,8 @@ impl<P: Packed, A: Allocator + Copy> Rank<P, A> {
         ensures calls { Polls P.meld W.alone (W.name world.now.words) (Asked self.old.number comm) self.old (W.sight pass.old) result self.new
             (W.sight pass.new) }
         ensures pending { IfOk result (EndsIn P.meld W.alone (W.name world.now.words) comm self.old (W.sight pass.old) self.new (W.sight pass.new)) }
-        ensures steps { (W.sight pass.new).steps ≤ (W.sight pass.old).steps + step_bound {P = P} (W.name world.now.words).limits self.old (Asked self.old.number comm) }
+        ensures steps { (W.sight pass.new).steps
+            ≤ (W.sight pass.old).steps + step_bound {P = P} (W.name world.now.words).limits self.old (Asked self.old.number comm) }
     {
         let rank = self.number();
         polled(self.call(world, pass, Call::Poll { rank, comm }))

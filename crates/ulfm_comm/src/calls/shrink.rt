@@ -50,7 +50,8 @@ impl<P: Packed, A: Allocator + Copy> Rank<P, A> {
         ensures calls { Calls P.meld W.alone (W.name world.now.words) (Asked self.old.number comm) self.old (W.sight pass.old) (reply_of (λ _. Started) result)
             self.new (W.sight pass.new) }
         ensures excludes { IfOk result (λ _. Excludes P.meld (W.name world.now.words).limits (W.sight pass.old).seen (W.sight pass.new).seen self.old comm) }
-        ensures steps { (W.sight pass.new).steps ≤ (W.sight pass.old).steps + step_bound {P = P} (W.name world.now.words).limits self.old (Asked self.old.number comm) }
+        ensures steps { (W.sight pass.new).steps
+            ≤ (W.sight pass.old).steps + step_bound {P = P} (W.name world.now.words).limits self.old (Asked self.old.number comm) }
     {
         let rank = self.number();
         started(self.call(world, pass, Call::Shrink { rank, comm }))
