@@ -1,8 +1,8 @@
 -- How many atomic steps a call of a rank makes at most, whatever the others do.
-use Rattle.std.specs.Prelude.{ℕ, ◌+◌, ◌-◌, ◌*◌, length, Option, Some, None, if◌then◌else◌}
+use Rattle.std.specs.Prelude.{ℕ, ◌+◌, ◌-◌, ◌*◌, length, Option, Some, None, is_some, if◌then◌else◌}
 use Rattle.ulfm_model.specs.declared.call.Call.TheVariants as call
 use Rattle.ulfm_model.specs.declared.{call.Call.{Call}, call.Request.{Request}, call.Request.TheVariants.{Agree, Shrink, Barrier}, limits.Limits.{Limits}}
-use Rattle.ulfm_model.specs.Records.{Record, held_at}
+use Rattle.ulfm_model.specs.{Answers.{refusal_of}, Records.{Record, held_at}}
 use Rattle.ulfm_model.specs.Terms.{comm_of, request_of}
 use Rattle.ulfm_comm.specs.StepsLeft.{group_of}
 
@@ -27,8 +27,9 @@ call_bound N v n M request (call.IsRevoked rank c) = N - v + 1
 call_bound N v n M request (call.Poll rank c) = poll_bound N v n M request
 call_bound N v n M request (call.Fail rank) = N - v
 
--- a call of a rank with this record; one that was refused for good makes no step
+-- A call of a rank with this record: no step where the rank was refused for good, and those of a look alone where the record refuses the call.
 abbrev pub step_bound : {P : Type 0} → Limits → Record → Call P → ℕ
 step_bound limits own asked =
     let x = held_at own (comm_of asked) in
-    if own.refused then 0 else call_bound limits.ranks (length own.seen) (length (group_of x)) limits.comms (request_of x) asked
+    if own.refused then 0 else (if is_some (refusal_of own asked) then limits.ranks - length own.seen
+    else call_bound limits.ranks (length own.seen) (length (group_of x)) limits.comms (request_of x) asked)
