@@ -13,7 +13,7 @@ use Rattle.ulfm_comm.proofs.Look.{tests_same}
 use Rattle.ulfm_words.specs.Steps.{Sight}
 use Rattle.ulfm_comm.specs.{Bound.{call_bound, poll_bound, step_bound}, Look.{Passes}, Polls.{agreement}, StepsLeft.{FewerLeft, Spends, after_look, after_round, behind_look, group_of, polling, steps_left, with_look}}
 use Rattle.ulfm_comm.specs.declared.{phases.phase.Next.{Next}, phases.phase.Next.TheVariants.{Goes, Ends}}
-use Rattle.ulfm_comm.specs.declared.phases.phase.Phase.TheVariants.{Begun, Looking, Marking, Reading, Waiting}
+use Rattle.ulfm_comm.specs.declared.phases.phase.Phase.TheVariants.{Over, Begun, Looking, Marking, Reading, Waiting}
 
 -- what was seen makes no difference to what follows a look that goes on
 behind_look_same : {P : Type 0} (limits : Limits) (own : Record) (seen : List ℕ) (asked : Call P) → behind_look limits (record own { seen = seen }) asked ≡ behind_look limits own asked
@@ -159,3 +159,11 @@ passes_none own asked p = ap (λ (h : Option Held). refusal_on own h asked) p.he
 -- a call that makes one step after its look has it left
 pub one_left : {P : Type 0} (limits : Limits) (own : Record) (asked : Call P) → Passes own asked → behind_look limits own asked ≡ 1 → 1 < with_look limits own asked
 one_left limits own asked p one = omega (arith, after_passed limits own asked (passes_none own asked p), one)
+
+-- whatever a call does first
+pub first_bound : {P : Type 0} (limits : Limits) (own : Record) (asked : Call P) → length own.seen < limits.ranks → steps_left limits own asked (if own.refused then Over else Begun) ≤ step_bound limits own asked
+first_bound {P} limits own asked more = go own.refused refl
+  where
+    go : (b : Bool) → own.refused ≡ b → steps_left limits own asked (if own.refused then Over else Begun) ≤ step_bound limits own asked
+    go true e = subst (λ b. steps_left {P = P} limits own asked (if b then Over else Begun) ≤ step_bound limits own asked) (sym e) (omega arith)
+    go false e = subst (λ b. steps_left {P = P} limits own asked (if b then Over else Begun) ≤ step_bound limits own asked) (sym e) (begun_bound limits own asked e more)

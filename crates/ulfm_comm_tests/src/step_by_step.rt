@@ -245,6 +245,25 @@ fn names_in_order(rt: HostRuntime) -> Result<(), Fail> {
     goes(&rt, rt.alloc(), &mut play, &moves)
 }
 
+#[test]
+fn looks_begin_behind(rt: HostRuntime) -> Result<(), Fail> {
+    let nobody = Reply::FailedGroup { count: 0 };
+    let one = Reply::FailedGroup { count: 1 };
+    let moves = [
+        Move::Call(0, 0, Verb::Get, &[List], nobody),
+        Move::Fail(2),
+        Move::Call(0, 0, Verb::Get, &[List; 2], one),
+        Move::Call(0, 0, Verb::Get, &[List], one),
+        // The last place of the list ends the look, too.
+        Move::Fail(1),
+        Move::Fail(0),
+        Move::Call(0, 0, Verb::Get, &[List; 2], FAILED),
+        Move::Call(0, 0, Verb::Get, &[], FAILED),
+    ];
+    let mut play = open(rt.alloc(), limits(3, 1, 1))?;
+    goes(&rt, rt.alloc(), &mut play, &moves)
+}
+
 /// A line of a script: the outside declares a rank, or a rank is asked, on a communicator.
 #[derive(Clone, Copy)]
 enum Line {
