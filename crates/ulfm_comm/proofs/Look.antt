@@ -1,5 +1,5 @@
 -- What comes after the look of a call.
-use Rattle.std.proofs.Common.{◌≡◌, ℕ, ◌<◌, ◌≤◌, ◌==◌, Bool, true, false, not, List, [], ◌∷◌, length, filter, max, min, Option, Some, None, is_some, refl, ap, ap₂, sym, ◌∙◌, subst, arith, inr, IsTrue, if◌then◌else◌}
+use Rattle.std.proofs.Common.{◌≡◌, ℕ, ◌-◌, ◌<◌, ◌≤◌, ◌==◌, Bool, true, false, not, List, [], ◌∷◌, length, filter, take, drop, max, min, Option, Some, None, is_some, refl, ap, ap₂, sym, ◌∙◌, subst, arith, inr, IsTrue, if◌then◌else◌}
 use Rattle.std.specs.List.{AllByRecursion}
 use Rattle.ulfm_laws.specs.declared.ctx_mask.CtxMask.{CtxMask}
 use Rattle.ulfm_model.specs.declared.call.Call.TheVariants as call
@@ -7,7 +7,11 @@ use Rattle.ulfm_model.specs.declared.{call.Call.{Call}, call.Request.{Request}, 
 use Rattle.ulfm_model.specs.{Answers.{Effect, first_refusal, printed, left_with, traits_of}, Answers.Effect.{Keeps}, History.{failures, has}, Records.{Fits, Held, Record, free_ids, held_at, with_held}, Runs.{Did}}
 use Rattle.ulfm_model.specs.Terms.{comm_of, request_of, tests_of}
 use Rattle.ulfm_words.specs.Steps.{IsOf, Name, Sight}
-use Rattle.ulfm_words.proofs.Trails.{did_none}
+use Rattle.ulfm_words.proofs.{Ranks.{failures_le, full_has}, Trails.{did_none, did_prefix}}
+use Rattle.std.proofs.lemmas.{Bool.{eqb-false}, List.{length-take, take-append-drop}}
+use mathlib.Core.List.{IsPrefix}
+use Rattle.ulfm_model.proofs.{Histories.{failures_begin}, Lists.{length_prefix, prefix_trans}}
+use Rattle.ulfm_steps.proofs.Looking.{full_found}
 use Rattle.ulfm_steps.specs.Looks.{LookIs}
 use Rattle.ulfm_comm.specs.{Calls.{Calls, EndsAs, is_out_of_memory, wants_memory}, Phase.{Answered, Stands}, Look.{HasLooked, JustLooked}}
 use Rattle.ulfm_comm.specs.Exchange.{StartsWith}
@@ -174,20 +178,43 @@ starts_shrink {P} asked rank c own mid seen x round ids is mid_is free at =
     as_offer : CtxMask → Offer P
     as_offer i = Ctx i
 
--- a look begins with what was seen forgotten
-pub begins_looking : {P : Type 0} (meld : P → P → P) (alone : Bool) (name : Name) (asked : Call P) (old : Record) (before : Sight P) (group : List ℕ) (own new : Record) (now : Sight P) → IsOf meld name now → new ≡ record own { seen = [] }
+-- a look begins behind what was seen, or at the last of all ranks
+pub begins_looking : {P : Type 0} (meld : P → P → P) (alone : Bool) (name : Name) (asked : Call P) (old : Record) (before : Sight P) (group : List ℕ) (own new : Record) (now : Sight P) → IsOf meld name now
+    → new ≡ record own { seen = take (own.limits.ranks - 1) own.seen }
     → Stands meld alone name old before (record { asked = asked; phase = Begun; group = group }) own now → Stands meld alone name old before (record { asked = asked; phase = Looking; group = group }) new now
 begins_looking meld alone name asked old before group own new now of is u =
+    let n = own.limits.ranks - 1 in
     let some : 0 < name.limits.ranks = omega (arith, of.may_open.in_range.some_ranks) in
-    let seen : new.seen ≡ [] = ap (λ (w : Record). w.seen) is in
+    let limits_are : own.limits.ranks ≡ name.limits.ranks = ap (λ (w : Record). w.limits.ranks) u.at.1 ∙ ap (λ l. l.ranks) u.fits.same_limits in
+    let seen : new.seen ≡ take n own.seen = ap (λ (w : Record). w.seen) is in
+    let grown = failures_begin before.seen now.seen (did_prefix alone [] before.seen now.seen u.at.2) in
+    let begins : IsPrefix own.seen (failures now.seen) = subst (λ (w : Record). IsPrefix w.seen (failures now.seen)) (sym u.at.1) (prefix_trans old.seen (failures before.seen) (failures now.seen) u.fits.seen grown) in
+    let fewer : length (take n own.seen) < name.limits.ranks = omega (arith, length-take n own.seen, limits_are, some) in
     record {
       fits = u.fits;
       mine = u.mine;
       onward = u.onward;
       at = (
         u.at.0,
-        is ∙ (ap (λ (w : Record). record w { seen = [] }) u.at.1 ∙ ap (λ s. record old { seen = s }) (sym seen)),
+        is ∙ (ap (λ (w : Record). record w { seen = take n own.seen }) u.at.1 ∙ ap (λ s. record old { seen = s }) (sym seen)),
         u.at.2,
-        subst (λ s. LookIs name.limits false s now.seen) (sym seen) ((failures now.seen, refl), some),
+        subst (λ s. LookIs name.limits false s now.seen) (sym seen) (prefix_trans (take n own.seen) own.seen (failures now.seen) (drop n own.seen, take-append-drop n own.seen) begins, fewer),
       );
     }
+
+-- a rank that has seen all ranks declared is one of them
+pub has_seen_all : {P : Type 0} (meld : P → P → P) (alone : Bool) (name : Name) (asked : Call P) (own new : Record) (now : Sight P) → IsOf meld name now → Fits meld name.limits now.seen own → own.refused ≡ false
+    → own.number < own.limits.ranks → length own.seen ≡ own.limits.ranks → new ≡ record own { refused = true } → Calls meld alone name asked own now (Refused SelfFailed) new now
+has_seen_all meld alone name asked own new now of fits in_use below full is =
+    let ranks : own.limits.ranks ≡ name.limits.ranks = ap (λ l. l.ranks) fits.same_limits in
+    let few = failures_le meld name.limits now.seen of.legal in
+    let all : own.seen ≡ failures now.seen = full_found own.seen (failures now.seen) fits.seen (omega (arith, few, full, ranks)) in
+    let enough : name.limits.ranks ≤ length (failures now.seen) = omega (arith, ap length all, full, ranks) in
+    let declared = full_has meld name.limits now.seen own.number of.legal (omega (arith, below, ranks)) enough in
+    calls_declared meld alone name now now (omega arith) asked own new of fits in_use (did_none alone now.seen) declared (is ∙ ap (λ s. record own { seen = s; refused = true }) all)
+
+-- one that hasn't has a place left to load
+pub has_place_left : {P : Type 0} (meld : P → P → P) (name : Name) (own : Record) (now : Sight P) → IsOf meld name now → Fits meld name.limits now.seen own → (length own.seen == own.limits.ranks) ≡ false → length own.seen < name.limits.ranks
+has_place_left meld name own now of fits e =
+    let ranks : own.limits.ranks ≡ name.limits.ranks = ap (λ l. l.ranks) fits.same_limits in
+    omega (arith, eqb-false (length own.seen) own.limits.ranks e, length_prefix own.seen (failures now.seen) fits.seen, failures_le meld name.limits now.seen of.legal, ranks)

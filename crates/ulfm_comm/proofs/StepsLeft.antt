@@ -1,29 +1,44 @@
 -- How many steps a call makes at most.
-use Rattle.std.proofs.Common.{◌≡◌, ℕ, ◌+◌, ◌-◌, ◌<◌, ◌≤◌, Bool, true, false, List, length, filter, max, Option, Some, refl, ap, sym, ◌∙◌, subst, length-append, arith}
+use Rattle.std.proofs.Common.{◌≡◌, ℕ, ◌+◌, ◌-◌, ◌<◌, ◌≤◌, Bool, true, false, List, [], length, filter, take, max, min, Option, Some, None, is_some, if◌then◌else◌, refl, ap, ap₂, sym, ◌∙◌, subst, length-append, arith}
+use Rattle.std.proofs.lemmas.List.{length-take}
 use mathlib.Core.List.{IsPrefix}
 use Rattle.ulfm_model.specs.declared.call.Call.TheVariants as call
-use Rattle.ulfm_model.specs.declared.{call.Call.{Call}, call.Request.{Request}, call.Request.TheVariants.{Agree, Shrink, Barrier}, limits.Limits.{Limits}}
-use Rattle.ulfm_model.specs.{History.{History, IsLegal, failures, has, without}, Records.{Held, Record, held_at}}
+use Rattle.ulfm_model.specs.declared.{call.Call.{Call}, call.Request.{Request}, call.Request.TheVariants.{Agree, Shrink, Barrier}, limits.Limits.{Limits}, refusal.Refusal.{Refusal}}
+use Rattle.ulfm_model.specs.{Answers.{first_refusal, refusal_of, refusal_on}, History.{History, IsLegal, failures, has, without}, Records.{Held, Record, held_at}}
 use Rattle.ulfm_model.specs.Terms.{comm_of, request_of}
 use Rattle.ulfm_steps.specs.{Arriving.{arrivals_left, in_order}, Marks.{marks_left}, Rounds.{reads_left}}
 use Rattle.ulfm_steps.specs.declared.{arrivals.{Arrivals.{Arrivals}}, mark_all.MarkAll.{MarkAll}, read_round.ReadRound.{ReadRound}}
 use Rattle.ulfm_steps.proofs.Arriving.{in_order_few}
-use Rattle.ulfm_comm.specs.{Polls.{agreement}, StepsLeft.{FewerLeft, after_look, after_round, group_of, polling, steps_left}}
+use Rattle.ulfm_comm.proofs.Look.{tests_same}
+use Rattle.ulfm_words.specs.Steps.{Sight}
+use Rattle.ulfm_comm.specs.{Bound.{call_bound, poll_bound, step_bound}, Look.{Passes}, Polls.{agreement}, StepsLeft.{FewerLeft, Spends, after_look, after_round, behind_look, group_of, polling, steps_left, with_look}}
 use Rattle.ulfm_comm.specs.declared.{phases.phase.Next.{Next}, phases.phase.Next.TheVariants.{Goes, Ends}}
-use Rattle.ulfm_comm.specs.declared.phases.phase.Phase.TheVariants.{Looking, Marking, Reading, Waiting}
+use Rattle.ulfm_comm.specs.declared.phases.phase.Phase.TheVariants.{Over, Begun, Looking, Marking, Reading, Waiting}
 
--- what was seen makes no difference to what may follow a look
+-- what was seen makes no difference to what follows a look that goes on
+behind_look_same : {P : Type 0} (limits : Limits) (own : Record) (seen : List ℕ) (asked : Call P) → behind_look limits (record own { seen = seen }) asked ≡ behind_look limits own asked
+behind_look_same limits own seen (call.Fail rank) = refl
+behind_look_same limits own seen (call.GetFailed rank c) = refl
+behind_look_same limits own seen (call.Ack rank c count) = refl
+behind_look_same limits own seen (call.Agree rank c value) = refl
+behind_look_same limits own seen (call.Shrink rank c) = refl
+behind_look_same limits own seen (call.Barrier rank c) = refl
+behind_look_same limits own seen (call.Poll rank c) = refl
+behind_look_same limits own seen (call.Revoke rank c) = refl
+behind_look_same limits own seen (call.IsRevoked rank c) = refl
+behind_look_same limits own seen (call.Free rank c) = refl
+
+-- nor to what the record refuses
+refusal_same : {P : Type 0} (own : Record) (seen : List ℕ) (asked : Call P) → refusal_of (record own { seen = seen }) asked ≡ refusal_of own asked
+refusal_same own seen asked = go (held_at own (comm_of asked))
+  where
+    go : (held : Option Held) → refusal_on (record own { seen = seen }) held asked ≡ refusal_on own held asked
+    go None = refl
+    go (Some x) = ap first_refusal (tests_same own seen x asked)
+
+-- so to what may follow a look
 pub after_look_same : {P : Type 0} (limits : Limits) (own : Record) (seen : List ℕ) (asked : Call P) → after_look limits (record own { seen = seen }) asked ≡ after_look limits own asked
-after_look_same limits own seen (call.Fail rank) = refl
-after_look_same limits own seen (call.GetFailed rank c) = refl
-after_look_same limits own seen (call.Ack rank c count) = refl
-after_look_same limits own seen (call.Agree rank c value) = refl
-after_look_same limits own seen (call.Shrink rank c) = refl
-after_look_same limits own seen (call.Barrier rank c) = refl
-after_look_same limits own seen (call.Poll rank c) = refl
-after_look_same limits own seen (call.Revoke rank c) = refl
-after_look_same limits own seen (call.IsRevoked rank c) = refl
-after_look_same limits own seen (call.Free rank c) = refl
+after_look_same limits own seen asked = ap₂ (λ (r : Option Refusal) n. if is_some r then 0 else n) (refusal_same own seen asked) (behind_look_same limits own seen asked)
 
 -- what is fewer than some is fewer than more
 pub fewer_more : {P : Type 0} (limits : Limits) (own : Record) (asked : Call P) (few more : ℕ) → few ≤ more → (next : Next P) → FewerLeft few limits own asked next → FewerLeft more limits own asked next
@@ -31,14 +46,19 @@ fewer_more limits own asked few more le (Goes phase) fewer = omega (arith, le, f
 fewer_more limits own asked few more le (Ends reply) fewer = tt
 
 module _ {P : Type 0} (limits : Limits) (own : Record) (asked : Call P) where
+  -- a call that the record doesn't refuse
+  pub after_passed : refusal_of own asked ≡ None → after_look limits own asked ≡ behind_look limits own asked
+  after_passed passed = ap (λ (r : Option Refusal). if is_some r then 0 else behind_look limits own asked) passed
+
   -- the poll of a request
-  look_poll : (rank c : ℕ) (x : Held) (request : Option Request) → asked ≡ call.Poll rank c → held_at own (comm_of asked) ≡ Some x → x.request ≡ request → after_look limits own asked ≡ polling limits (length x.group) request
-  look_poll rank c x request is held is_open =
-      subst (λ (a : Call P). held_at own (comm_of a) ≡ Some x → after_look limits own a ≡ polling limits (length x.group) request) (sym is)
+  look_poll : refusal_of own asked ≡ None → (rank c : ℕ) (x : Held) (request : Option Request) → asked ≡ call.Poll rank c → held_at own (comm_of asked) ≡ Some x → x.request ≡ request → after_look limits own asked ≡ polling limits (length x.group) request
+  look_poll passed rank c x request is held is_open =
+      after_passed passed
+      ∙ subst (λ (a : Call P). held_at own (comm_of a) ≡ Some x → behind_look limits own a ≡ polling limits (length x.group) request) (sym is)
       (λ at. ap (λ h. polling limits (length (group_of h)) (request_of h)) at ∙ ap (polling limits (length x.group)) is_open) held
 
   -- what comes right after a look
-  module _ (meld : P → P → P) (h : History P) (legal : IsLegal meld limits h) (begins : IsPrefix own.seen (failures h)) (some : 0 < limits.comms) (rank c : ℕ) (x : Held) (is : asked ≡ call.Poll rank c) (held : held_at own (comm_of asked) ≡ Some x) where
+  module _ (meld : P → P → P) (h : History P) (legal : IsLegal meld limits h) (begins : IsPrefix own.seen (failures h)) (some : 0 < limits.comms) (passed : refusal_of own asked ≡ None) (rank c : ℕ) (x : Held) (is : asked ≡ call.Poll rank c) (held : held_at own (comm_of asked) ≡ Some x) where
     abbrev most : ℕ
     most = after_look limits own asked + max 1 (limits.ranks - length own.seen)
 
@@ -47,7 +67,7 @@ module _ {P : Type 0} (limits : Limits) (own : Record) (asked : Call P) where
 
     pub waiting_after : (k : ℕ) (arrivals : Arrivals) → x.request ≡ Some (Barrier k) → steps_left limits own asked (Waiting arrivals) < most
     waiting_after k arrivals is_open =
-        let all = look_poll rank c x (Some (Barrier k)) is held is_open in
+        let all = look_poll passed rank c x (Some (Barrier k)) is held is_open in
         subst (λ g. arrivals_left g own.seen arrivals + 1 < most) (sym (ap group_of held)) (omega (arith, all, few))
 
     pub marking_after : (k : ℕ) (shrinks : Bool) (marks : MarkAll) → x.request ≡ Some (agreement shrinks k) → steps_left limits own asked (Marking marks shrinks) < most
@@ -56,10 +76,10 @@ module _ {P : Type 0} (limits : Limits) (own : Record) (asked : Call P) where
       where
         by_kind : (b : Bool) → x.request ≡ Some (agreement b k) → marks_left x.group own.seen marks.next + length x.group + after_round limits own b < most
         by_kind false is_open =
-            let all = look_poll rank c x (Some (Agree k)) is held is_open in
+            let all = look_poll passed rank c x (Some (Agree k)) is held is_open in
             omega (arith, all, few, length-append (filter (has x.group) own.seen) (without x.group own.seen))
         by_kind true is_open =
-            let all = look_poll rank c x (Some (Shrink k)) is held is_open in
+            let all = look_poll passed rank c x (Some (Shrink k)) is held is_open in
             omega (arith, all, few, some, length-append (filter (has x.group) own.seen) (without x.group own.seen))
 
     pub reading_after : (k : ℕ) (shrinks : Bool) (reading : ReadRound P) → x.request ≡ Some (agreement shrinks k) → steps_left limits own asked (Reading reading shrinks) < most
@@ -67,8 +87,8 @@ module _ {P : Type 0} (limits : Limits) (own : Record) (asked : Call P) where
         subst (λ g. reads_left g reading + after_round limits own shrinks < most) (sym (ap group_of held)) (by_kind shrinks is_open)
       where
         by_kind : (b : Bool) → x.request ≡ Some (agreement b k) → reads_left x.group reading + after_round limits own b < most
-        by_kind false is_open = let all = look_poll rank c x (Some (Agree k)) is held is_open in omega (arith, all)
-        by_kind true is_open = let all = look_poll rank c x (Some (Shrink k)) is held is_open in omega (arith, all, some)
+        by_kind false is_open = let all = look_poll passed rank c x (Some (Agree k)) is held is_open in omega (arith, all)
+        by_kind true is_open = let all = look_poll passed rank c x (Some (Shrink k)) is held is_open in omega (arith, all, some)
 
 -- once a look has ended, fewer steps are left than before its last load
 pub looks_up : {P : Type 0} (limits : Limits) (own new : Record) (asked : Call P) → new ≡ record own { seen = new.seen } → length own.seen < limits.ranks → length own.seen ≤ length new.seen
@@ -76,3 +96,74 @@ pub looks_up : {P : Type 0} (limits : Limits) (own new : Record) (asked : Call P
 looks_up limits own new asked kept more longer =
     let same = ap (λ (w : Record). after_look limits w asked) kept ∙ after_look_same limits own new.seen asked in
     omega (arith, more, longer, same)
+
+module _ {P : Type 0} (limits : Limits) (own new : Record) (asked : Call P) (kept : new ≡ record own { seen = new.seen }) where
+  -- what comes after the look is no longer for what it has found
+  same_after : after_look limits new asked ≡ after_look limits own asked
+  same_after = ap (λ (w : Record). after_look limits w asked) kept ∙ after_look_same limits own new.seen asked
+
+  -- a look that goes on spends no more loads than it had left
+  pub looks_on : (now after : ℕ) → after + (limits.ranks - length new.seen) ≤ now + (limits.ranks - length own.seen)
+      → after + (limits.ranks - length new.seen + after_look limits new asked) ≤ now + (limits.ranks - length own.seen + after_look limits own asked)
+  looks_on now after few = omega (arith, few, same_after)
+
+  -- nor does one that has ended, with what comes next
+  pub looks_over : (now after : Sight P) → after.steps + (limits.ranks - length new.seen - 1) ≤ now.steps + (limits.ranks - length own.seen)
+      → (left : Record) (next : Next P) → FewerLeft (with_look limits new asked) limits left asked next → Spends (steps_left limits own asked Looking) limits left asked next now after
+  looks_over now after few left (Goes phase) fewer = omega (arith, few, fewer, same_after)
+  looks_over now after few left (Ends reply) fewer = omega (arith, few)
+
+-- a call that begins its look, behind what was seen or at the last of all ranks, has as many steps left as it had before
+pub resumed_left : {P : Type 0} (limits : Limits) (own resumed : Record) (asked : Call P) → own.limits.ranks ≡ limits.ranks → 0 < limits.ranks → resumed ≡ record own { seen = take (own.limits.ranks - 1) own.seen }
+    → steps_left limits resumed asked Looking ≤ steps_left limits own asked Begun
+resumed_left limits own resumed asked ranks some is =
+    let same = ap (λ (w : Record). after_look limits w asked) is ∙ after_look_same limits own (take (own.limits.ranks - 1) own.seen) asked in
+    let size : length resumed.seen ≡ min (own.limits.ranks - 1) (length own.seen) = ap (λ (w : Record). length w.seen) is ∙ length-take (own.limits.ranks - 1) own.seen in
+    omega (arith, same, size, ranks, some)
+
+-- a call that begins may make as many steps as its bound says
+pub begun_bound : {P : Type 0} (limits : Limits) (own : Record) (asked : Call P) → own.refused ≡ false → length own.seen < limits.ranks → steps_left limits own asked Begun ≤ step_bound limits own asked
+begun_bound {P} limits own asked in_use more =
+    let n = length (group_of (held_at own (comm_of asked))) in
+    let request = request_of (held_at own (comm_of asked)) in
+    subst (λ b. steps_left limits own asked Begun ≤ (if b then 0 else (if is_some (refusal_of own asked) then limits.ranks - length own.seen else call_bound limits.ranks (length own.seen) n limits.comms request asked)))
+    (sym in_use) (by_refusal (is_some (refusal_of own asked)))
+  where
+    by_request : (n : ℕ) (request : Option Request) → max 1 (limits.ranks - length own.seen) + polling limits n request ≤ poll_bound limits.ranks (length own.seen) n limits.comms request
+    by_request n None = omega (arith, more)
+    by_request n (Some (Agree k)) = omega (arith, more)
+    by_request n (Some (Shrink k)) = omega (arith, more)
+    by_request n (Some (Barrier k)) = omega (arith, more)
+
+    by_call : (asked : Call P) → max 1 (limits.ranks - length own.seen) + behind_look limits own asked ≤ call_bound limits.ranks (length own.seen) (length (group_of (held_at own (comm_of asked)))) limits.comms (request_of (held_at own (comm_of asked))) asked
+    by_call (call.Fail rank) = omega (arith, more)
+    by_call (call.GetFailed rank c) = omega (arith, more)
+    by_call (call.Ack rank c count) = omega (arith, more)
+    by_call (call.Agree rank c value) = omega (arith, more)
+    by_call (call.Shrink rank c) = omega (arith, more)
+    by_call (call.Barrier rank c) = omega (arith, more)
+    by_call (call.Poll rank c) = by_request (length (group_of (held_at own c))) (request_of (held_at own c))
+    by_call (call.Revoke rank c) = omega (arith, more)
+    by_call (call.IsRevoked rank c) = omega (arith, more)
+    by_call (call.Free rank c) = omega (arith, more)
+
+    by_refusal : (b : Bool) → max 1 (limits.ranks - length own.seen) + (if b then 0 else behind_look limits own asked)
+        ≤ (if b then limits.ranks - length own.seen else call_bound limits.ranks (length own.seen) (length (group_of (held_at own (comm_of asked)))) limits.comms (request_of (held_at own (comm_of asked))) asked)
+    by_refusal true = omega (arith, more)
+    by_refusal false = by_call asked
+
+-- what the record passes, it doesn't refuse
+pub passes_none : {P : Type 0} (own : Record) (asked : Call P) → Passes own asked → refusal_of own asked ≡ None
+passes_none own asked p = ap (λ (h : Option Held). refusal_on own h asked) p.held ∙ p.passed
+
+-- a call that makes one step after its look has it left
+pub one_left : {P : Type 0} (limits : Limits) (own : Record) (asked : Call P) → Passes own asked → behind_look limits own asked ≡ 1 → 1 < with_look limits own asked
+one_left limits own asked p one = omega (arith, after_passed limits own asked (passes_none own asked p), one)
+
+-- whatever a call does first
+pub first_bound : {P : Type 0} (limits : Limits) (own : Record) (asked : Call P) → length own.seen < limits.ranks → steps_left limits own asked (if own.refused then Over else Begun) ≤ step_bound limits own asked
+first_bound {P} limits own asked more = go own.refused refl
+  where
+    go : (b : Bool) → own.refused ≡ b → steps_left limits own asked (if own.refused then Over else Begun) ≤ step_bound limits own asked
+    go true e = subst (λ b. steps_left {P = P} limits own asked (if b then Over else Begun) ≤ step_bound limits own asked) (sym e) (omega arith)
+    go false e = subst (λ b. steps_left {P = P} limits own asked (if b then Over else Begun) ≤ step_bound limits own asked) (sym e) (begun_bound limits own asked e more)

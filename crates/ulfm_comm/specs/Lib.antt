@@ -12,6 +12,7 @@ pub mod Fails
 pub mod Jobs
 pub mod Replies
 pub mod StepsLeft
+pub mod Bound
 pub mod Agreement
 pub mod Phase
 pub mod Step

@@ -12,3 +12,8 @@ pub record HasRoom (limits : Limits) (capacity places : ℕ) (held : List Held) 
   pub enough : 32 ≤ places
   pub ids : AllByRecursion (λ i. i < 32) (map (λ x. x.context) held)
   pub contexts : IsDistinct nat_eq (map (λ x. x.context) held)
+
+-- its number is that of one of the world's ranks, and it has that room
+pub record IsKept (number : ℕ) (limits : Limits) (capacity places : ℕ) (held : List Held) : Type 0 where
+  pub below : number < limits.ranks
+  pub room : HasRoom limits capacity places held

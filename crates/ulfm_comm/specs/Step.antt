@@ -6,7 +6,7 @@ use Rattle.ulfm_model.specs.declared.{reply.Reply.{Reply}, reply.Reply.TheVarian
 use Rattle.ulfm_model.specs.{Answers.{CallAdds, traits_of}, History.{History, entries_by}, Records.{Fits, Held, Record, held_at}, Runs.{Did}, Terms.{comm_of}}
 use Rattle.ulfm_words.specs.Steps.{IsOf, Name, Sight}
 use Rattle.ulfm_steps.specs.declared.{arrivals.Arrivals.{Arrivals}, arrivals.Missing.{Missing}}
-use Rattle.ulfm_comm.specs.{Look.{JustLooked}, StepsLeft.{FewerLeft, MakesStep, steps_left}, Barrier.{IsChecking, AnswersEarly}}
+use Rattle.ulfm_comm.specs.{Look.{JustLooked}, StepsLeft.{FewerLeft, MakesStep, Spends, steps_left}, Barrier.{IsChecking, AnswersEarly}}
 use Rattle.ulfm_comm.specs.Phase.{UnderWay, next_step, IsFurther, LeadsTo, NextIs, reply_in, Stands, Turns}
 use Rattle.ulfm_comm.specs.declared.{phases.phase.Next.{Next}, phases.phase.Next.TheVariants.{Goes, Ends}, phases.phase.Phase.{Phase}}
 use Rattle.ulfm_comm.specs.declared.phases.phase.Phase.TheVariants.{Over, Begun, Looking, Settling, Arriving, Revoking, Marking, ReadingOn}
@@ -82,13 +82,14 @@ pub record Stepped {P : Type 0} (meld : P → P → P) (quiet : Bool) (name : Na
       → (earlier : History P) → IsChecking meld name.limits alone (comm_of was.asked) missing earlier old before.seen own now.seen
       → AnswersEarly meld name.limits alone was.asked missing earlier old before.seen reply new
 
--- A call takes its turn in a phase, by one step or by all of them: it walks on, by the step that is named, comes nearer to its reply, adds
--- and sees what the phase may, does what the phase leads to, and stands where it goes on, or is answered.
+-- A call takes its turn in a phase, by one step or by all of them: it walks on, by the step that is named, comes nearer to its reply, spends
+-- no more steps than it may, adds and sees what the phase may, does what the phase leads to, and stands where it goes on, or is answered.
 pub record TakesTurn {P : Type 0} (meld : P → P → P) (quiet whole : Bool) (name : Name) (asked : Call P) (phase : Phase P) (group : List ℕ) (own : Record)
     (now : Sight P) (next : Next P) (left : List ℕ) (new : Record) (after : Sight P) : Type 0 where
   pub walks : Walks meld quiet name own.number now after
   pub named : whole ≡ false → MakesStep (next_step phase) own.number (comm_of asked) now after
   pub nearer : whole ≡ false → FewerLeft (steps_left name.limits own asked phase) name.limits new asked next
+  pub spends : Spends (steps_left name.limits own asked phase) name.limits new asked next now after
   pub further : whole ≡ true → IsFurther phase next
   pub adds : whole ≡ false → StepAdds quiet own asked phase (reply_in next) now.seen after.seen
   pub sees : StepSees phase own.seen new.seen

@@ -1,9 +1,9 @@
 -- Which atomic step a call makes next, and how many it makes at most.
-use Rattle.std.specs.Prelude.{◌≡◌, ℕ, ◌+◌, ◌-◌, ◌*◌, ◌<◌, Bool, true, false, List, [], length, max, Option, Some, None, ⊤}
+use Rattle.std.specs.Prelude.{◌≡◌, ℕ, ◌+◌, ◌-◌, ◌*◌, ◌<◌, ◌≤◌, Bool, true, false, List, [], length, max, Option, Some, None, is_some, if◌then◌else◌, ⊤}
 use Rattle.ulfm_model.specs.declared.call.Call.TheVariants as call
 use Rattle.ulfm_model.specs.declared.{call.Call.{Call}, call.Request.{Request}, call.Request.TheVariants.{Agree, Shrink, Barrier}, limits.Limits.{Limits}}
 use Rattle.ulfm_model.specs.declared.place.Place.TheVariants.{List as ListAt, Comm as CommAt, Revoked as RevokedAt, Slot as SlotAt, Arrival as ArrivalAt}
-use Rattle.ulfm_model.specs.Records.{Held, Record, held_at}
+use Rattle.ulfm_model.specs.{Answers.{refusal_of}, Records.{Held, Record, held_at}}
 use Rattle.ulfm_model.specs.Terms.{comm_of, request_of}
 use Rattle.ulfm_words.specs.Steps.{Sight}
 use Rattle.ulfm_steps.specs.{Appends.{turns_left}, Arriving.{arrivals_left}, Marks.{marks_left}, Rounds.{reads_left}, Turns.{IsOneStep}}
@@ -43,18 +43,22 @@ polling limits n (Some (Agree k)) = 2 * n
 polling limits n (Some (Shrink k)) = 2 * n + 2 * limits.comms
 polling limits n (Some (Barrier k)) = n + 1
 
--- how many a call makes after its look
+-- how many a call makes after its look that goes on behind it
+abbrev pub behind_look : {P : Type 0} → Limits → Record → Call P → ℕ
+behind_look limits own (call.Fail rank) = 0
+behind_look limits own (call.GetFailed rank c) = 0
+behind_look limits own (call.Ack rank c count) = 0
+behind_look limits own (call.Agree rank c value) = 1
+behind_look limits own (call.Shrink rank c) = 1
+behind_look limits own (call.Barrier rank c) = 1
+behind_look limits own (call.Poll rank c) = polling limits (length (group_of (held_at own c))) (request_of (held_at own c))
+behind_look limits own (call.Revoke rank c) = 1
+behind_look limits own (call.IsRevoked rank c) = 1
+behind_look limits own (call.Free rank c) = 0
+
+-- how many a call makes after its look: none where the record refuses it
 abbrev pub after_look : {P : Type 0} → Limits → Record → Call P → ℕ
-after_look limits own (call.Fail rank) = 0
-after_look limits own (call.GetFailed rank c) = 0
-after_look limits own (call.Ack rank c count) = 0
-after_look limits own (call.Agree rank c value) = 1
-after_look limits own (call.Shrink rank c) = 1
-after_look limits own (call.Barrier rank c) = 1
-after_look limits own (call.Poll rank c) = polling limits (length (group_of (held_at own c))) (request_of (held_at own c))
-after_look limits own (call.Revoke rank c) = 1
-after_look limits own (call.IsRevoked rank c) = 1
-after_look limits own (call.Free rank c) = 0
+after_look limits own asked = if is_some (refusal_of own asked) then 0 else behind_look limits own asked
 
 -- how many it makes from the last step of its look on
 abbrev pub with_look : {P : Type 0} → Limits → Record → Call P → ℕ
@@ -69,7 +73,7 @@ after_round limits own true = limits.ranks - length own.seen + 2 * (limits.comms
 -- how many steps a call makes from here on, at most, by what it does next
 abbrev pub steps_left : {P : Type 0} → Limits → Record → Call P → Phase P → ℕ
 steps_left limits own asked Over = 0
-steps_left limits own asked Begun = limits.ranks + after_look limits own asked
+steps_left limits own asked Begun = max 1 (limits.ranks - length own.seen) + after_look limits own asked
 steps_left limits own asked Looking = limits.ranks - length own.seen + after_look limits own asked
 steps_left limits own asked (Settling request offer) = 1
 steps_left limits own asked (Arriving round) = 1
@@ -88,3 +92,12 @@ steps_left limits own asked (Checking missing) = 1
 abbrev pub FewerLeft : {P : Type 0} → ℕ → Limits → Record → Call P → Next P → Type 0
 FewerLeft most limits own asked (Goes phase) = steps_left limits own asked phase < most
 FewerLeft most limits own asked (Ends reply) = ⊤
+
+-- how many are left after a step, at most: none where the call has ended
+abbrev pub left_in : {P : Type 0} → Limits → Record → Call P → Next P → ℕ
+left_in limits own asked (Goes phase) = steps_left limits own asked phase
+left_in limits own asked (Ends reply) = 0
+
+-- the steps that a call makes, with those that are left then, are no more than so many
+abbrev pub Spends : {P : Type 0} → ℕ → Limits → Record → Call P → Next P → Sight P → Sight P → Type 0
+Spends most limits own asked next old new = new.steps + left_in limits own asked next ≤ old.steps + most

@@ -1,4 +1,4 @@
-ghost use Rattle.std.specs.Prelude.{◌≡◌, ◌≢◌, ◌<◌, ◌≤◌, ◌+◌, ◌==◌, ℕ, [], true, false, filter, length, map, nat_eq, not, take, Some, None, MatchOption, IfOk};
+ghost use Rattle.std.specs.Prelude.{◌≡◌, ◌≢◌, ◌<◌, ◌≤◌, ◌+◌, ◌-◌, ◌==◌, ℕ, [], true, false, filter, length, map, nat_eq, not, take, Some, None, MatchOption, IfOk};
 ghost use Rattle.std.specs.List.{IsDistinct};
 ghost use mathlib.Core.List.{IsPrefix};
 ghost use Rattle.ulfm_model.specs.{Records.{Held, free_ids, held_at, new_record, with_held}, History.{failures, first_ranks, without}, Words.{MayOpen}};
@@ -31,8 +31,8 @@ const ROOM: usize = 32;
 
 /// A rank of a world. Contracts see it as its record.
 ///
-/// Each of its calls begins with a look: loads of the list of failures, from its start to the first empty place, so with N
-/// ranks N steps at most, and f + 1 where f < N have failed. A communicator is any number: one that the rank doesn't hold is
+/// Each of its calls begins with a look: loads of the list of failures, from behind those that it has seen to the first empty
+/// place. So with N ranks, of which it has seen v declared, a look makes N - v steps at most. A communicator is any number: one that the rank doesn't hold is
 /// refused as `NoSuchComm`. A refusal leaves the rank as it was, but for what the look has seen, and where a call says more; a
 /// rank that was refused as `SelfFailed` is refused so for good, without a step. Examples are of rank 0 in a world of two.
 #[derive(Drop)]
@@ -49,13 +49,13 @@ pub struct Rank<P: Packed, A: Allocator> {
 impl<P: Packed, A: Allocator> Model for Rank<P, A> {
     ghost use Rattle.ulfm_model.specs.Records.{Record};
     ghost use Rattle.std.specs.Prelude.{vec_capacity};
-    ghost use Rattle.ulfm_comm.specs.Ranks.{HasRoom};
+    ghost use Rattle.ulfm_comm.specs.Ranks.{IsKept};
 
     ghost Value = { Record };
 
     ghost view = { λ a. record { number = a.number; limits = a.limits; held = a.held.items; seen = a.seen.items; refused = a.refused } };
 
-    ghost invariant = { λ a. HasRoom a.limits (vec_capacity a.seen) (vec_capacity a.held) a.held.items };
+    ghost invariant = { λ a. IsKept a.number a.limits (vec_capacity a.seen) (vec_capacity a.held) a.held.items };
 }
 
 impl<P: Packed, A: Allocator + Copy> Rank<P, A> {
@@ -67,6 +67,7 @@ impl<P: Packed, A: Allocator + Copy> Rank<P, A> {
         ranks: &[u16],
     ) -> Result<Rank<P, A>, AllocError>
         requires may_open { MayOpen limits }
+        requires below { number < limits.ranks }
         requires ranks { ranks.now ≡ first_ranks limits.ranks }
         ensures { IfOk result (λ r. r ≡ new_record limits number) }
     {
@@ -97,7 +98,7 @@ impl<P: Packed, A: Allocator> Rank<P, A> {
         self.number
     }
 
-    /// All failures that it has seen, in order. It is no step.
+    /// All failures that it has seen, in order. A call's look begins behind them. It is no step.
     ///
     /// ```
     /// // Rank 1 was declared failed before.
@@ -169,11 +170,20 @@ impl<P: Packed, A: Allocator> Rank<P, A> {
         self.refused
     }
 
-    // What it has seen is forgotten, so that a look begins.
-    pub(crate) fn forget(&mut self)
-        ensures { self.new ≡ record self.old { seen = [] } }
+    // Whether it has seen that all ranks are declared, itself among them.
+    pub(crate) fn has_seen_all(&self) -> bool
+        ensures all { result ≡ (length self.now.seen == self.now.limits.ranks) }
+        ensures below { self.now.number < self.now.limits.ranks }
     {
-        self.seen.clear();
+        self.seen.len() == self.limits.ranks as usize
+    }
+
+    // A look begins behind what it has seen. Where that is all ranks, it begins at the last of them, so that it has a load to make.
+    pub(crate) fn resume(&mut self)
+        ensures { self.new ≡ record self.old { seen = take (self.old.limits.ranks - 1) self.old.seen } }
+    {
+        let most = (self.limits.ranks as usize).saturating_sub(1);
+        self.seen.truncate(most);
     }
 
     // From now on it is refused.

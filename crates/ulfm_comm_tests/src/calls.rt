@@ -264,9 +264,9 @@ fn shrinks_once_memory_is_there(rt: HostRuntime) -> Result<(), Fail> {
 
 #[test]
 fn agree_meets_a_shrink(rt: HostRuntime) -> Result<(), Fail> {
-    // Just before the place of rank 1 is read: the declaration makes two steps, the start of the shrink three, the look two loads,
+    // Just before the place of rank 1 is read: the declaration makes two steps, the start of the shrink three, the look one load,
     // one mark is made, and the first place is read.
-    let mut first = beside_a_flag(&rt, rt.alloc(), THREE_COMMS, 1, 9)?;
+    let mut first = beside_a_flag(&rt, rt.alloc(), THREE_COMMS, 1, 8)?;
     assert!(rt; first.fail(2) == Ok(true));
     assert!(rt; first.ishrink(0) == Ok(()));
     assert!(rt; first.poll(0) == Err(Refusal::Mismatch));

@@ -186,8 +186,8 @@ fn late_arrival(rt: HostRuntime) -> Result<(), Fail> {
         Move::Fail(1),
         Move::Call(0, 0, Verb::Barrier, &[List, List, Arrive], Reply::Started),
         Move::Begin(0, 0, Verb::Poll),
-        // The look makes two loads, and rank 1 is missing when its arrival is read.
-        Move::Before(0, Revocation, 3),
+        // The look makes one load, behind rank 1, which is missing when its arrival is read.
+        Move::Before(0, Revocation, 2),
         Move::Step(1, Some(Reply::Started)),
         Move::Step(0, Some(Reply::Refused(Refusal::ProcFailed))),
         Move::Call(1, 0, Verb::Poll, &[List; 2], FAILED),
@@ -218,13 +218,14 @@ fn reads_on_after_its_look(rt: HostRuntime) -> Result<(), Fail> {
 #[test]
 fn names_in_order(rt: HostRuntime) -> Result<(), Fail> {
     let group = Reply::FailedGroup { count: 2 };
-    let settles = &[List, List, List, Settle];
-    let reads = &[List, List, List, Mark, Mark, Slot, Slot, Slot];
-    let spawns = &[List, List, List, Mark, Mark, Slot, Slot, Slot, Comm, Spawn];
-    let arrives = &[List, List, List, Arrive];
-    let waits = &[List, List, List, Arrival, Revocation];
-    let revokes = &[List, List, List, Revoke];
-    let asks = &[List, List, List, Revocation];
+    // The first look finds two, and each later one begins behind them.
+    let settles = &[List, Settle];
+    let reads = &[List, Mark, Mark, Slot, Slot, Slot];
+    let spawns = &[List, Mark, Mark, Slot, Slot, Slot, Comm, Spawn];
+    let arrives = &[List, Arrive];
+    let waits = &[List, Arrival, Revocation];
+    let revokes = &[List, Revoke];
+    let asks = &[List, Revocation];
     let revoked = Reply::Standing { revoked: true };
     let moves = [
         Move::Fail(1),
@@ -238,9 +239,28 @@ fn names_in_order(rt: HostRuntime) -> Result<(), Fail> {
         Move::Call(0, 1, Verb::Poll, waits, Reply::Done),
         Move::Call(0, 1, Verb::Revoke, revokes, Reply::Revoked),
         Move::Call(0, 1, Verb::Standing, asks, revoked),
-        Move::Call(0, 1, Verb::Free, &[List; 3], Reply::Freed),
+        Move::Call(0, 1, Verb::Free, &[List], Reply::Freed),
     ];
     let mut play = open(rt.alloc(), limits(3, 2, 3))?;
+    goes(&rt, rt.alloc(), &mut play, &moves)
+}
+
+#[test]
+fn looks_begin_behind(rt: HostRuntime) -> Result<(), Fail> {
+    let nobody = Reply::FailedGroup { count: 0 };
+    let one = Reply::FailedGroup { count: 1 };
+    let moves = [
+        Move::Call(0, 0, Verb::Get, &[List], nobody),
+        Move::Fail(2),
+        Move::Call(0, 0, Verb::Get, &[List; 2], one),
+        Move::Call(0, 0, Verb::Get, &[List], one),
+        // The last place of the list ends the look, too.
+        Move::Fail(1),
+        Move::Fail(0),
+        Move::Call(0, 0, Verb::Get, &[List; 2], FAILED),
+        Move::Call(0, 0, Verb::Get, &[], FAILED),
+    ];
+    let mut play = open(rt.alloc(), limits(3, 1, 1))?;
     goes(&rt, rt.alloc(), &mut play, &moves)
 }
 
@@ -333,15 +353,15 @@ fn agreements_as_whole(rt: HostRuntime) -> Result<(), Fail> {
             Reply::FailedGroup { count: 1 },
             2,
         ),
-        (Line::Ask(0, 0, Verb::Ack(9)), Reply::Acked { count: 1 }, 2),
-        (Line::Ask(0, 0, agree(0xf)), Reply::Started, 3),
-        refused(Line::Ask(0, 0, agree(0xf)), Refusal::Busy, 2),
-        (Line::Ask(0, 0, Verb::Poll), Reply::Pending, 5),
+        (Line::Ask(0, 0, Verb::Ack(9)), Reply::Acked { count: 1 }, 1),
+        (Line::Ask(0, 0, agree(0xf)), Reply::Started, 2),
+        refused(Line::Ask(0, 0, agree(0xf)), Refusal::Busy, 1),
+        (Line::Ask(0, 0, Verb::Poll), Reply::Pending, 4),
         (Line::Ask(1, 0, agree(0x7)), Reply::Started, 3),
-        (Line::Ask(0, 0, Verb::Poll), agreed(0x5, 1, true), 6),
-        (Line::Ask(1, 0, Verb::Poll), agreed(0x5, 1, true), 6),
-        refused(Line::Ask(1, 0, Verb::Poll), Refusal::Idle, 2),
-        refused(Line::Ask(0, 1, Verb::Get), Refusal::NoSuchComm, 2),
+        (Line::Ask(0, 0, Verb::Poll), agreed(0x5, 1, true), 5),
+        (Line::Ask(1, 0, Verb::Poll), agreed(0x5, 1, true), 5),
+        refused(Line::Ask(1, 0, Verb::Poll), Refusal::Idle, 1),
+        refused(Line::Ask(0, 1, Verb::Get), Refusal::NoSuchComm, 1),
         (Line::Ask(2, 0, Verb::Poll), FAILED, 2),
         (Line::Ask(2, 0, Verb::Poll), FAILED, 0),
         (Line::Ask(2, 9, Verb::Free), FAILED, 0),
@@ -359,24 +379,24 @@ fn barriers_as_whole(rt: HostRuntime) -> Result<(), Fail> {
         (Line::Ask(0, 0, Verb::Poll), Reply::Done, 5),
         (Line::Fail(2), Reply::Declared, 0),
         (Line::Ask(0, 0, Verb::Barrier), Reply::Started, 3),
-        refused(Line::Ask(0, 0, Verb::Barrier), Refusal::Busy, 2),
-        refused(Line::Ask(0, 0, Verb::Poll), Refusal::ProcFailed, 4),
+        refused(Line::Ask(0, 0, Verb::Barrier), Refusal::Busy, 1),
+        refused(Line::Ask(0, 0, Verb::Poll), Refusal::ProcFailed, 3),
         (
             Line::Ask(0, 0, Verb::Standing),
             Reply::Standing { revoked: false },
-            3,
+            2,
         ),
         (Line::Ask(1, 0, Verb::Revoke), Reply::Revoked, 3),
-        (Line::Ask(0, 0, Verb::Revoke), Reply::AlreadyRevoked, 3),
+        (Line::Ask(0, 0, Verb::Revoke), Reply::AlreadyRevoked, 2),
         (
             Line::Ask(0, 0, Verb::Standing),
             Reply::Standing { revoked: true },
-            3,
+            2,
         ),
-        refused(Line::Ask(1, 0, Verb::Poll), Refusal::IsRevoked, 6),
-        (Line::Ask(0, 0, Verb::Barrier), Reply::Started, 3),
-        refused(Line::Ask(0, 0, Verb::Poll), Refusal::IsRevoked, 4),
-        refused(Line::Ask(0, 0, Verb::Barrier), Refusal::RoundsUsedUp, 2),
+        refused(Line::Ask(1, 0, Verb::Poll), Refusal::IsRevoked, 5),
+        (Line::Ask(0, 0, Verb::Barrier), Reply::Started, 2),
+        refused(Line::Ask(0, 0, Verb::Poll), Refusal::IsRevoked, 3),
+        refused(Line::Ask(0, 0, Verb::Barrier), Refusal::RoundsUsedUp, 1),
     ];
     both(&rt, rt.alloc(), limits(3, 1, 3), &script)
 }
@@ -386,19 +406,19 @@ fn shrinks_as_whole(rt: HostRuntime) -> Result<(), Fail> {
     let script = [
         (Line::Fail(2), Reply::Declared, 0),
         (Line::Ask(0, 0, Verb::Shrink), Reply::Started, 3),
-        (Line::Ask(0, 0, Verb::Poll), Reply::Pending, 5),
+        (Line::Ask(0, 0, Verb::Poll), Reply::Pending, 4),
         (Line::Ask(1, 0, Verb::Shrink), Reply::Started, 3),
-        (Line::Ask(0, 0, Verb::Poll), PAIR, 8),
-        (Line::Ask(1, 0, Verb::Poll), PAIR, 7),
-        (Line::Ask(0, 1, Verb::Shrink), Reply::Started, 3),
-        refused(Line::Ask(0, 0, Verb::Shrink), Refusal::ShrinkOpen, 2),
-        (Line::Ask(0, 0, agree(0x1)), Reply::Started, 3),
-        (Line::Ask(1, 0, Verb::Shrink), Reply::Started, 3),
-        refused(Line::Ask(0, 0, Verb::Poll), Refusal::Mismatch, 6),
-        refused(Line::Ask(1, 0, Verb::Poll), Refusal::Mismatch, 6),
-        (Line::Ask(1, 1, Verb::Free), Reply::Freed, 2),
-        refused(Line::Ask(1, 1, Verb::Free), Refusal::NoSuchComm, 2),
-        refused(Line::Ask(1, 0, Verb::Free), Refusal::WorldKept, 2),
+        (Line::Ask(0, 0, Verb::Poll), PAIR, 7),
+        (Line::Ask(1, 0, Verb::Poll), PAIR, 6),
+        (Line::Ask(0, 1, Verb::Shrink), Reply::Started, 2),
+        refused(Line::Ask(0, 0, Verb::Shrink), Refusal::ShrinkOpen, 1),
+        (Line::Ask(0, 0, agree(0x1)), Reply::Started, 2),
+        (Line::Ask(1, 0, Verb::Shrink), Reply::Started, 2),
+        refused(Line::Ask(0, 0, Verb::Poll), Refusal::Mismatch, 5),
+        refused(Line::Ask(1, 0, Verb::Poll), Refusal::Mismatch, 5),
+        (Line::Ask(1, 1, Verb::Free), Reply::Freed, 1),
+        refused(Line::Ask(1, 1, Verb::Free), Refusal::NoSuchComm, 1),
+        refused(Line::Ask(1, 0, Verb::Free), Refusal::WorldKept, 1),
     ];
     both(&rt, rt.alloc(), limits(3, 3, 4), &script)
 }
@@ -445,12 +465,11 @@ fn counts_stand_for_groups(rt: HostRuntime) -> Result<(), Fail> {
         Move::Fail(1),
         Move::Begin(0, 1, Verb::Get),
         Move::Step(0, None),
-        Move::Step(0, None),
         Move::Step(0, Some(one)),
         // What is declared after the look isn't among them.
         Move::Fail(2),
         Move::Group(0, 1, 1, &[1]),
-        Move::Call(0, 0, Verb::Get, &[List; 4], three),
+        Move::Call(0, 0, Verb::Get, &[List; 2], three),
         Move::Group(0, 0, 3, &[3, 1, 2]),
         Move::Group(0, 1, 2, &[1, 2]),
     ];

@@ -1,9 +1,9 @@
 -- A rank of a world with the pass that it calls with, and what its calls promise.
-use Rattle.std.specs.Prelude.{◌≡◌, ℕ, Bool, Result, IfOk}
+use Rattle.std.specs.Prelude.{◌≡◌, ℕ, ◌+◌, ◌≤◌, Bool, Result, IfOk}
 use Rattle.ulfm_model.specs.declared.{call.Call.{Call}, call.Call.TheVariants.{Poll}, refusal.Refusal.{Refusal}, reply.Reply.{Reply}}
 use Rattle.ulfm_model.specs.Records.{Fits, Record}
 use Rattle.ulfm_words.specs.Steps.{Heard, IsNew, IsOf, Learns, Name, Sight}
-use Rattle.ulfm_comm.specs.{Calls.{Calls, Gets}, Fails.{Fails}, Polls.{EndsIn, Polls}}
+use Rattle.ulfm_comm.specs.{Bound.{step_bound}, Calls.{Calls, Gets}, Fails.{Fails}, Polls.{EndsIn, Polls}}
 use Rattle.ulfm_comm.specs.declared.calls.polled.Polled.{Polled}
 
 -- which words it calls over, the rank's record, and its pass
@@ -22,24 +22,27 @@ pub record IsNewMember {P : Type 0} (meld : P → P → P) (name : Name) (m : Me
   pub name_is : m.name ≡ name
   pub new : IsNew meld name m.pass
 
--- a call of its rank, over the same words
+-- a call of its rank, over the same words, in no more atomic steps than it may make
 pub record MemberCalls {P : Type 0} (meld : P → P → P) (alone : Bool) (asked : Call P) (old : Membership P) (reply : Reply P) (new : Membership P)
     : Type 0 where
   pub words : new.name ≡ old.name
   pub calls : Calls meld alone old.name asked old.own old.pass reply new.own new.pass
+  pub steps : new.pass.steps ≤ old.pass.steps + step_bound old.name.limits old.own asked
 
--- a query of the failed group, which puts so many ranks into a vector
+-- a query of the failed group, which puts so many ranks into a vector, in no more steps
 pub record MemberGets {P : Type 0} (meld : P → P → P) (alone : Bool) (asked : Call P) (old : Membership P) (count : ℕ) (result : Result (Unit {0}) Refusal)
     (new : Membership P) : Type 0 where
   pub words : new.name ≡ old.name
   pub gets : Gets meld alone old.name asked old.own old.pass count result new.own new.pass
+  pub steps : new.pass.steps ≤ old.pass.steps + step_bound old.name.limits old.own asked
 
--- a poll on communicator c
+-- a poll on communicator c, in no more steps
 pub record MemberPolls {P : Type 0} (meld : P → P → P) (alone : Bool) (c : ℕ) (old : Membership P) (result : Result (Polled P) Refusal) (new : Membership P)
     : Type 0 where
   pub words : new.name ≡ old.name
   pub polls : Polls meld alone old.name (Poll old.own.number c) old.own old.pass result new.own new.pass
   pub pending : IfOk result (EndsIn meld alone old.name c old.own old.pass new.own new.pass)
+  pub steps : new.pass.steps ≤ old.pass.steps + step_bound {P = P} old.name.limits old.own (Poll old.own.number c)
 
 -- a declaration in the name of the outside, which the member has seen from then on
 pub record MemberFails {P : Type 0} (meld : P → P → P) (alone : Bool) (rank : ℕ) (old : Membership P) (reply : Reply P) (new : Membership P) : Type 0 where

@@ -11,10 +11,11 @@ abbrev pub LookIs : {P : Type 0} → Limits → Bool → List ℕ → History P 
 LookIs limits false found h = IsPrefix found (failures h) × (length found < limits.ranks)
 LookIs limits true found h = found ≡ failures h
 
--- how many loads a look may still make: one for each rank that it hasn't found, and none at its end
+-- how many loads a look may still make: one for each rank that it hasn't found. At its end: how many of them it has saved, which is one
+-- less, since its last load found no rank, or else none is left.
 abbrev pub looks_left : Limits → Bool → List ℕ → ℕ
 looks_left limits false found = limits.ranks - length found
-looks_left limits true found = 0
+looks_left limits true found = limits.ranks - length found - 1
 
 -- the loads of a look, the first of them of the place past what it had found
 abbrev pub LookTakes : {P : Type 0} → Bool → Limits → List ℕ → Bool → List ℕ → Sight P → Sight P → Type 0

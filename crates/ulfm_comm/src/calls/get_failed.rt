@@ -1,9 +1,10 @@
-ghost use Rattle.std.specs.Prelude.{◌≡◌, IfOk, OnErr, length};
+ghost use Rattle.std.specs.Prelude.{◌+◌, ◌≤◌, ◌≡◌, IfOk, OnErr, length};
 ghost use Rattle.ulfm_model.specs.Records.{Fits};
 ghost use Rattle.ulfm_model.specs.History.{failed};
 ghost use Rattle.ulfm_model.specs.declared.call.Call.TheVariants.{GetFailed as Asked};
 ghost use Rattle.ulfm_words.specs.Steps.{IsOf};
 ghost use Rattle.ulfm_comm.specs.Calls.{Gets};
+ghost use Rattle.ulfm_comm.specs.Bound.{step_bound};
 
 use crate::calls::replies::counted;
 use crate::groups::{make_room, put_in};
@@ -43,6 +44,8 @@ impl<P: Packed, A: Allocator + Copy> Rank<P, A> {
             self.new (W.sight pass.new) }
         ensures group { IfOk result (λ _. found.new.items ≡ failed (W.name world.now.words).limits.ranks (W.sight pass.new).seen comm) }
         ensures kept { OnErr result (found.new.items ≡ found.old.items) }
+        ensures steps { (W.sight pass.new).steps
+            ≤ (W.sight pass.old).steps + step_bound {P = P} (W.name world.now.words).limits self.old (Asked self.old.number comm) }
     {
         let rank = self.number();
         counted(self.call(world, pass, Call::GetFailed { rank, comm }))?;

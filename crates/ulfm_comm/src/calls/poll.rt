@@ -1,8 +1,9 @@
-ghost use Rattle.std.specs.Prelude.{◌≡◌, IfOk};
+ghost use Rattle.std.specs.Prelude.{◌+◌, ◌≤◌, ◌≡◌, IfOk};
 ghost use Rattle.ulfm_model.specs.Records.{Fits};
 ghost use Rattle.ulfm_model.specs.declared.call.Call.TheVariants.{Poll as Asked};
 ghost use Rattle.ulfm_words.specs.Steps.{IsOf};
 ghost use Rattle.ulfm_comm.specs.Polls.{Polls, EndsIn};
+ghost use Rattle.ulfm_comm.specs.Bound.{step_bound};
 
 use crate::calls::polled::Polled;
 use crate::calls::replies::polled;
@@ -40,8 +41,8 @@ impl<P: Packed, A: Allocator + Copy> Rank<P, A> {
     /// be made again. For a barrier: `IsRevoked` where the communicator is revoked, whoever has arrived; `ProcFailed` where it
     /// isn't, and a member that is known to have failed is missing. Both end the request.
     ///
-    /// With N ranks, n members and M communicators, the poll of an agree makes N + 2n steps at most, that of a shrink
-    /// N + 2n + 2M, and that of a barrier N + n + 1.
+    /// With N ranks, of which the rank has seen v declared, n members and M communicators, the poll of an agree makes
+    /// N - v + 2n steps at most, that of a shrink N - v + 2n + 2M, and that of a barrier N - v + n + 1, whatever the others do.
     ///
     /// ```
     /// let value = FlagAnd { bits: 0b0110 };
@@ -66,6 +67,8 @@ impl<P: Packed, A: Allocator + Copy> Rank<P, A> {
         ensures calls { Polls P.meld W.alone (W.name world.now.words) (Asked self.old.number comm) self.old (W.sight pass.old) result self.new
             (W.sight pass.new) }
         ensures pending { IfOk result (EndsIn P.meld W.alone (W.name world.now.words) comm self.old (W.sight pass.old) self.new (W.sight pass.new)) }
+        ensures steps { (W.sight pass.new).steps
+            ≤ (W.sight pass.old).steps + step_bound {P = P} (W.name world.now.words).limits self.old (Asked self.old.number comm) }
     {
         let rank = self.number();
         polled(self.call(world, pass, Call::Poll { rank, comm }))

@@ -55,7 +55,7 @@ fn agreement(request: Option<Request>) -> Option<(u16, bool)>
 }
 
 impl<P: Packed, A: Allocator> Rank<P, A> {
-    // The first load of the list of failures, or the whole look.
+    // The first load of the list of failures, behind what was seen, or the whole look.
     #[inline(always)]
     pub(crate) fn go_begun<W: Words<P, A>>(
         &mut self,
@@ -69,7 +69,7 @@ impl<P: Packed, A: Allocator> Rank<P, A> {
         ensures { (group : List ℕ) → TakesTurn P.meld W.alone whole (W.name world.now.words) asked.now AtBegun group self.old (W.sight pass.old) result group
             self.new (W.sight pass.new) }
     {
-        self.forget();
+        self.resume();
         self.go_looking(world, pass, asked, whole)
     }
 

@@ -26,7 +26,7 @@ pub(crate) struct Made {
 pub(crate) enum Phase<P: Packed> {
     // Nothing: its rank was refused for good before.
     Over,
-    // The list of failures is read, from its start.
+    // The list of failures is read, from behind what was seen.
     Begun,
     // It is read on.
     Looking,

@@ -1,9 +1,9 @@
 // Calls, step by step and whole.
-ghost use Rattle.std.specs.Prelude.{◌≡◌, ◌+◌, Bool, false, true, None, Some, IsTrue, MatchOption, OnSome, if◌then◌else◌};
+ghost use Rattle.std.specs.Prelude.{◌≡◌, ◌+◌, ◌<◌, ◌≤◌, Bool, false, length, true, None, Some, IsTrue, MatchOption, OnSome, if◌then◌else◌};
 ghost use Rattle.ulfm_model.specs.declared.{event.Caller.TheVariants.{Rank as OfRank}, call.Call.TheVariants.{Poll as AskedPoll}};
 ghost use Rattle.ulfm_model.specs.declared.{refusal.Refusal.TheVariants.{SelfFailed}, reply.Reply.TheVariants.{Pending as StillPending, Refused}};
 ghost use Rattle.ulfm_model.specs.{Answers.{traits_of, polled_by}, Records.{Fits, Record}, History.{History}, Terms.{comm_of}};
-ghost use Rattle.ulfm_comm.specs.{Step.{TakesTurn, Stepped}, Calls.{EndsReply}, Polls.{EndsInMissing, IsAgreement}};
+ghost use Rattle.ulfm_comm.specs.{Bound.{step_bound}, StepsLeft.{steps_left}, Step.{TakesTurn, Stepped}, Calls.{EndsReply}, Polls.{EndsInMissing, IsAgreement}};
 ghost use Rattle.ulfm_comm.specs.{Phase.{Answered, next_of, Stands, StillStands, Waits}, Barrier.{AnswersEarly, IsChecking}};
 ghost use Rattle.ulfm_words.specs.Steps.{IsOf, Name, Sight};
 ghost use Rattle.ulfm_steps.specs.declared.{arrivals.Arrivals.{Arrivals}, arrivals.Missing.{Missing}};
@@ -32,7 +32,8 @@ impl<P: Packed, A: Allocator + Copy> Rank<P, A> {
         Phase::Begun
     }
 
-    /// Begins a call of this rank, any but a declaration, to be taken step by step. It is no step.
+    /// Begins a call of this rank, any but a declaration, to be taken step by step. It is no step. The call makes as many steps as when
+    /// it is made whole, at most: with each step fewer are left.
     ///
     /// ```
     /// let asked = Call::IsRevoked {
@@ -48,6 +49,8 @@ impl<P: Packed, A: Allocator + Copy> Rank<P, A> {
         ensures first { result.phase ≡ (if self.now.refused then AtOver else AtBegun) }
         ensures stands { (alone : Bool) (name : Name) (before : Sight P) → IsOf P.meld name before → Fits P.meld name.limits before.seen self.now
             → Stands P.meld alone name self.now before result self.now before }
+        ensures bounded { length self.now.seen < self.now.limits.ranks
+            → steps_left self.now.limits self.now asked result.phase ≤ step_bound self.now.limits self.now asked }
     {
         Doing {
             asked,
@@ -158,8 +161,14 @@ impl<P: Packed, A: Allocator + Copy> Rank<P, A> {
         ensures ends { EndsReply P.meld W.alone (W.name world.now.words) asked self.old (W.sight pass.old) result self.new (W.sight pass.new) }
         ensures pending { result ≡ StillPending → IsAgreement (polled_by self.old asked)
             → EndsInMissing P.meld W.alone (W.name world.now.words) (comm_of asked) self.old (W.sight pass.old) self.new (W.sight pass.new) }
+        ensures steps { (W.sight pass.new).steps ≤ (W.sight pass.old).steps + step_bound (W.name world.now.words).limits self.old asked }
     {
         if self.is_refused() {
+            return Reply::Refused(Refusal::SelfFailed);
+        }
+        if self.has_seen_all() {
+            // It is one of them, and nothing is left to load.
+            self.refuse();
             return Reply::Refused(Refusal::SelfFailed);
         }
         let mut group = Vec::new(self.allocator());

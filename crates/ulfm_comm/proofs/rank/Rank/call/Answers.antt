@@ -1,7 +1,9 @@
-use Rattle.std.proofs.Common.{subst}
-use Rattle.ulfm_comm.specs.Phase.{Answered, NextIs}
+use Rattle.std.proofs.Common.{rules, ◌≡◌, false, arith, subst, sym, ◌∙◌}
+use Rattle.std.proofs.lemmas.Bool.{eqb-true}
+use Rattle.ulfm_comm.specs.{Phase.{Answered, NextIs}, StepsLeft.{Spends, steps_left}}
+use Rattle.ulfm_comm.proofs.{Look.{has_place_left, has_seen_all}, StepsLeft.{begun_bound}}
 use Rattle.ulfm_comm.proofs.rank.Rank.call.Goals as goal
-use Rattle.ulfm_comm.proofs.rank.Rank.call.Goals.{In-Ends}
+use Rattle.ulfm_comm.proofs.rank.Rank.call.Goals.{After-is_refused, In-Ends}
 
 pub go-requires-clause-stands : goal.go-requires-clause-stands
 go-requires-clause-stands g c = (c.args.self.now, g.W.Words.sight c.args.pass.now, c.loop-next.invariant.still)
@@ -15,3 +17,35 @@ answered g c =
 
 pub returns-in-Ends-clause-pending : goal.returns-in-Ends-clause-pending
 returns-in-Ends-clause-pending g c = (answered g (goal.at.returns-in-Ends-clause-pending g c).In-Ends).pending
+
+pub returns-in-Ends-clause-steps : goal.returns-in-Ends-clause-steps
+returns-in-Ends-clause-steps g c =
+    let name = g.W.Words.name c.args.world.now.words in
+    let now = g.W.Words.sight c.loop-next.pass in
+    let after = g.W.Words.sight c.go.new.pass in
+    let spends = subst (λ next. Spends (steps_left name.limits c.loop-next.self c.args.asked c.loop-next.phase) name.limits c.go.new.self c.args.asked next now after) c.in-Ends.is c.go.ensures.turn.spends in
+    omega (arith, spends, c.loop-next.invariant.spent)
+
+-- it wasn't refused before
+in_use : (g : _) (c : After-is_refused g) → c.is_refused.result ≡ false → c.args.self.now.refused ≡ false
+in_use g c is = sym c.is_refused.ensures ∙ is
+
+pub returns-then-has_seen_all-clause-ends : goal.returns-then-has_seen_all-clause-ends
+returns-then-has_seen_all-clause-ends g c =
+    let at = (goal.at.returns-then-has_seen_all-clause-ends g c).After-is_refused in
+    has_seen_all g.P.Meld.meld g.W.Words.alone (g.W.Words.name c.args.world.now.words) c.args.asked c.args.self.now c.refuse.new.self (g.W.Words.sight c.args.pass.now) c.requires.of c.requires.fits (in_use g at c.if-is_refused.false)
+    c.has_seen_all.ensures.below (eqb-true _ _ (sym c.has_seen_all.ensures.all ∙ c.if-has_seen_all.true)) c.refuse.ensures
+
+pub loop-next-init : goal.loop-next-init
+loop-next-init g c =
+    let at = (goal.at.loop-next-init g c).After-is_refused in
+    let name = g.W.Words.name c.args.world.now.words in
+    let now = g.W.Words.sight c.args.pass.now in
+    let more = has_place_left g.P.Meld.meld name c.args.self.now now c.requires.of c.requires.fits (sym c.has_seen_all.ensures.all ∙ c.if-has_seen_all.false) in
+    record {
+      of = c.requires.of;
+      stands = search rules;
+      still = search rules;
+      in_use = in_use g at c.if-is_refused.false;
+      spent = omega (arith, begun_bound name.limits c.args.self.now c.args.asked (in_use g at c.if-is_refused.false) more);
+    }

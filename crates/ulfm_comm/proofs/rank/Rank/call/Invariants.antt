@@ -1,6 +1,6 @@
-use Rattle.std.proofs.Common.{◌≡◌, false}
+use Rattle.std.proofs.Common.{◌≡◌, ◌+◌, ◌≤◌, false}
 use Rattle.ulfm_words.specs.Steps.{IsOf}
-use Rattle.ulfm_comm.specs.Phase.{Stands, left}
+use Rattle.ulfm_comm.specs.{Bound.{step_bound}, Phase.{Stands, left}, StepsLeft.{steps_left}}
 use Rattle.ulfm_comm.proofs.rank.Rank.call.Given as goal
 
 abbrev pub invariant-loop-next : goal.invariant-loop-next
@@ -9,6 +9,7 @@ invariant-loop-next g l = record {
   stands : Stands g.P.Meld.meld g.W.Words.alone (g.W.Words.name l.world.words) l.initial.self (g.W.Words.sight l.initial.pass) (record { asked = l.asked; phase = l.phase; group = l.group.items }) l.self (g.W.Words.sight l.pass);
   still : Stands g.P.Meld.meld false (g.W.Words.name l.world.words) l.initial.self (g.W.Words.sight l.initial.pass) (record { asked = l.asked; phase = l.phase; group = l.group.items }) l.self (g.W.Words.sight l.pass);
   in_use : l.initial.self.refused ≡ false;
+  spent : (g.W.Words.sight l.pass).steps + steps_left (g.W.Words.name l.world.words).limits l.self l.asked l.phase ≤ (g.W.Words.sight l.initial.pass).steps + step_bound (g.W.Words.name l.world.words).limits l.initial.self l.asked;
 }
 
 abbrev pub decreases-loop-next : goal.decreases-loop-next

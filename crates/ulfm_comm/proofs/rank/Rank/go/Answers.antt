@@ -9,6 +9,7 @@ returns-in-Over-clause-turn g c =
       walks = record { of = c.requires.of; own = []; did = did_none g.W.Words.alone (g.W.Words.sight c.args.pass.now).seen; onward = omega arith };
       named = λ not. refl;
       nearer = λ not. tt;
+      spends = omega arith;
       further = λ is. tt;
       adds = λ not. did_none g.W.Words.alone (g.W.Words.sight c.args.pass.now).seen;
       sees = refl;

@@ -22,6 +22,7 @@ returns g c =
           c.load_revocation.ensures.loads.of c.load_revocation.ensures.loads.steps c.load_revocation.ensures.loads.did;
       named = search rules;
       nearer = search rules;
+      spends = omega (arith, c.load_revocation.ensures.loads.steps);
       further = search rules;
       adds = search rules;
       sees = search rules;

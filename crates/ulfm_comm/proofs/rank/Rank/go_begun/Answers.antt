@@ -1,8 +1,10 @@
-use Rattle.std.proofs.Common.{rules, subst}
+use Rattle.std.proofs.Common.{rules, ◌≡◌, ◌≤◌, ap, arith, subst, ◌∙◌}
 use Rattle.ulfm_model.specs.Records.{Record}
-use Rattle.ulfm_comm.specs.Step.{Walks}
-use Rattle.ulfm_comm.proofs.Look.{begins_looking}
+use Rattle.ulfm_comm.specs.{Step.{Walks}, StepsLeft.{steps_left}}
+use Rattle.ulfm_comm.specs.declared.phases.phase.Phase.TheVariants.{Begun, Looking}
+use Rattle.ulfm_comm.proofs.{Look.{begins_looking}, StepsLeft.{fewer_more, resumed_left}}
 use Rattle.ulfm_comm.proofs.rank.Rank.go_begun.Goals as goal
+use Rattle.ulfm_comm.proofs.rank.Rank.go_begun.Goals.{After-resume}
 
 pub go_looking-requires-clause-stands : goal.go_looking-requires-clause-stands
 go_looking-requires-clause-stands g c =
@@ -13,9 +15,16 @@ go_looking-requires-clause-stands g c =
       (
         old,
         before,
-        begins_looking g.P.Meld.meld _ (g.W.Words.name c.args.world.now.words) c.args.asked.now old before p.0 c.args.self.now c.forget.new.self (g.W.Words.sight c.args.pass.now) c.requires.of c.forget.ensures p.1.2,
+        begins_looking g.P.Meld.meld _ (g.W.Words.name c.args.world.now.words) c.args.asked.now old before p.0 c.args.self.now c.resume.new.self (g.W.Words.sight c.args.pass.now) c.requires.of c.resume.ensures p.1.2,
       ),
     )
+
+-- it has as many steps left as before
+left : (g : _) (c : After-resume g) → steps_left (g.W.Words.name c.args.world.now.words).limits c.resume.new.self c.args.asked.now Looking ≤ steps_left (g.W.Words.name c.args.world.now.words).limits c.args.self.now c.args.asked.now Begun
+left g c =
+    let u = c.requires.stands.1.2 in
+    let ranks = ap (λ (w : Record). w.limits.ranks) u.at.1 ∙ ap (λ l. l.ranks) u.fits.same_limits in
+    resumed_left (g.W.Words.name c.args.world.now.words).limits c.args.self.now c.resume.new.self c.args.asked.now ranks (omega (arith, c.requires.of.may_open.in_range.some_ranks)) c.resume.ensures
 
 pub returns : goal.returns
 returns g c =
@@ -23,15 +32,17 @@ returns g c =
     let now = g.W.Words.sight c.args.pass.now in
     let after = g.W.Words.sight c.go_looking.new.pass in
     let t = c.go_looking.ensures group in
+    let fewer = left g (goal.at.returns g c).After-resume in
     record {
-      walks = subst (λ (w : Record). Walks g.P.Meld.meld g.W.Words.alone (g.W.Words.name c.args.world.now.words) w.number now after) c.forget.ensures t.walks;
+      walks = subst (λ (w : Record). Walks g.P.Meld.meld g.W.Words.alone (g.W.Words.name c.args.world.now.words) w.number now after) c.resume.ensures t.walks;
       named = t.named;
-      nearer = search rules;
+      nearer = λ single. fewer_more (g.W.Words.name c.args.world.now.words).limits c.go_looking.new.self c.args.asked.now _ _ fewer c.go_looking.result (t.nearer single);
+      spends = omega (arith, fewer, t.spends);
       further = search rules;
       adds = t.adds;
       sees = search rules;
       leads = search rules;
       turns = λ alone only old before u.
           t.turns alone only old before
-          (begins_looking g.P.Meld.meld alone (g.W.Words.name c.args.world.now.words) c.args.asked.now old before group c.args.self.now c.forget.new.self (g.W.Words.sight c.args.pass.now) c.requires.of c.forget.ensures u);
+          (begins_looking g.P.Meld.meld alone (g.W.Words.name c.args.world.now.words) c.args.asked.now old before group c.args.self.now c.resume.new.self (g.W.Words.sight c.args.pass.now) c.requires.of c.resume.ensures u);
     }

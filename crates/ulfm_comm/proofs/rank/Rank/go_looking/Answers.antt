@@ -1,11 +1,27 @@
-use Rattle.std.proofs.Common.{rules, ◌≡◌, arith, subst, [], true, ap, ap₂, sym, ◌∙◌}
+use Rattle.std.proofs.Common.{rules, ◌≡◌, ◌+◌, ◌≤◌, arith, subst, [], true, false, ap, ap₂, sym, ◌∙◌}
 use Rattle.ulfm_model.specs.{History.{failures, has}, Records.{Record}}
 use mathlib.Core.List.{IsPrefix}
 use Rattle.ulfm_model.proofs.{Histories.{failures_begin}, Lists.{length_prefix, prefix_trans}}
 use Rattle.ulfm_words.proofs.Trails.{did_prefix, did_wait}
-use Rattle.ulfm_comm.proofs.StepsLeft.{fewer_more, looks_up}
+use Rattle.ulfm_steps.specs.Looks.{looks_left}
+use Rattle.ulfm_comm.specs.StepsLeft.{FewerLeft, Spends, steps_left, with_look}
+use Rattle.ulfm_comm.specs.declared.{phases.phase.Next.{Next}, phases.phase.Next.TheVariants.{Ends}, phases.phase.Phase.TheVariants.{Looking}}
+use Rattle.ulfm_model.specs.declared.{refusal.Refusal.TheVariants.{SelfFailed}, reply.Reply.TheVariants.{Refused}}
+use Rattle.ulfm_comm.proofs.StepsLeft.{fewer_more, looks_on, looks_over, looks_up}
 use Rattle.ulfm_comm.proofs.{Look.{just_declared}, AmongOthers.{did_loosely}}
 use Rattle.ulfm_comm.proofs.rank.Rank.go_looking.Goals as goal
+use Rattle.ulfm_comm.proofs.rank.Rank.go_looking.Goals.{After-look_on}
+
+-- the look has ended: the loads that it has saved are left for what comes next
+ends_look : (g : _) (c : After-look_on g) → c.look_on.result ≡ true → (new : Record) (next : Next g.row.P.Denot)
+    → FewerLeft (with_look (g.W.Words.name c.args.world.now.words).limits c.look_on.new.self c.args.asked.now) (g.W.Words.name c.args.world.now.words).limits new c.args.asked.now next
+    → Spends (steps_left (g.W.Words.name c.args.world.now.words).limits c.args.self.now c.args.asked.now Looking) (g.W.Words.name c.args.world.now.words).limits new c.args.asked.now next (g.W.Words.sight c.args.pass.now) (g.W.Words.sight c.look_on.new.pass)
+ends_look g c done new next fewer =
+    let limits = (g.W.Words.name c.args.world.now.words).limits in
+    let now = g.W.Words.sight c.args.pass.now in
+    let after = g.W.Words.sight c.look_on.new.pass in
+    looks_over limits c.args.self.now c.look_on.new.self c.args.asked.now c.look_on.ensures.kept now after
+    (subst (λ b. after.steps + looks_left limits b c.look_on.new.self.seen ≤ now.steps + looks_left limits false c.args.self.now.seen) done c.look_on.ensures.takes.turns) new next fewer
 
 pub returns-then-not-look_on : goal.returns-then-not-look_on
 returns-then-not-look_on g c =
@@ -14,6 +30,8 @@ returns-then-not-look_on g c =
       walks = search rules;
       named = search rules;
       nearer = search rules;
+      spends = looks_on (g.W.Words.name c.args.world.now.words).limits c.args.self.now c.look_on.new.self c.args.asked.now c.look_on.ensures.kept (g.W.Words.sight c.args.pass.now).steps (g.W.Words.sight c.look_on.new.pass).steps
+          (subst (λ done. (g.W.Words.sight c.look_on.new.pass).steps + looks_left (g.W.Words.name c.args.world.now.words).limits done c.look_on.new.self.seen ≤ (g.W.Words.sight c.args.pass.now).steps + looks_left (g.W.Words.name c.args.world.now.words).limits false c.args.self.now.seen) c.if-not-look_on.true c.look_on.ensures.takes.turns);
       further = search rules;
       adds = search rules;
       sees = search rules;
@@ -38,6 +56,7 @@ returns-then-has_rank g c =
       walks = search rules;
       named = search rules;
       nearer = search rules;
+      spends = ends_look g (goal.at.returns-then-has_rank g c).After-look_on c.if-not-look_on.false c.refuse.new.self (Ends (Refused SelfFailed)) tt;
       further = search rules;
       adds = search rules;
       sees = search rules;
@@ -73,6 +92,7 @@ returns g c =
           let begins = subst (IsPrefix own.seen) (sym found) (prefix_trans own.seen (failures now.seen) (failures after.seen) at.3.0 grown) in
           fewer_more name.limits c.looked.new.self c.args.asked.now _ _
           (looks_up name.limits own new c.args.asked.now c.look_on.ensures.kept at.3.1 (length_prefix own.seen new.seen begins)) c.looked.result c.looked.ensures.nearer;
+      spends = ends_look g (goal.at.returns g c).After-look_on c.if-not-look_on.false c.looked.new.self c.looked.result c.looked.ensures.nearer;
       further = search rules;
       adds = search rules;
       sees = search rules;

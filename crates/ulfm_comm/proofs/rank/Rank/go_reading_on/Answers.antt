@@ -63,6 +63,7 @@ returns-then-on-made g c =
           record { of = goes.of; own = []; did = goes.did; onward = goes.onward };
       named = search rules;
       nearer = search rules;
+      spends = search rules;
       further = search rules;
       adds = search rules;
       sees = search rules;
@@ -83,6 +84,7 @@ returns g c =
           record { of = goes.of; own = []; did = goes.did; onward = goes.onward };
       named = search rules;
       nearer = search rules;
+      spends = search rules;
       further = search rules;
       adds = search rules;
       sees = search rules;

@@ -77,6 +77,7 @@ ends g c reply is = λ group whole.
           c.contribute-settled.ensures.of c.contribute-settled.ensures.one.steps c.args.self.now c.held_comm-x.result.now c.args.offer c.contribute-settled.result refl c.contribute-settled.ensures.settles;
       named = λ not. named g c;
       nearer = λ not. tt;
+      spends = omega (arith, c.contribute-settled.ensures.one.steps);
       further = search rules;
       adds = λ not. subst (λ r. Adds g.W.Words.alone c.args.self.now.seen c.args.self.now c.args.asked.now (Some r) (g.W.Words.sight c.args.pass.now).seen (g.W.Words.sight c.contribute-settled.new.pass).seen) is (adds g c);
       sees = ap (λ (w : Record). w.seen) c.end_start.ensures.leaves ∙ start_keeps c.args.self.now _ c.args.request c.contribute-settled.result;

@@ -36,7 +36,7 @@ waits : (g : _) (c : After-advance g) (next : Next g.row.P.Denot) → (c.args.wh
     → ((group : List ℕ) → Turns g.P.Meld.meld g.W.Words.alone (g.W.Words.name c.args.world.now.words) c.args.asked.now (Waiting c.args.arrivals) group c.args.self.now (g.W.Words.sight c.args.pass.now) next group c.args.self.now (g.W.Words.sight c.advance.new.pass))
     → (group : List ℕ) → TakesTurn g.P.Meld.meld g.W.Words.alone c.args.whole (g.W.Words.name c.args.world.now.words) c.args.asked.now (Waiting c.args.arrivals) group c.args.self.now (g.W.Words.sight c.args.pass.now) next group c.args.self.now (g.W.Words.sight c.advance.new.pass)
 waits g c next nearer further leads turns = λ group.
-    record { walks = search rules; named = search rules; nearer = nearer; further = further; adds = search rules; sees = refl; leads = leads; turns = turns group }
+    record { walks = search rules; named = search rules; nearer = nearer; spends = search rules; further = further; adds = search rules; sees = refl; leads = leads; turns = turns group }
 
 pub returns-in-None-clause-turn : goal.returns-in-None-clause-turn
 returns-in-None-clause-turn g c = waits g (goal.at.returns-in-None-clause-turn g c).After-advance _ (search rules) (search rules) (search rules) (λ group alone only old before stands.

@@ -5,7 +5,8 @@ use Rattle.ulfm_model.specs.{Answers.{first_refusal}, History.{has}, Records.{He
 use Rattle.ulfm_model.specs.Terms.{comm_of, tests_of}
 use Rattle.ulfm_model.proofs.Marking.{failed_few}
 use Rattle.ulfm_words.specs.Steps.{Sight}
-use Rattle.ulfm_comm.specs.{Phase.{Answered}, Look.{HasLooked, JustLooked}}
+use Rattle.ulfm_comm.specs.{Phase.{Answered}, Look.{HasLooked, JustLooked}, StepsLeft.{behind_look}}
+use Rattle.ulfm_comm.proofs.StepsLeft.{one_left}
 use Rattle.ulfm_comm.proofs.Look.{just_acked, just_counted, just_fits, just_freed, just_passed, own_barrier, own_question, own_revoke, starts_agree, starts_shrink}
 use Rattle.ulfm_comm.proofs.Holding.{group_rises}
 use Rattle.ulfm_comm.proofs.rank.Rank.passed.Goals as goal
@@ -102,3 +103,18 @@ overflow_cast-count g c =
     let ranks = c.requires.of.may_open.in_range.ranks in
     let small : c.count_in-count.result ≤ 1024 = omega (arith, few, is, ranks) in
     search rules
+
+pub returns-in-Agree-clause-nearer : goal.returns-in-Agree-clause-nearer
+returns-in-Agree-clause-nearer g c = one_left (g.W.Words.name c.args.world.now.words).limits c.args.self.now c.args.asked.now c.requires.passes (ap (behind_look (g.W.Words.name c.args.world.now.words).limits c.args.self.now) c.in-Agree.is)
+
+pub returns-in-Shrink-clause-nearer : goal.returns-in-Shrink-clause-nearer
+returns-in-Shrink-clause-nearer g c = one_left (g.W.Words.name c.args.world.now.words).limits c.args.self.now c.args.asked.now c.requires.passes (ap (behind_look (g.W.Words.name c.args.world.now.words).limits c.args.self.now) c.in-Shrink.is)
+
+pub returns-in-Barrier-clause-nearer : goal.returns-in-Barrier-clause-nearer
+returns-in-Barrier-clause-nearer g c = one_left (g.W.Words.name c.args.world.now.words).limits c.args.self.now c.args.asked.now c.requires.passes (ap (behind_look (g.W.Words.name c.args.world.now.words).limits c.args.self.now) c.in-Barrier.is)
+
+pub returns-in-Revoke-clause-nearer : goal.returns-in-Revoke-clause-nearer
+returns-in-Revoke-clause-nearer g c = one_left (g.W.Words.name c.args.world.now.words).limits c.args.self.now c.args.asked.now c.requires.passes (ap (behind_look (g.W.Words.name c.args.world.now.words).limits c.args.self.now) c.in-Revoke.is)
+
+pub returns-in-IsRevoked-clause-nearer : goal.returns-in-IsRevoked-clause-nearer
+returns-in-IsRevoked-clause-nearer g c = one_left (g.W.Words.name c.args.world.now.words).limits c.args.self.now c.args.asked.now c.requires.passes (ap (behind_look (g.W.Words.name c.args.world.now.words).limits c.args.self.now) c.in-IsRevoked.is)

@@ -46,8 +46,11 @@ returns-clause-at g c = λ x held.
 
 pub invariant_of-self : goal.invariant_of-self
 invariant_of-self g c =
-    let was = c.self.invariant in
-    record { may_open = was.may_open; room = omega (arith, was.room, c.advance.ensures.room); enough = was.enough; ids = was.ids; contexts = was.contexts }
+    let was = c.self.invariant.room in
+    record {
+      below = c.self.invariant.below;
+      room = record { may_open = was.may_open; room = omega (arith, was.room, c.advance.ensures.room); enough = was.enough; ids = was.ids; contexts = was.contexts };
+    }
 
 pub returns-clause-goes : goal.returns-clause-goes
 returns-clause-goes g c = c.advance.ensures.goes

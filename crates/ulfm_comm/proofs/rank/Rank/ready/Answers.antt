@@ -1,7 +1,7 @@
 use Rattle.std.proofs.Common.{◌≡◌, ◌<◌, false, length, ap, sym, ◌∙◌, subst, arith}
 use Rattle.std.specs.List.Sorted.{IsStrictlyIncreasing}
 use Rattle.ulfm_model.specs.Records.{Fits, Held, held_at}
-use Rattle.ulfm_comm.proofs.StepsLeft.{marking_after, reading_after, waiting_after}
+use Rattle.ulfm_comm.proofs.StepsLeft.{marking_after, passes_none, reading_after, waiting_after}
 use Rattle.ulfm_comm.proofs.{Holding.{group_rises, holds}, Ready.{just_fits, ready_marking, ready_reading, ready_waiting}, Agreement.{some_member}}
 use Rattle.ulfm_comm.proofs.rank.Rank.ready.Goals as goal
 use Rattle.ulfm_comm.proofs.rank.Rank.ready.Goals.{After-held_comm-x, After-deref, After-deref-2}
@@ -65,7 +65,7 @@ returns-in-Some-clause-nearer g c =
     let name = g.W.Words.name c.args.world.now.words in
     let polls = c.requires.polls in
     let held = ap (held_at c.args.self.now) (sym c.comm_of-comm.ensures) ∙ c.held_comm-x.ensures in
-    waiting_after name.limits c.args.self.now c.args.asked.now g.P.Meld.meld (g.W.Words.sight c.args.pass.now).seen c.requires.of.legal (fits g (goal.at.returns-in-Some-clause-nearer g c).After-held_comm-x).seen c.requires.of.may_open.in_range.some_comms
+    waiting_after name.limits c.args.self.now c.args.asked.now g.P.Meld.meld (g.W.Words.sight c.args.pass.now).seen c.requires.of.legal (fits g (goal.at.returns-in-Some-clause-nearer g c).After-held_comm-x).seen c.requires.of.may_open.in_range.some_comms (passes_none c.args.self.now c.args.asked.now c.requires.passes)
     polls.0 polls.1 c.held_comm-x.result.now polls.2 held c.in-Some.round c.new-arrivals.result (sym (ap (λ (y : Held). y.request) c.x.view_is) ∙ c.in-Some.ensures)
 
 pub returns-then-marks-seen-clause-nearer : goal.returns-then-marks-seen-clause-nearer
@@ -73,7 +73,7 @@ returns-then-marks-seen-clause-nearer g c =
     let name = g.W.Words.name c.args.world.now.words in
     let polls = c.requires.polls in
     let held = ap (held_at c.args.self.now) (sym c.comm_of-comm.ensures) ∙ c.held_comm-x.ensures in
-    marking_after name.limits c.args.self.now c.args.asked.now g.P.Meld.meld (g.W.Words.sight c.args.pass.now).seen c.requires.of.legal (fits g (goal.at.returns-then-marks-seen-clause-nearer g c).After-held_comm-x).seen c.requires.of.may_open.in_range.some_comms
+    marking_after name.limits c.args.self.now c.args.asked.now g.P.Meld.meld (g.W.Words.sight c.args.pass.now).seen c.requires.of.legal (fits g (goal.at.returns-then-marks-seen-clause-nearer g c).After-held_comm-x).seen c.requires.of.may_open.in_range.some_comms (passes_none c.args.self.now c.args.asked.now c.requires.passes)
     polls.0 polls.1 c.held_comm-x.result.now polls.2 held c.in-Some-agreement.round c.in-Some-agreement.shrinks c.new-marks.result (sym (ap (λ (y : Held). y.request) c.x.view_is) ∙ c.in-Some-agreement.ensures)
 
 pub returns-clause-nearer : goal.returns-clause-nearer
@@ -81,5 +81,5 @@ returns-clause-nearer g c =
     let name = g.W.Words.name c.args.world.now.words in
     let polls = c.requires.polls in
     let held = ap (held_at c.args.self.now) (sym c.comm_of-comm.ensures) ∙ c.held_comm-x.ensures in
-    reading_after name.limits c.args.self.now c.args.asked.now g.P.Meld.meld (g.W.Words.sight c.args.pass.now).seen c.requires.of.legal (fits g (goal.at.returns-clause-nearer g c).After-held_comm-x).seen c.requires.of.may_open.in_range.some_comms
+    reading_after name.limits c.args.self.now c.args.asked.now g.P.Meld.meld (g.W.Words.sight c.args.pass.now).seen c.requires.of.legal (fits g (goal.at.returns-clause-nearer g c).After-held_comm-x).seen c.requires.of.may_open.in_range.some_comms (passes_none c.args.self.now c.args.asked.now c.requires.passes)
     polls.0 polls.1 c.held_comm-x.result.now polls.2 held c.in-Some-agreement.round c.in-Some-agreement.shrinks c.new.result (sym (ap (λ (y : Held). y.request) c.x.view_is) ∙ c.in-Some-agreement.ensures)

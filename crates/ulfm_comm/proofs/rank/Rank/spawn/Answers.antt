@@ -58,7 +58,7 @@ overflow_add-number g c =
 pub take_in-requires : goal.take_in-requires
 take_in-requires g c =
     let fresh = subst (λ (own : Record). AllByRecursion (λ i. nat_eq i c.args.context ≡ false) (contexts_of own.held)) (sym c.self.view_is) c.requires.holds.fresh in
-    let left = room_left _ _ _ c.args.context c.self.inside.held.items c.self.invariant c.requires.holds.id fresh in
+    let left = room_left _ _ _ c.args.context c.self.inside.held.items c.self.invariant.room c.requires.holds.id fresh in
     omega (arith, left, c.self.inside.held.ok.0)
 
 -- what is held afterwards
@@ -68,8 +68,11 @@ items_are g c = c.take_in.ensures.items ∙ (ap (λ made. change_at c.args.comm 
 pub invariant_of-self : goal.invariant_of-self
 invariant_of-self g c =
     let fresh = subst (λ (own : Record). AllByRecursion (λ i. nat_eq i c.args.context ≡ false) (contexts_of own.held)) (sym c.self.view_is) c.requires.holds.fresh in
-    room_pushed _ _ _ _ c.args.comm (λ y. record y { request = None }) (new_held (c.in-Some-place_in.index + 1) c.args.context c.args.group.now.items) c.self.inside.held.items c.take_in.new.held.items c.self.invariant (λ y. refl)
-    c.requires.holds.id fresh (items_are g (goal.at.invariant_of-self g c).After-take_in) c.take_in.ensures.room
+    record {
+      below = c.self.invariant.below;
+      room = room_pushed _ _ _ _ c.args.comm (λ y. record y { request = None }) (new_held (c.in-Some-place_in.index + 1) c.args.context c.args.group.now.items) c.self.inside.held.items c.take_in.new.held.items c.self.invariant.room (λ y. refl)
+          c.requires.holds.id fresh (items_are g (goal.at.invariant_of-self g c).After-take_in) c.take_in.ensures.room;
+    }
 
 pub returns-clause-spawns : goal.returns-clause-spawns
 returns-clause-spawns g c = λ k is.

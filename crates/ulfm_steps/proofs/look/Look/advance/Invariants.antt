@@ -18,6 +18,9 @@ invariant-loop-self g l = record {
   length : l.whole ≡ false → vec_len l.found ≡ vec_len l.initial.found;
   going : l.whole ≡ false → l.self.done ≡ false;
   bound : (g.W.Words.sight l.pass).steps + vec_len l.initial.found ≤ (g.W.Words.sight l.initial.pass).steps + (g.W.Words.name l.words).limits.ranks;
+  saved : l.self.done ≡ true
+      → (g.W.Words.sight l.pass).steps + ((g.W.Words.name l.words).limits.ranks - vec_len l.found - 1) + vec_len l.initial.found
+      ≤ (g.W.Words.sight l.initial.pass).steps + (g.W.Words.name l.words).limits.ranks;
 }
 
 abbrev pub decreases-loop-self : goal.decreases-loop-self
