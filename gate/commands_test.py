@@ -247,7 +247,7 @@ def limits_of_guide(text):
 def of_readme(text):
     """The verbs, the ranges of a world and the statuses that README has in a line or two each."""
     plain = " ".join(text.replace(",", "").split())
-    verbs = re.search(r"Its verbs are ((?:`[a-z]+` )+and `[a-z]+`)", plain)
+    verbs = re.search(r"A script's verbs are ((?:`[a-z]+` )+and `[a-z]+`)", plain)
     ranges = re.search(r"a world has (\d+ to \d+) ranks (\d+ to \d+) communicators and (\d+ to \d+) rounds", plain)
     statuses = re.search(r"The exit status is (.*?)\.(?: |$)", plain)
     return (
