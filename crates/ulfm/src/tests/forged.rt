@@ -151,7 +151,7 @@ fn put_changed(text: &mut Vec<u8>, line: &[u8], change: Change) -> Result<(), Fa
 fn changed(alloc: Global, text: &str, number: usize, change: Change) -> Result<Vec<u8>, Fail> {
     let mut forged = Vec::new(alloc);
     for (at, line) in text.lines().enumerate() {
-        if at + 1 == number {
+        if at.wrapping_add(1) == number {
             put_changed(&mut forged, line.as_bytes(), change)?;
         } else {
             put_line(&mut forged, line.as_bytes())?;

@@ -1,0 +1,138 @@
+#!/usr/bin/env python3
+"""Holds the built program to its memory: a line of a gigabyte, and a race whose memory is refused.
+
+A line of 1,000,000,000 letters, in a script of calls, a script of steps and a trace, is found too long within 32 MB in all, with nothing printed but
+what the lines before print. And each allocation of a race is refused in turn, by a `malloc` of this test that is loaded before the C library's:
+that one alone, and with all behind it. Each such race ends within a minute, tells that it is out of memory and prints nothing, or had
+asked for less and prints the race's lines; up to a race in which none is refused.
+
+    gate/memory_test.py [PROGRAM]      the last line is 'N passed, M failed'
+"""
+import os
+import resource
+import subprocess
+import sys
+import tempfile
+
+HERE = os.path.dirname(os.path.dirname(os.path.abspath(__file__)))
+PROGRAM = sys.argv[1] if sys.argv[1:] else os.path.join(HERE, "crates/ulfm/out/ulfm")
+LETTERS = 1_000_000_000
+MOST = 32 << 20
+LONG = (
+    ("run", ["run"], b"ulfm 1 3 1 4\n", b"", b"ulfm: line 2: long\n", 1),
+    ("run --steps", ["run", "--steps"], b"ulfm-steps 1 3 1 4\n", b"ulfm-trace 1 3 1 4\n", b"ulfm: line 2: long\n", 1),
+    ("check", ["check"], b"ulfm-trace 1 3 1 4\n", b"illegal line 2 text\n", b"", 1),
+)
+RACE = ["race", "--ranks", "3", "--rounds", "2"]
+LINES = b"round 0 agreed fffffff8 failed 0 clean\nround 1 agreed fffffff1 failed 0 clean\nshrunk 1 context 1 members 0 1 2\n"
+REFUSING = r"""
+#include <stdatomic.h>
+#include <stdlib.h>
+#include <string.h>
+#include <unistd.h>
+extern void *__libc_malloc(size_t), *__libc_calloc(size_t, size_t), *__libc_realloc(void *, size_t), *__libc_memalign(size_t, size_t);
+static atomic_long asked;
+static long from, to;
+__attribute__((constructor)) static void begin(void) {
+    from = atol(getenv("REFUSE_FROM")), to = atol(getenv("REFUSE_TO"));
+    atomic_store(&asked, 0);
+}
+static int refused(void) {
+    long number = atomic_fetch_add(&asked, 1) + 1;
+    return from && number >= from && number <= to;
+}
+__attribute__((destructor)) static void end(void) {
+    char told[32];
+    long number = atomic_load(&asked), length = 0;
+    for (long left = number; length == 0 || left; left /= 10) told[31 - length++] = '0' + left % 10;
+    (void)!write(atoi(getenv("REFUSE_TELL")), told + 32 - length, length);
+}
+void *malloc(size_t size) { return refused() ? NULL : __libc_malloc(size); }
+void *calloc(size_t count, size_t size) { return refused() ? NULL : __libc_calloc(count, size); }
+void *realloc(void *block, size_t size) { return refused() ? NULL : __libc_realloc(block, size); }
+void *aligned_alloc(size_t align, size_t size) { return refused() ? NULL : __libc_memalign(align, size); }
+int posix_memalign(void **block, size_t align, size_t size) { return (*block = refused() ? NULL : __libc_memalign(align, size)) ? 0 : 12; }
+"""
+
+
+def fed(process, header):
+    """Writes the header and the long line, as long as the program takes it."""
+    piece = b"x" * (1 << 20)
+    try:
+        process.stdin.write(header)
+        for _ in range(LETTERS // len(piece)):
+            process.stdin.write(piece)
+        process.stdin.write(b"x" * (LETTERS % len(piece)) + b"\n")
+        process.stdin.close()
+    except BrokenPipeError:
+        return False
+    return True
+
+
+def long_line(words, header, output, errors, status):
+    """What is wrong with a run on a long line, or None."""
+    with tempfile.TemporaryFile() as out, tempfile.TemporaryFile() as err:
+        limit = lambda: resource.setrlimit(resource.RLIMIT_DATA, (MOST, MOST))
+        process = subprocess.Popen([PROGRAM, *words], stdin=subprocess.PIPE, stdout=out, stderr=err, preexec_fn=limit)
+        is_read = fed(process, header)
+        _, ended, used = os.wait4(process.pid, 0)
+        process.returncode = os.waitstatus_to_exitcode(ended)
+        out.seek(0), err.seek(0)
+        said = (out.read(), err.read(), process.returncode)
+    if said != (output, errors, status):
+        return f"ends as {said}"
+    if used.ru_maxrss * 1024 > MOST:
+        return f"held {used.ru_maxrss} KB"
+    return None if is_read else "didn't read its line"
+
+
+def raced(library, first, last):
+    """A race in which these allocations are refused: how it ended, and how many were asked for."""
+    told, tell = os.pipe()
+    environment = {"LD_PRELOAD": library, "REFUSE_FROM": str(first), "REFUSE_TO": str(last), "REFUSE_TELL": str(tell)}
+    try:
+        ran = subprocess.run([PROGRAM, *RACE], env=environment, pass_fds=[tell], stdin=subprocess.DEVNULL, capture_output=True, timeout=60)
+    finally:
+        os.close(tell)
+        count = os.read(told, 32)
+        os.close(told)
+    return (ran.stdout, ran.stderr, ran.returncode), int(count or 0)
+
+
+def refused_races(library):
+    """What is wrong with races whose memory is refused, or None."""
+    memory, whole = (b"", b"ulfm: out of memory\n", 3), (LINES, b"", 0)
+    for number in range(1, 10000):
+        (alone, _), (all_behind, asked) = raced(library, number, number), raced(library, number, 1 << 60)
+        if asked < number:
+            return None if alone == all_behind == whole and number > 1 else f"ends with none refused as {alone} and {all_behind}"
+        if alone not in (memory, whole):
+            return f"ends with allocation {number} refused as {alone}"
+        if all_behind != memory:
+            return f"ends with allocation {number} and all behind it refused as {all_behind}"
+    return "is refused memory each time"
+
+
+def refusing_library(folder):
+    """The library that refuses, made by the C compiler that there is."""
+    source, library = os.path.join(folder, "refusing.c"), os.path.join(folder, "refusing.so")
+    with open(source, "w", encoding="utf-8") as it:
+        it.write(REFUSING)
+    subprocess.run([os.environ.get("CC", "cc"), "-shared", "-fPIC", "-O1", "-o", library, source], check=True)
+    return library
+
+
+def main():
+    faults = {f"a long line in {name}": long_line(*row) for name, *row in LONG}
+    with tempfile.TemporaryDirectory() as folder:
+        faults["a race that is refused memory"] = refused_races(refusing_library(folder))
+    for name, fault in faults.items():
+        if fault:
+            print(f"{name} {fault}")
+    failed = sum(fault is not None for fault in faults.values())
+    print(f"{len(faults) - failed} passed, {failed} failed")
+    return int(failed > 0)
+
+
+if __name__ == "__main__":
+    raise SystemExit(main())
