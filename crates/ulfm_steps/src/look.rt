@@ -1,5 +1,5 @@
-// A look at the list of failures, from its start to its first empty place. What it has found begins the list from the load
-// on that found it; at its end the list is that and no more.
+// A look at the list of failures, from behind what was found of it before to its first empty place, or its last one. What it has found
+// begins the list from the load on that found it; at its end the list is that and no more.
 ghost use Rattle.std.specs.Prelude.{◌≡◌, ◌+◌, ◌<◌, ◌≤◌, [], false, true, vec_capacity, vec_len, if◌then◌else◌};
 ghost use Rattle.ulfm_model.specs.History.{failures};
 ghost use Rattle.ulfm_words.specs.Steps.{IsOf, Goes};
