@@ -1,10 +1,11 @@
 #!/usr/bin/env python3
-"""Holds the built program to its memory: a line of a gigabyte, and a race whose memory is refused.
+"""Holds the built program to its memory: a line of a gigabyte, and runs whose memory is refused.
 
 A line of 1,000,000,000 letters, in a script of calls, a script of steps and a trace, is found too long within 32 MB in all, with nothing printed but
-what the lines before print. And each allocation of a race is refused in turn, by a `malloc` of this test that is loaded before the C library's:
-that one alone, and with all behind it. Each such race ends within a minute, tells that it is out of memory and prints nothing, or had
-asked for less and prints the race's lines; up to a race in which none is refused.
+what the lines before print. And each allocation of a run is refused in turn, by a `malloc` of this test that is loaded before the C library's:
+that one alone, and with all behind it; of scripts, a trace and a race of threads. Each such run ends within a minute, tells that it is out of memory and
+has printed a beginning of its output, of a verdict or a race nothing; or, where one alone was refused, it had asked for less and prints all. The last
+run is one in which none is refused.
 
     gate/memory_test.py [PROGRAM]      the last line is 'N passed, M failed'
 """
@@ -23,8 +24,13 @@ LONG = (
     ("run --steps", ["run", "--steps"], b"ulfm-steps 1 3 1 4\n", b"ulfm-trace 1 3 1 4\n", b"ulfm: line 2: long\n", 1),
     ("check", ["check"], b"ulfm-trace 1 3 1 4\n", b"illegal line 2 text\n", b"", 1),
 )
-RACE = ["race", "--ranks", "3", "--rounds", "2"]
-LINES = b"round 0 agreed fffffff8 failed 0 clean\nround 1 agreed fffffff1 failed 0 clean\nshrunk 1 context 1 members 0 1 2\n"
+RACE = b"round 0 agreed fffffff8 failed 0 clean\nround 1 agreed fffffff1 failed 0 clean\nshrunk 1 context 1 members 0 1 2\n"
+REFUSED = (
+    *((["run"], f"{name}.ulfm") for name in ("one_rank", "shrinks_keep_order", "acknowledgements_count", "refusals_in_order")),
+    (["run", "--steps"], "contribution_in_flight.steps"),
+    (["check"], "trace_judged_a.trace"),
+    (["race", "--ranks", "3", "--rounds", "2"], None),
+)
 REFUSING = r"""
 #include <stdatomic.h>
 #include <stdlib.h>
@@ -86,29 +92,39 @@ def long_line(words, header, output, errors, status):
     return None if is_read else "didn't read its line"
 
 
-def raced(library, first, last):
-    """A race in which these allocations are refused: how it ended, and how many were asked for."""
+def ran(library, words, text, first, last):
+    """A run in which these allocations are refused: how it ended, and how many were asked for."""
     told, tell = os.pipe()
     environment = {"LD_PRELOAD": library, "REFUSE_FROM": str(first), "REFUSE_TO": str(last), "REFUSE_TELL": str(tell)}
     try:
-        ran = subprocess.run([PROGRAM, *RACE], env=environment, pass_fds=[tell], stdin=subprocess.DEVNULL, capture_output=True, timeout=60)
+        done = subprocess.run([PROGRAM, *words], env=environment, pass_fds=[tell], input=text, capture_output=True, timeout=60)
     finally:
         os.close(tell)
         count = os.read(told, 32)
         os.close(told)
-    return (ran.stdout, ran.stderr, ran.returncode), int(count or 0)
+    return (done.stdout, done.stderr, done.returncode), int(count or 0)
 
 
-def refused_races(library):
-    """What is wrong with races whose memory is refused, or None."""
-    memory, whole = (b"", b"ulfm: out of memory\n", 3), (LINES, b"", 0)
+def is_refused(said, words, output):
+    """Whether memory is told, and a beginning of the output was written, of a verdict or a race nothing."""
+    return said[1:] == (b"ulfm: out of memory\n", 3) and output.startswith(said[0]) and not (said[0] and words[0] in ("check", "race"))
+
+
+def refused(library, words, name):
+    """What is wrong with runs whose memory is refused, or None."""
+    text, output = b"", RACE
+    if name:
+        example = os.path.join(HERE, "examples", name)
+        with open(example, "rb") as it, open(os.path.splitext(example)[0] + ".out", "rb") as of:
+            text, output = it.read(), of.read()
+    whole = (output, b"", 0)
     for number in range(1, 10000):
-        (alone, _), (all_behind, asked) = raced(library, number, number), raced(library, number, 1 << 60)
+        (alone, _), (all_behind, asked) = (ran(library, words, text, number, last) for last in (number, 1 << 60))
         if asked < number:
             return None if alone == all_behind == whole and number > 1 else f"ends with none refused as {alone} and {all_behind}"
-        if alone not in (memory, whole):
+        if alone != whole and not is_refused(alone, words, output):
             return f"ends with allocation {number} refused as {alone}"
-        if all_behind != memory:
+        if not is_refused(all_behind, words, output):
             return f"ends with allocation {number} and all behind it refused as {all_behind}"
     return "is refused memory each time"
 
@@ -125,10 +141,12 @@ def refusing_library(folder):
 def main():
     faults = {f"a long line in {name}": long_line(*row) for name, *row in LONG}
     with tempfile.TemporaryDirectory() as folder:
-        faults["a race that is refused memory"] = refused_races(refusing_library(folder))
+        library = refusing_library(folder)
+        for words, name in REFUSED:
+            faults[f"memory refused to {name or 'a race'}"] = refused(library, words, name)
     for name, fault in faults.items():
         if fault:
-            print(f"{name} {fault}")
+            print(f"{name}: {fault}")
     failed = sum(fault is not None for fault in faults.values())
     print(f"{len(faults) - failed} passed, {failed} failed")
     return int(failed > 0)

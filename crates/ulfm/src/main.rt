@@ -3,21 +3,28 @@
 
 mod program;
 
-use program::answer;
-use std::io::IsTerminal;
+use program::{Unread, answer, tell_unread};
+use std::alloc::Global;
+use std::io::{ErrorKind, IsTerminal};
 use std::process::ExitCode;
 use std::{env, io};
 
 #[cfg(test)]
 mod tests;
 
-fn main(rt: HostRuntime) -> io::Result<ExitCode> {
+fn main(rt: HostRuntime) -> ExitCode {
     let alloc = rt.alloc();
-    let owned: Vec<String> = env::args(&rt)?.collect(alloc)?;
-    let words: Vec<&str> = owned.iter().map(|word| word.as_str()).collect(alloc)?;
+    let mut errors = rt.stderr();
+    let owned = match read_args(alloc, env::args(&rt)) {
+        Ok(owned) => owned,
+        Err(fault) => return ExitCode::from(tell_unread(fault, &mut errors)),
+    };
+    let words: Vec<&str> = match owned.iter().map(|word| word.as_str()).collect(alloc) {
+        Ok(words) => words,
+        Err(_) => return ExitCode::from(tell_unread(Unread::Memory, &mut errors)),
+    };
     let mut input = rt.stdin();
     let mut output = rt.stdout();
-    let mut errors = rt.stderr();
     let explains = errors.is_terminal();
     let status = answer(
         &rt,
@@ -29,5 +36,17 @@ fn main(rt: HostRuntime) -> io::Result<ExitCode> {
         &mut errors,
         explains,
     );
-    Ok(ExitCode::from(status))
+    ExitCode::from(status)
+}
+
+/// The words of the command line, the program's own name first.
+fn read_args(alloc: Global, args: io::Result<env::Args>) -> Result<Vec<String>, Unread> {
+    match args {
+        Ok(args) => match args.collect(alloc) {
+            Ok(owned) => Ok(owned),
+            Err(_) => Err(Unread::Memory),
+        },
+        Err(error) if error.kind() == ErrorKind::OutOfMemory => Err(Unread::Memory),
+        Err(_) => Err(Unread::NoText),
+    }
 }

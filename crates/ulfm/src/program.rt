@@ -4,6 +4,7 @@ ghost use Rattle.std.specs.Io.KnownBytes.{Appends, Keeps};
 ghost use Rattle.ulfm_command.specs.CommandLines.{AsksCheck, AsksHelp, AsksRace, AsksRun, AsksSteps, AsksVersion, IsBad, is_in_range};
 ghost use Rattle.ulfm_command.specs.declared.asked.RaceOptions.{RaceOptions as OptionsOf};
 ghost use Rattle.ulfm_trace.specs.Verdicts.{verdict_text};
+ghost use Rattle.ulfm.specs.declared.program.Unread.TheVariants.{Memory as OfMemory, NoText};
 ghost use Rattle.ulfm.specs.Statuses.{CheckedWith, RacedWith, RanWith, StepsRanWith, plan_of, status_of, verdict_status};
 
 use std::alloc::{Allocator, Global};
@@ -74,6 +75,26 @@ pub fn answer<T: Threads + Wait + Sync, A: Allocator + Copy + Drop, R: Read, W: 
     }
 }
 
+/// Why the words of a command line couldn't be read.
+#[derive(Clone, Copy, Debug, PartialEq, Eq)]
+pub enum Unread {
+    /// Memory was refused.
+    Memory,
+    /// A word isn't UTF-8.
+    NoText,
+}
+
+/// Tells that the words of a command line couldn't be read, and gives the status: 3 for want of memory, and 2 where a word isn't UTF-8.
+pub fn tell_unread<E: Write>(fault: Unread, errors: &mut E) -> u8
+    ensures memory { fault ≡ OfMemory → result ≡ 3 }
+    ensures no_text { fault ≡ NoText → result ≡ 2 }
+{
+    match fault {
+        Unread::Memory => tell_fault(RunFault::Memory, errors),
+        Unread::NoText => tell_bad_line(errors),
+    }
+}
+
 /// Tells how a run ended, and gives its status.
 fn tell_end<E: Write>(end: Result<(), RunFault>, errors: &mut E) -> u8
     ensures { result ≡ status_of end }
@@ -102,6 +123,13 @@ fn tell_bad<E: Write>(reason: &Reason, errors: &mut E, explains: bool) -> u8
     if explains {
         let _ = write!(errors, "{reason}");
     }
+    tell_bad_line(errors)
+}
+
+/// Tells that a command line is bad.
+fn tell_bad_line<E: Write>(errors: &mut E) -> u8
+    ensures { result ≡ 2 }
+{
     let _ = writeln!(errors, "ulfm: bad command line");
     2
 }

@@ -1,5 +1,5 @@
 //! The worked rows through the program, and devices and memory that fail at each call in turn.
-use crate::program::answer;
+use crate::program::{Unread, answer, tell_unread};
 use linked_list_allocator::LocalHeap;
 use std::alloc::Global;
 use std::io;
@@ -323,6 +323,21 @@ fn reasons_are_explained(rt: HostRuntime) -> Result<(), Fail> {
         assert!(rt; errors.ends_with(b"\nulfm: bad command line\n"));
         assert!(rt; output.is_empty());
         assert_eq!(rt; status, 2);
+    }
+    Ok(())
+}
+
+/// Words that can't be read are told: for want of memory, and where one isn't UTF-8.
+#[test]
+fn unread_words(rt: HostRuntime) -> Result<(), Fail> {
+    let rows: [(Unread, &[u8], u8); 2] = [
+        (Unread::Memory, b"ulfm: out of memory\n", 3),
+        (Unread::NoText, b"ulfm: bad command line\n", 2),
+    ];
+    for (fault, told, ends) in rows {
+        let mut errors = Vec::new(rt.alloc());
+        assert_eq!(rt; tell_unread(fault, &mut errors), ends);
+        assert_eq!(rt; errors.as_slice(), told);
     }
     Ok(())
 }
