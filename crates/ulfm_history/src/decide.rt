@@ -78,7 +78,7 @@ fn raised<P: Copy>(failed: &[u16], group: &[u16], settled: &[Slot<P>]) -> bool
 }
 
 /// What marks and contributions decide, where this is the failed group of the communicator.
-fn decided_by<P: Meld, A: Allocator + Copy + Drop>(
+pub fn decided_by<P: Meld, A: Allocator + Copy + Drop>(
     alloc: A,
     failed: &[u16],
     settled: &[Slot<P>],

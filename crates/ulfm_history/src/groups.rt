@@ -31,7 +31,7 @@ pub fn first_ranks<A: Allocator + Copy + Drop>(alloc: A, n: u16) -> Result<Vec<u
 }
 
 /// The ranks of a group that are not in the other, in their order.
-fn without<A: Allocator + Copy>(
+pub fn without<A: Allocator + Copy>(
     alloc: A,
     group: &[u16],
     others: &[u16],
@@ -108,7 +108,7 @@ fn is_named<P: Copy>(failed: &[u16], settled: &[Slot<P>], rank: u16) -> bool
 }
 
 /// The union of the groups that marks and contributions name.
-pub(crate) fn union_of<P: Copy, A: Allocator + Copy>(
+pub fn union_of<P: Copy, A: Allocator + Copy>(
     alloc: A,
     failed: &[u16],
     settled: &[Slot<P>],

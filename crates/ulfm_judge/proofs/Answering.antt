@@ -1,16 +1,18 @@
 -- That a reply may come is decided by tests that compute; and a reply that starts something has a round whose next number fits.
-use Rattle.std.proofs.Common.{◌≡◌, ◌⊎◌, ◌≤◌, ◌<◌, ◌+◌, ◌^◌, ℕ, Bool, true, false, List, [], ◌∷◌, length, filter, max, min, take, nat_le, Option, Some, None, is_some, if◌then◌else◌, refl, sym, ap, ◌∙◌, subst, IsTrue, IsFalse, inl, inr, arith}
+use Rattle.std.proofs.Common.{◌≡◌, ◌⊎◌, ◌≤◌, ◌<◌, ◌+◌, ◌^◌, ℕ, Bool, true, false, not, List, [], ◌∷◌, length, filter, max, min, take, nat_le, Option, Some, None, is_some, if◌then◌else◌, refl, sym, ap, ◌∙◌, subst, IsTrue, IsFalse, inl, inr, arith}
 use Rattle.std.specs.Bool.{Decides}
 use Rattle.std.specs.List.{list_all, list_any}
+use Rattle.std.proofs.lemmas.Bool.{and_parts}
 use Rattle.std.proofs.lemmas.Bool.Decides.{Decides-and, Decides-like, Decides-or, nat_tests}
-use Rattle.ulfm_model.specs.declared.{call.Call.{Call}, call.Request.{Request}, contribution.Offer.{Offer}, event.Caller.{Caller}, limits.Limits.{Limits}, refusal.Refusal.{Refusal}, reply.Reply.{Reply}}
+use Rattle.ulfm_model.specs.declared.{call.Call.{Call}, call.Request.{Request}, contribution.Offer.{Offer}, event.Caller.{Caller}, event.Event.{Event}, limits.Limits.{Limits}, refusal.Refusal.{Refusal}, reply.Reply.{Reply}}
 use Rattle.ulfm_model.specs.Answers.{IsPending, IsReply, IsSelfFailed, PollReplies, Replies, RepliesBy, View, comm_of, first_refusal, rank_of, refusal_of, refusal_on, traits_of}
-use Rattle.ulfm_model.specs.History.{decision, failed, failures, has, has_arrived, is_decided, is_revoked}
+use Rattle.ulfm_model.specs.History.{History, decision, failed, failures, has, has_arrived, is_decided, is_revoked, members}
 use Rattle.ulfm_model.specs.Records.{Held, Record, free_ids, held_at, is_shrink}
 use Rattle.ulfm_model.specs.Terms.{tests_of}
 use Rattle.ulfm_record.specs.Kept.{FitsNext}
 use Rattle.ulfm_trace_model.specs.Traces.{AnswersCall, AnswersRank, MayReply, Traced, Under, call_by, listed, record_of, view_at}
-use Rattle.ulfm_judge.specs.ReplyTests.{by_record_test, call_test, looked_test, pending_test, polled_test, rank_test, replied_test, reply_test}
+use Rattle.ulfm_judge.specs.Seen.{Seen, seen_of}
+use Rattle.ulfm_judge.specs.ReplyTests.{by_record_test, call_test, listed_in, looked_test, pending_test, polled_test, rank_test, replied_test, reply_test, same_ranks}
 use Rattle.ulfm_judge.proofs.Deciding.{false_decides, le_decides, never_decides, true_decides}
 use Rattle.ulfm_judge.proofs.Polling.{agree_decides, shrink_decides, start_decides}
 use Rattle.ulfm_judge.proofs.Replying.{acked_decides, barrier_decides, barrier_start_decides, fail_decides, freed_decides, group_decides, pending_decides, ranks_decide, refused_decides, revoke_decides, self_failed_decides, standing_decides}
@@ -18,13 +20,13 @@ use Rattle.ulfm_judge.proofs.Replying.{acked_decides, barrier_decides, barrier_s
 module _ {P : Type 0} (meld : P → P → P) (pack : P → ℕ) (tells : (x y : P) → pack x ≡ pack y → x ≡ y) where
   module _ (limits : Limits) (view : View P) where
     polled_decides : (r : ℕ) (x : Held) (request : Option Request) (reply : Reply P)
-        → Decides (polled_test meld pack limits view.look view.history r x request reply) (PollReplies meld limits view r x request reply)
+        → Decides (polled_test meld pack limits view.look (seen_of limits.ranks view.history) r x request reply) (PollReplies meld limits view r x request reply)
     polled_decides r x None reply = never_decides (λ q. q)
     polled_decides r x (Some (Request.Agree k)) reply =
-        agree_decides pack tells (IsPending view x k) (pending_test view.look view.history x k) (pending_decides view x k)
+        agree_decides pack tells (IsPending view x k) (pending_test view.look (seen_of limits.ranks view.history) x k) (pending_decides limits.ranks view x k)
         (is_decided limits.ranks view.history x.comm k) (decision meld limits.ranks view.history x.comm k) reply
     polled_decides r x (Some (Request.Shrink k)) reply =
-        shrink_decides pack tells (IsPending view x k) (pending_test view.look view.history x k) (pending_decides view x k)
+        shrink_decides pack tells (IsPending view x k) (pending_test view.look (seen_of limits.ranks view.history) x k) (pending_decides limits.ranks view x k)
         (is_decided limits.ranks view.history x.comm k) (decision meld limits.ranks view.history x.comm k) limits view.history r x.comm k reply
     polled_decides r x (Some (Request.Barrier k)) reply =
         barrier_decides (is_revoked view.history x.comm) (list_all (has_arrived view.history x.comm k) x.group)
@@ -32,7 +34,7 @@ module _ {P : Type 0} (meld : P → P → P) (pack : P → ℕ) (tells : (x y : 
 
     module _ (old : Record) where
       replied_decides : (x : Held) (asked : Call P) (reply : Reply P)
-          → Decides (replied_test meld pack limits view.look view.history view.own old.number old.held x asked reply) (Replies meld limits view old x asked reply)
+          → Decides (replied_test meld pack limits view.look (seen_of limits.ranks view.history) view.own old.number old.held x asked reply) (Replies meld limits view old x asked reply)
       replied_decides x (Call.Fail rank) reply = never_decides (λ q. q)
       replied_decides x (Call.GetFailed rank c) reply =
           Decides-and _ _ (ranks_decide (failures view.history) view.look) (group_decides (length (failed limits.ranks view.history c)) reply)
@@ -47,14 +49,14 @@ module _ {P : Type 0} (meld : P → P → P) (pack : P → ℕ) (tells : (x y : 
       replied_decides x (Call.Free rank c) reply = freed_decides reply
 
       by_record_decides : (held : Option Held) (asked : Call P) (reply : Reply P) (refusal : Option Refusal)
-          → Decides (by_record_test meld pack limits view.look view.history view.own old held asked reply refusal) (RepliesBy meld limits view old held asked reply refusal)
+          → Decides (by_record_test meld pack limits view.look (seen_of limits.ranks view.history) view.own old held asked reply refusal) (RepliesBy meld limits view old held asked reply refusal)
       by_record_decides held asked reply (Some refusal) = refused_decides refusal reply
       by_record_decides (Some x) asked reply None = replied_decides x asked reply
       by_record_decides None asked reply None = never_decides (λ q. q)
 
       -- a rank's call is answered so, after its look
       looked_decides : (asked : Call P) (reply : Reply P)
-          → Decides (looked_test meld pack limits view.look view.history view.own old asked reply) (IsSelfFailed view old asked reply ⊎ IsReply meld limits view old asked reply)
+          → Decides (looked_test meld pack limits view.look (seen_of limits.ranks view.history) view.own old asked reply) (IsSelfFailed view old asked reply ⊎ IsReply meld limits view old asked reply)
       looked_decides asked reply =
           Decides-or _ _ (self_failed_decides view old asked reply)
           (Decides-like _ (λ p. record { not_declared = p.0; replies = p.1 }) (λ q. (q.not_declared, q.replies))
@@ -75,6 +77,13 @@ module _ {P : Type 0} (meld : P → P → P) (pack : P → ℕ) (tells : (x y : 
   call_decides now Caller.Outside u point reply = fail_decides now.limits (view_at now u point) (rank_of u.asked) reply
   call_decides now (Caller.Rank r) u point reply = rank_decides now u point reply (record_of now r)
 
+  -- a reply lists this group
+  lists_decide : (ranks : ℕ) (h : History P) (c : ℕ) (group : List ℕ) (reply : Reply P)
+      → Decides (same_ranks group (listed_in (seen_of ranks h) c reply)) (group ≡ listed ranks h c reply)
+  lists_decide ranks h c group (Reply.Shrunk j context size) = ranks_decide group (members ranks h j)
+  lists_decide ranks h c group (Reply.FailedGroup count) = ranks_decide group (failed ranks h c)
+  lists_decide ranks h c group _ = ranks_decide group []
+
   -- a reply may come
   pub reply_decides : (now : Traced P) (by : Caller) (point : ℕ) (group : List ℕ) (reply : Reply P)
       → Decides (reply_test meld pack now by point group reply (call_by now by)) (MayReply meld now by point group reply)
@@ -90,7 +99,7 @@ module _ {P : Type 0} (meld : P → P → P) (pack : P → ℕ) (tells : (x y : 
           subst Parts same (q.since_begin, (q.by_now, (q.answers, q.lists))))
           (Decides-and _ _ (le_decides u.begun point)
           (Decides-and _ _ (le_decides point (length now.history))
-          (Decides-and _ _ (call_decides now by u point reply) (ranks_decide group (listed now.limits.ranks (take point now.history) (comm_of u.asked) reply)))))
+          (Decides-and _ _ (call_decides now by u point reply) (lists_decide now.limits.ranks (take point now.history) (comm_of u.asked) group reply))))
 
 -- where no test of several refuses, the first doesn't, and none of the others does
 none_first_test : (test : Bool × Refusal) (tests : List (Bool × Refusal)) → first_refusal (test ∷ tests) ≡ None → (test.0 ≡ false) × (first_refusal tests ≡ None)
@@ -124,13 +133,14 @@ allowed_fits own x (Call.Barrier rank c) small none =
     round_left own.limits.rounds x.next_barrier small (none_first_test used [] rest.1).0
 allowed_fits own x _ small none = tt
 
--- an answer that says that something has started
-pub started_fits : {P : Type 0} (meld : P → P → P) (limits : Limits) (view : View P) (old : Record) (asked : Call P) (reply : Reply P) → old.limits.rounds ≤ 4096
-    → IsSelfFailed view old asked reply ⊎ IsReply meld limits view old asked reply
+-- an answer that says that something has started, as tests have it
+pub started_fits : {P : Type 0} (meld : P → P → P) (pack : P → ℕ) (limits : Limits) (look : List ℕ) (seen : Seen P) (own : List (Event P)) (old : Record) (asked : Call P) (reply : Reply P) → old.limits.rounds ≤ 4096
+    → looked_test meld pack limits look seen own old asked reply ≡ true
     → (x : Held) → reply ≡ Reply.Started → held_at old (comm_of asked) ≡ Some x → FitsNext ((traits_of asked).starts x)
-started_fits meld limits view old asked reply small (inl failed) x starts holds = absurd (cc (starts, failed.reply_is))
-started_fits {P} meld limits view old asked reply small (inr answer) x starts holds = by_refusal (refusal_of old asked) refl answer.replies
+started_fits {P} meld pack limits look seen own old asked reply small is x starts holds =
+    let answers : looked_test meld pack limits look seen own old asked Reply.Started ≡ true = subst (λ (q : Reply P). looked_test meld pack limits look seen own old asked q ≡ true) starts is in
+    by_refusal (refusal_of old asked) refl (and_parts (not (has look old.number)) (by_record_test meld pack limits look seen own old (held_at old (comm_of asked)) asked Reply.Started (refusal_of old asked)) answers).1
   where
-    by_refusal : (o : Option Refusal) → refusal_of old asked ≡ o → RepliesBy meld limits view old (held_at old (comm_of asked)) asked reply o → FitsNext ((traits_of asked).starts x)
-    by_refusal (Some refusal) is e = absurd (cc (starts, e))
+    by_refusal : (o : Option Refusal) → refusal_of old asked ≡ o → by_record_test meld pack limits look seen own old (held_at old (comm_of asked)) asked Reply.Started o ≡ true → FitsNext ((traits_of asked).starts x)
+    by_refusal (Some refusal) is e = absurd (cc e)
     by_refusal None is e = allowed_fits old x asked small (ap (λ w. refusal_on old w asked) (sym holds) ∙ is)

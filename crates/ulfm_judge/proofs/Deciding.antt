@@ -7,6 +7,7 @@ use Rattle.ulfm_laws.specs.declared.{summary.Body.{Body}, ctx_mask.CtxMask.{CtxM
 use Rattle.ulfm_model.specs.declared.{call.Call.{Call}, call.Request.{Request}, contribution.Contribution.{Contribution}, event.Caller.{Caller}, event.Event.{Event}, limits.Limits.{Limits}}
 use Rattle.ulfm_model.specs.{Answers.{CallAdds, MarksDeclared, MayOwn, PollAdds, comm_of, refusal_of}, History.{History, IsPlace, MayFollow, MaySpawn, decision, failed, failures, has, has_arrived, is_decided, is_made, is_revoked, members, slot, spawns}, Records.{Held, Record, held_at}}
 use Rattle.ulfm_trace_model.specs.Traces.{IsLookDue, MayAdd, MayAddBy, Traced, Under, call_by, found_by, record_of}
+use Rattle.ulfm_judge.specs.Seen.{seen_of}
 use Rattle.ulfm_judge.specs.Tests.{due_test, own_call_test, own_by_test, adds_on_test, adds_test, arrives_test, at_test, follow_test, ids_test, makes_test, marks_test, own_test, place_test, poll_test, revokes_test, settles_test, spawn_test}
 
 pub le_decides : (a b : ℕ) → Decides (nat_le a b) (a ≤ b)
@@ -36,7 +37,7 @@ pub at_decides : (o : Option ℕ) (r : ℕ) → Decides (at_test o r) (o ≡ Som
 at_decides None r = never_decides (λ e. cc e)
 at_decides (Some x) r = Decides-like (x == r) (λ e. ap Some e) (λ e. cc e) (eq_decides x r)
 
-pub place_decides : {P : Type 0} (limits : Limits) (h : History P) (c k r : ℕ) → Decides (place_test limits h c k r) (IsPlace limits h c k r)
+pub place_decides : {P : Type 0} (limits : Limits) (h : History P) (c k r : ℕ) → Decides (place_test limits (seen_of limits.ranks h) c k r) (IsPlace limits h c k r)
 place_decides limits h c k r =
     Decides-like _ (λ p. record { exists = p.0; member = p.1.0; in_rounds = p.1.1 }) (λ q. (q.exists, (q.member, q.in_rounds)))
     (Decides-and _ _ (le_decides c (length (spawns h))) (Decides-and _ _ (true_decides (has (members limits.ranks h c) r)) (lt_decides k limits.rounds)))
@@ -55,14 +56,14 @@ ids_decides {P} (Body.Ctx mask) =
 ids_decides Body.Clash = never_decides (λ m. cc (m.1))
 
 module _ {P : Type 0} (meld : P → P → P) (limits : Limits) (h : History P) where
-  pub spawn_decides : (j c k : ℕ) → Decides (spawn_test meld limits h j c k) (MaySpawn meld limits h j c k)
+  pub spawn_decides : (j c k : ℕ) → Decides (spawn_test meld limits (seen_of limits.ranks h) j c k) (MaySpawn meld limits h j c k)
   spawn_decides j c k =
       Decides-like _ (λ p. record { next = p.0; room = p.1.0; exists = p.1.1.0; in_rounds = p.1.1.1.0; decided = p.1.1.1.1.0; ids = p.1.1.1.1.1.0; first = p.1.1.1.1.1.1 })
       (λ q. (q.next, (q.room, (q.exists, (q.in_rounds, (q.decided, (q.ids, q.first)))))))
       (Decides-and _ _ (eq_decides j (length (spawns h) + 1)) (Decides-and _ _ (lt_decides j limits.comms) (Decides-and _ _ (le_decides c (length (spawns h))) (Decides-and _ _ (lt_decides k limits.rounds)
       (Decides-and _ _ (true_decides (is_decided limits.ranks h c k)) (Decides-and _ _ (ids_decides (decision meld limits.ranks h c k).body) (false_decides (is_made h c k))))))))
 
-  pub follow_decides : (event : Event P) → Decides (follow_test meld limits h event) (MayFollow meld limits h event)
+  pub follow_decides : (event : Event P) → Decides (follow_test meld limits (seen_of limits.ranks h) event) (MayFollow meld limits h event)
   follow_decides (Event.Fail r) = Decides-and _ _ (lt_decides r limits.ranks) (false_decides (has (failures h) r))
   follow_decides (Event.Settle c k r given) =
       Decides-like _ (λ p. (p.0, p.1.0, p.1.1)) (λ q. (q.0, (q.1, q.2)))

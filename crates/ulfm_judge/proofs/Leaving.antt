@@ -1,5 +1,5 @@
 -- What a reply leaves: of its rank's record, of all records, and of the calls under way.
-use Rattle.std.proofs.Common.{◌≡◌, ℕ, zero, suc, ◌<◌, ◌≤◌, ◌==◌, Bool, true, false, cond, not, List, [], ◌∷◌, ◌++◌, drop, map, filter, length, Option, Some, None, is_some, get_or, set, refl, ap, ap₂, sym, ◌∙◌, subst, arith, nat_eq, if◌then◌else◌, inl, inr}
+use Rattle.std.proofs.Common.{◌≡◌, ℕ, zero, suc, ◌<◌, ◌==◌, ◌&&◌, Bool, true, false, cond, not, List, [], ◌∷◌, ◌++◌, drop, map, filter, length, Option, Some, None, is_some, get_or, set, refl, ap, ap₂, sym, ◌∙◌, subst, arith, nat_eq, if◌then◌else◌, inl, inr, IsTrue}
 use Rattle.std.specs.Prelude.{IfOk, OnOk, Result, Ok, Err, find, take}
 use Rattle.std.proofs.Math.Seq.{take-append_seam}
 use Rattle.std.specs.List.{AllByRecursion, IsDistinct, position}
@@ -8,13 +8,13 @@ use Rattle.std.proofs.lemmas.List.Quantifiers.{position-Some}
 use Rattle.std.proofs.lemmas.Map.Keys.{IsDistinct-head, IsDistinct-tail}
 use Rattle.ulfm_model.specs.declared.{call.Call.{Call}, event.Caller.{Caller}, limits.Limits.{Limits}, reply.Reply.{Reply}}
 use Rattle.ulfm_model.specs.{Answers.{Effect, comm_of, left_by, left_with, printed, traits_of}, History.{History, first_ranks}, Records.{Held, Record, held_at}}
-use Rattle.ulfm_model.proofs.Lists.{any_none, distinct_push, each_from, each_push, find_holds, none_distinct}
+use Rattle.ulfm_model.proofs.Lists.{any_none, distinct_push, each_from, each_push, none_distinct}
 use Rattle.ulfm_record.specs.{declared.record.RankRecord.{RankRecord}, Kept.{FitsNext, record_of}}
 use Rattle.ulfm_trace_model.specs.declared.line.{Line.{Line}, Why.{Why}}
-use Rattle.ulfm_trace_model.specs.Traces.{AnswersCall, AnswersRank, MayReply, Takes, Traced, Under, after_reply, call_by, caller_of, record_of as record_at, records_after, same_caller, view_at}
+use Rattle.ulfm_trace_model.specs.Traces.{MayReply, Takes, Traced, Under, after_reply, call_by, caller_of, record_of as record_at, records_after, same_caller}
 use Rattle.ulfm_judge.specs.ReplyTests.{reply_test}
-use Rattle.ulfm_judge.specs.{declared.calls.OpenCall.{OpenCall}, Kept.{MayLeave, traced_of, under_of}}
-use Rattle.ulfm_judge.proofs.Answering.{reply_decides, started_fits}
+use Rattle.ulfm_judge.specs.{declared.calls.OpenCall.{OpenCall}, declared.numbers.Numbers.{Numbers}, Kept.{MayLeave, traced_of, under_of}, Telling.{Goes, Tells}}
+use Rattle.ulfm_judge.proofs.{Answering.{reply_decides}, Deciding.{true_and}}
 
 -- a reply leaves a record's number
 by_effect : (now : Record) (c : ℕ) (effect : Effect) → (left_with now c effect).number ≡ now.number
@@ -89,28 +89,18 @@ others_stay by (x ∷ xs) =
     ≡ cond (not b) (under_of x ∷ filter (λ v. not (same_caller (caller_of v) by)) (map under_of xs)) (filter (λ v. not (same_caller (caller_of v) by)) (map under_of xs)))
     [ true ↦ rest | false ↦ ap (λ zs. under_of x ∷ zs) rest ]
 
-each_limits : {A : Type 0} (limits : Limits) (records : List (RankRecord A)) → AllByRecursion (λ own. own.limits ≡ limits) (map (record_of limits) records)
-each_limits limits [] = tt
-each_limits limits (x ∷ xs) = (refl, each_limits limits xs)
+-- what a rank's reply says that has started has a round whose next number fits, if so it is by the record that is found
+pub may_leave : {P : Type 0} (now : Traced P) (r : ℕ) (u : Under P) (reply : Reply P) (own : Record) → record_at now r ≡ Some own
+    → ((x : Held) → reply ≡ Reply.Started → held_at own (comm_of u.asked) ≡ Some x → FitsNext ((traits_of u.asked).starts x)) → MayLeave now (Caller.Rank r) u reply
+may_leave now r u reply own has fits = λ s other x is found starts holds.
+    let same : r ≡ s = cc is in
+    let one : other ≡ own = cc (found, ap (record_at now) (sym same) ∙ has) in
+    fits x starts (ap (λ (o : Record). held_at o (comm_of u.asked)) (sym one) ∙ holds)
 
 module _ {P A : Type 0} (meld : P → P → P) (pack : P → ℕ) (tells : (x y : P) → pack x ≡ pack y → x ≡ y)
     (limits : Limits) (h : History P) (records : List (RankRecord A)) (calls : List (OpenCall P A)) (group : List ℕ) where
   abbrev now : Traced P
   now = traced_of limits h records calls
-
-  -- an answer that says that something has started
-  pub may_leave : (by : Caller) (u : Under P) (point : ℕ) (reply : Reply P) → limits.rounds ≤ 4096 → AnswersCall meld now by u point reply → MayLeave now by u reply
-  may_leave Caller.Outside u point reply small answers = λ r own x is has starts holds. absurd (cc is)
-  may_leave (Caller.Rank s) u point reply small answers = λ r own x is has starts holds.
-      let same : s ≡ r = cc is in
-      let own_answers = subst (AnswersRank meld now u point reply) (ap (record_at now) same ∙ has) answers in
-      let limited = (find_holds (λ (y : Record). y.number == r) (λ y. y.limits ≡ limits) (map (record_of limits) records) own (each_limits limits records) has).0 in
-      by_refused own x starts holds (subst (λ (l : Limits). l.rounds ≤ 4096) (sym limited) small) own_answers
-    where
-      by_refused : (own : Record) (x : Held) → reply ≡ Reply.Started → held_at own (comm_of u.asked) ≡ Some x → own.limits.rounds ≤ 4096 → AnswersRank meld now u point reply (Some own)
-          → FitsNext ((traits_of u.asked).starts x)
-      by_refused own x starts holds few (inl refused) = absurd (cc (starts, refused.1))
-      by_refused own x starts holds few (inr a) = started_fits meld limits (view_at now u point) own u.asked reply few a.2 x starts holds
 
   module _ (by : Caller) (point : ℕ) (reply : Reply P) where
     abbrev line : Line P
@@ -143,13 +133,6 @@ module _ {P A : Type 0} (meld : P → P → P) (pack : P → ℕ) (tells : (x y 
     pub answered : (u : Under P) → call_by now by ≡ Some u → IsTest u true → MayReply meld now by point group reply
     answered u there is = (reply_decides meld pack tells now by point group reply).0 (at_call u there true is)
 
-    -- so what it says that has started has a round whose next number fits
-    pub leaves : (u : Under P) → call_by now by ≡ Some u → IsTest u true → limits.rounds ≤ 4096 → MayLeave now by u reply
-    leaves u there is small =
-        let may = answered u there is in
-        let same : may.call ≡ u = cc (there, may.is_open) in
-        may_leave by u point reply small (subst (λ v. AnswersCall meld now by v point reply) same may.answers)
-
     -- and it is taken
     pub taken : (u : Under P) (new : List (RankRecord A)) (others : List (OpenCall P A)) → call_by now by ≡ Some u → IsTest u true
         → map (record_of limits) new ≡ records_after now by u point reply → others ≡ filter (λ v. not (same_caller (traits_of v.asked).by by)) calls
@@ -164,16 +147,37 @@ module _ {P A : Type 0} (meld : P → P → P) (pack : P → ℕ) (tells : (x y 
 pub packs_apart : {P : Type 0} (pack : P → ℕ) (unpack : ℕ → Option P) → ((x : P) → unpack (pack x) ≡ Some x) → (x y : P) → pack x ≡ pack y → x ≡ y
 packs_apart pack unpack back x y e = let same : Some x ≡ Some y = sym (back x) ∙ (ap unpack e ∙ back y) in cc same
 
+-- a rank without a record has none
+pub no_record : {P : Type 0} (now : Traced P) (r s : ℕ) (own : Record) → record_at now r ≡ None → Caller.Rank r ≡ Caller.Rank s → record_at now s ≡ Some own → ⊥
+no_record now r s own none is found = let same : r ≡ s = cc is in let gone : None ≡ Some own = sym none ∙ (ap (record_at now) same ∙ found) in cc gone
+
+-- where three tests hold, a fourth is that of them all
+pub all_and : (a b d l x : Bool) → a ≡ true → b ≡ true → d ≡ true → x ≡ l → x ≡ (a && (b && (d && l)))
+all_and a b d l x one two three is = is ∙ (true_and d l three ∙ (true_and b (d && l) two ∙ true_and a (b && (d && l)) one))
+
 -- what follows where a call went well
 pub on_ok : {X E : Type 0} (result : Result X E) (Q R : Type 0) → (Q → R) → OnOk result Q → OnOk result R
 on_ok (Ok x) Q R goes q = goes q
 on_ok (Err e) Q R goes q = tt
 
+-- what follows where a test went well and holds
+pub on_test : {E : Type 0} (result : Result Bool E) (test : Bool) (Q : Type 0) → (test ≡ true → Q) → IfOk result (λ b. b ≡ test) → IfOk result (λ b. IsTrue b → Q)
+on_test (Ok b) test Q goes same = λ is. goes (sym same ∙ is)
+on_test (Err e) test Q goes same = tt
+
+-- a state whose history stays passes where what is said with it does
+pub goes_on : {P A E W : Type 0} (limits : Limits) (numbers : Numbers P A) (records : List (RankRecord A)) (calls : List (OpenCall P A)) (Taken : Traced P → W → Type 0) (h : History P) (result : Result W E)
+    → Tells limits.ranks numbers h → IfOk result (Taken (traced_of limits h records calls)) → IfOk result (Goes limits numbers records calls Taken)
+goes_on limits numbers records calls Taken h (Ok why) tells taken = (h, tells, taken)
+goes_on limits numbers records calls Taken h (Err e) tells taken = tt
+
 -- what is kept stands for what lines said, before a line and after it
-pub stands_on : {P E : Type 0} (meld : P → P → P) (group : List ℕ) (told : Line P) (result : Result (Option Why) E) (old new now : Traced P) → old ≡ now
-    → IfOk result (λ why. Takes meld old group told new why) → IfOk result (λ why. (next : Traced P) × Takes meld now group told next why × (new ≡ next))
-stands_on meld group told (Ok why) old new now same takes = (new, subst (λ w. Takes meld w group told new why) same takes, refl)
-stands_on meld group told (Err e) old new now same takes = tt
+pub stands_on : {P A E : Type 0} (meld : P → P → P) (limits : Limits) (numbers : Numbers P A) (records : List (RankRecord A)) (calls : List (OpenCall P A)) (group : List ℕ) (told : Line P) (result : Result (Option Why) E) (old new : Traced P)
+    → new ≡ old → IfOk result (Goes limits numbers records calls (Takes meld old group told))
+    → IfOk result (λ why. (next : Traced P) × Takes meld new group told next why × (Tells limits.ranks numbers next.history × (next ≡ traced_of limits next.history records calls)))
+stands_on meld limits numbers records calls group told (Ok why) old new same goes =
+    (traced_of limits goes.0 records calls, subst (λ w. Takes meld w group told (traced_of limits goes.0 records calls) why) (sym same) goes.2, (goes.1, refl))
+stands_on meld limits numbers records calls group told (Err e) old new same goes = tt
 
 -- what a slice lent of a list leaves, where it keeps its length
 pub written : {X : Type 0} (n : ℕ) (new old : List X) → length new ≡ n → take n (new ++ drop (length new) old) ≡ new

@@ -4,5 +4,6 @@ pub mod Deferring
 pub mod Leaving
 pub mod Polling
 pub mod Replying
+pub mod Seeing
 pub mod Tabling
 pub mod Taking

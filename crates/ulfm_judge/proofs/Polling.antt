@@ -13,6 +13,7 @@ use Rattle.ulfm_model.specs.History.{Decision, History, has, is_made, made_of, m
 use Rattle.ulfm_model.specs.Records.{Held, IsLowestId, Record}
 use Rattle.ulfm_model.proofs.LowestId.{lowest_is as lowest_of}
 use Rattle.ulfm_model.proofs.OnlySpawned.{lowest_is}
+use Rattle.ulfm_judge.specs.Seen.{seen_of}
 use Rattle.ulfm_judge.specs.ReplyTests.{agree_test, clash_test, flag_test, full_test, given_test, gives_test, is_given, least_test, made_test, no_ids_test, same_offer, shrink_test, shrunk_test, stands_test, start_test, unmade_test}
 use Rattle.ulfm_judge.proofs.Deciding.{eq_decides, false_decides, ids_decides, lt_decides, never_decides, true_decides}
 use Rattle.ulfm_judge.proofs.Replying.{answer_decides, empty_decides, only_decides, refusal_decides}
@@ -181,7 +182,7 @@ module _ {P : Type 0} (pack : P → ℕ) (tells : (x y : P) → pack x ≡ pack 
 
     module _ (limits : Limits) (h : History P) (r c k : ℕ) where
       -- no room is left for what a shrink would make
-      full_decides : Decides (full_test limits h r c k made)
+      full_decides : Decides (full_test limits (seen_of limits.ranks h) r c k made)
           (((mask : CtxMask) × (made.body ≡ Body.Ctx mask) × (0 < mask.bits)) × (IsFalse (has made.failed r) × ((length (spawns h) + 1 ≡ limits.comms) × IsFalse (is_made h c k))))
       full_decides =
           Decides-and _ _ (ids_decides made.body)
@@ -204,7 +205,7 @@ module _ {P : Type 0} (pack : P → ℕ) (tells : (x y : P) → pack x ≡ pack 
         | inr clash ↦ unrefused Refusal.Mismatch (clash.1)
       ]
 
-      shrunk_decides : (j context size : ℕ) → Decides (shrunk_test limits h r c k made j context size) (Decided (Reply.Shrunk j context size))
+      shrunk_decides : (j context size : ℕ) → Decides (shrunk_test (seen_of limits.ranks h) r c k made j context size) (Decided (Reply.Shrunk j context size))
       shrunk_decides j context size =
           Decides-like _
           (λ p.
@@ -231,7 +232,7 @@ module _ {P : Type 0} (pack : P → ℕ) (tells : (x y : P) → pack x ≡ pack 
           (Decides-and _ _ (false_decides (has made.failed r))
           (Decides-and _ _ (lt_decides 0 j) (Decides-and _ _ (made_decides (made_of h j) c k) (eq_decides size (length (members limits.ranks h j)))))))
 
-      unmade_decides : (refusal : Refusal) → Decides (unmade_test limits h r c k made refusal) (Decided (Reply.Refused refusal))
+      unmade_decides : (refusal : Refusal) → Decides (unmade_test limits (seen_of limits.ranks h) r c k made refusal) (Decided (Reply.Refused refusal))
       unmade_decides refusal =
           Decides-like _
           (λ p. elim p [
@@ -254,7 +255,7 @@ module _ {P : Type 0} (pack : P → ℕ) (tells : (x y : P) → pack x ≡ pack 
           (Decides-and _ _ (refusal_decides refusal Refusal.Mismatch) (clash_decides made.body))))
 
       -- a shrink's poll is answered so
-      pub shrink_decides : (reply : Reply P) → Decides (shrink_test limits h r c k late decided made reply) (Either Late decided (Decided reply) reply)
+      pub shrink_decides : (reply : Reply P) → Decides (shrink_test limits (seen_of limits.ranks h) r c k late decided made reply) (Either Late decided (Decided reply) reply)
       shrink_decides Reply.Pending =
           Decides-like _ (λ p. inl (p, refl)) (λ q. elim q [ inl a ↦ a.0 | inr b ↦ absurd (not_other Reply.Pending (λ j context size e. cc e) (λ refusal e. cc e) (b.1)) ]) pending
       shrink_decides (Reply.Shrunk j context size) =

@@ -9,6 +9,7 @@ use Rattle.ulfm_model.specs.declared.{call.Call.{Call}, event.Event.{Event}, lim
 use Rattle.ulfm_model.specs.Answers.{AnswersFail, BarrierStartReplies, DoneOrFound, IsPending, IsSelfFailed, View, printed, traits_of}
 use Rattle.ulfm_model.specs.History.{failures, has, has_arrived, is_revoked, slot}
 use Rattle.ulfm_model.specs.Records.{Held, Record, new_held}
+use Rattle.ulfm_judge.specs.Seen.{seen_of}
 use Rattle.ulfm_judge.specs.Tests.{arrives_test, revokes_test}
 use Rattle.ulfm_judge.specs.ReplyTests.{acked_test, barrier_start_test, barrier_test, fail_test, fails_test, freed_test, group_test, only_test, pending_test, refused_test, revoke_test, same_answer, same_ranks, same_refusal, self_failed_test, standing_test, starts_test}
 use Rattle.ulfm_judge.proofs.Deciding.{arrives_decides, eq_decides, false_decides, le_decides, never_decides, none_decides, revokes_decides, true_decides}
@@ -84,7 +85,7 @@ refused_decides refusal _ = never_decides (λ e. cc e)
 -- ---- declarations, and refusals for good
 
 -- a declaration is answered so
-pub fail_decides : {P : Type 0} (limits : Limits) (view : View P) (r : ℕ) (reply : Reply P) → Decides (fail_test limits view.history view.own r reply) (AnswersFail limits view r reply)
+pub fail_decides : {P : Type 0} (limits : Limits) (view : View P) (r : ℕ) (reply : Reply P) → Decides (fail_test limits (has (failures view.history) r) view.own r reply) (AnswersFail limits view r reply)
 fail_decides limits view r Reply.Declared =
     Decides-like _ (λ p. inl (refl, p.0, p.1)) (λ q. elim q [ inl a ↦ (a.1, a.2) | inr (inl b) ↦ absurd (cc (b.0)) | inr (inr d) ↦ absurd (cc (d.0)) ])
     (Decides-and _ _ (only_one (fails_test r) (Event.Fail r) (fails_decides r) view.own) (true_decides (has (failures view.history) r)))
@@ -108,7 +109,7 @@ starts_decides own (Call.Shrink rank c) = Decides-like (length own == 0) (λ non
 starts_decides own (Call.Barrier rank c) = Decides-like (length own == 0) (λ none x some. none) (λ each. each (new_held 0 0 []) refl) (empty_decides own)
 starts_decides own _ = (λ e x some. absurd (cc some), λ e. refl)
 
-pub self_failed_decides : {P : Type 0} (view : View P) (old : Record) (asked : Call P) (reply : Reply P) → Decides (self_failed_test view.history view.own old.number asked reply) (IsSelfFailed view old asked reply)
+pub self_failed_decides : {P : Type 0} (view : View P) (old : Record) (asked : Call P) (reply : Reply P) → Decides (self_failed_test (has (failures view.history) old.number) view.own asked reply) (IsSelfFailed view old asked reply)
 self_failed_decides view old asked reply =
     Decides-like _ (λ p. record { reply_is = p.0; declared = p.1.0; adds_nothing = p.1.1 }) (λ q. (q.reply_is, (q.declared, q.adds_nothing)))
     (Decides-and _ _ (refused_decides Refusal.SelfFailed reply) (Decides-and _ _ (true_decides (has (failures view.history) old.number)) (starts_decides view.own asked)))
@@ -193,8 +194,8 @@ some_decides p (x ∷ xs) =
     (λ q. elim (or_cases (x == q.0) (has xs q.0) (q.1)) [ inl here ↦ inl (ap p (eqb-true x q.0 here) ∙ q.2) | inr later ↦ inr (q.0, later, q.2) ])
     (Decides-or _ _ (true_decides (p x)) (some_decides p xs))
 
-pub pending_decides : {P : Type 0} (view : View P) (x : Held) (k : ℕ) → Decides (pending_test view.look view.history x k) (IsPending view x k)
-pending_decides view x k =
+pub pending_decides : {P : Type 0} (ranks : ℕ) (view : View P) (x : Held) (k : ℕ) → Decides (pending_test view.look (seen_of ranks view.history) x k) (IsPending view x k)
+pending_decides ranks view x k =
     let unknown : ℕ → Bool = λ r. not (has view.look r) in
     let unset : ℕ → Bool = λ r. not (is_some (slot view.history x.comm k r)) in
     let both = λ (r : ℕ). Decides-and _ _ (false_decides (has view.look r)) (none_decides (slot view.history x.comm k r)) in

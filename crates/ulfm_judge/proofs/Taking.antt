@@ -11,7 +11,7 @@ use Rattle.ulfm_record.proofs.Places.{find_no_place, find_place, position_below}
 use Rattle.ulfm_trace_model.specs.declared.line.{Line.{Line}, Why.{Why}}
 use Rattle.ulfm_trace_model.specs.Traces.{Takes, Traced, Under, call_by, change_by, found_by, is_owned, record_of, same_caller, with_event}
 use Rattle.ulfm_judge.specs.declared.calls.OpenCall.{OpenCall}
-use Rattle.ulfm_judge.specs.{Kept.{traced_of, under_of}, Tests.{due_test, follow_test, own_by_test, own_call_test, own_test}}
+use Rattle.ulfm_judge.specs.{Kept.{traced_of, under_of}, Seen.{seen_of}, Tests.{due_test, follow_test, own_by_test, own_call_test, own_test}}
 use Rattle.ulfm_judge.proofs.Deciding.{due_decides, follow_decides, own_by_decides}
 
 unchanged : {P : Type 0} (by : Caller) (f : Under P → Under P) (ys : List (Under P)) → find (λ u. same_caller (traits_of u.asked).by by) ys ≡ None → ys ≡ change_by by f ys
@@ -108,16 +108,16 @@ module _ {P A : Type 0} (meld : P → P → P) (limits : Limits) (h : History P)
   inexact r count i d at apart = (inr (refl, ap is_some (open_at (Caller.Rank r) i d at), λ may. apart may.1), refl)
 
   -- an event that may not come next
-  pub bad_event : (by : Caller) (event : Event P) → follow_test meld limits h event ≡ false → Takes meld now group (Line.Happened by (Some event)) now (Some Why.Event)
-  bad_event by event is = (inl (refl, λ may. let yes_it : follow_test meld limits h event ≡ true = (follow_decides meld limits h event).1 may in cc (is, yes_it)), refl)
+  pub bad_event : (by : Caller) (event : Event P) → follow_test meld limits (seen_of limits.ranks h) event ≡ false → Takes meld now group (Line.Happened by (Some event)) now (Some Why.Event)
+  bad_event by event is = (inl (refl, λ may. let yes_it : follow_test meld limits (seen_of limits.ranks h) event ≡ true = (follow_decides meld limits h event).1 may in cc (is, yes_it)), refl)
 
   -- one that its caller may not add
-  pub bad_own : (by : Caller) (event : Event P) → follow_test meld limits h event ≡ true → own_by_test now by event ≡ false → Takes meld now group (Line.Happened by (Some event)) now (Some Why.Own)
+  pub bad_own : (by : Caller) (event : Event P) → follow_test meld limits (seen_of limits.ranks h) event ≡ true → own_by_test now by event ≡ false → Takes meld now group (Line.Happened by (Some event)) now (Some Why.Own)
   bad_own by event may is =
       (inr (refl, (follow_decides meld limits h event).0 may, λ own. let yes_it : own_by_test now by event ≡ true = (own_by_decides now by event).1 own in cc (is, yes_it)), refl)
 
   -- one that may come
-  pub happens : (by : Caller) (event : Event P) (h' : History P) (calls' : List (OpenCall P A)) → follow_test meld limits h event ≡ true → own_by_test now by event ≡ true
+  pub happens : (by : Caller) (event : Event P) (h' : History P) (calls' : List (OpenCall P A)) → follow_test meld limits (seen_of limits.ranks h) event ≡ true → own_by_test now by event ≡ true
       → h' ≡ h ++ record { by = by; event = event } ∷ [] → map under_of calls' ≡ change_by by (with_event event) (map under_of calls)
       → Takes meld now group (Line.Happened by (Some event)) (traced_of limits h' records calls') None
   happens by event h' calls' may own longer changed = (

@@ -15,10 +15,6 @@ abbrev pub traced_of : {P A : Type 0} → Limits → History P → List (RankRec
 traced_of limits history records calls =
     record { limits = limits; history = history; records = map (record_of limits) records; calls = map under_of calls }
 
--- a judge, seen as what it keeps, stands for what lines said: it keeps just that
-abbrev pub Stands : {P : Type 0} → Traced P → Traced P → Type 0
-Stands kept now = kept ≡ now
-
 -- a request that a rank's reply says has started has a round whose next number fits
 abbrev pub MayLeave : {P : Type 0} → Traced P → Caller → Under P → Reply P → Type 0
 MayLeave now by u reply =

@@ -1,6 +1,6 @@
 -- Tests that compute: which replies are answers. That each decides what the definitions say is proved.
-use Rattle.std.specs.Prelude.{ℕ, ◌+◌, ◌==◌, nat_le, nat_lt, max, min, Bool, true, false, not, ◌&&◌, ◌||◌, if◌then◌else◌}
-use Rattle.std.specs.Prelude.{List, [], ◌∷◌, length, filter, take, Option, Some, None, is_some}
+use Rattle.std.specs.Prelude.{ℕ, ◌+◌, ◌-◌, ◌==◌, nat_le, nat_lt, max, min, Bool, true, false, not, ◌&&◌, ◌||◌, if◌then◌else◌}
+use Rattle.std.specs.Prelude.{List, [], ◌∷◌, length, filter, slice_get, take, Option, Some, None, is_some}
 use Rattle.std.specs.{List.{list_all, list_any}, Option.{option_map_or}, Cmp.Lexicographic.{pointwise}}
 use Rattle.ulfm_laws.specs.declared.summary.Body.{Body}
 use Rattle.ulfm_model.specs.declared.{call.Call.{Call}, call.Request.{Request}, event.Caller.{Caller}, event.Event.{Event}, limits.Limits.{Limits}}
@@ -8,10 +8,10 @@ use Rattle.ulfm_model.specs.declared.{contribution.Contribution.{Contribution}, 
 use Rattle.ulfm_model.specs.declared.{refusal.Refusal.{Refusal}, reply.Reply.{Reply}}
 use Rattle.ulfm_model.specs.Answers.{comm_of, printed, rank_of, refusal_of}
 use Rattle.ulfm_model.specs.Computed.{lowest_id}
-use Rattle.ulfm_model.specs.History.{Decision, History, decision, failed, failures, has, has_arrived, is_decided, is_made, is_revoked}
-use Rattle.ulfm_model.specs.History.{made_of, members, slot, spawns}
+use Rattle.ulfm_model.specs.History.{Decision, has}
 use Rattle.ulfm_model.specs.Records.{Held, Record, free_ids, held_at}
-use Rattle.ulfm_trace_model.specs.Traces.{Traced, Under, found_by, listed, record_of}
+use Rattle.ulfm_trace_model.specs.Traces.{Traced, Under, found_by, record_of}
+use Rattle.ulfm_judge.specs.Seen.{Seen, decision_in, failed_in, is_decided_in, is_made_in, seen_of}
 use Rattle.ulfm_judge.specs.Tests.{arrives_test, ids_test, revokes_test}
 
 -- whether two refusals are one, by their numbers
@@ -45,12 +45,12 @@ abbrev pub refused_test : {P : Type 0} → Refusal → Reply P → Bool
 refused_test refusal (Reply.Refused r) = same_refusal r refusal
 refused_test refusal _ = false
 
--- whether a declaration is answered so, by the history and the outside's own events
-abbrev pub fail_test : {P : Type 0} → Limits → History P → List (Event P) → ℕ → Reply P → Bool
-fail_test limits h own r Reply.Declared = only_test (fails_test r) own && has (failures h) r
-fail_test limits h own r Reply.AlreadyFailed = (length own == 0) && has (failures h) r
-fail_test limits h own r (Reply.Refused refusal) = same_refusal refusal Refusal.NoSuchRank && ((length own == 0) && nat_le limits.ranks r)
-fail_test limits h own r _ = false
+-- whether a declaration is answered so, by whether the rank is declared and the outside's own events
+abbrev pub fail_test : {P : Type 0} → Limits → Bool → List (Event P) → ℕ → Reply P → Bool
+fail_test limits declared own r Reply.Declared = only_test (fails_test r) own && declared
+fail_test limits declared own r Reply.AlreadyFailed = (length own == 0) && declared
+fail_test limits declared own r (Reply.Refused refusal) = same_refusal refusal Refusal.NoSuchRank && ((length own == 0) && nat_le limits.ranks r)
+fail_test limits declared own r _ = false
 
 -- whether a call starts a request
 abbrev pub starts_test : {P : Type 0} → Call P → Bool
@@ -59,10 +59,9 @@ starts_test (Call.Shrink rank c) = true
 starts_test (Call.Barrier rank c) = true
 starts_test _ = false
 
--- whether a reply refuses for good, by the history and the rank's own events
-abbrev pub self_failed_test : {P : Type 0} → History P → List (Event P) → ℕ → Call P → Reply P → Bool
-self_failed_test h own r asked reply =
-    refused_test Refusal.SelfFailed reply && (has (failures h) r && (not (starts_test asked) || (length own == 0)))
+-- whether a reply refuses for good, by whether the rank is declared and its own events
+abbrev pub self_failed_test : {P : Type 0} → Bool → List (Event P) → Call P → Reply P → Bool
+self_failed_test declared own asked reply = refused_test Refusal.SelfFailed reply && (declared && (not (starts_test asked) || (length own == 0)))
 
 -- whether two offers are one, where pack tells flags apart
 abbrev pub same_offer : {P : Type 0} → (P → ℕ) → Offer P → Offer P → Bool
@@ -135,8 +134,8 @@ pending_said Reply.Pending = true
 pending_said _ = false
 
 -- whether a member that the look didn't find declared is unsettled
-abbrev pub pending_test : {P : Type 0} → List ℕ → History P → Held → ℕ → Bool
-pending_test look h x k = list_any (λ r. not (has look r) && not (is_some (slot h x.comm k r))) x.group
+abbrev pub pending_test : {P : Type 0} → List ℕ → Seen P → Held → ℕ → Bool
+pending_test look seen x k = list_any (λ r. not (has look r) && not (is_some (seen.slots (x.comm, k, r)))) x.group
 
 -- whether a body is this flag
 abbrev pub flag_test : {P : Type 0} → (P → ℕ) → Body P → P → Bool
@@ -172,27 +171,27 @@ agree_test pack late decided made (Reply.Refused refusal) = decided && (same_ref
 agree_test pack late decided made _ = false
 
 -- whether no room is left for what a shrink would make
-abbrev pub full_test : {P : Type 0} → Limits → History P → ℕ → ℕ → ℕ → Decision P → Bool
-full_test limits h r c k made =
-    ids_test made.body && (not (has made.failed r) && ((length (spawns h) + 1 == limits.comms) && not (is_made h c k)))
+abbrev pub full_test : {P : Type 0} → Limits → Seen P → ℕ → ℕ → ℕ → Decision P → Bool
+full_test limits seen r c k made =
+    ids_test made.body && (not (has made.failed r) && ((length seen.spawns + 1 == limits.comms) && not (is_made_in seen c k)))
 
 -- whether a decided shrink is refused so
-abbrev pub unmade_test : {P : Type 0} → Limits → History P → ℕ → ℕ → ℕ → Decision P → Refusal → Bool
-unmade_test limits h r c k made refusal =
+abbrev pub unmade_test : {P : Type 0} → Limits → Seen P → ℕ → ℕ → ℕ → Decision P → Refusal → Bool
+unmade_test limits seen r c k made refusal =
     (same_refusal refusal Refusal.NoContext && no_ids_test made.body)
-    || ((same_refusal refusal Refusal.NoRoom && full_test limits h r c k made) || (same_refusal refusal Refusal.Mismatch && clash_test made.body))
+    || ((same_refusal refusal Refusal.NoRoom && full_test limits seen r c k made) || (same_refusal refusal Refusal.Mismatch && clash_test made.body))
 
 -- whether a decided shrink made this communicator
-abbrev pub shrunk_test : {P : Type 0} → Limits → History P → ℕ → ℕ → ℕ → Decision P → ℕ → ℕ → ℕ → Bool
-shrunk_test limits h r c k made j context size =
-    least_test made.body context && (not (has made.failed r) && (nat_lt 0 j && (made_test (made_of h j) c k && (size == length (members limits.ranks h j)))))
+abbrev pub shrunk_test : {P : Type 0} → Seen P → ℕ → ℕ → ℕ → Decision P → ℕ → ℕ → ℕ → Bool
+shrunk_test seen r c k made j context size =
+    least_test made.body context && (not (has made.failed r) && (nat_lt 0 j && (made_test (slice_get seen.spawns (j - 1)) c k && (size == length (seen.members j)))))
 
 -- whether a shrink's poll is answered so
-abbrev pub shrink_test : {P : Type 0} → Limits → History P → ℕ → ℕ → ℕ → Bool → Bool → Decision P → Reply P → Bool
-shrink_test limits h r c k late decided made Reply.Pending = late
-shrink_test limits h r c k late decided made (Reply.Shrunk j context size) = decided && shrunk_test limits h r c k made j context size
-shrink_test limits h r c k late decided made (Reply.Refused refusal) = decided && unmade_test limits h r c k made refusal
-shrink_test limits h r c k late decided made _ = false
+abbrev pub shrink_test : {P : Type 0} → Limits → Seen P → ℕ → ℕ → ℕ → Bool → Bool → Decision P → Reply P → Bool
+shrink_test limits seen r c k late decided made Reply.Pending = late
+shrink_test limits seen r c k late decided made (Reply.Shrunk j context size) = decided && shrunk_test seen r c k made j context size
+shrink_test limits seen r c k late decided made (Reply.Refused refusal) = decided && unmade_test limits seen r c k made refusal
+shrink_test limits seen r c k late decided made _ = false
 
 -- whether a barrier's poll is answered so: by whether its communicator is revoked, whether all have arrived, and whether all have whom the
 -- look found declared
@@ -203,32 +202,33 @@ barrier_test revoked all known (Reply.Refused refusal) =
     if revoked then same_refusal refusal Refusal.IsRevoked else (not all && (not known && same_refusal refusal Refusal.ProcFailed))
 barrier_test revoked all known _ = false
 
-module _ {P : Type 0} (meld : P → P → P) (pack : P → ℕ) (limits : Limits) (look : List ℕ) (h : History P) where
+module _ {P : Type 0} (meld : P → P → P) (pack : P → ℕ) (limits : Limits) (look : List ℕ) (seen : Seen P) where
   -- whether the poll of a request is answered so
   abbrev pub polled_test : ℕ → Held → Option Request → Reply P → Bool
   polled_test r x None reply = false
   polled_test r x (Some (Request.Agree k)) reply =
-      agree_test pack (pending_test look h x k) (is_decided limits.ranks h x.comm k) (decision meld limits.ranks h x.comm k) reply
+      agree_test pack (pending_test look seen x k) (is_decided_in seen x.comm k) (decision_in meld seen x.comm k) reply
   polled_test r x (Some (Request.Shrink k)) reply =
-      shrink_test limits h r x.comm k (pending_test look h x k) (is_decided limits.ranks h x.comm k) (decision meld limits.ranks h x.comm k) reply
+      shrink_test limits seen r x.comm k (pending_test look seen x k) (is_decided_in seen x.comm k) (decision_in meld seen x.comm k) reply
   polled_test r x (Some (Request.Barrier k)) reply =
-      barrier_test (is_revoked h x.comm) (list_all (has_arrived h x.comm k) x.group) (list_all (has_arrived h x.comm k) (filter (has x.group) look)) reply
+      barrier_test (seen.revoked x.comm) (list_all (λ m. seen.arrived (x.comm, k, m)) x.group)
+      (list_all (λ m. seen.arrived (x.comm, k, m)) (filter (has x.group) look)) reply
 
-module _ {P : Type 0} (meld : P → P → P) (pack : P → ℕ) (limits : Limits) (look : List ℕ) (h : History P) (own : List (Event P)) where
+module _ {P : Type 0} (meld : P → P → P) (pack : P → ℕ) (limits : Limits) (look : List ℕ) (seen : Seen P) (own : List (Event P)) where
   -- whether a call that the record doesn't refuse is answered so, where the rank holds these
   abbrev pub replied_test : ℕ → List Held → Held → Call P → Reply P → Bool
   replied_test r held x (Call.Fail rank) reply = false
-  replied_test r held x (Call.GetFailed rank c) reply = same_ranks (failures h) look && group_test (length (failed limits.ranks h c)) reply
+  replied_test r held x (Call.GetFailed rank c) reply = same_ranks seen.failures look && group_test (length (failed_in seen c)) reply
   replied_test r held x (Call.Ack rank c count) reply =
-      same_ranks (failures h) look && acked_test (max x.acked (min count (length (failed limits.ranks h c)))) reply
+      same_ranks seen.failures look && acked_test (max x.acked (min count (length (failed_in seen c)))) reply
   replied_test r held x (Call.Agree rank c value) reply =
-      start_test pack own (slot h x.comm x.next_agreement r) (length (filter (has x.group) look)) r x (Offer.Flag value) reply
+      start_test pack own (seen.slots (x.comm, x.next_agreement, r)) (length (filter (has x.group) look)) r x (Offer.Flag value) reply
   replied_test r held x (Call.Shrink rank c) reply =
-      start_test pack own (slot h x.comm x.next_agreement r) (length (filter (has x.group) look)) r x (Offer.Ctx (free_ids held)) reply
-  replied_test r held x (Call.Barrier rank c) reply = barrier_start_test (has_arrived h x.comm x.next_barrier r) own r x reply
-  replied_test r held x (Call.Poll rank c) reply = polled_test meld pack limits look h r x x.request reply
-  replied_test r held x (Call.Revoke rank c) reply = revoke_test (is_revoked h c) own c reply
-  replied_test r held x (Call.IsRevoked rank c) reply = standing_test (is_revoked h c) reply
+      start_test pack own (seen.slots (x.comm, x.next_agreement, r)) (length (filter (has x.group) look)) r x (Offer.Ctx (free_ids held)) reply
+  replied_test r held x (Call.Barrier rank c) reply = barrier_start_test (seen.arrived (x.comm, x.next_barrier, r)) own r x reply
+  replied_test r held x (Call.Poll rank c) reply = polled_test meld pack limits look seen r x x.request reply
+  replied_test r held x (Call.Revoke rank c) reply = revoke_test (seen.revoked c) own c reply
+  replied_test r held x (Call.IsRevoked rank c) reply = standing_test (seen.revoked c) reply
   replied_test r held x (Call.Free rank c) reply = freed_test reply
 
   -- the same, by what the rank holds and the refusal by its record
@@ -240,7 +240,7 @@ module _ {P : Type 0} (meld : P → P → P) (pack : P → ℕ) (limits : Limits
   -- whether a rank's call is answered so, after its look
   abbrev pub looked_test : Record → Call P → Reply P → Bool
   looked_test old asked reply =
-      self_failed_test h own old.number asked reply
+      self_failed_test (seen.declared old.number) own asked reply
       || (not (has look old.number) && by_record_test old (held_at old (comm_of asked)) asked reply (refusal_of old asked))
 
 -- whether a rank's call is answered so, by its record
@@ -248,16 +248,23 @@ abbrev pub rank_test : {P : Type 0} → (P → P → P) → (P → ℕ) → Trac
 rank_test meld pack now u point reply None = refused_test Refusal.NoSuchRank reply
 rank_test meld pack now u point reply (Some old) =
     if old.refused then refused_test Refusal.SelfFailed reply
-    else (is_some u.look && looked_test meld pack now.limits (found_by now u) (take point now.history) u.own old u.asked reply)
+    else (is_some u.look && looked_test meld pack now.limits (found_by now u) (seen_of now.limits.ranks (take point now.history)) u.own old u.asked reply)
 
 -- whether a caller's call is answered so
 abbrev pub call_test : {P : Type 0} → (P → P → P) → (P → ℕ) → Traced P → Caller → Under P → ℕ → Reply P → Bool
-call_test meld pack now Caller.Outside u point reply = fail_test now.limits (take point now.history) u.own (rank_of u.asked) reply
+call_test meld pack now Caller.Outside u point reply =
+    fail_test now.limits ((seen_of now.limits.ranks (take point now.history)).declared (rank_of u.asked)) u.own (rank_of u.asked) reply
 call_test meld pack now (Caller.Rank r) u point reply = rank_test meld pack now u point reply (record_of now r)
+
+-- the group that a reply lists, which is about communicator c
+abbrev pub listed_in : {P : Type 0} → Seen P → ℕ → Reply P → List ℕ
+listed_in seen c (Reply.Shrunk j context size) = seen.members j
+listed_in seen c (Reply.FailedGroup count) = failed_in seen c
+listed_in seen c _ = []
 
 -- whether a reply may come, by the call of its caller
 abbrev pub reply_test : {P : Type 0} → (P → P → P) → (P → ℕ) → Traced P → Caller → ℕ → List ℕ → Reply P → Option (Under P) → Bool
 reply_test meld pack now by point group reply None = false
 reply_test meld pack now by point group reply (Some u) =
     nat_le u.begun point && (nat_le point (length now.history) && (call_test meld pack now by u point reply
-    && same_ranks group (listed now.limits.ranks (take point now.history) (comm_of u.asked) reply)))
+    && same_ranks group (listed_in (seen_of now.limits.ranks (take point now.history)) (comm_of u.asked) reply)))

@@ -1,58 +1,64 @@
-//! Whether an event may come next, found by walking the history.
+//! Whether an event may come next, by what the tables say of a point.
 ghost use Rattle.std.specs.Prelude.{◌≡◌, ◌<◌, ◌-◌, ◌+◌, ◌==◌, ◌&&◌, IfOk, is_some, length, nat_le, not, slice_get};
-ghost use Rattle.ulfm_model.specs.History.{Decision, decision, failed, slot, spawns};
+ghost use Rattle.ulfm_history.specs.Walked.{decision_of};
+ghost use Rattle.ulfm_judge.specs.Seen.{decision_in, failed_in, is_decided_in, is_made_in};
+ghost use Rattle.ulfm_judge.specs.Telling.{seen_at};
 ghost use Rattle.ulfm_judge.specs.Tests.{at_test, follow_test, ids_test, place_test, spawn_test};
 
+use crate::numbers::Numbers;
 use std::alloc::{AllocError, Allocator};
-use ulfm_history::decide::{decision, is_decided};
-use ulfm_history::groups::{failed, members};
-use ulfm_history::reads::{
-    count_made, has_arrived, has_rank, is_declared, is_made, is_revoked, slot,
-};
+use ulfm_history::decide::{Decided, decided_by};
+use ulfm_history::reads::has_rank;
 use ulfm_laws::meld::Meld;
 use ulfm_laws::summary::Body;
-use ulfm_model::event::{Entry, Event};
+use ulfm_model::event::Event;
 use ulfm_model::limits::Limits;
 
 /// Whether a communicator exists.
-fn exists<P: Copy>(history: &[Entry<P>], comm: u16) -> bool
-    ensures { result ≡ nat_le comm (length (spawns history.now)) }
+fn exists<P: Copy, A: Allocator + Copy + Drop>(
+    numbers: &Numbers<P, A>,
+    point: u64,
+    comm: u16,
+) -> bool
+    ensures { result ≡ nat_le comm (length (seen_at numbers.now point).spawns) }
 {
-    usize::from(comm) <= count_made(history)
+    usize::from(comm) <= numbers.count_made_at(point)
 }
 
 /// Whether a rank is a member of a communicator that has a round of this number.
 fn is_place<P: Copy, A: Allocator + Copy + Drop>(
-    alloc: A,
     limits: Limits,
-    history: &[Entry<P>],
+    numbers: &Numbers<P, A>,
+    point: u64,
     comm: u16,
     round: u16,
     rank: u16,
-) -> Result<bool, AllocError>
-    ensures { IfOk result (λ b. b ≡ place_test limits history.now comm round rank) }
+) -> bool
+    ensures { result ≡ place_test limits (seen_at numbers.now point) comm round rank }
 {
-    let group = members(alloc, limits.ranks, history, comm)?;
-    Ok(exists(history, comm) && has_rank(&group, rank) && round < limits.rounds)
+    exists(numbers, point, comm)
+        && (has_rank(numbers.members_at(comm, point), rank) && round < limits.rounds)
 }
 
 /// Whether a rank may contribute to a round, knowing so many failures.
 fn may_settle<P: Copy, A: Allocator + Copy + Drop>(
     alloc: A,
     limits: Limits,
-    history: &[Entry<P>],
+    numbers: &Numbers<P, A>,
+    point: u64,
     comm: u16,
     round: u16,
     rank: u16,
     known: u16,
 ) -> Result<bool, AllocError>
-    ensures { let open_yet = not (is_some (slot history.now comm round rank)) in let few = nat_le known (length (failed limits.ranks history.now comm)) in
-        IfOk result (λ b. b ≡ (place_test limits history.now comm round rank && (open_yet && few))) }
+    ensures { let seen = seen_at numbers.now point in
+        let open_yet = not (is_some (seen.slots (comm, round, rank))) in let few = nat_le known (length (failed_in seen comm)) in
+        IfOk result (λ b. b ≡ (place_test limits seen comm round rank && (open_yet && few))) }
 {
-    let is_place = is_place(alloc, limits, history, comm, round, rank)?;
-    let is_open = slot(history, comm, round, rank).is_none();
-    let group = failed(alloc, limits.ranks, history, comm)?;
-    Ok(is_place && is_open && usize::from(known) <= group.len())
+    let is_place = is_place(limits, numbers, point, comm, round, rank);
+    let is_open = numbers.slot_at((comm, round, rank), point).is_none();
+    let group = numbers.failed_at_point(alloc, comm, point)?;
+    Ok(is_place && (is_open && usize::from(known) <= group.len()))
 }
 
 /// Whether this rank stands at this place of a group, counted from 1.
@@ -70,20 +76,22 @@ fn is_at(group: &[u16], place: u16, rank: u16) -> bool
 fn may_mark<P: Copy, A: Allocator + Copy + Drop>(
     alloc: A,
     limits: Limits,
-    history: &[Entry<P>],
+    numbers: &Numbers<P, A>,
+    point: u64,
     comm: u16,
     round: u16,
     rank: u16,
     known: u16,
 ) -> Result<bool, AllocError>
     requires { 0 < known }
-    ensures { let open_yet = not (is_some (slot history.now comm round rank)) in let at_place = at_test (slice_get (failed limits.ranks history.now comm) (known - 1)) rank in
-        IfOk result (λ b. b ≡ (place_test limits history.now comm round rank && (open_yet && at_place))) }
+    ensures { let seen = seen_at numbers.now point in
+        let open_yet = not (is_some (seen.slots (comm, round, rank))) in let at_place = at_test (slice_get (failed_in seen comm) (known - 1)) rank in
+        IfOk result (λ b. b ≡ (place_test limits seen comm round rank && (open_yet && at_place))) }
 {
-    let is_place = is_place(alloc, limits, history, comm, round, rank)?;
-    let is_open = slot(history, comm, round, rank).is_none();
-    let group = failed(alloc, limits.ranks, history, comm)?;
-    Ok(is_place && is_open && is_at(&group, known, rank))
+    let is_place = is_place(limits, numbers, point, comm, round, rank);
+    let is_open = numbers.slot_at((comm, round, rank), point).is_none();
+    let group = numbers.failed_at_point(alloc, comm, point)?;
+    Ok(is_place && (is_open && is_at(&group, known, rank)))
 }
 
 /// Whether a body is a set of context ids that isn't empty.
@@ -96,43 +104,99 @@ pub(crate) fn has_ids<P: Copy>(body: &Body<P>) -> bool
     }
 }
 
+/// Whether a round was decided at a point: each member was settled.
+pub(crate) fn is_decided<P: Copy, A: Allocator + Copy + Drop>(
+    numbers: &Numbers<P, A>,
+    point: u64,
+    comm: u16,
+    round: u16,
+) -> bool
+    ensures { result ≡ is_decided_in (seen_at numbers.now point) comm round }
+{
+    numbers.members_at(comm, point).iter().all(|rank| numbers
+        .slot_at((comm, round, *rank), point)
+        .is_some())
+}
+
+/// The decision of a round, by what was settled in it at a point.
+pub(crate) fn decision<P: Meld, A: Allocator + Copy + Drop>(
+    alloc: A,
+    numbers: &Numbers<P, A>,
+    point: u64,
+    comm: u16,
+    round: u16,
+) -> Result<Decided<P, A>, AllocError>
+    ensures { IfOk result (λ made. decision_of made ≡ decision_in P.meld (seen_at numbers.now point) comm round) }
+{
+    let failed = numbers.failed_at_point(alloc, comm, point)?;
+    let settled = numbers.settled_at(alloc, comm, round, point)?;
+    decided_by(alloc, &failed, &settled)
+}
+
 /// Whether a round decides on a set of context ids that isn't empty.
 fn decides_ids<P: Meld, A: Allocator + Copy + Drop>(
     alloc: A,
-    limits: Limits,
-    history: &[Entry<P>],
+    numbers: &Numbers<P, A>,
+    point: u64,
     comm: u16,
     round: u16,
 ) -> Result<bool, AllocError>
-    ensures { IfOk result (λ b. b ≡ ids_test (decision P.meld limits.ranks history.now comm round).body) }
+    ensures { IfOk result (λ b. b ≡ ids_test (decision_in P.meld (seen_at numbers.now point) comm round).body) }
 {
-    let decided = decision(alloc, limits.ranks, history, comm, round)?;
+    let decided = decision(alloc, numbers, point, comm, round)?;
     Ok(has_ids(&decided.body))
 }
 
 /// Whether a communicator has the next number.
-fn is_next<P: Copy>(history: &[Entry<P>], made: u16) -> bool
-    ensures { result ≡ (made == length (spawns history.now) + 1) }
+fn is_next<P: Copy, A: Allocator + Copy + Drop>(
+    numbers: &Numbers<P, A>,
+    point: u64,
+    made: u16,
+) -> bool
+    ensures { result ≡ (made == length (seen_at numbers.now point).spawns + 1) }
 {
-    made > 0 && usize::from(made) - 1 == count_made(history)
+    made > 0 && usize::from(made) - 1 == numbers.count_made_at(point)
+}
+
+/// Whether a communicator was made of this round of this parent.
+fn is_of(made: (u16, u16), comm: u16, round: u16) -> bool
+    ensures { result ≡ ((made.0 == comm) && (made.1 == round)) }
+{
+    made.0 == comm && made.1 == round
+}
+
+/// Whether a communicator was made of a round by a point.
+pub(crate) fn is_made<P: Copy, A: Allocator + Copy + Drop>(
+    numbers: &Numbers<P, A>,
+    point: u64,
+    comm: u16,
+    round: u16,
+) -> bool
+    ensures { result ≡ is_made_in (seen_at numbers.now point) comm round }
+{
+    numbers
+        .spawns_at(point)
+        .iter()
+        .any(|of| is_of(*of, comm, round))
 }
 
 /// Whether the communicator of this number may be made of a round.
 fn may_spawn<P: Meld, A: Allocator + Copy + Drop>(
     alloc: A,
     limits: Limits,
-    history: &[Entry<P>],
+    numbers: &Numbers<P, A>,
+    point: u64,
     made: u16,
     comm: u16,
     round: u16,
 ) -> Result<bool, AllocError>
-    ensures { IfOk result (λ b. b ≡ spawn_test P.meld limits history.now made comm round) }
+    ensures { IfOk result (λ b. b ≡ spawn_test P.meld limits (seen_at numbers.now point) made comm round) }
 {
-    let is_next = is_next(history, made);
-    let exists = exists(history, comm);
-    let is_decided = is_decided(alloc, limits.ranks, history, comm, round)?;
-    let has_ids = decides_ids(alloc, limits, history, comm, round)?;
-    let is_first = !is_made(history, comm, round);
+    let is_next = is_next(numbers, point, made);
+    let exists = exists(numbers, point, comm);
+    let is_decided = is_decided(numbers, point, comm, round);
+    let has_ids = decides_ids(alloc, numbers, point, comm, round)?;
+    let is_first = !is_made(numbers, point, comm, round);
     Ok(
         is_next
             && (made < limits.comms
@@ -140,38 +204,59 @@ fn may_spawn<P: Meld, A: Allocator + Copy + Drop>(
     )
 }
 
-/// Whether an event may come next.
+/// Whether an event may come next, at the point that is now.
 pub(crate) fn may_follow<P: Meld, A: Allocator + Copy + Drop>(
     alloc: A,
     limits: Limits,
-    history: &[Entry<P>],
+    numbers: &Numbers<P, A>,
+    point: u64,
     event: &Event<P>,
 ) -> Result<bool, AllocError>
-    ensures { IfOk result (λ b. b ≡ follow_test P.meld limits history.now event.now) }
+    ensures { IfOk result (λ b. b ≡ follow_test P.meld limits (seen_at numbers.now point) event.now) }
 {
     match *event {
-        Event::Fail { rank } => Ok(rank < limits.ranks && !is_declared(history, rank)),
+        Event::Fail { rank } => Ok(rank < limits.ranks && !numbers.is_declared_at(rank, point)),
         Event::Settle {
             comm,
             round,
             rank,
             given,
-        } => may_settle(alloc, limits, history, comm, round, rank, given.known.count),
+        } => may_settle(
+            alloc,
+            limits,
+            numbers,
+            point,
+            comm,
+            round,
+            rank,
+            given.known.count,
+        ),
         Event::Mark {
             comm,
             round,
             rank,
             known,
-        } => may_mark(alloc, limits, history, comm, round, rank, known.known.count),
+        } => may_mark(
+            alloc,
+            limits,
+            numbers,
+            point,
+            comm,
+            round,
+            rank,
+            known.known.count,
+        ),
         Event::Arrive { comm, round, rank } => {
-            let is_place = is_place(alloc, limits, history, comm, round, rank)?;
-            Ok(is_place && !has_arrived(history, comm, round, rank))
+            let is_place = is_place(limits, numbers, point, comm, round, rank);
+            Ok(is_place && !numbers.has_arrived_at((comm, round, rank), point))
         }
-        Event::Revoke { comm } => Ok(exists(history, comm) && !is_revoked(history, comm)),
+        Event::Revoke { comm } => {
+            Ok(exists(numbers, point, comm) && !numbers.is_revoked_at(comm, point))
+        }
         Event::Spawn {
             comm,
             parent,
             round,
-        } => may_spawn(alloc, limits, history, comm, parent, round),
+        } => may_spawn(alloc, limits, numbers, point, comm, parent, round),
     }
 }

@@ -1,24 +1,24 @@
-//! Whether a reply is an answer to a caller's call, at a point of the history.
+//! Whether a reply is an answer to a caller's call, at a point.
 ghost use Rattle.std.specs.Prelude.{◌≡◌, IfOk, length};
 ghost use Rattle.ulfm_model.specs.Answers.{comm_of, refusal_of};
-ghost use Rattle.ulfm_model.specs.History.{failed, failures};
 ghost use Rattle.ulfm_model.specs.Records.{held_at};
 ghost use Rattle.ulfm_record.specs.Kept.{record_of};
-ghost use Rattle.ulfm_trace_model.specs.Traces.{listed};
-ghost use Rattle.ulfm_judge.specs.ReplyTests.{by_record_test, looked_test, replied_test, same_ranks, self_failed_test, starts_test};
+ghost use Rattle.ulfm_judge.specs.ReplyTests.{by_record_test, listed_in, looked_test, replied_test, same_ranks, self_failed_test, starts_test};
+ghost use Rattle.ulfm_judge.specs.Seen.{failed_in};
+ghost use Rattle.ulfm_judge.specs.Telling.{seen_at};
 
+use crate::numbers::Numbers;
 use crate::polls::is_poll_reply;
 use crate::replies::{
     count_known, is_acked_reply, is_barrier_start_reply, is_freed, is_group_reply, is_refused,
     is_revoke_reply, is_standing_reply, is_start_reply, same_ranks,
 };
 use std::alloc::{AllocError, Allocator};
-use ulfm_history::groups::{failed, members};
-use ulfm_history::reads::{failures, has_arrived, has_rank, is_declared, is_revoked, slot};
+use ulfm_history::reads::has_rank;
 use ulfm_laws::meld::Packed;
 use ulfm_model::call::{Call, comm_of};
 use ulfm_model::contribution::Offer;
-use ulfm_model::event::{Entry, Event};
+use ulfm_model::event::Event;
 use ulfm_model::limits::Limits;
 use ulfm_model::refusal::Refusal;
 use ulfm_model::reply::Reply;
@@ -38,43 +38,40 @@ fn starts<P: Copy>(asked: &Call<P>) -> bool
     }
 }
 
-/// Whether a reply refuses for good.
+/// Whether a reply refuses for good, by whether the rank is declared.
 fn is_self_failed<P: Copy>(
-    history: &[Entry<P>],
+    declared: bool,
     own: &[Event<P>],
-    rank: u16,
     asked: &Call<P>,
     reply: &Reply<P>,
 ) -> bool
-    ensures { result ≡ self_failed_test history.now own.now rank asked.now reply.now }
+    ensures { result ≡ self_failed_test declared own.now asked.now reply.now }
 {
-    is_refused(reply, Refusal::SelfFailed)
-        && (is_declared(history, rank) && (!starts(asked) || own.is_empty()))
+    is_refused(reply, Refusal::SelfFailed) && (declared && (!starts(asked) || own.is_empty()))
 }
 
-/// How many failures of a communicator there are, if the look found all that are declared.
+/// How many failures of a communicator there were at a point.
 fn count_failed<P: Copy, A: Allocator + Copy + Drop>(
     alloc: A,
-    limits: Limits,
-    history: &[Entry<P>],
+    numbers: &Numbers<P, A>,
+    point: u64,
     comm: u16,
 ) -> Result<usize, AllocError>
-    ensures { IfOk result (λ count. count ≡ length (failed limits.ranks history.now comm)) }
+    ensures { IfOk result (λ count. count ≡ length (failed_in (seen_at numbers.now point) comm)) }
 {
-    let group = failed(alloc, limits.ranks, history, comm)?;
+    let group = numbers.failed_at_point(alloc, comm, point)?;
     Ok(group.len())
 }
 
-/// Whether a look found all that are declared.
+/// Whether a look found all that were declared at a point.
 fn found_all<P: Copy, A: Allocator + Copy + Drop>(
-    alloc: A,
     look: &[u16],
-    history: &[Entry<P>],
-) -> Result<bool, AllocError>
-    ensures { IfOk result (λ b. b ≡ same_ranks (failures history.now) look.now) }
+    numbers: &Numbers<P, A>,
+    point: u64,
+) -> bool
+    ensures { result ≡ same_ranks (seen_at numbers.now point).failures look.now }
 {
-    let known = failures(alloc, history)?;
-    Ok(same_ranks(&known, look))
+    same_ranks(numbers.failures_at(point), look)
 }
 
 /// Whether a call that the record doesn't refuse is answered so.
@@ -82,7 +79,8 @@ fn is_reply_on<P: Packed, A: Allocator + Copy + Drop>(
     alloc: A,
     limits: Limits,
     look: &[u16],
-    history: &[Entry<P>],
+    numbers: &Numbers<P, A>,
+    point: u64,
     events: &[Event<P>],
     rank: u16,
     held: &[HeldComm<A>],
@@ -90,41 +88,48 @@ fn is_reply_on<P: Packed, A: Allocator + Copy + Drop>(
     asked: &Call<P>,
     reply: &Reply<P>,
 ) -> Result<bool, AllocError>
-    ensures { IfOk result (λ b. b ≡ replied_test P.meld P.pack limits look.now history.now events.now rank held.now x.now asked.now reply.now) }
+    ensures { IfOk result (λ b. b ≡ replied_test P.meld P.pack limits look.now (seen_at numbers.now point) events.now rank held.now x.now asked.now reply.now) }
 {
     match *asked {
         Call::Fail { .. } => Ok(false),
         Call::GetFailed { comm, .. } => {
-            let all = found_all(alloc, look, history)?;
-            let count = count_failed(alloc, limits, history, comm)?;
+            let all = found_all(look, numbers, point);
+            let count = count_failed(alloc, numbers, point, comm)?;
             Ok(all && is_group_reply(count, reply))
         }
         Call::Ack { comm, count, .. } => {
-            let all = found_all(alloc, look, history)?;
-            let known = count_failed(alloc, limits, history, comm)?;
+            let all = found_all(look, numbers, point);
+            let known = count_failed(alloc, numbers, point, comm)?;
             let acked = usize::from(x.acked).max(usize::from(count).min(known));
             Ok(all && is_acked_reply(acked, reply))
         }
         Call::Agree { value, .. } => {
-            let stood = slot(history, x.comm, x.next_agreement, rank);
+            let stood = numbers.slot_at((x.comm, x.next_agreement, rank), point);
             let known = count_known(look, &x.group);
             Ok(is_start_reply(events, stood, known, rank, x, Offer::Flag(value), reply))
         }
         Call::Shrink { .. } => {
-            let stood = slot(history, x.comm, x.next_agreement, rank);
+            let stood = numbers.slot_at((x.comm, x.next_agreement, rank), point);
             let known = count_known(look, &x.group);
             let free = free_ids(held);
             Ok(is_start_reply(events, stood, known, rank, x, Offer::Ctx(free), reply))
         }
         Call::Barrier { .. } => {
-            let arrived = has_arrived(history, x.comm, x.next_barrier, rank);
+            let arrived = numbers.has_arrived_at((x.comm, x.next_barrier, rank), point);
             Ok(is_barrier_start_reply(arrived, events, rank, x, reply))
         }
-        Call::Poll { .. } => is_poll_reply(alloc, limits, look, history, rank, x, x.request, reply),
+        Call::Poll { .. } => {
+            is_poll_reply(
+                alloc, limits, look, numbers, point, rank, x, x.request, reply,
+            )
+        },
         Call::Revoke { comm, .. } => {
-            Ok(is_revoke_reply(is_revoked(history, comm), events, comm, reply))
+            let revoked = numbers.is_revoked_at(comm, point);
+            Ok(is_revoke_reply(revoked, events, comm, reply))
         }
-        Call::IsRevoked { comm, .. } => { Ok(is_standing_reply(is_revoked(history, comm), reply)) }
+        Call::IsRevoked { comm, .. } => {
+            Ok(is_standing_reply(numbers.is_revoked_at(comm, point), reply))
+        }
         Call::Free { .. } => Ok(is_freed(reply)),
     }
 }
@@ -134,14 +139,15 @@ fn is_reply_by_record<P: Packed, A: Allocator + Copy + Drop>(
     alloc: A,
     limits: Limits,
     look: &[u16],
-    history: &[Entry<P>],
+    numbers: &Numbers<P, A>,
+    point: u64,
     events: &[Event<P>],
     own: &RankRecord<A>,
     asked: &Call<P>,
     reply: &Reply<P>,
 ) -> Result<bool, AllocError>
     ensures { let old = record_of limits own.now in
-        IfOk result (λ b. b ≡ by_record_test P.meld P.pack limits look.now history.now events.now old (held_at old (comm_of asked.now)) asked.now reply.now (refusal_of old asked.now)) }
+        IfOk result (λ b. b ≡ by_record_test P.meld P.pack limits look.now (seen_at numbers.now point) events.now old (held_at old (comm_of asked.now)) asked.now reply.now (refusal_of old asked.now)) }
 {
     if let Some(refusal) = refusal_of(limits, own, asked) {
         return Ok(is_refused(reply, refusal));
@@ -151,7 +157,7 @@ fn is_reply_by_record<P: Packed, A: Allocator + Copy + Drop>(
     };
     let x = &own.held[i];
     is_reply_on(
-        alloc, limits, look, history, events, own.number, &own.held, x, asked, reply,
+        alloc, limits, look, numbers, point, events, own.number, &own.held, x, asked, reply,
     )
 }
 
@@ -160,39 +166,39 @@ pub(crate) fn is_answer<P: Packed, A: Allocator + Copy + Drop>(
     alloc: A,
     limits: Limits,
     look: &[u16],
-    history: &[Entry<P>],
+    numbers: &Numbers<P, A>,
+    point: u64,
     events: &[Event<P>],
     own: &RankRecord<A>,
     asked: &Call<P>,
     reply: &Reply<P>,
 ) -> Result<bool, AllocError>
-    ensures { IfOk result (λ b. b ≡ looked_test P.meld P.pack limits look.now history.now events.now (record_of limits own.now) asked.now reply.now) }
+    ensures { IfOk result (λ b. b ≡ looked_test P.meld P.pack limits look.now (seen_at numbers.now point) events.now (record_of limits own.now) asked.now reply.now) }
 {
-    let by_record = is_reply_by_record(alloc, limits, look, history, events, own, asked, reply)?;
-    Ok(
-        is_self_failed(history, events, own.number, asked, reply)
-            || (!has_rank(look, own.number) && by_record),
-    )
+    let by_record = is_reply_by_record(
+        alloc, limits, look, numbers, point, events, own, asked, reply,
+    )?;
+    let declared = numbers.is_declared_at(own.number, point);
+    Ok(is_self_failed(declared, events, asked, reply) || (!has_rank(look, own.number) && by_record))
 }
 
 /// Whether a reply lists this group.
 pub(crate) fn lists<P: Copy, A: Allocator + Copy + Drop>(
     alloc: A,
-    ranks: u16,
-    history: &[Entry<P>],
+    numbers: &Numbers<P, A>,
+    point: u64,
     comm: u16,
     reply: &Reply<P>,
     group: &[u16],
 ) -> Result<bool, AllocError>
-    ensures { IfOk result (λ b. b ≡ same_ranks group.now (listed ranks history.now comm reply.now)) }
+    ensures { IfOk result (λ b. b ≡ same_ranks group.now (listed_in (seen_at numbers.now point) comm reply.now)) }
 {
     match *reply {
         Reply::Shrunk { comm: made, .. } => {
-            let listed = members(alloc, ranks, history, made)?;
-            Ok(same_ranks(group, &listed))
+            Ok(same_ranks(group, numbers.members_at(made, point)))
         }
         Reply::FailedGroup { .. } => {
-            let listed = failed(alloc, ranks, history, comm)?;
+            let listed = numbers.failed_at_point(alloc, comm, point)?;
             Ok(same_ranks(group, &listed))
         }
         _ => Ok(same_ranks(group, &[])),

@@ -3,6 +3,7 @@ ghost use Rattle.std.specs.Prelude.{◌≡◌, ◌<◌, ◌==◌, IfOk, IfSome, 
 ghost use Rattle.ulfm_judge.specs.Kept.{traced_of};
 ghost use Rattle.ulfm_judge.specs.Tests.{due_test};
 ghost use Rattle.ulfm_model.specs.Answers.{traits_of};
+ghost use Rattle.ulfm_model.specs.History.{History, failures};
 ghost use Rattle.ulfm_model.specs.declared.limits.Limits.{Limits};
 ghost use Rattle.ulfm_record.specs.Kept.{record_of};
 ghost use Rattle.ulfm_record.specs.declared.record.RankRecord.{RankRecord};
@@ -10,19 +11,18 @@ ghost use Rattle.ulfm_trace_model.specs.Traces.{Takes, same_caller};
 ghost use Rattle.ulfm_trace_model.specs.declared.line.Line.{Line};
 
 use std::alloc::{AllocError, Allocator};
-use ulfm_history::reads::failures;
 use ulfm_laws::meld::Meld;
 use ulfm_model::call::{Call, rank_of};
-use ulfm_model::event::{Caller, Entry, Event};
+use ulfm_model::event::{Caller, Event};
 use ulfm_record::record::RankRecord;
 use ulfm_trace_model::line::Why;
 
 /// A call under way.
 #[derive(Drop)]
-pub struct OpenCall<P: Meld, A: Allocator> {
+pub struct OpenCall<P: Copy, A: Allocator> {
     pub asked: Call<P>,
     /// How many events there were when it began.
-    pub begun: usize,
+    pub begun: u64,
     /// How many failures its look found, if it was made.
     pub look: Option<u16>,
     /// The caller's own events since.
@@ -70,15 +70,16 @@ pub(crate) fn place_by<P: Meld, A: Allocator>(calls: &[OpenCall<P, A>], by: Call
     calls.iter().position(|u| is_by(u, by))
 }
 
-/// Takes in that a call begins.
+/// Takes in that a call begins, after so many events.
 pub(crate) fn begin<P: Meld, A: Allocator + Copy + Drop>(
     alloc: A,
-    history: &[Entry<P>],
+    count: u64,
     calls: &mut Vec<OpenCall<P, A>, A>,
     asked: Call<P>,
 ) -> Result<Option<Why>, AllocError>
-    ensures { (limits : Limits) (records : List (RankRecord A)) (group : List ℕ) → let old = traced_of limits history.now records calls.old.items in
-        IfOk result (λ why. Takes P.meld old group (Line.Called asked) (traced_of limits history.now records calls.new.items) why) }
+    ensures { (limits : Limits) (h : History P) (records : List (RankRecord A)) (group : List ℕ) → count ≡ length h
+        → let old = traced_of limits h records calls.old.items in
+        IfOk result (λ why. Takes P.meld old group (Line.Called asked) (traced_of limits h records calls.new.items) why) }
 {
     let by = caller_of(&asked);
     if let Some(_) = place_by(calls, by) {
@@ -86,7 +87,7 @@ pub(crate) fn begin<P: Meld, A: Allocator + Copy + Drop>(
     }
     let call = OpenCall {
         asked,
-        begun: history.len(),
+        begun: count,
         look: None,
         own: Vec::new(alloc),
     };
@@ -115,31 +116,29 @@ fn is_due<A: Allocator>(records: &[RankRecord<A>], rank: u16, look: Option<u16>)
     }
 }
 
-/// Takes in that a look has ended.
-pub(crate) fn look<P: Meld, A: Allocator + Copy + Drop>(
-    alloc: A,
-    history: &[Entry<P>],
+/// Takes in that a look has ended, where these are declared.
+pub(crate) fn look<P: Meld, A: Allocator>(
+    known: &[u16],
     records: &[RankRecord<A>],
     calls: &mut [OpenCall<P, A>],
     rank: u16,
     count: u16,
-) -> Result<Option<Why>, AllocError>
-    ensures { (limits : Limits) (group : List ℕ) → let old = traced_of limits history.now records.now calls.old in
-        IfOk result (λ why. Takes P.meld old group (Line.Looked rank count) (traced_of limits history.now records.now calls.new) why) }
+) -> Option<Why>
+    ensures { (limits : Limits) (h : History P) (group : List ℕ) → known.now ≡ failures h → let old = traced_of limits h records.now calls.old in
+        Takes P.meld old group (Line.Looked rank count) (traced_of limits h records.now calls.new) result }
 {
-    let known = failures(alloc, history)?;
     let Some(i) = place_by(calls, Caller::Rank(rank)) else {
-        return Ok(Some(Why::Call));
+        return Some(Why::Call);
     };
     let u = &mut calls[i];
     if !is_due(records, rank, u.look) {
-        return Ok(Some(Why::Look));
+        return Some(Why::Look);
     }
     if usize::from(count) != known.len() {
-        return Ok(Some(Why::Look));
+        return Some(Why::Look);
     }
     u.look = Some(count);
-    Ok(None)
+    None
 }
 
 /// The first so many ranks of a group, or all of it.

@@ -1,11 +1,13 @@
 //! Replies: whether one may come, and what the judge keeps of it.
-ghost use Rattle.std.specs.Prelude.{◌≡◌, ◌≤◌, [], IfOk, OnOk, Some, filter, if◌then◌else◌, is_some, length, map, not, take, unwrap_or};
+ghost use Rattle.std.specs.Prelude.{◌≡◌, ◌∷◌, ◌++◌, [], IfOk, IsTrue, OnOk, Some, filter, if◌then◌else◌, is_some, map, not, take, unwrap_or};
 ghost use Rattle.ulfm_judge.specs.Kept.{MayLeave, traced_of, under_of};
 ghost use Rattle.ulfm_judge.specs.ReplyTests.{call_test, rank_test, reply_test};
-ghost use Rattle.ulfm_model.specs.Answers.{comm_of, left_by, traits_of};
-ghost use Rattle.ulfm_model.specs.History.{failures, first_ranks};
-ghost use Rattle.ulfm_model.specs.Records.{Held, Record, held_at};
+ghost use Rattle.ulfm_judge.specs.Telling.{Tells};
+ghost use Rattle.ulfm_model.specs.Answers.{closed, comm_of, left_by, traits_of};
+ghost use Rattle.ulfm_model.specs.History.{History, first_ranks};
+ghost use Rattle.ulfm_model.specs.Records.{Held, Record, held_at, new_held};
 ghost use Rattle.ulfm_model.specs.Words.{MayOpen};
+ghost use Rattle.ulfm_model.specs.declared.event.Caller.{Caller};
 ghost use Rattle.ulfm_model.specs.declared.reply.Reply.{Reply};
 ghost use Rattle.ulfm_record.specs.Kept.{FitsNext, record_of};
 ghost use Rattle.ulfm_trace_model.specs.Traces.{Takes, record_of as record_at, records_after, same_caller};
@@ -13,13 +15,12 @@ ghost use Rattle.ulfm_trace_model.specs.declared.line.Line.{Line};
 
 use crate::answers::{is_answer, lists};
 use crate::calls::{OpenCall, first_of, is_by, place_by, place_of_rank};
+use crate::numbers::Numbers;
 use crate::replies::{is_fail_reply, is_refused};
 use std::alloc::{AllocError, Allocator};
-use ulfm_history::groups::members;
-use ulfm_history::reads::failures;
 use ulfm_laws::meld::{Meld, Packed};
 use ulfm_model::call::{Call, comm_of, rank_of};
-use ulfm_model::event::{Caller, Entry};
+use ulfm_model::event::Caller;
 use ulfm_model::limits::Limits;
 use ulfm_model::refusal::Refusal;
 use ulfm_model::reply::Reply;
@@ -28,28 +29,21 @@ use ulfm_record::leaves::settle;
 use ulfm_record::record::RankRecord;
 use ulfm_trace_model::line::Why;
 
-/// The events before a point.
-fn events_before<P: Copy>(history: &[Entry<P>], point: usize) -> &[Entry<P>]
-    requires { point ≤ length history.now }
-    ensures { result.now ≡ take point history.now }
-{
-    &history[..point]
-}
-
 /// Whether a rank's call is answered so, at a point.
 fn answers_rank<P: Packed, A: Allocator + Copy + Drop>(
     alloc: A,
     limits: Limits,
-    history: &[Entry<P>],
+    numbers: &Numbers<P, A>,
     records: &[RankRecord<A>],
     u: &OpenCall<P, A>,
     rank: u16,
-    point: usize,
+    point: u64,
     reply: &Reply<P>,
 ) -> Result<bool, AllocError>
-    requires { point ≤ length history.now }
-    ensures { let now = traced_of limits history.now records.now [] in
+    ensures told { (h : History P) → Tells limits.ranks numbers.now h → let now = traced_of limits h records.now [] in
         IfOk result (λ b. b ≡ rank_test P.meld P.pack now (under_of u.now) point reply.now (record_at now rank)) }
+    ensures fits { let now = traced_of limits [] records.now [] in
+        MayOpen limits → IfOk result (λ b. IsTrue b → MayLeave now (Caller.Rank rank) (under_of u.now) reply.now) }
 {
     let Some(j) = place_of_rank(records, rank) else {
         return Ok(is_refused(reply, Refusal::NoSuchRank));
@@ -61,34 +55,36 @@ fn answers_rank<P: Packed, A: Allocator + Copy + Drop>(
     let Some(count) = u.look else {
         return Ok(false);
     };
-    let known = failures(alloc, history)?;
-    let found = first_of(&known, count);
-    let before = events_before(history, point);
-    is_answer(alloc, limits, found, before, &u.own, own, &u.asked, reply)
+    let found = first_of(&numbers.failures, count);
+    is_answer(
+        alloc, limits, found, numbers, point, &u.own, own, &u.asked, reply,
+    )
 }
 
 /// Whether a caller's call is answered so, at a point.
 fn answers_call<P: Packed, A: Allocator + Copy + Drop>(
     alloc: A,
     limits: Limits,
-    history: &[Entry<P>],
+    numbers: &Numbers<P, A>,
     records: &[RankRecord<A>],
     u: &OpenCall<P, A>,
     by: Caller,
-    point: usize,
+    point: u64,
     reply: &Reply<P>,
 ) -> Result<bool, AllocError>
-    requires { point ≤ length history.now }
-    ensures { let now = traced_of limits history.now records.now [] in
+    ensures told { (h : History P) → Tells limits.ranks numbers.now h → let now = traced_of limits h records.now [] in
         IfOk result (λ b. b ≡ call_test P.meld P.pack now by (under_of u.now) point reply.now) }
+    ensures fits { let now = traced_of limits [] records.now [] in
+        MayOpen limits → IfOk result (λ b. IsTrue b → MayLeave now by (under_of u.now) reply.now) }
 {
     match by {
         Caller::Outside => {
-            let before = events_before(history, point);
-            Ok(is_fail_reply(limits, before, &u.own, rank_of(&u.asked), reply))
+            let rank = rank_of(&u.asked);
+            let declared = numbers.is_declared_at(rank, point);
+            Ok(is_fail_reply(limits, declared, &u.own, rank, reply))
         }
         Caller::Rank(rank) => {
-            answers_rank(alloc, limits, history, records, u, rank, point, reply)
+            answers_rank(alloc, limits, numbers, records, u, rank, point, reply)
         },
     }
 }
@@ -97,53 +93,80 @@ fn answers_call<P: Packed, A: Allocator + Copy + Drop>(
 fn may_reply<P: Packed, A: Allocator + Copy + Drop>(
     alloc: A,
     limits: Limits,
-    history: &[Entry<P>],
+    numbers: &Numbers<P, A>,
     records: &[RankRecord<A>],
     u: &OpenCall<P, A>,
     by: Caller,
-    point: usize,
+    point: u64,
     group: &[u16],
     reply: &Reply<P>,
 ) -> Result<bool, AllocError>
-    ensures { let now = traced_of limits history.now records.now [] in
+    ensures told { (h : History P) → Tells limits.ranks numbers.now h → let now = traced_of limits h records.now [] in
         IfOk result (λ b. b ≡ reply_test P.meld P.pack now by point group.now reply.now (Some (under_of u.now))) }
+    ensures fits { let now = traced_of limits [] records.now [] in
+        MayOpen limits → IfOk result (λ b. IsTrue b → MayLeave now by (under_of u.now) reply.now) }
 {
     if point < u.begun {
         return Ok(false);
     }
-    if history.len() < point {
+    if numbers.count < point {
         return Ok(false);
     }
-    let answers = answers_call(alloc, limits, history, records, u, by, point, reply)?;
-    let before = events_before(history, point);
-    let lists = lists(alloc, limits.ranks, before, comm_of(&u.asked), reply, group)?;
+    let answers = answers_call(alloc, limits, numbers, records, u, by, point, reply)?;
+    let lists = lists(alloc, numbers, point, comm_of(&u.asked), reply, group)?;
     Ok(answers && lists)
 }
 
-/// The failures that a rank has seen after a call: those that the call's look found, or those from before where it made none.
-fn seen_after<P: Meld, A: Allocator + Copy + Drop>(
+/// The failures that a rank has seen after a call, where these are declared: those that the call's look found, or those from before where it made none.
+fn seen_after<A: Allocator + Copy + Drop>(
     alloc: A,
-    history: &[Entry<P>],
+    known: &[u16],
     look: Option<u16>,
     before: &[u16],
 ) -> Result<Vec<u16, A>, AllocError>
-    ensures { IfOk result (λ seen. seen.items ≡ (if is_some look then take (unwrap_or look 0) (failures history.now) else before.now)) }
+    ensures { IfOk result (λ seen. seen.items ≡ (if is_some look then take (unwrap_or look 0) known.now else before.now)) }
 {
-    match look {
-        Some(count) => {
-            let mut seen = failures(alloc, history)?;
-            seen.truncate(usize::from(count));
-            Ok(seen)
-        }
-        None => before.iter().copied().collect(alloc),
-    }
+    let seen = match look {
+        Some(count) => first_of(known, count),
+        None => before,
+    };
+    seen.iter().copied().collect(alloc)
 }
 
-/// Takes a reply into a record, by the history at its point, with the failures that the rank has seen then.
+/// A list of ranks as a vector.
+fn copied<A: Allocator + Copy + Drop>(alloc: A, ranks: &[u16]) -> Result<Vec<u16, A>, AllocError>
+    ensures { IfOk result (λ made. made.items ≡ ranks.now) }
+{
+    ranks.iter().copied().collect(alloc)
+}
+
+/// Takes the communicator that a shrink made into a record, in place of the request, with the failures that the rank has seen then.
+fn hold_made<P: Copy, A: Allocator + Copy + Drop>(
+    limits: Limits,
+    own: &mut RankRecord<A>,
+    seen: Vec<u16, A>,
+    asked: &Call<P>,
+    comm: u16,
+    context: u8,
+    group: Vec<u16, A>,
+) -> Result<(), AllocError>
+    ensures number { own.new.number ≡ own.old.number }
+    ensures left { let now : Record = record (record_of limits own.old) { seen = seen.items } in let rest = closed now (comm_of asked.now) in
+        OnOk result (record_of limits own.new ≡ record rest { held = rest.held ++ new_held comm context group.items ∷ [] }) }
+{
+    let made = HeldComm::new(comm, context, group);
+    own.held.reserve(1)?;
+    take_in(&mut own.held, comm_of(asked), made);
+    own.seen = seen;
+    Ok(())
+}
+
+/// Takes a reply into a record, by the tables at its point, with the failures that the rank has seen then.
 fn leave<P: Copy, A: Allocator + Copy + Drop>(
     alloc: A,
     limits: Limits,
-    before: &[Entry<P>],
+    numbers: &Numbers<P, A>,
+    point: u64,
     own: &mut RankRecord<A>,
     seen: Vec<u16, A>,
     asked: &Call<P>,
@@ -151,41 +174,37 @@ fn leave<P: Copy, A: Allocator + Copy + Drop>(
 ) -> Result<(), AllocError>
     requires { (x : Held) → reply ≡ Reply.Started → held_at (record_of limits own.old) (comm_of asked.now) ≡ Some x → FitsNext ((traits_of asked.now).starts x) }
     ensures number { own.new.number ≡ own.old.number }
-    ensures left { let now : Record = record (record_of limits own.old) { seen = seen.items } in
-        OnOk result (record_of limits own.new ≡ left_by limits.ranks before.now now asked.now reply) }
+    ensures left { (h : History P) → Tells limits.ranks numbers.now h → let now : Record = record (record_of limits own.old) { seen = seen.items } in
+        OnOk result (record_of limits own.new ≡ left_by limits.ranks (take point h) now asked.now reply) }
 {
     match reply {
         Reply::Shrunk { comm, context, .. } => {
-            let group = members(alloc, limits.ranks, before, comm)?;
-            let made = HeldComm::new(comm, context, group);
-            own.held.reserve(1)?;
-            take_in(&mut own.held, comm_of(asked), made);
-            own.seen = seen;
+            let group = copied(alloc, numbers.members_at(comm, point))?;
+            hold_made(limits, own, seen, asked, comm, context, group)
         }
         _ => {
             own.seen = seen;
             settle(own, asked, reply);
+            Ok(())
         }
     }
-    Ok(())
 }
 
 /// Takes the reply to a call into its rank's record.
 fn settle_call<P: Meld, A: Allocator + Copy + Drop>(
     alloc: A,
     limits: Limits,
-    history: &[Entry<P>],
+    numbers: &Numbers<P, A>,
     records: &mut [RankRecord<A>],
     u: &OpenCall<P, A>,
     by: Caller,
-    point: usize,
+    point: u64,
     reply: Reply<P>,
 ) -> Result<(), AllocError>
-    requires point { point ≤ length history.now }
     requires numbers { map (λ own. own.number) records.old ≡ first_ranks limits.ranks }
-    requires fits { MayLeave (traced_of limits history.now records.old []) by (under_of u.now) reply }
+    requires fits { MayLeave (traced_of limits [] records.old []) by (under_of u.now) reply }
     ensures numbers { map (λ own. own.number) records.new ≡ map (λ own. own.number) records.old }
-    ensures left { let now = traced_of limits history.now records.old [] in
+    ensures left { (h : History P) → Tells limits.ranks numbers.now h → let now = traced_of limits h records.old [] in
         OnOk result (map (record_of limits) records.new ≡ records_after now by (under_of u.now) point reply) }
 {
     let Caller::Rank(rank) = by else {
@@ -194,10 +213,9 @@ fn settle_call<P: Meld, A: Allocator + Copy + Drop>(
     let Some(j) = place_of_rank(records, rank) else {
         return Ok(());
     };
-    let before = events_before(history, point);
     let own = &mut records[j];
-    let seen = seen_after(alloc, history, u.look, &own.seen)?;
-    leave(alloc, limits, before, own, seen, &u.asked, reply)
+    let seen = seen_after(alloc, &numbers.failures, u.look, &own.seen)?;
+    leave(alloc, limits, numbers, point, own, seen, &u.asked, reply)
 }
 
 /// A caller's call is no longer under way.
@@ -211,7 +229,7 @@ fn close_call<P: Meld, A: Allocator>(calls: &mut Vec<OpenCall<P, A>, A>, by: Cal
 pub(crate) fn take_reply<P: Packed, A: Allocator + Copy + Drop>(
     alloc: A,
     limits: Limits,
-    history: &[Entry<P>],
+    numbers: &Numbers<P, A>,
     records: &mut [RankRecord<A>],
     calls: &mut Vec<OpenCall<P, A>, A>,
     by: Caller,
@@ -222,18 +240,18 @@ pub(crate) fn take_reply<P: Packed, A: Allocator + Copy + Drop>(
     requires may { MayOpen limits }
     requires numbers { map (λ own. own.number) records.old ≡ first_ranks limits.ranks }
     ensures numbers { map (λ own. own.number) records.new ≡ map (λ own. own.number) records.old }
-    ensures taken { let old = traced_of limits history.now records.old calls.old.items in
-        IfOk result (λ why. Takes P.meld old group.now (Line.Replied by point (Some reply)) (traced_of limits history.now records.new calls.new.items) why) }
+    ensures taken { (h : History P) → Tells limits.ranks numbers.now h → let old = traced_of limits h records.old calls.old.items in
+        IfOk result (λ why. Takes P.meld old group.now (Line.Replied by point (Some reply)) (traced_of limits h records.new calls.new.items) why) }
 {
     let Some(i) = place_by(calls, by) else {
         return Ok(Some(Why::Call));
     };
     let u = &calls[i];
-    let at = point as usize;
-    if !may_reply(alloc, limits, history, records, u, by, at, group, &reply)? {
+    let at = point as u64;
+    if !may_reply(alloc, limits, numbers, records, u, by, at, group, &reply)? {
         return Ok(Some(Why::Reply));
     }
-    settle_call(alloc, limits, history, records, u, by, at, reply)?;
+    settle_call(alloc, limits, numbers, records, u, by, at, reply)?;
     close_call(calls, by);
     Ok(None)
 }

@@ -1,17 +1,18 @@
 //! Events: whether one is its caller's own, and what the judge keeps of it.
 ghost use Rattle.std.specs.Prelude.{◌≡◌, ◌==◌, false, IfOk, List, OnOk, ℕ, Some, map};
 ghost use Rattle.std.specs.Option.{option_map_or};
-ghost use Rattle.ulfm_model.specs.History.{says};
+ghost use Rattle.ulfm_model.specs.History.{History, failures, says};
 ghost use Rattle.ulfm_judge.specs.Kept.{traced_of, under_of};
+ghost use Rattle.ulfm_judge.specs.Telling.{Goes, Tells};
 ghost use Rattle.ulfm_judge.specs.Tests.{own_by_test};
 ghost use Rattle.ulfm_trace_model.specs.Traces.{Takes, change_by, is_owned, with_event};
 ghost use Rattle.ulfm_trace_model.specs.declared.line.Line.{Line};
 
 use crate::allowed::may_follow;
 use crate::calls::{OpenCall, first_of, place_by, place_of_rank};
+use crate::numbers::Numbers;
 use crate::own::may_own;
 use std::alloc::{AllocError, Allocator};
-use ulfm_history::reads::failures;
 use ulfm_laws::meld::Meld;
 use ulfm_model::call::Call;
 use ulfm_model::event::{Caller, Entry, Event};
@@ -57,57 +58,55 @@ fn add_own<P: Meld, A: Allocator + Copy + Drop>(
     Ok(())
 }
 
-/// Whether an event is one that its caller may add.
-fn is_own<P: Meld, A: Allocator + Copy + Drop>(
-    alloc: A,
+/// Whether an event is one that its caller may add, where these are declared.
+fn is_own<P: Meld, A: Allocator>(
     limits: Limits,
-    history: &[Entry<P>],
+    known: &[u16],
     records: &[RankRecord<A>],
     calls: &[OpenCall<P, A>],
     by: Caller,
     event: &Event<P>,
-) -> Result<bool, AllocError>
-    ensures { IfOk result (λ b. b ≡ own_by_test (traced_of limits history.now records.now calls.now) by event.now) }
+) -> bool
+    ensures { (h : History P) → known.now ≡ failures h → result ≡ own_by_test (traced_of limits h records.now calls.now) by event.now }
 {
     let Caller::Rank(rank) = by else {
-        return Ok(true);
+        return true;
     };
     let Some(i) = place_by(calls, by) else {
-        return Ok(false);
+        return false;
     };
     let Some(j) = place_of_rank(records, rank) else {
-        return Ok(false);
+        return false;
     };
     let u = &calls[i];
     let own = &records[j];
     let Some(count) = u.look else {
-        return Ok(false);
+        return false;
     };
-    let known = failures(alloc, history)?;
-    let found = first_of(&known, count);
-    Ok(may_own(limits, found, own, &u.asked, event))
+    let found = first_of(known, count);
+    may_own(limits, found, own, &u.asked, event)
 }
 
 /// Takes in an event.
 pub(crate) fn happen<P: Meld, A: Allocator + Copy + Drop>(
     alloc: A,
     limits: Limits,
-    history: &mut Vec<Entry<P>, A>,
+    numbers: &mut Numbers<P, A>,
     records: &[RankRecord<A>],
     calls: &mut [OpenCall<P, A>],
     by: Caller,
     event: Event<P>,
 ) -> Result<Option<Why>, AllocError>
-    ensures { (group : List ℕ) → let old = traced_of limits history.old.items records.now calls.old in
-        IfOk result (λ why. Takes P.meld old group (Line.Happened by (Some event)) (traced_of limits history.new.items records.now calls.new) why) }
+    ensures { (h : History P) (group : List ℕ) → Tells limits.ranks numbers.old h → let old = traced_of limits h records.now calls.old in
+        IfOk result (Goes limits numbers.new records.now calls.new (Takes P.meld old group (Line.Happened by (Some event)))) }
 {
-    if !may_follow(alloc, limits, history, &event)? {
+    if !may_follow(alloc, limits, numbers, numbers.count, &event)? {
         return Ok(Some(Why::Event));
     }
-    if !is_own(alloc, limits, history, records, calls, by, &event)? {
+    if !is_own(limits, &numbers.failures, records, calls, by, &event) {
         return Ok(Some(Why::Own));
     }
     add_own(calls, by, event)?;
-    history.push(Entry { by, event })?;
+    numbers.note(alloc, &Entry { by, event })?;
     Ok(None)
 }

@@ -1,7 +1,8 @@
 //! The judge of traces.
 ghost use Rattle.std.specs.Prelude.{◌≡◌, IfOk, List, ℕ, map};
-ghost use Rattle.ulfm_judge.specs.Kept.{Stands, traced_of};
-ghost use Rattle.ulfm_model.specs.History.{first_ranks};
+ghost use Rattle.ulfm_judge.specs.Kept.{traced_of};
+ghost use Rattle.ulfm_judge.specs.Telling.{Goes, Tells};
+ghost use Rattle.ulfm_model.specs.History.{History, first_ranks};
 ghost use Rattle.ulfm_model.specs.Records.{new_record};
 ghost use Rattle.ulfm_model.specs.Words.{MayOpen};
 ghost use Rattle.ulfm_record.specs.Kept.{record_of};
@@ -11,34 +12,28 @@ ghost use Rattle.ulfm_trace_model.specs.declared.line.Line.{Line};
 use crate::calls::{OpenCall, begin, look, place_by};
 use crate::closing::take_reply;
 use crate::events::happen;
+use crate::numbers::Numbers;
 use std::alloc::{AllocError, Allocator};
-use std::marker::Model;
 use ulfm_history::groups::first_ranks;
 use ulfm_laws::meld::{Meld, Packed};
-use ulfm_model::event::{Caller, Entry, Event};
+use ulfm_model::event::{Caller, Event};
 use ulfm_model::limits::Limits;
 use ulfm_model::reply::Reply;
 use ulfm_record::held::HeldComm;
 use ulfm_record::record::RankRecord;
 use ulfm_trace_model::line::{Line, Why};
 
-/// Judges the lines of a trace one after another. It is slow and plain: it keeps all that the lines said, and each answer walks it
-/// as the definitions do.
+/// Judges the lines of a trace one after another. Of what happened it keeps when, by what was said, and no history: what a line takes
+/// grows with the members of its communicator, with the communicators and with the failures, and not with the lines before it.
 #[derive(Drop)]
-pub struct Judge<P: Packed, A: Allocator> {
+pub struct Judge<P: Copy, A: Allocator> {
     alloc: A,
     limits: Limits,
-    history: Vec<Entry<P>, A>,
+    numbers: Numbers<P, A>,
     records: Vec<RankRecord<A>, A>,
     calls: Vec<OpenCall<P, A>, A>,
-}
-
-impl<P: Packed, A: Allocator> Model for Judge<P, A> {
-    ghost Value = { Traced P };
-
-    ghost view = { λ a. traced_of a.limits a.history.items a.records.items a.calls.items };
-
-    ghost invariant = { λ a. MayOpen a.limits × (map (λ own. own.number) a.records.items ≡ first_ranks a.limits.ranks) };
+    ghost may: { MayOpen limits },
+    ghost numbered: { map (λ own. own.number) records.items ≡ first_ranks limits.ranks },
 }
 
 /// A new rank's record: it holds the world's communicator alone.
@@ -80,17 +75,17 @@ fn new_records<A: Allocator + Copy + Drop>(
 fn happen_told<P: Packed, A: Allocator + Copy + Drop>(
     alloc: A,
     limits: Limits,
-    history: &mut Vec<Entry<P>, A>,
+    numbers: &mut Numbers<P, A>,
     records: &[RankRecord<A>],
     calls: &mut [OpenCall<P, A>],
     by: Caller,
     event: Option<Event<P>>,
 ) -> Result<Option<Why>, AllocError>
-    ensures { (group : List ℕ) → let old = traced_of limits history.old.items records.now calls.old in
-        IfOk result (λ why. Takes P.meld old group (Line.Happened by event) (traced_of limits history.new.items records.now calls.new) why) }
+    ensures { (h : History P) (group : List ℕ) → Tells limits.ranks numbers.old h → let old = traced_of limits h records.now calls.old in
+        IfOk result (Goes limits numbers.new records.now calls.new (Takes P.meld old group (Line.Happened by event))) }
 {
     match event {
-        Some(event) => happen(alloc, limits, history, records, calls, by, event),
+        Some(event) => happen(alloc, limits, numbers, records, calls, by, event),
         None => Ok(Some(Why::Event)),
     }
 }
@@ -99,7 +94,7 @@ fn happen_told<P: Packed, A: Allocator + Copy + Drop>(
 fn reply_told<P: Packed, A: Allocator + Copy + Drop>(
     alloc: A,
     limits: Limits,
-    history: &[Entry<P>],
+    numbers: &Numbers<P, A>,
     records: &mut [RankRecord<A>],
     calls: &mut Vec<OpenCall<P, A>, A>,
     by: Caller,
@@ -110,13 +105,13 @@ fn reply_told<P: Packed, A: Allocator + Copy + Drop>(
     requires may { MayOpen limits }
     requires numbers { map (λ own. own.number) records.old ≡ first_ranks limits.ranks }
     ensures numbers { map (λ own. own.number) records.new ≡ map (λ own. own.number) records.old }
-    ensures taken { let old = traced_of limits history.now records.old calls.old.items in
-        IfOk result (λ why. Takes P.meld old group.now (Line.Replied by point reply) (traced_of limits history.now records.new calls.new.items) why) }
+    ensures taken { (h : History P) → Tells limits.ranks numbers.now h → let old = traced_of limits h records.old calls.old.items in
+        IfOk result (λ why. Takes P.meld old group.now (Line.Replied by point reply) (traced_of limits h records.new calls.new.items) why) }
 {
     match reply {
         Some(reply) => {
             take_reply(
-                alloc, limits, history, records, calls, by, point, reply, group,
+                alloc, limits, numbers, records, calls, by, point, reply, group,
             )
         },
         None => match place_by(calls, by) {
@@ -130,7 +125,7 @@ fn reply_told<P: Packed, A: Allocator + Copy + Drop>(
 fn take_line<P: Packed, A: Allocator + Copy + Drop>(
     alloc: A,
     limits: Limits,
-    history: &mut Vec<Entry<P>, A>,
+    numbers: &mut Numbers<P, A>,
     records: &mut [RankRecord<A>],
     calls: &mut Vec<OpenCall<P, A>, A>,
     line: &Line<P>,
@@ -139,34 +134,39 @@ fn take_line<P: Packed, A: Allocator + Copy + Drop>(
     requires may { MayOpen limits }
     requires numbers { map (λ own. own.number) records.old ≡ first_ranks limits.ranks }
     ensures numbers { map (λ own. own.number) records.new ≡ map (λ own. own.number) records.old }
-    ensures taken { let old = traced_of limits history.old.items records.old calls.old.items in
-        IfOk result (λ why. Takes P.meld old group.now line.now (traced_of limits history.new.items records.new calls.new.items) why) }
+    ensures taken { (h : History P) → Tells limits.ranks numbers.old h → let old = traced_of limits h records.old calls.old.items in
+        IfOk result (Goes limits numbers.new records.new calls.new.items (Takes P.meld old group.now line.now)) }
 {
     match *line {
-        Line::Called(asked) => begin(alloc, history, calls, asked),
-        Line::Looked { rank, failures } => look(alloc, history, records, calls, rank, failures),
+        Line::Called(asked) => begin(alloc, numbers.count, calls, asked),
+        Line::Looked { rank, failures } => {
+            Ok(look(&numbers.failures, records, calls, rank, failures))
+        }
         Line::Happened { by, event } => {
-            happen_told(alloc, limits, history, records, calls, by, event)
+            happen_told(alloc, limits, numbers, records, calls, by, event)
         }
         Line::Replied { by, point, reply } => {
             reply_told(
-                alloc, limits, history, records, calls, by, point, reply, group,
+                alloc, limits, numbers, records, calls, by, point, reply, group,
             )
         }
     }
 }
 
 impl<P: Packed, A: Allocator + Copy + Drop> Judge<P, A> {
+    ghost use Rattle.ulfm_judge.specs.Standing.{Stands};
+
     /// A judge of a trace behind a header with these limits: nothing was said yet.
     pub fn open(alloc: A, limits: Limits) -> Result<Judge<P, A>, AllocError>
         requires { MayOpen limits }
         ensures { IfOk result (λ judge. Stands judge (nothing limits)) }
     {
         let records = new_records(alloc, limits)?;
+        let numbers = Numbers::new(alloc, limits.ranks)?;
         Ok(Judge {
             alloc,
             limits,
-            history: Vec::new(alloc),
+            numbers,
             records,
             calls: Vec::new(alloc),
         })
@@ -182,7 +182,7 @@ impl<P: Packed, A: Allocator + Copy + Drop> Judge<P, A> {
         take_line(
             self.alloc,
             self.limits,
-            &mut self.history,
+            &mut self.numbers,
             &mut self.records,
             &mut self.calls,
             line,

@@ -7,7 +7,7 @@ pub mod calls;
 mod closing;
 mod events;
 pub mod judge;
-pub mod numbers;
+mod numbers;
 mod own;
 mod polls;
 mod replies;

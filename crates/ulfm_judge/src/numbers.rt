@@ -1,14 +1,20 @@
 //! When things happened: tables of the numbers of events, in place of walks of a history. Each answer is at a point, which is a
-//! number of events; the tables tell it for every point so far, at no cost by the length of the history.
-ghost use Rattle.std.specs.Prelude.{◌≡◌, ◌++◌, ◌∷◌, ◌+◌, ◌<◌, ◌^◌, [], OnOk, length, take};
+//! number of events; the tables tell it for every point so far, at no cost by the length of the history. Who the members of a
+//! communicator are is kept when it is made.
+ghost use Rattle.std.specs.Prelude.{◌≡◌, ◌++◌, ◌∷◌, [], ℕ, IfOk, OnOk, filter, length, take};
+ghost use Rattle.std.specs.List.{cons_option};
+ghost use Rattle.std.specs.Option.{option_map};
 ghost use Rattle.ulfm_judge.specs.Numbers.{TellsArrivals, TellsDeclared, TellsFailures, TellsRevocations, TellsSlots, TellsSpawns};
 ghost use Rattle.ulfm_judge.specs.Numbers.{before_then, by_then, count_by};
-ghost use Rattle.ulfm_judge.specs.Telling.{Tells};
-ghost use Rattle.ulfm_model.specs.History.{History, failures, has, has_arrived, is_revoked, says, slot, spawns};
+ghost use Rattle.ulfm_judge.specs.Seen.{failed_in, made_in, settled_in};
+ghost use Rattle.ulfm_judge.specs.Telling.{Tells, group_at, items_of, seen_at};
+ghost use Rattle.ulfm_model.specs.History.{History, has, says};
 
 use std::alloc::{AllocError, Allocator};
 use std::collections::HashMap;
 use std::hash::{BuildHasherDefault, FoldHasher};
+use ulfm_history::groups::{first_ranks, union_of, without};
+use ulfm_history::reads::has_rank;
 use ulfm_model::contribution::Slot;
 use ulfm_model::event::{Entry, Event};
 
@@ -22,27 +28,29 @@ pub type Table<K, V, A> = HashMap<K, V, BuildHasherDefault<FoldHasher>, A>;
 #[derive(Drop)]
 pub struct Numbers<P: Copy, A: Allocator> {
     /// By place, the event that settled it, and what it is settled by.
-    pub slots: Table<Place, (u32, Slot<P>), A>,
+    pub slots: Table<Place, (u64, Slot<P>), A>,
     /// By place, the arrival of its rank.
-    pub arrivals: Table<Place, u32, A>,
+    pub arrivals: Table<Place, u64, A>,
     /// By communicator, its revocation.
-    pub revocations: Table<u16, u32, A>,
+    pub revocations: Table<u16, u64, A>,
     /// By rank, its declaration.
-    pub declared: Table<u16, u32, A>,
+    pub declared: Table<u16, u64, A>,
     /// The declared failures, in their order.
     pub failures: Vec<u16, A>,
     /// The numbers of their events.
-    pub failed_at: Vec<u32, A>,
+    pub failed_at: Vec<u64, A>,
     /// The parents and rounds that communicators were made of, that of communicator 1 first.
     pub spawns: Vec<(u16, u16), A>,
     /// The numbers of their events.
-    pub spawned_at: Vec<u32, A>,
+    pub spawned_at: Vec<u64, A>,
+    /// The members of each communicator, the world's first.
+    pub groups: Vec<Vec<u16, A>, A>,
     /// How many events there are.
-    pub count: u32,
+    pub count: u64,
 }
 
 /// What was given by a point.
-fn given_by<P: Copy>(at: Option<(u32, Slot<P>)>, point: u32) -> Option<Slot<P>>
+fn given_by<P: Copy>(at: Option<(u64, Slot<P>)>, point: u64) -> Option<Slot<P>>
     ensures { result ≡ by_then point at }
 {
     match at {
@@ -52,7 +60,7 @@ fn given_by<P: Copy>(at: Option<(u32, Slot<P>)>, point: u32) -> Option<Slot<P>>
 }
 
 /// Whether something had happened by a point.
-fn was_by(number: Option<u32>, point: u32) -> bool
+fn was_by(number: Option<u64>, point: u64) -> bool
     ensures { result ≡ before_then point number }
 {
     match number {
@@ -114,8 +122,8 @@ fn declared_by<P: Copy>(entry: &Entry<P>) -> Option<u16>
 
 /// Notes what one more event settles, with its number.
 fn note_slot<P: Copy, A: Allocator + Copy>(
-    slots: &mut Table<Place, (u32, Slot<P>), A>,
-    number: u32,
+    slots: &mut Table<Place, (u64, Slot<P>), A>,
+    number: u64,
     entry: &Entry<P>,
 ) -> Result<(), AllocError>
     ensures { (h : History P) → TellsSlots slots.old h → number ≡ length h → OnOk result (TellsSlots slots.new (h ++ entry.now ∷ [])) }
@@ -132,8 +140,8 @@ fn note_slot<P: Copy, A: Allocator + Copy>(
 
 /// Notes what one more event arrives, with its number.
 fn note_arrival<P: Copy, A: Allocator + Copy>(
-    arrivals: &mut Table<Place, u32, A>,
-    number: u32,
+    arrivals: &mut Table<Place, u64, A>,
+    number: u64,
     entry: &Entry<P>,
 ) -> Result<(), AllocError>
     ensures { (h : History P) → TellsArrivals arrivals.old h → number ≡ length h → OnOk result (TellsArrivals arrivals.new (h ++ entry.now ∷ [])) }
@@ -150,8 +158,8 @@ fn note_arrival<P: Copy, A: Allocator + Copy>(
 
 /// Notes what one more event revokes, with its number.
 fn note_revocation<P: Copy, A: Allocator + Copy>(
-    revocations: &mut Table<u16, u32, A>,
-    number: u32,
+    revocations: &mut Table<u16, u64, A>,
+    number: u64,
     entry: &Entry<P>,
 ) -> Result<(), AllocError>
     ensures { (h : History P) → TellsRevocations revocations.old h → number ≡ length h → OnOk result (TellsRevocations revocations.new (h ++ entry.now ∷ [])) }
@@ -168,8 +176,8 @@ fn note_revocation<P: Copy, A: Allocator + Copy>(
 
 /// Notes what one more event declares, with its number.
 fn note_declaration<P: Copy, A: Allocator + Copy>(
-    declared: &mut Table<u16, u32, A>,
-    number: u32,
+    declared: &mut Table<u16, u64, A>,
+    number: u64,
     entry: &Entry<P>,
 ) -> Result<(), AllocError>
     ensures { (h : History P) → TellsDeclared declared.old h → number ≡ length h → OnOk result (TellsDeclared declared.new (h ++ entry.now ∷ [])) }
@@ -197,8 +205,8 @@ fn made_by<P: Copy>(entry: &Entry<P>) -> Option<(u16, u16)>
 /// Notes a further failure, if one more event declares it.
 fn note_failure<P: Copy, A: Allocator + Copy>(
     ranks: &mut Vec<u16, A>,
-    numbers: &mut Vec<u32, A>,
-    number: u32,
+    numbers: &mut Vec<u64, A>,
+    number: u64,
     entry: &Entry<P>,
 ) -> Result<(), AllocError>
     ensures { (h : History P) → TellsFailures ranks.old.items numbers.old.items h → number ≡ length h
@@ -215,8 +223,8 @@ fn note_failure<P: Copy, A: Allocator + Copy>(
 /// Notes a further communicator, if one more event makes it.
 fn note_spawn<P: Copy, A: Allocator + Copy>(
     made: &mut Vec<(u16, u16), A>,
-    numbers: &mut Vec<u32, A>,
-    number: u32,
+    numbers: &mut Vec<u64, A>,
+    number: u64,
     entry: &Entry<P>,
 ) -> Result<(), AllocError>
     ensures { (h : History P) → TellsSpawns made.old.items numbers.old.items h → number ≡ length h
@@ -231,18 +239,81 @@ fn note_spawn<P: Copy, A: Allocator + Copy>(
 }
 
 /// How many of these numbers there were by a point.
-fn count_by(numbers: &[u32], point: u32) -> usize
+fn count_by(numbers: &[u64], point: u64) -> usize
     ensures { result ≡ count_by point numbers.now }
 {
     numbers.iter().filter(|number| **number < point).count()
 }
 
-impl<P: Copy, A: Allocator + Copy> Numbers<P, A> {
-    /// The tables of an empty history.
-    pub fn new(alloc: A) -> Numbers<P, A>
-        ensures { Tells result [] }
+/// Notes the members of a further communicator, if one was made.
+fn note_group<A: Allocator + Copy + Drop>(
+    groups: &mut Vec<Vec<u16, A>, A>,
+    group: Option<Vec<u16, A>>,
+) -> Result<(), AllocError>
+    ensures { OnOk result (groups.new.items ≡ groups.old.items ++ cons_option group []) }
+{
+    if let Some(group) = group {
+        groups.push(group)?;
+    }
+    Ok(())
+}
+
+/// The first so many ranks of a list, or all of it.
+fn first_so_many(ranks: &[u16], count: usize) -> &[u16]
+    ensures { result.now ≡ take count ranks.now }
+{
+    if count < ranks.len() {
+        &ranks[..count]
+    } else {
+        ranks
+    }
+}
+
+/// The first so many parents and rounds of a list, or all of it.
+fn first_spawns(made: &[(u16, u16)], count: usize) -> &[(u16, u16)]
+    ensures { result.now ≡ take count made.now }
+{
+    if count < made.len() {
+        &made[..count]
+    } else {
+        made
+    }
+}
+
+/// The group of a number, or nobody.
+fn group_at<A: Allocator>(groups: &[Vec<u16, A>], number: u16) -> &[u16]
+    ensures { result.now ≡ group_at groups.now number }
+{
+    match groups.get(usize::from(number)) {
+        Some(group) => group,
+        None => &[],
+    }
+}
+
+/// The ranks of a list that are in a group, in the list's order.
+pub(crate) fn among<A: Allocator + Copy>(
+    alloc: A,
+    ranks: &[u16],
+    group: &[u16],
+) -> Result<Vec<u16, A>, AllocError>
+    ensures { IfOk result (λ found. found.items ≡ filter (has group.now) ranks.now) }
+{
+    ranks
+        .iter()
+        .copied()
+        .filter(|rank| has_rank(group, *rank))
+        .collect(alloc)
+}
+
+impl<P: Copy, A: Allocator + Copy + Drop> Numbers<P, A> {
+    /// The tables of an empty history, in a world of so many ranks.
+    pub(crate) fn new(alloc: A, ranks: u16) -> Result<Numbers<P, A>, AllocError>
+        ensures { IfOk result (λ numbers. Tells ranks numbers []) }
     {
-        Numbers {
+        let world = first_ranks(alloc, ranks)?;
+        let mut groups = Vec::new(alloc);
+        groups.push(world)?;
+        Ok(Numbers {
             slots: HashMap::new(alloc),
             arrivals: HashMap::new(alloc),
             revocations: HashMap::new(alloc),
@@ -251,64 +322,132 @@ impl<P: Copy, A: Allocator + Copy> Numbers<P, A> {
             failed_at: Vec::new(alloc),
             spawns: Vec::new(alloc),
             spawned_at: Vec::new(alloc),
+            groups,
             count: 0,
-        }
+        })
     }
 
-    /// Notes one more event.
-    pub fn note(&mut self, entry: &Entry<P>) -> Result<(), AllocError>
-        requires { self.old.count + 1 < 2 ^ 32 }
-        ensures { (h : History P) → Tells self.old h → OnOk result (Tells self.new (h ++ entry.now ∷ [])) }
+    /// Notes one more event. Memory may be refused; so it is behind 2^64 - 1 events, for which there would be no room anyway.
+    pub(crate) fn note(&mut self, alloc: A, entry: &Entry<P>) -> Result<(), AllocError>
+        ensures { (ranks : ℕ) (h : History P) → Tells ranks self.old h → OnOk result (Tells ranks self.new (h ++ entry.now ∷ [])) }
     {
+        if self.count == u64::MAX {
+            return Err(AllocError);
+        }
+        let group = self.group_made(alloc, entry)?;
         note_slot(&mut self.slots, self.count, entry)?;
         note_arrival(&mut self.arrivals, self.count, entry)?;
         note_revocation(&mut self.revocations, self.count, entry)?;
         note_declaration(&mut self.declared, self.count, entry)?;
         note_failure(&mut self.failures, &mut self.failed_at, self.count, entry)?;
         note_spawn(&mut self.spawns, &mut self.spawned_at, self.count, entry)?;
+        note_group(&mut self.groups, group)?;
         self.count += 1;
         Ok(())
     }
 
+    /// The members of the communicator that an event makes, if it makes one: its parent's without those that the round leaves out.
+    fn group_made(&self, alloc: A, entry: &Entry<P>) -> Result<Option<Vec<u16, A>>, AllocError>
+        ensures { let seen = seen_at self.now self.now.count in
+            IfOk result (λ made. items_of made ≡ option_map (λ of. made_in seen (of.0) (of.1)) (says entry.now.event).makes) }
+    {
+        let Some((parent, round)) = made_by(entry) else {
+            return Ok(None);
+        };
+        let point = self.count;
+        let group = self.members_at(parent, point);
+        let failed = self.failed_at_point(alloc, parent, point)?;
+        let settled = self.settled_at(alloc, parent, round, point)?;
+        let out = union_of(alloc, &failed, &settled)?;
+        let rest = without(alloc, group, &out)?;
+        Ok(Some(rest))
+    }
+
     /// What settled a place at a point.
-    pub fn slot_at(&self, place: Place, point: u32) -> Option<Slot<P>>
-        ensures { (h : History P) → Tells self.now h → result ≡ slot (take point h) place.0 place.1 place.2 }
+    pub(crate) fn slot_at(&self, place: Place, point: u64) -> Option<Slot<P>>
+        ensures { result ≡ (seen_at self.now point).slots place }
     {
         given_by(self.slots.get(&place).copied(), point)
     }
 
     /// Whether a rank had arrived at a place of a barrier round at a point.
-    pub fn has_arrived_at(&self, place: Place, point: u32) -> bool
-        ensures { (h : History P) → Tells self.now h → result ≡ has_arrived (take point h) place.0 place.1 place.2 }
+    pub(crate) fn has_arrived_at(&self, place: Place, point: u64) -> bool
+        ensures { result ≡ (seen_at self.now point).arrived place }
     {
         was_by(self.arrivals.get(&place).copied(), point)
     }
 
     /// Whether a communicator was revoked at a point.
-    pub fn is_revoked_at(&self, comm: u16, point: u32) -> bool
-        ensures { (h : History P) → Tells self.now h → result ≡ is_revoked (take point h) comm }
+    pub(crate) fn is_revoked_at(&self, comm: u16, point: u64) -> bool
+        ensures { result ≡ (seen_at self.now point).revoked comm }
     {
         was_by(self.revocations.get(&comm).copied(), point)
     }
 
     /// Whether a rank was declared at a point.
-    pub fn is_declared_at(&self, rank: u16, point: u32) -> bool
-        ensures { (h : History P) → Tells self.now h → result ≡ has (failures (take point h)) rank }
+    pub(crate) fn is_declared_at(&self, rank: u16, point: u64) -> bool
+        ensures { result ≡ (seen_at self.now point).declared rank }
     {
         was_by(self.declared.get(&rank).copied(), point)
     }
 
-    /// How many were declared at a point: the first so many of `failures`.
-    pub fn count_failed_at(&self, point: u32) -> usize
-        ensures { (h : History P) → Tells self.now h → take result self.now.failures.items ≡ failures (take point h) }
+    /// Those who were declared at a point, in their order.
+    pub(crate) fn failures_at(&self, point: u64) -> &[u16]
+        ensures { result.now ≡ (seen_at self.now point).failures }
     {
-        count_by(&self.failed_at, point)
+        first_so_many(&self.failures, count_by(&self.failed_at, point))
     }
 
-    /// How many communicators were made at a point: of the first so many of `spawns`.
-    pub fn count_made_at(&self, point: u32) -> usize
-        ensures { (h : History P) → Tells self.now h → take result self.now.spawns.items ≡ spawns (take point h) }
+    /// Of which parents and rounds communicators were made at a point, that of communicator 1 first.
+    pub(crate) fn spawns_at(&self, point: u64) -> &[(u16, u16)]
+        ensures { result.now ≡ (seen_at self.now point).spawns }
     {
-        count_by(&self.spawned_at, point)
+        first_spawns(&self.spawns, count_by(&self.spawned_at, point))
+    }
+
+    /// How many communicators were made at a point.
+    pub(crate) fn count_made_at(&self, point: u64) -> usize
+        ensures { result ≡ length (seen_at self.now point).spawns }
+    {
+        self.spawns_at(point).len()
+    }
+
+    /// The members of a communicator at a point, or nobody where it wasn't made.
+    pub(crate) fn members_at(&self, comm: u16, point: u64) -> &[u16]
+        ensures { result.now ≡ (seen_at self.now point).members comm }
+    {
+        if usize::from(comm) <= self.count_made_at(point) {
+            group_at(&self.groups, comm)
+        } else {
+            &[]
+        }
+    }
+
+    /// The failed group of a communicator at a point.
+    pub(crate) fn failed_at_point(
+        &self,
+        alloc: A,
+        comm: u16,
+        point: u64,
+    ) -> Result<Vec<u16, A>, AllocError>
+        ensures { IfOk result (λ group. group.items ≡ failed_in (seen_at self.now point) comm) }
+    {
+        among(alloc, self.failures_at(point), self.members_at(comm, point))
+    }
+
+    /// What had settled the members of a round at a point, in their order.
+    pub(crate) fn settled_at(
+        &self,
+        alloc: A,
+        comm: u16,
+        round: u16,
+        point: u64,
+    ) -> Result<Vec<Slot<P>, A>, AllocError>
+        ensures { IfOk result (λ settled. settled.items ≡ settled_in (seen_at self.now point) comm round) }
+    {
+        self.members_at(comm, point)
+            .iter()
+            .filter_map(|rank| self.slot_at((comm, round, *rank), point))
+            .collect(alloc)
     }
 }

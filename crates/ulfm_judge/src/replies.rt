@@ -8,10 +8,10 @@ ghost use Rattle.ulfm_judge.specs.ReplyTests.{same_ranks, same_refusal, stands_t
 
 use crate::own::{arrives, revokes};
 use std::alloc::Allocator;
-use ulfm_history::reads::{has_rank, is_declared};
+use ulfm_history::reads::has_rank;
 use ulfm_laws::meld::Packed;
 use ulfm_model::contribution::{Contribution, Offer, Slot};
-use ulfm_model::event::{Entry, Event};
+use ulfm_model::event::Event;
 use ulfm_model::limits::Limits;
 use ulfm_model::refusal::{Refusal, refusal_number};
 use ulfm_model::reply::Reply;
@@ -106,19 +106,19 @@ fn only_revokes<P: Copy>(comm: u16, own: &[Event<P>]) -> bool
     }
 }
 
-/// Whether a declaration is answered so.
+/// Whether a declaration is answered so, by whether the rank is declared.
 pub(crate) fn is_fail_reply<P: Copy>(
     limits: Limits,
-    history: &[Entry<P>],
+    declared: bool,
     own: &[Event<P>],
     rank: u16,
     reply: &Reply<P>,
 ) -> bool
-    ensures { result ≡ fail_test limits history.now own.now rank reply.now }
+    ensures { result ≡ fail_test limits declared own.now rank reply.now }
 {
     match *reply {
-        Reply::Declared => only_fails(rank, own) && is_declared(history, rank),
-        Reply::AlreadyFailed => own.is_empty() && is_declared(history, rank),
+        Reply::Declared => only_fails(rank, own) && declared,
+        Reply::AlreadyFailed => own.is_empty() && declared,
         Reply::Refused(refusal) => {
             same_refusal(refusal, Refusal::NoSuchRank) && (own.is_empty() && limits.ranks <= rank)
         }

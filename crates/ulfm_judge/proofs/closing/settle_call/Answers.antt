@@ -2,7 +2,7 @@ use Rattle.std.proofs.Common.{◌≡◌, ◌==◌, ℕ, List, [], is_some, get_o
 use Rattle.std.proofs.Math.Seq.{map-set_same}
 use Rattle.std.specs.Prelude.{nat_eq, unwrap_or}
 use Rattle.std.specs.List.{IsDistinct}
-use Rattle.ulfm_model.specs.{Answers.{left_by}, History.{History, failures}, Records.{Record}}
+use Rattle.ulfm_model.specs.{Answers.{left_by}, History.{failures}, Records.{Record}}
 use Rattle.ulfm_record.specs.{declared.record.RankRecord.{RankRecord}, Kept.{record_of}}
 use Rattle.ulfm_record.proofs.Places.{find_no_place, find_place}
 use Rattle.ulfm_trace_model.specs.Traces.{taken_in}
@@ -11,8 +11,8 @@ use Rattle.ulfm_judge.proofs.Leaving.{none_changed, on_ok, one_changed, ranks_di
 use Rattle.ulfm_judge.proofs.closing.settle_call.Goals as goal
 
 pub returns-in_default-place_of_rank-clause-left : goal.returns-in_default-place_of_rank-clause-left
-returns-in_default-place_of_rank-clause-left g c =
-    let now = traced_of c.args.limits c.args.history.now c.args.records.now [] in
+returns-in_default-place_of_rank-clause-left g c = λ h tells.
+    let now = traced_of c.args.limits h c.args.records.now [] in
     let none = find_no_place (record_of c.args.limits) (λ (x : Record). x.number == c.in-Rank.rank) c.args.records.now (sym c.place_of_rank.ensures.at ∙ c.in_default-place_of_rank.is) in
     rw c.in-Rank.is
     (none_changed (record_of c.args.limits) (λ (x : Record). x.number) c.in-Rank.rank (taken_in now (under_of c.args.u.now) c.args.point c.args.reply) c.args.records.now none)
@@ -27,21 +27,21 @@ returns-clause-numbers g c =
     map-set_same (λ (own : RankRecord g.row.A.Denot). own.number) c.args.records.now c.in-Some.j c.leave.new.own c.index-records-j.result c.leave.ensures.number
 
 pub returns-clause-left : goal.returns-clause-left
-returns-clause-left g c =
+returns-clause-left g c = λ h tells.
     let limits = c.args.limits in
-    let h = c.args.history.now in
     let now = traced_of limits h c.args.records.now [] in
     let u = under_of c.args.u.now in
     let raw = get_or c.args.records.now c.in-Some.j c.index-records-j.result in
     let old = record_of limits raw in
     let at = sym c.place_of_rank.ensures.at ∙ c.in-Some.is in
     let distinct = subst (IsDistinct nat_eq) (sym c.requires.numbers) (ranks_distinct limits.ranks) in
-    let seen = c.in_ok-seen.ensures ∙ ap (λ (xs : List ℕ). if is_some u.look then take (unwrap_or u.look 0) (failures h) else xs) c.deref.ensures.value in
-    let same : left_by limits.ranks c.events_before-before.result.now (record old { seen = c.in_ok-seen.seen.items }) u.asked c.args.reply ≡ taken_in now u c.args.point c.args.reply old =
-    ap₂ (λ (w : History g.row.P.Denot) (xs : List ℕ). left_by limits.ranks w (record old { seen = xs }) u.asked c.args.reply) c.events_before-before.ensures seen in
+    let seen : c.in_ok-seen.seen.items ≡ (if is_some u.look then take (unwrap_or u.look 0) (failures h) else old.seen) =
+    c.in_ok-seen.ensures ∙ ap₂ (λ (known xs : List ℕ). if is_some u.look then take (unwrap_or u.look 0) known else xs) (c.deref.ensures.value ∙ tells.failures.0) c.deref-2.ensures.value in
+    let same : left_by limits.ranks (take c.args.point h) (record old { seen = c.in_ok-seen.seen.items }) u.asked c.args.reply ≡ taken_in now u c.args.point c.args.reply old =
+    ap (λ (xs : List ℕ). left_by limits.ranks (take c.args.point h) (record old { seen = xs }) u.asked c.args.reply) seen in
     rw c.in-Rank.is
     (on_ok c.leave.result _ _
     (λ left.
     one_changed (record_of limits) (λ (x : Record). x.number) c.in-Rank.rank (taken_in now u c.args.point c.args.reply) c.args.records.now c.in-Some.j c.index-records-j.result c.leave.new.own
     distinct at (left ∙ same))
-    c.leave.ensures.left)
+    (c.leave.ensures.left h tells))

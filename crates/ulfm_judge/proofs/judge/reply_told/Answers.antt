@@ -3,13 +3,13 @@ use Rattle.ulfm_judge.proofs.Taking.{none_open, open_somewhere}
 use Rattle.ulfm_judge.proofs.judge.reply_told.Goals as goal
 
 pub returns-in-Some-place_by-clause-taken : goal.returns-in-Some-place_by-clause-taken
-returns-in-Some-place_by-clause-taken g c =
+returns-in-Some-place_by-clause-taken g c = λ h tells_it.
     let at = sym (rw c.deref.ensures.value at c.place_by.ensures.at) ∙ c.in-Some-place_by.is in
-    let there = open_somewhere g.P.Meld.meld c.args.limits c.args.history.now c.args.records.now c.args.calls.now.items c.args.group.now c.args.by c.in-Some-place_by.field-0 at in
+    let there = open_somewhere g.P.Meld.meld c.args.limits h c.args.records.now c.args.calls.now.items c.args.group.now c.args.by c.in-Some-place_by.field-0 at in
     rw c.in-None.is (inr (refl, ap is_some there.1, λ may. may), refl)
 
 pub returns-in-None-place_by-clause-taken : goal.returns-in-None-place_by-clause-taken
-returns-in-None-place_by-clause-taken g c =
+returns-in-None-place_by-clause-taken g c = λ h tells_it.
     let at = sym (rw c.deref.ensures.value at c.place_by.ensures.at) ∙ c.in-None-place_by.is in
-    let none = none_open g.P.Meld.meld c.args.limits c.args.history.now c.args.records.now c.args.calls.now.items c.args.group.now c.args.by at in
+    let none = none_open g.P.Meld.meld c.args.limits h c.args.records.now c.args.calls.now.items c.args.group.now c.args.by at in
     rw c.in-None.is (inl (refl, λ is_open. absurd (cc (ap is_some none, is_open))), refl)

@@ -8,11 +8,9 @@ map_same : (xs : List ℕ) → map (λ x. x) xs ≡ xs
 map_same [] = refl
 map_same (x ∷ xs) = ap (λ ys. x ∷ ys) (map_same xs)
 
-pub invariant_of-result : goal.invariant_of-result
-invariant_of-result g c =
+pub invariant_of-result-clause-numbered : goal.invariant_of-result-clause-numbered
+invariant_of-result-clause-numbered g c =
     let limits = c.args.limits in
-    let records = c.in_ok-records.records.items in (
-      c.requires,
-      sym (map-map (λ (x : Record). x.number) (record_of limits) records)
-          ∙ (ap (map (λ (x : Record). x.number)) c.in_ok-records.ensures ∙ (map-map (λ (x : Record). x.number) (new_record limits) (first_ranks limits.ranks) ∙ map_same (first_ranks limits.ranks))),
-    )
+    let records = c.in_ok-records.records.items in
+    sym (map-map (λ (x : Record). x.number) (record_of limits) records)
+    ∙ (ap (map (λ (x : Record). x.number)) c.in_ok-records.ensures ∙ (map-map (λ (x : Record). x.number) (new_record limits) (first_ranks limits.ranks) ∙ map_same (first_ranks limits.ranks)))

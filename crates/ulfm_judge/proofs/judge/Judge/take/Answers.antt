@@ -2,16 +2,16 @@ use Rattle.std.proofs.Common.{List, sym, subst, ◌∙◌}
 use Rattle.std.specs.Prelude.{IfOk}
 use Rattle.ulfm_record.specs.declared.record.RankRecord.{RankRecord}
 use Rattle.ulfm_trace_model.specs.Traces.{Takes}
-use Rattle.ulfm_judge.specs.Kept.{traced_of}
+use Rattle.ulfm_judge.specs.{Kept.{traced_of}, Telling.{Goes}}
 use Rattle.ulfm_judge.proofs.Leaving.{stands_on, written}
 use Rattle.ulfm_judge.proofs.judge.Judge.take.Goals as goal
 
 pub returns : goal.returns
 returns g c = λ now stands.
-    let kept = c.self.inside in
-    let old = traced_of kept.limits kept.history.items kept.records.items kept.calls.items in
-    stands_on g.P.Meld.meld c.args.group.now c.args.line.now c.take_line.result old _ now (c.self.view_is ∙ stands)
+    let kept = c.args.self.now in
+    let old = traced_of kept.limits now.history kept.records.items kept.calls.items in
+    stands_on g.P.Meld.meld kept.limits c.take_line.new.numbers _ c.take_line.new.calls.items c.args.group.now c.args.line.now c.take_line.result old now stands.1
     (subst (λ (rs : List (RankRecord g.row.A.Denot)).
-    IfOk c.take_line.result (Takes g.P.Meld.meld old c.args.group.now c.args.line.now (traced_of kept.limits c.take_line.new.history.items rs c.take_line.new.calls.items)))
+    IfOk c.take_line.result (Goes kept.limits c.take_line.new.numbers rs c.take_line.new.calls.items (Takes g.P.Meld.meld old c.args.group.now c.args.line.now)))
     (sym (written kept.records.len c.take_line.new.records kept.records.items (c.take_line.auto.records ∙ c.deref_mut.ensures.len)))
-    (rw c.deref_mut.ensures.value at c.take_line.ensures.taken))
+    (rw c.deref_mut.ensures.value at (c.take_line.ensures.taken now.history stands.0)))
