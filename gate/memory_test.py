@@ -32,26 +32,24 @@ REFUSED = (
     (["race", "--ranks", "3", "--rounds", "2"], None),
 )
 REFUSING = r"""
+#include <errno.h>
 #include <stdatomic.h>
 #include <stdlib.h>
-#include <string.h>
 #include <unistd.h>
 extern void *__libc_malloc(size_t), *__libc_calloc(size_t, size_t), *__libc_realloc(void *, size_t), *__libc_memalign(size_t, size_t);
 static atomic_long asked;
 static long from, to;
+static int tell;
 __attribute__((constructor)) static void begin(void) {
-    from = atol(getenv("REFUSE_FROM")), to = atol(getenv("REFUSE_TO"));
+    from = atol(getenv("REFUSE_FROM")), to = atol(getenv("REFUSE_TO")), tell = atoi(getenv("REFUSE_TELL"));
     atomic_store(&asked, 0);
 }
 static int refused(void) {
     long number = atomic_fetch_add(&asked, 1) + 1;
-    return from && number >= from && number <= to;
-}
-__attribute__((destructor)) static void end(void) {
-    char told[32];
-    long number = atomic_load(&asked), length = 0;
-    for (long left = number; length == 0 || left; left /= 10) told[31 - length++] = '0' + left % 10;
-    (void)!write(atoi(getenv("REFUSE_TELL")), told + 32 - length, length);
+    if (from && number == from) (void)!write(tell, "!", 1);
+    if (!from || number < from || number > to) return 0;
+    errno = ENOMEM;
+    return 1;
 }
 void *malloc(size_t size) { return refused() ? NULL : __libc_malloc(size); }
 void *calloc(size_t count, size_t size) { return refused() ? NULL : __libc_calloc(count, size); }
@@ -93,16 +91,16 @@ def long_line(words, header, output, errors, status):
 
 
 def ran(library, words, text, first, last):
-    """A run in which these allocations are refused: how it ended, and how many were asked for."""
+    """A run in which these allocations are refused: how it ended, and whether the first of them was asked for."""
     told, tell = os.pipe()
     environment = {"LD_PRELOAD": library, "REFUSE_FROM": str(first), "REFUSE_TO": str(last), "REFUSE_TELL": str(tell)}
     try:
         done = subprocess.run([PROGRAM, *words], env=environment, pass_fds=[tell], input=text, capture_output=True, timeout=60)
     finally:
         os.close(tell)
-        count = os.read(told, 32)
+        was_asked = os.read(told, 1) != b""
         os.close(told)
-    return (done.stdout, done.stderr, done.returncode), int(count or 0)
+    return (done.stdout, done.stderr, done.returncode), was_asked
 
 
 def is_refused(said, words, output):
@@ -119,8 +117,8 @@ def refused(library, words, name):
             text, output = it.read(), of.read()
     whole = (output, b"", 0)
     for number in range(1, 10000):
-        (alone, _), (all_behind, asked) = (ran(library, words, text, number, last) for last in (number, 1 << 60))
-        if asked < number:
+        (alone, _), (all_behind, was_asked) = (ran(library, words, text, number, last) for last in (number, 1 << 60))
+        if not was_asked:
             return None if alone == all_behind == whole and number > 1 else f"ends with none refused as {alone} and {all_behind}"
         if alone != whole and not is_refused(alone, words, output):
             return f"ends with allocation {number} refused as {alone}"
