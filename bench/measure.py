@@ -1,14 +1,17 @@
 #!/usr/bin/env python3
-"""Times the built program on call scripts of 25,000, 50,000 and 100,000 lines, and as ratios to native programs.
+"""Times the built program on call scripts of 25,000, 50,000 and 100,000 lines, and as ratios to other programs.
 
-    bench/measure.py [--native FILE.rs [--cfg NAME]] [--kinds KIND,..] [--sizes LINES,..] [--repeats N]
+    bench/measure.py [--native FILE.rs [--cfg NAME] | --program PATH] [--kinds KIND,..] [--sizes LINES,..] [--repeats N] [--instructions]
 
 Each kind of script is made here. A native program, if one is given as a Rust source that does the same work, is built in a
-temporary folder and runs in turn with ours, so that the ratio is of one run; its output must be the same bytes. What is
-printed are the medians of the processor times.
+temporary folder and runs in turn with ours, so that the ratio is of one run; its output must be the same bytes. With --program
+the other one is a program that is built already, as `ulfm` of an earlier commit. What is printed are the medians of the processor
+times, and of the ratios of runs in turn; with --instructions the instructions of one run, in millions, which valgrind counts and no other
+work on the machine changes.
 """
 import argparse
 import os
+import re
 import shutil
 import statistics
 import subprocess
@@ -108,24 +111,35 @@ def processor_time(command, script, output):
     return usage.ru_utime + usage.ru_stime
 
 
+def instructions(command, script, output):
+    """The instructions of one run, in millions."""
+    counting = ["valgrind", "--tool=callgrind", "--callgrind-out-file=/dev/null"]
+    with open(script, "rb") as source, open(output, "wb") as target:
+        told = subprocess.run(counting + command, stdin=source, stdout=target, stderr=subprocess.PIPE, text=True)
+    counted = re.search(r"Collected : (\d+)", told.stderr)
+    if told.returncode != 0 or not counted:
+        sys.exit(f"{command[0]} under valgrind ended with status {told.returncode}")
+    return int(counted[1]) / 1e6
+
+
 def same(one, other):
     with open(one, "rb") as a, open(other, "rb") as b:
         return a.read() == b.read()
 
 
-def measure(kind, size, commands, repeats, folder):
-    """The median of each command's times, run in turn on one script."""
+def measure(kind, size, commands, repeats, folder, cost):
+    """The median of what each command costs, and of the first's cost to the second's, run in turn on one script, each first every other time."""
     script = os.path.join(folder, "script")
     with open(script, "w") as file:
         file.write("\n".join(KINDS[kind](size)) + "\n")
-    times = [[] for _ in commands]
-    for _ in range(repeats):
-        for place, command in enumerate(commands):
-            times[place].append(processor_time(command, script, os.path.join(folder, f"output{place}")))
+    costs = [[] for _ in commands]
+    for repeat in range(repeats):
+        for place in range(len(commands))[:: 1 if repeat % 2 == 0 else -1]:
+            costs[place].append(cost(commands[place], script, os.path.join(folder, f"output{place}")))
     for place in range(1, len(commands)):
         if not same(os.path.join(folder, "output0"), os.path.join(folder, f"output{place}")):
             sys.exit(f"{kind} of {size} lines: the outputs differ")
-    return [statistics.median(each) for each in times]
+    return [statistics.median(each) for each in costs], statistics.median(map(lambda a, b: a / b, costs[0], costs[-1]))
 
 
 def build(source, cfg, folder):
@@ -141,25 +155,31 @@ def main():
     words = argparse.ArgumentParser(description=__doc__, formatter_class=argparse.RawDescriptionHelpFormatter)
     words.add_argument("--native", metavar="FILE.rs", help="a native program of the same work")
     words.add_argument("--cfg", metavar="NAME", help="what the native program is built with")
+    words.add_argument("--program", metavar="PATH", help="another program of the same work, built already")
+    words.add_argument("--instructions", action="store_true", help="count instructions by valgrind, once, in place of times")
     words.add_argument("--kinds", default=",".join(KINDS))
     words.add_argument("--sizes", default="25000,50000,100000")
     words.add_argument("--repeats", type=int, default=5)
     asked = words.parse_args()
     if not os.path.exists(PROGRAM):
         sys.exit("build the program first: ./ulfm --help")
+    cost, unit, repeats = (instructions, "M", 1) if asked.instructions else (processor_time, "s", asked.repeats)
     with tempfile.TemporaryDirectory() as folder:
         commands = [[PROGRAM, "run"]]
         if asked.native:
             commands.append([build(asked.native, asked.cfg, folder), "run"])
-        print(f"{'script':<11} {'lines':>7} {'ulfm, s':>9} {'growth':>7}" + ("  native, s   ratio" if asked.native else ""))
+        elif asked.program:
+            commands.append([asked.program, "run"])
+        beside = f"  {'other, ' + unit:>9}   ratio" if len(commands) > 1 else ""
+        print(f"{'script':<11} {'lines':>7} {'ulfm, ' + unit:>9} {'growth':>7}" + beside)
         for kind in asked.kinds.split(","):
             before = None
             for size in map(int, asked.sizes.split(",")):
-                found = measure(kind, size, commands, asked.repeats, folder)
+                found, ratio = measure(kind, size, commands, repeats, folder, cost)
                 growth = f"{found[0] / before:.1f}" if before else "-"
                 line = f"{kind:<11} {size:>7} {found[0]:>9.3f} {growth:>7}"
-                if asked.native:
-                    line += f"  {found[1]:>9.3f} {found[0] / found[1]:>7.2f}"
+                if len(commands) > 1:
+                    line += f"  {found[1]:>9.3f} {ratio:>7.3f}"
                 print(line, flush=True)
                 before = found[0]
 

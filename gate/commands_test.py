@@ -54,6 +54,12 @@ def section(text, head):
     return below[:below.index("")] if "" in below else below
 
 
+def usage_of(text):
+    """The words by which help says that a command is called, without its options."""
+    found = re.search(r"^Usage: (.*)$", text, re.M)
+    return re.split(r" [\[<-]", found.group(1))[0] if found else ""
+
+
 def options_of(text):
     """The options that a text names."""
     return set(OPTION.findall(text))
@@ -286,8 +292,10 @@ def main():
     top = answered(program, "--help")
     commands = {line.split()[0] for line in section(top, "Commands:")}
     helps = {name: answered(program, name, "--help") for name in sorted(commands - {"help"})}
+    differs("usage", "ulfm --help", usage_of(top), "ulfm")
     for name, text in helps.items():
         differs("help", f"ulfm help {name}", answered(program, "help", name), text)
+        differs("usage", f"ulfm {name} --help", usage_of(text), f"ulfm {name}")
     wanted = {name: of_help(text) for name, text in helps.items()} | {TOP_LEVEL: commands | of_help(top), "help": set()}
     page = read("docs/ulfm.1")
     formats = read("docs/FORMATS.md")

@@ -1,10 +1,10 @@
 #!/usr/bin/env python3
 """Compares the example in the documentation of each public function with the test that runs it.
 
-Of the crates below each public function has one block ``` in its documentation. The same text stands, between two empty lines, in the
-test of `ulfm_examples_tests` that is named by the function's type, or by its file, and by the function: `member_poll` for
-`Member::poll`, `members_open` for `open` of members.rt. `Rank::step` has none: what it asks for is what a run of steps keeps, which the
-plays of `ulfm_comm_tests` prove. The last line is 'N passed, M failed'.
+Of the crates below each public function has one block ``` in its documentation, and of the crates that stand below and beside them those
+functions that users meet. The same text stands, between two empty lines, in the test of `ulfm_examples_tests` that is named by the
+function's type, or by its file, and by the function: `member_poll` for `Member::poll`, `members_open` for `open` of members.rt. The last line
+is 'N passed, M failed'.
 """
 
 import glob
@@ -14,7 +14,16 @@ import sys
 
 HERE = os.path.dirname(os.path.dirname(os.path.abspath(__file__)))
 CRATES = ("ulfm_comm", "ulfm_member", "ulfm_book", "ulfm_wait", "ulfm_race")
-WITHOUT = ("rank_step",)
+# of these crates only the functions of these tests
+SOME = {
+    "ulfm_laws": {"meld_all_meld_all"},
+    "ulfm_model": {"limits_check", "limits_size", "refusal_name", "refusal_refusal_number"},
+    "ulfm_object": {"object_apply", "object_failed", "object_history", "object_members", "object_open", "object_records"},
+    "ulfm_run": {"running_run_calls", "running_run_steps"},
+    "ulfm_script": {"calls_read_call"},
+    "ulfm_trace": {"judged_check"},
+    "ulfm_words": {"plain_pass_nth", "plain_words_open", "slots_read_slot", "slots_slot_word"},
+}
 PUBLIC = re.compile(r"^( *)pub fn (\w+)")
 TEST = re.compile(r"^fn (\w+)\(rt: HostRuntime\).*?\{\n(.*?)^\}$", re.M | re.S)
 
@@ -54,7 +63,7 @@ def examples_in(crate):
             if line.startswith("impl"):
                 owner = implemented(line)
             public = PUBLIC.match(line)
-            if public and f"{owner}_{public[2]}" not in WITHOUT:
+            if public:
                 within = owner if public[1] else os.path.basename(file)[: -len(".rt")]
                 blocks = "\n".join(documented(lines, at)).split("```\n")
                 example = re.split(r"\n?```$", blocks[1])[0].rstrip("\n") if len(blocks) > 1 else None
@@ -73,8 +82,12 @@ def tests():
 
 def main():
     ran, passed, failed = tests(), 0, 0
-    for crate in CRATES:
-        for name, example, place in examples_in(crate):
+    for crate in (*CRATES, *SOME):
+        found = [it for it in examples_in(crate) if crate not in SOME or it[0] in SOME[crate]]
+        for name in SOME.get(crate, set()) - {it[0] for it in found}:
+            failed += 1
+            print(f"{crate} has no public function of the test {name}")
+        for name, example, place in found:
             if example is not None and ["\n\n".join(ran.get(name, []))] == [example]:
                 passed += 1
                 continue

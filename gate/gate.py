@@ -49,7 +49,7 @@ REFUSED, UNSURE, SETTLED, BAD = (rt.REFUSED, rt.UNSURE, rt.SETTLED, rt.BAD) if i
 # Crates of tests that this gate only runs, by the toolchain's checked build: no contract rests on their proofs, which `rt ci` makes.
 ONLY_RUN = (
     *("ulfm_steps_tests", "ulfm_comm_tests", "ulfm_object_tests", "ulfm_run_tests", "ulfm_examples_tests"),
-    *("ulfm_seats_tests", "ulfm_trace_tests"),
+    *("ulfm_seats_tests", "ulfm_trace_tests", "ulfm_failing_tests"),
 )
 FUNCTION = re.compile(r"^[ \t]*(?:pub(?:\([^)]*\))?[ \t]+)?(?:const[ \t]+|unsafe[ \t]+)*fn[ \t]+(\w+)", re.M)
 BODY = re.compile(r"^[ \t]*(?:\{|(?:pub|fn|const|unsafe|\)).*\{)$", re.M)

@@ -5,7 +5,7 @@ use Rattle.std.proofs.lemmas.Bool.{leb-true, ltb-true}
 use Rattle.ulfm_command.specs.CommandLines.{fail_is_in, is_in_range}
 use Rattle.ulfm_command.specs.declared.asked.RaceOptions.{RaceOptions}
 use Rattle.ulfm_race.specs.Races.{IsPlan}
-use Rattle.ulfm.specs.Statuses.{plan_of}
+use Rattle.ulfm.specs.Races.{plan_of}
 
 both : (a b : Bool) → (a && b) ≡ true → (a ≡ true) × (b ≡ true)
 both true b e = (refl, e)

@@ -3,11 +3,11 @@
 
 mod program;
 
-use program::{Unread, answer, tell_unread};
-use std::alloc::Global;
-use std::io::{ErrorKind, IsTerminal};
+use program::answer;
+use std::env;
+use std::io::IsTerminal;
 use std::process::ExitCode;
-use std::{env, io};
+use ulfm_filters::{Unread, read_args, tell_unread};
 
 #[cfg(test)]
 mod tests;
@@ -37,16 +37,4 @@ fn main(rt: HostRuntime) -> ExitCode {
         explains,
     );
     ExitCode::from(status)
-}
-
-/// The words of the command line, the program's own name first.
-fn read_args(alloc: Global, args: io::Result<env::Args>) -> Result<Vec<String>, Unread> {
-    match args {
-        Ok(args) => match args.collect(alloc) {
-            Ok(owned) => Ok(owned),
-            Err(_) => Err(Unread::Memory),
-        },
-        Err(error) if error.kind() == ErrorKind::OutOfMemory => Err(Unread::Memory),
-        Err(_) => Err(Unread::NoText),
-    }
 }

@@ -1,22 +1,22 @@
 //! Does what a command line asks for, and gives the exit status that it ends with.
-ghost use Rattle.std.specs.Prelude.{◌≡◌, ◌≤◌, ◌⊎◌, map, true};
-ghost use Rattle.std.specs.Io.KnownBytes.{Appends, Keeps};
+ghost use Rattle.std.specs.Prelude.{◌≡◌, ◌≤◌, ◌⊎◌, false, map, true};
+ghost use Rattle.std.specs.Io.KnownBytes.{Keeps};
 ghost use Rattle.ulfm_command.specs.CommandLines.{AsksCheck, AsksHelp, AsksRace, AsksRun, AsksSteps, AsksVersion, IsBad, is_in_range};
 ghost use Rattle.ulfm_command.specs.declared.asked.RaceOptions.{RaceOptions as OptionsOf};
-ghost use Rattle.ulfm_trace.specs.Verdicts.{verdict_text};
-ghost use Rattle.ulfm.specs.declared.program.Unread.TheVariants.{Memory as OfMemory, NoText};
-ghost use Rattle.ulfm.specs.Statuses.{CheckedWith, RacedWith, RanWith, StepsRanWith, plan_of, status_of, verdict_status};
+ghost use Rattle.ulfm_filters.specs.Notes.{bad_line, no_memory};
+ghost use Rattle.ulfm_filters.specs.Statuses.{CheckedWith, RanWith, StepsRanWith};
+ghost use Rattle.ulfm_script.specs.Written.{WritesPart};
+ghost use Rattle.ulfm.specs.Races.{RacedWith, plan_of};
 
 use std::alloc::{Allocator, Global};
 use std::io::{Read, Write};
 use std::sync::Wait;
 use std::thread::Threads;
 use ulfm_command::{Asked, RaceOptions, Reason, read_words};
+use ulfm_filters::{Filter, print_text, run_filter, tell, tell_bad_line, tell_fault};
 use ulfm_race::{Gate, Plan, RaceFault, Turn, race};
 use ulfm_race_text::race_lines;
-use ulfm_run::{run_calls, run_steps};
 use ulfm_script::RunFault;
-use ulfm_trace::{CheckFault, Verdict, check, verdict_line};
 
 /// The gate of the program, which lets every rank take every turn.
 struct AlwaysOpen;
@@ -36,7 +36,7 @@ impl Gate for AlwaysOpen {
 ///
 /// `alloc` serves the run of a script, the check of a trace and the lines of a race, `global` the reading of the words and the race itself. A race starts
 /// threads, and returns once they have ended.
-#[tactic(auto, using(crate::proofs::OneAnswer::run_is_no_race, crate::proofs::OneAnswer::steps_are_no_race, crate::proofs::OneAnswer::check_is_no_race, crate::proofs::OneAnswer::run_is_no_steps, crate::proofs::OneAnswer::run_is_no_check, crate::proofs::OneAnswer::steps_are_no_check, crate::proofs::Ends::raced_as, crate::proofs::Ends::ran_out, crate::proofs::Ends::steps_ran_out, crate::proofs::Ends::checked_out))]
+#[tactic(auto, using(crate::proofs::OneAnswer::run_is_no_race, crate::proofs::OneAnswer::steps_are_no_race, crate::proofs::OneAnswer::check_is_no_race, crate::proofs::OneAnswer::run_is_no_steps, crate::proofs::OneAnswer::run_is_no_check, crate::proofs::OneAnswer::steps_are_no_check, crate::proofs::Ends::raced_as, crate::proofs::Ends::race_ran_out))]
 pub fn answer<T: Threads + Wait + Sync, A: Allocator + Copy + Drop, R: Read, W: Write, E: Write>(
     rt: &T,
     alloc: A,
@@ -63,11 +63,14 @@ pub fn answer<T: Threads + Wait + Sync, A: Allocator + Copy + Drop, R: Read, W: 
     // 3 where memory was refused.
     ensures bad { IsBad (map (λ word. word.now) words.now) → ((result ≡ 2) ⊎ (result ≡ 3))
         × Keeps (W.contents output.old) (W.contents output.new) }
+    // Only on a terminal there is a second line.
+    ensures told { IsBad (map (λ word. word.now) words.now) → explains ≡ false
+        → WritesPart (E.contents errors.old) (E.contents errors.new) bad_line ⊎ WritesPart (E.contents errors.old) (E.contents errors.new) no_memory }
 {
     match read_words(global, words) {
-        Asked::Run => tell_end(run_calls(alloc, input, output), errors),
-        Asked::RunSteps => tell_end(run_steps(alloc, input, output), errors),
-        Asked::Check => run_check(alloc, input, output, errors),
+        Asked::Run => run_filter(alloc, Filter::Calls, input, output, errors),
+        Asked::RunSteps => run_filter(alloc, Filter::Steps, input, output, errors),
+        Asked::Check => run_filter(alloc, Filter::Check, input, output, errors),
         Asked::Race(options) => run_race(rt, alloc, global, options, output, errors),
         Asked::Shown(text) => print_text(text.as_bytes(), output, errors),
         Asked::Bad(reason) => tell_bad(&reason, errors, explains),
@@ -75,110 +78,16 @@ pub fn answer<T: Threads + Wait + Sync, A: Allocator + Copy + Drop, R: Read, W: 
     }
 }
 
-/// Why the words of a command line couldn't be read.
-#[derive(Clone, Copy, Debug, PartialEq, Eq)]
-pub enum Unread {
-    /// Memory was refused.
-    Memory,
-    /// A word isn't UTF-8.
-    NoText,
-}
-
-/// Tells that the words of a command line couldn't be read, and gives the status: 3 for want of memory, and 2 where a word isn't UTF-8.
-pub fn tell_unread<E: Write>(fault: Unread, errors: &mut E) -> u8
-    ensures memory { fault ≡ OfMemory → result ≡ 3 }
-    ensures no_text { fault ≡ NoText → result ≡ 2 }
-{
-    match fault {
-        Unread::Memory => tell_fault(RunFault::Memory, errors),
-        Unread::NoText => tell_bad_line(errors),
-    }
-}
-
-/// Tells how a run ended, and gives its status.
-fn tell_end<E: Write>(end: Result<(), RunFault>, errors: &mut E) -> u8
-    ensures { result ≡ status_of end }
-{
-    match end {
-        Ok(()) => 0,
-        Err(fault) => tell_fault(fault, errors),
-    }
-}
-
-/// Tells why a run stopped, and gives its status.
-fn tell_fault<E: Write>(fault: RunFault, errors: &mut E) -> u8
-    ensures { result ≡ status_of (Err fault) }
-{
-    let _ = writeln!(errors, "ulfm: {fault}");
-    match fault {
-        RunFault::Line { .. } => 1,
-        RunFault::Memory | RunFault::Read | RunFault::Write => 3,
-    }
-}
-
 /// Tells that a command line is bad, and before that why, where that is wanted.
 fn tell_bad<E: Write>(reason: &Reason, errors: &mut E, explains: bool) -> u8
-    ensures { result ≡ 2 }
+    ensures status { result ≡ 2 }
+    ensures told { explains ≡ false → WritesPart (E.contents errors.old) (E.contents errors.new) bad_line }
 {
-    if explains {
-        let _ = write!(errors, "{reason}");
+    if !explains {
+        return tell_bad_line(errors);
     }
+    let _ = write!(errors, "{reason}");
     tell_bad_line(errors)
-}
-
-/// Tells that a command line is bad.
-fn tell_bad_line<E: Write>(errors: &mut E) -> u8
-    ensures { result ≡ 2 }
-{
-    let _ = writeln!(errors, "ulfm: bad command line");
-    2
-}
-
-/// Prints a text. At 0 all of it was written.
-fn print_text<W: Write, E: Write>(text: &[u8], output: &mut W, errors: &mut E) -> u8
-    ensures status { (result ≡ 0) ⊎ (result ≡ 3) }
-    ensures shown { result ≡ 0 → Appends (W.contents output.old) (W.contents output.new) text.now }
-{
-    if output.write_all(text).is_err() || output.flush().is_err() {
-        return tell_fault(RunFault::Write, errors);
-    }
-    0
-}
-
-/// Judges the trace of the input, and prints the verdict.
-#[tactic(auto, using(crate::proofs::Ends::judged))]
-fn run_check<A: Allocator + Copy + Drop, R: Read, W: Write, E: Write>(
-    alloc: A,
-    input: &mut R,
-    output: &mut W,
-    errors: &mut E,
-) -> u8
-    ensures { CheckedWith (R.remaining input.old) (R.remaining input.new) (W.contents output.old) (W.contents output.new) result }
-{
-    match check(alloc, input) {
-        Ok(verdict) => print_verdict(alloc, verdict, output, errors),
-        Err(CheckFault::Memory) => tell_fault(RunFault::Memory, errors),
-        Err(CheckFault::Read) => tell_fault(RunFault::Read, errors),
-    }
-}
-
-/// Prints a verdict, and gives its status, or that of a fault.
-fn print_verdict<A: Allocator, W: Write, E: Write>(
-    alloc: A,
-    verdict: Verdict,
-    output: &mut W,
-    errors: &mut E,
-) -> u8
-    ensures { ((result ≡ verdict_status verdict) × Appends (W.contents output.old) (W.contents output.new) (verdict_text verdict)) ⊎ (result ≡ 3) }
-{
-    let Ok(line) = verdict_line(alloc, verdict) else {
-        return tell_fault(RunFault::Memory, errors);
-    };
-    let status = print_text(&line, output, errors);
-    match verdict {
-        Verdict::Illegal { .. } if status == 0 => 1,
-        _ => status,
-    }
 }
 
 /// Runs a race, and prints its lines.
@@ -206,7 +115,7 @@ fn run_race<T: Threads + Wait + Sync, A: Allocator + Copy + Drop, W: Write, E: W
         },
         Err(RaceFault::Memory) => tell_fault(RunFault::Memory, errors),
         Err(RaceFault::Held) => {
-            let _ = writeln!(errors, "ulfm: held");
+            tell(b"ulfm: held\n", errors);
             3
         }
     }

@@ -1,12 +1,12 @@
 //! The worked rows through the program, and devices and memory that fail at each call in turn.
-use crate::program::{Unread, answer, tell_unread};
+use crate::program::answer;
 use linked_list_allocator::LocalHeap;
 use std::alloc::Global;
-use std::io;
-use std::io::{ErrorKind, Read, Write};
 use std::sync::Wait;
 use std::test::Fail;
 use std::thread::Threads;
+use ulfm_devices::{Failing, Pieces, Taken};
+use ulfm_filters::{Unread, tell_unread};
 
 mod forged;
 mod memory;
@@ -342,73 +342,6 @@ fn unread_words(rt: HostRuntime) -> Result<(), Fail> {
     Ok(())
 }
 
-/// Gives a text in pieces, and fails at one call.
-#[derive(Drop)]
-struct Pieces<'a> {
-    text: &'a [u8],
-    most: usize,
-    calls: u32,
-    failing: u32,
-}
-
-impl Read for Pieces<'_> {
-    fn read(&mut self, buf: &mut [u8]) -> io::Result<usize> {
-        self.calls = self.calls.wrapping_add(1);
-        if self.calls == self.failing {
-            return Err(io::Error::from(ErrorKind::Interrupted));
-        }
-        let most = self.most.min(buf.len());
-        let mut rest = self.text;
-        let count = rest.read(&mut buf[..most])?;
-        self.text = rest;
-        if count > most {
-            return Ok(0);
-        }
-        Ok(count)
-    }
-}
-
-/// How a writer fails.
-#[derive(Clone, Copy, Debug, PartialEq, Eq)]
-enum Failing {
-    ByError,
-    ByNothing,
-    AtFlush,
-}
-
-/// Takes a few bytes a call, and fails at one call, or at a flush.
-#[derive(Drop)]
-struct Taken {
-    bytes: Vec<u8>,
-    most: usize,
-    calls: u32,
-    failing: u32,
-    how: Failing,
-}
-
-impl Write for Taken {
-    fn write(&mut self, buf: &[u8]) -> io::Result<usize> {
-        self.calls = self.calls.wrapping_add(1);
-        if self.calls == self.failing {
-            match self.how {
-                Failing::ByError => return Err(io::Error::from(ErrorKind::BrokenPipe)),
-                Failing::ByNothing => return Ok(0),
-                Failing::AtFlush => {}
-            }
-        }
-        let count = self.most.min(buf.len());
-        self.bytes.extend_from_slice(&buf[..count])?;
-        Ok(count)
-    }
-
-    fn flush(&mut self) -> io::Result<()> {
-        if self.how == Failing::AtFlush {
-            return Err(io::Error::from(ErrorKind::Interrupted));
-        }
-        Ok(())
-    }
-}
-
 /// The words of a run of a call script.
 const RUN: [&str; 2] = ["ulfm", "run"];
 
@@ -462,12 +395,7 @@ fn fail_reads_from<T: Threads + Wait + Sync>(
 ) -> Result<(), Fail> {
     let (script, output) = texts;
     for failing in first..20_000u32 {
-        let mut input = Pieces {
-            text: script,
-            most,
-            calls: 0,
-            failing,
-        };
+        let mut input = Pieces::new(script, most, failing);
         let mut written = Vec::new(alloc);
         let mut errors = Vec::new(alloc);
         let status = answer(
@@ -525,13 +453,7 @@ fn fail_write<T: Threads + Wait + Sync>(
 ) -> Result<bool, Fail> {
     let (script, output) = texts;
     let mut input = script;
-    let mut taken = Taken {
-        bytes: Vec::new(alloc),
-        most: failure.most,
-        calls: 0,
-        failing,
-        how: failure.how,
-    };
+    let mut taken = Taken::new(alloc, failure.most, failing, failure.how);
     let mut errors = Vec::new(alloc);
     let status = answer(
         rt,
@@ -575,7 +497,11 @@ fn fail_each_write<T: Threads + Wait + Sync>(
 fn each_write_fails(rt: HostRuntime) -> Result<(), Fail> {
     let alloc = rt.alloc();
     let (script, output) = long_texts(alloc)?;
-    for how in [Failing::ByError, Failing::ByNothing] {
+    for how in [
+        Failing::ByError,
+        Failing::ByInterruption,
+        Failing::ByNothing,
+    ] {
         for most in [1, 7, 10_000] {
             let texts = (SCRIPT.as_bytes(), OUTPUT.as_bytes());
             fail_each_write(&rt, alloc, &RUN, texts, Failure { most, how })?;
@@ -607,13 +533,7 @@ fn flush_fails(rt: HostRuntime) -> Result<(), Fail> {
     ];
     for (word, script) in rows {
         let mut input = script.as_bytes();
-        let mut output = Taken {
-            bytes: Vec::new(rt.alloc()),
-            most: 10_000,
-            calls: 0,
-            failing: 0,
-            how: Failing::AtFlush,
-        };
+        let mut output = Taken::new(rt.alloc(), 10_000, 0, Failing::AtFlush);
         let mut errors = Vec::new(rt.alloc());
         let status = answer(
             &rt,
@@ -638,13 +558,7 @@ fn errors_fail(rt: HostRuntime) -> Result<(), Fail> {
     for (word, script, wanted) in rows {
         let mut input = script.as_bytes();
         let mut output = Vec::new(rt.alloc());
-        let mut errors = Taken {
-            bytes: Vec::new(rt.alloc()),
-            most: 1,
-            calls: 0,
-            failing: 1,
-            how: Failing::ByError,
-        };
+        let mut errors = Taken::new(rt.alloc(), 1, 1, Failing::ByError);
         let status = answer(
             &rt,
             rt.alloc(),

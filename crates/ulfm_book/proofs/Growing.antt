@@ -1,32 +1,61 @@
 -- How a log grows.
-use Rattle.std.proofs.Common.{◌≡◌, List, [], ◌∷◌, ◌++◌, refl, ap, ap₂, sym, ◌∙◌}
-use Rattle.std.proofs.lemmas.List.{map-append}
+use Rattle.std.proofs.Common.{◌≡◌, List, [], ◌∷◌, ◌++◌, refl, ap, sym, ◌∙◌, append-nil}
 use mathlib.Core.List.{IsPrefix}
-use Rattle.ulfm_model.specs.declared.{event.Entry.{Entry}, limits.Limits.{Limits}}
-use Rattle.ulfm_model.specs.History.{History, MayFollow}
+use Rattle.ulfm_model.specs.declared.{block.Block.{Block}, event.Entry.{Entry}}
+use Rattle.ulfm_model.specs.History.{MayFollow}
 use Rattle.ulfm_model.proofs.Histories.{legal_push}
-use Rattle.ulfm_book.specs.declared.{line.Line.{Line}, line.Line.TheVariants.{Opened, Made}}
-use Rattle.ulfm_book.specs.{Logs.{IsLog, history_in, limits_in, log_of}, Rules.{Sees}}
+use Rattle.ulfm_book.specs.declared.{line.Line.{Line}, line.Line.TheVariants.{Opened, Made, Cached}}
+use Rattle.ulfm_book.specs.{Logs.{HasLimitsFirst, HasNoLimits, IsLog, cached_in, history_in, limits_in}, Rules.{Sees}}
 
 module _ {P : Type 0} where
   pub history_in-append : (xs ys : List (Line P)) → history_in (xs ++ ys) ≡ history_in xs ++ history_in ys
   history_in-append [] ys = refl
   history_in-append (Opened limits ∷ xs) ys = history_in-append xs ys
   history_in-append (Made e ∷ xs) ys = ap (λ h. e ∷ h) (history_in-append xs ys)
+  history_in-append (Cached b ∷ xs) ys = history_in-append xs ys
 
-  log_is_append : (limits : Limits) (h : History P) (log more : List (Line P)) → log ≡ log_of limits h → limits_in (log ++ more) ≡ limits_in log
-  log_is_append limits h log more is = rw is refl
+  pub cached_in-append : (xs ys : List (Line P)) → cached_in (xs ++ ys) ≡ cached_in xs ++ cached_in ys
+  cached_in-append [] ys = refl
+  cached_in-append (Opened limits ∷ xs) ys = cached_in-append xs ys
+  cached_in-append (Made e ∷ xs) ys = cached_in-append xs ys
+  cached_in-append (Cached b ∷ xs) ys = ap (λ bs. b ∷ bs) (cached_in-append xs ys)
+
+  limits_append : (log more : List (Line P)) → HasLimitsFirst log → limits_in (log ++ more) ≡ limits_in log
+  limits_append [] more is = absurd is
+  limits_append (Opened limits ∷ log) more is = refl
+  limits_append (Made e ∷ log) more is = absurd is
+  limits_append (Cached b ∷ log) more is = absurd is
+
+  no_limits_push : (log : List (Line P)) (line : Line P) → HasNoLimits (line ∷ []) → HasNoLimits log → HasNoLimits (log ++ line ∷ [])
+  no_limits_push [] line new is = new
+  no_limits_push (Opened limits ∷ log) line new is = absurd is
+  no_limits_push (Made e ∷ log) line new is = no_limits_push log line new is
+  no_limits_push (Cached b ∷ log) line new is = no_limits_push log line new is
+
+  limits_first_push : (log : List (Line P)) (line : Line P) → HasNoLimits (line ∷ []) → HasLimitsFirst log → HasLimitsFirst (log ++ line ∷ [])
+  limits_first_push [] line new is = absurd is
+  limits_first_push (Opened limits ∷ log) line new is = no_limits_push log line new is
+  limits_first_push (Made e ∷ log) line new is = absurd is
+  limits_first_push (Cached b ∷ log) line new is = absurd is
+
+  -- an event's line has no block, and a block's line no event
+  pub cached_in-made : (log : List (Line P)) (e : Entry P) → cached_in (log ++ Made e ∷ []) ≡ cached_in log
+  cached_in-made log e = cached_in-append log (Made e ∷ []) ∙ append-nil (cached_in log)
+
+  pub history_in-cached : (log : List (Line P)) (b : Block) → history_in (log ++ Cached b ∷ []) ≡ history_in log
+  history_in-cached log b = history_in-append log (Cached b ∷ []) ∙ append-nil (history_in log)
 
   module _ (meld : P → P → P) where
     -- the limits stay as a log grows
     pub limits_stay : (log more : List (Line P)) → IsLog meld log → limits_in (log ++ more) ≡ limits_in log
-    limits_stay log more is = log_is_append (limits_in log) (history_in log) log more is.log_is
+    limits_stay log more is = limits_append log more is.limits_first
 
     -- what a log that goes on shows
     pub sees : (old new : List (Line P)) → IsLog meld old → IsLog meld new → IsPrefix old new → Sees meld old new
     sees old new old_is new_is begins = record {
       limits = ap limits_in (sym begins.1) ∙ limits_stay old begins.0 old_is;
       history = (history_in begins.0, sym (history_in-append old begins.0) ∙ ap history_in begins.1);
+      cached = (cached_in begins.0, sym (cached_in-append old begins.0) ∙ ap cached_in begins.1);
       is_log = new_is;
     }
 
@@ -35,9 +64,17 @@ module _ {P : Type 0} where
     log_push log e is may =
         let limits : limits_in (log ++ Made e ∷ []) ≡ limits_in log = limits_stay log (Made e ∷ []) is in
         let history : history_in (log ++ Made e ∷ []) ≡ history_in log ++ e ∷ [] = history_in-append log (Made e ∷ []) in
-        let longer : log ++ Made e ∷ [] ≡ log_of (limits_in log) (history_in log ++ e ∷ []) =
-        ap (λ (l : List (Line P)). l ++ Made e ∷ []) is.log_is ∙ ap (λ (l : List (Line P)). Opened (limits_in log) ∷ l) (sym (map-append Made (history_in log) (e ∷ []))) in
         record {
-          log_is = longer ∙ ap₂ (λ n h. log_of n h) (sym limits) (sym history);
+          limits_first = limits_first_push log (Made e) tt is.limits_first;
           legal = rw (limits, history) (legal_push meld (limits_in log) (history_in log) e is.legal may);
+        }
+
+    -- and so does a block
+    pub log_cached : (log : List (Line P)) (b : Block) → IsLog meld log → IsLog meld (log ++ Cached b ∷ [])
+    log_cached log b is =
+        let limits : limits_in (log ++ Cached b ∷ []) ≡ limits_in log = limits_stay log (Cached b ∷ []) is in
+        let history : history_in (log ++ Cached b ∷ []) ≡ history_in log = history_in-cached log b in
+        record {
+          limits_first = limits_first_push log (Cached b) tt is.limits_first;
+          legal = rw (limits, history) is.legal;
         }

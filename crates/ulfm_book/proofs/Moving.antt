@@ -6,14 +6,14 @@ use Rattle.std.proofs.Math.ListN.{length-set}
 use mathlib.Core.List.{IsPrefix}
 use prog.Atomic.{either}
 use Rattle.logbook.specs.Pages.{Cell, Goes, Moves, View, cell, keeps, no_nib, step}
-use Rattle.ulfm_model.specs.declared.{event.Entry.{Entry}, limits.Limits.{Limits}, place.Place.{Place}}
-use Rattle.ulfm_model.specs.{History.{History, IsLegal, MayFollow}, Words.{place_of, size_of, word_at, word_of}}
+use Rattle.ulfm_model.specs.declared.{block.Block.{Block}, event.Entry.{Entry}, limits.Limits.{Limits}, place.Place.{Place}}
+use Rattle.ulfm_model.specs.{Blocks.{IsBlockWithin}, History.{History, IsLegal, MayFollow}, Words.{place_of, word_at, word_of}}
 use Rattle.ulfm_model.proofs.WordRules.{word_kept, word_set}
 use Rattle.ulfm_words.specs.Places.{IsWithin}
 use Rattle.ulfm_words.proofs.Growing.{prefix_push}
 use Rattle.ulfm_book.specs.declared.{line.Line.{Line}, line.Line.TheVariants.{Made}}
-use Rattle.ulfm_book.specs.{Logs.{IsLog, history_in, limits_in}, Rules.{Adds, IsFound, IsKept, IsLast, Looks, Sees}, Seats.{seat_in}}
-use Rattle.ulfm_book.proofs.{Growing.{history_in-append, limits_stay, log_push, sees}, Seating.{one_seat, seat_lt}}
+use Rattle.ulfm_book.specs.{Logs.{IsLog, history_in, limits_in}, Rules.{Adds, IsFound, IsKept, IsLast, IsOfBlock, Looks, Sees}, Seats.{block_seat, row_of, seat_in}}
+use Rattle.ulfm_book.proofs.{Growing.{cached_in-made, history_in-append, limits_stay, log_push, sees}, Seating.{one_seat, seat_in_row, seats_apart}, Standing.{block_later}}
 
 -- clients see nothing of the log
 abbrev pub shown : {P : Type 0} → List (Line P) → List (Line P)
@@ -33,7 +33,7 @@ module _ {P : Type 0} (meld : P → P → P) (pack : P → ℕ) where
   is_found cells log k kept p within is = sym (rw is (ap (λ (c : Cell). c.0) (kept.words p within)))
 
   -- a step that leaves its word as it is adds nothing
-  stays : (old : List (Line P)) (f : ℕ → ℕ) (then : ℕ → View (Line P) ℕ → Type 0) (cells : List Cell) (log : List (Line P)) (k : ℕ) → IsKept meld pack cells log → (cell cells k).1 ≡ true
+  pub stays : (old : List (Line P)) (f : ℕ → ℕ) (then : ℕ → View (Line P) ℕ → Type 0) (cells : List Cell) (log : List (Line P)) (k : ℕ) → IsKept meld pack cells log → (cell cells k).1 ≡ true
       → f (cell cells k).0 ≡ (cell cells k).0 → then (cell cells k).0 (log, (no_nib, None)) → Goes (IsKept meld pack) shown moved k (old, (no_nib, None)) f then cells log
   stays old f then cells log k kept home same told =
       let one : (let c : Cell = (f (cell cells k).0, true) in c) ≡ cell cells k = ap₂ (λ n b. let c : Cell = (n, b) in c) same (sym home) in
@@ -67,7 +67,7 @@ module _ {P : Type 0} (meld : P → P → P) (pack : P → ℕ) where
     limits_are = limits_stay meld log (Made e ∷ []) kept.is_log
 
     lt : seat_in limits p < length cells
-    lt = omega (arith, kept.size, seat_lt limits p within)
+    lt = omega (arith, kept.size, seat_in_row limits p within)
 
     -- its own word, and each other
     own : word_at pack (history_in longer) p ≡ word_of pack e.event
@@ -86,11 +86,19 @@ module _ {P : Type 0} (meld : P → P → P) (pack : P → ℕ) where
         get_or-set_other cells (seat_in limits p) (seat_in limits q) (word_of pack e.event, true) (0, false) keys
         ∙ (kept.words q there ∙ ap (λ n. let c : Cell = (n, true) in c) (sym (other q (λ same. keys (ap (seat_in limits) (sym same))))))
 
+    -- the blocks stand as they stood
+    block_after : (b : Block) → IsBlockWithin limits b → ((cell written (block_seat limits b)).1 ≡ true) × IsOfBlock meld pack longer b (cell written (block_seat limits b)).0
+    block_after b there =
+        let same : cell written (block_seat limits b) ≡ cell cells (block_seat limits b) = get_or-set_other cells (seat_in limits p) (block_seat limits b) (word_of pack e.event, true) (0, false) (seats_apart limits p b within) in
+        let stood = kept.blocks b there in
+        rw same (stood.0, block_later meld pack log longer b (cell cells (block_seat limits b)).0 limits_are (e ∷ [], sym history_is) (cached_in-made log e) stood.1)
+
     pub kept_after : IsKept meld pack written longer
     kept_after = record {
       is_log = log_push meld log e kept.is_log may;
-      size = length-set cells (seat_in limits p) (word_of pack e.event, true) ∙ (kept.size ∙ ap size_of (sym limits_are));
+      size = length-set cells (seat_in limits p) (word_of pack e.event, true) ∙ (kept.size ∙ ap row_of (sym limits_are));
       words = subst (λ n. (q : Place) → IsWithin n q → cell written (seat_in n q) ≡ (word_at pack (history_in longer) q, true)) (sym limits_are) (λ q there. word_after q there (seat_in limits q == seat_in limits p) refl);
+      blocks = subst (λ n. (b : Block) → IsBlockWithin n b → ((cell written (block_seat n b)).1 ≡ true) × IsOfBlock meld pack longer b (cell written (block_seat n b)).0) (sym limits_are) block_after;
     }
 
   -- the word of a place, in a log that goes on from what was seen
@@ -110,7 +118,7 @@ module _ {P : Type 0} (meld : P → P → P) (pack : P → ℕ) where
         sees = s;
         within = there;
         key = here;
-        lt = omega (arith, kept.size, seat_lt (limits_in log) p there, here);
+        lt = omega (arith, kept.size, seat_in_row (limits_in log) p there, here);
         home = ap (λ n. (cell cells n).1) here ∙ ap (λ (c : Cell). c.1) (kept.words p there);
       }
 
@@ -137,6 +145,7 @@ module _ {P : Type 0} (meld : P → P → P) (pack : P → ℕ) where
         let now : Sees meld old longer = record {
           limits = limits_stay meld log (Made e ∷ []) kept.is_log ∙ at.sees.limits;
           history = rw (history_in-append log (Made e ∷ [])) (prefix_push (history_in old) h e at.sees.history);
+          cached = rw (cached_in-made log e) at.sees.cached;
           is_log = after.is_log;
         } in
         let stands : IsFound pack k w longer = subst (λ (c : Cell). IsFound pack k c.0 longer) (get_or-set_same cells k (w, true) (0, false) at.lt) (is_found (slice_set cells k (w, true)) longer k after) in

@@ -1,11 +1,11 @@
--- Two places have two positions in the row of shared words, all below its size.
-use Rattle.std.proofs.Common.{◌≡◌, ℕ, ◌+◌, ◌*◌, ◌<◌, refl, sym, ◌∙◌, subst, arith}
+-- Two places, two blocks, and a place and a block have two positions in the row of shared words, all below its length.
+use Rattle.std.proofs.Common.{◌≡◌, ◌≢◌, ℕ, ◌+◌, ◌*◌, ◌<◌, refl, sym, ◌∙◌, subst, arith}
 use Rattle.std.proofs.lemmas.Nat.{mul-add-lt}
-use Rattle.ulfm_model.specs.declared.{limits.Limits.{Limits}, place.Place.{Place}, place.Place.TheVariants.{List as ListAt, Comm as CommAt, Revoked as RevokedAt, Slot as SlotAt, Arrival as ArrivalAt}}
-use Rattle.ulfm_model.specs.Words.{size_of}
-use Rattle.ulfm_words.specs.Places.{IsCell, IsWithin}
+use Rattle.ulfm_model.specs.declared.{block.Block.{Block}, block.Side.{Side}, block.Side.TheVariants.{Front, Back}, limits.Limits.{Limits}, place.Place.{Place}, place.Place.TheVariants.{List as ListAt, Comm as CommAt, Revoked as RevokedAt, Slot as SlotAt, Arrival as ArrivalAt}}
+use Rattle.ulfm_model.specs.{Blocks.{IsBlockWithin}, Words.{size_of}}
+use Rattle.ulfm_words.specs.{Pass.{side_key}, Places.{IsCell, IsWithin}}
 use Rattle.ulfm_words.proofs.Numbering.{IsNumbering, digits, number_in, number_lt, one_number}
-use Rattle.ulfm_book.specs.Seats.{cell_in, cells_of, seat_in}
+use Rattle.ulfm_book.specs.Seats.{block_seat, cell_in, cells_of, row_of, seat_in}
 
 -- each cell's number is below their count
 cell_lt : (limits : Limits) (c k r : ℕ) → IsCell limits c k r → cell_in limits c k r < cells_of limits
@@ -46,3 +46,32 @@ seat_lt limits p within = subst (λ n. n < size_of limits) (sym (seat_is limits 
 -- places with one position are one
 pub one_seat : (limits : Limits) (p q : Place) → IsWithin limits p → IsWithin limits q → seat_in limits p ≡ seat_in limits q → p ≡ q
 one_seat limits p q a b e = one_number limits (cell_in limits) (arrivals limits) (numbered limits) p q a b (sym (seat_is limits p) ∙ (e ∙ seat_is limits q))
+
+side_lt : (s : Side) → side_key s < 2
+side_lt Front = omega arith
+side_lt Back = omega arith
+
+-- a block's position is behind those of all places, and in the row
+pub block_seat_lt : (limits : Limits) (b : Block) → IsBlockWithin limits b → block_seat limits b < row_of limits
+block_seat_lt limits b within =
+    let round : b.comm * limits.rounds + b.round < limits.rounds * limits.comms = mul-add-lt b.comm limits.rounds b.round limits.comms within.comm within.round in
+    omega (arith, round, side_lt b.side)
+
+pub seat_in_row : (limits : Limits) (p : Place) → IsWithin limits p → seat_in limits p < row_of limits
+seat_in_row limits p within = omega (arith, seat_lt limits p within)
+
+pub seats_apart : (limits : Limits) (p : Place) (b : Block) → IsWithin limits p → block_seat limits b ≢ seat_in limits p
+seats_apart limits p b within same = absurd (omega (arith, same, seat_lt limits p within))
+
+sides : (n x y : ℕ) (s t : Side) → n + 2 * x + side_key s ≡ n + 2 * y + side_key t → (x ≡ y) × (s ≡ t)
+sides n x y Front Front e = (omega (arith, e), refl)
+sides n x y Back Back e = (omega (arith, e), refl)
+sides n x y Front Back e = absurd (omega (arith, e))
+sides n x y Back Front e = absurd (omega (arith, e))
+
+-- blocks with one position are one
+pub one_block_seat : (limits : Limits) (a b : Block) → IsBlockWithin limits a → IsBlockWithin limits b → block_seat limits a ≡ block_seat limits b → a ≡ b
+one_block_seat limits a b x y same =
+    let s = sides (size_of limits) (a.comm * limits.rounds + a.round) (b.comm * limits.rounds + b.round) a.side b.side same in
+    let t = digits limits.rounds a.comm a.round b.comm b.round x.round y.round s.0 in
+    λ i. record { comm = t.0 i; round = t.1 i; side = s.1 i }

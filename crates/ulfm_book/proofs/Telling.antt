@@ -1,16 +1,16 @@
 -- What each step tells a pass.
-use Rattle.std.proofs.Common.{◌≡◌, ◌≢◌, ℕ, ◌+◌, ◌==◌, MatchBool, Bool, true, false, List, [], ◌∷◌, ◌++◌, length, Option, Some, Ok, Err, refl, ap, ap₂, sym, ◌∙◌, subst, arith, length-append}
+use Rattle.std.proofs.Common.{◌≡◌, ◌≢◌, ℕ, ◌+◌, ◌==◌, MatchBool, Bool, true, false, List, [], ◌∷◌, ◌++◌, length, Option, Some, Result, Ok, Err, refl, ap, ap₂, sym, ◌∙◌, subst, arith, length-append}
 use Rattle.std.proofs.lemmas.Bool.{eq-eqb, ne_eqb}
 use mathlib.Core.List.{IsPrefix}
 use Rattle.logbook.specs.Pages.{Book}
-use Rattle.ulfm_model.specs.declared.{event.Entry.{Entry}, place.Place.{Place}}
-use Rattle.ulfm_model.specs.{History.{History, IsLegal}, Runs.{Did}, Words.{MayOpen, word_at}}
-use Rattle.ulfm_words.specs.declared.{step.Last.{Last}, step.Step.{Step}}
-use Rattle.ulfm_words.specs.{Entries.{entry_of}, Pass.{last_of}, Places.{IsWithin}, Steps.{Heard, IsOf, Learns, Loads, Sets, Sight}}
+use Rattle.ulfm_model.specs.declared.{block.Block.{Block}, event.Entry.{Entry}, place.Place.{Place}}
+use Rattle.ulfm_model.specs.{Blocks.{IsBlockWithin, IsCached}, History.{History, IsLegal}, Runs.{Did}, Words.{MayOpen, word_at}}
+use Rattle.ulfm_words.specs.declared.{step.Last.{Last}, step.Site.{Site}, step.Step.{Step}}
+use Rattle.ulfm_words.specs.{Blocks.{Caches, LoadsBlock}, Entries.{entry_of}, Pass.{last_of}, Places.{IsWithin}, Steps.{Heard, IsOf, Learns, Loads, Sets, Sight}}
 use Rattle.ulfm_words.proofs.Telling.{last_of-push}
 use Rattle.ulfm_book.specs.declared.{line.Line.{Line}, line.Line.TheVariants.{Made}}
-use Rattle.ulfm_book.specs.{Logs.{IsLog, history_in, limits_in}, Rules.{IsFound, IsLast, Sees, heard_of, name_of, sight_of}, Seats.{seat_in}}
-use Rattle.ulfm_book.proofs.Growing.{history_in-append, sees}
+use Rattle.ulfm_book.specs.{Logs.{IsLog, cached_in, history_in, limits_in}, Rules.{IsAddedBlock, IsBlockFound, IsFound, IsLast, IsOfBlock, Sees, heard_of, name_of, sight_of}, Seats.{block_seat, seat_in}}
+use Rattle.ulfm_book.proofs.Growing.{cached_in-append, history_in-append, sees}
 
 -- others' events may have come
 others : {P : Type 0} (old new : History P) → IsPrefix old new → Did false [] old new
@@ -18,8 +18,8 @@ others old new begins = record { since = begins.0; goes_on = begins.1; stands = 
 
 module _ {P : Type 0} (meld : P → P → P) (pack : P → ℕ) where
   -- a step, as a pass keeps it
-  abbrev made : Place → ℕ → Bool → Last × Bool
-  made p found load = (record { place = p; word = found; load = load }, load)
+  abbrev made : Site → ℕ → Bool → Last × Bool
+  made at found load = (record { at = at; word = found; load = load }, load)
 
   -- what was found under a place's key is the place's word
   found_at : (old new : List (Line P)) (p : Place) (k found : ℕ) → Sees meld old new → IsWithin (limits_in old) p → k ≡ seat_in (limits_in old) p → IsFound pack k found new → word_at pack (history_in new) p ≡ found
@@ -42,7 +42,7 @@ module _ {P : Type 0} (meld : P → P → P) (pack : P → ℕ) where
 
     abbrev LoadTells : Place → ℕ → ℕ → Sight P → Type 0
     LoadTells p k found pass =
-        IsOf meld pass.name pass → IsWithin pass.name.limits p → k ≡ seat_in pass.name.limits p → b' ≡ b → Sees meld old new × IsFound pack k found new → trail' ≡ trail ++ made p found true ∷ []
+        IsOf meld pass.name pass → IsWithin pass.name.limits p → k ≡ seat_in pass.name.limits p → b' ≡ b → Sees meld old new × IsFound pack k found new → trail' ≡ trail ++ made (Site.Place p) found true ∷ []
         → Loads meld pack false pass.name p pass (sight_of b' new trail')
 
     -- a load
@@ -54,8 +54,9 @@ module _ {P : Type 0} (meld : P → P → P) (pack : P → ℕ) where
         record {
           of = still same of.may_open s;
           did = others (history_in old) (history_in new) s.history;
-          steps = one_more (made p found true) is;
-          last = last_is (made p found true) is ∙ ap (λ n. Some (made p n true).0) word;
+          cached = s.cached;
+          steps = one_more (made (Site.Place p) found true) is;
+          last = last_is (made (Site.Place p) found true) is ∙ ap (λ n. Some (made (Site.Place p) n true).0) word;
         })
 
     -- what an exchange of this step sees and finds, where it asked for this line
@@ -64,7 +65,7 @@ module _ {P : Type 0} (meld : P → P → P) (pack : P → ℕ) where
 
     abbrev WonTells : (ℕ → Option P) → Step → ℕ → ℕ → Line P → Entry P → Sight P → Type 0
     WonTells unpack s k found ask entry pass =
-        IsOf meld pass.name pass → IsWithin pass.name.limits s.place → k ≡ seat_in pass.name.limits s.place → b' ≡ b → Finds s k found ask → trail' ≡ trail ++ made s.place found false ∷ []
+        IsOf meld pass.name pass → IsWithin pass.name.limits s.place → k ≡ seat_in pass.name.limits s.place → b' ≡ b → Finds s k found ask → trail' ≡ trail ++ made (Site.Place s.place) found false ∷ []
         → entry_of unpack s ≡ Some entry → ask ≡ Made entry → found ≡ 0 → Sets meld pack unpack false pass.name s pass (Ok tt) (sight_of b' new trail')
 
     -- an exchange that was won
@@ -72,7 +73,7 @@ module _ {P : Type 0} (meld : P → P → P) (pack : P → ℕ) where
     won_tells unpack s k found ask entry pass e =
         subst (WonTells unpack s k found ask entry) e (λ of within key same finds is is_entry asks zero.
         let won : IsLast meld ask old new × IsFound pack k s.word new = rw (eq-eqb found 0 zero) at finds.1 in
-        let stamped : trail' ≡ trail ++ made s.place 0 false ∷ [] = is ∙ ap (λ n. trail ++ made s.place n false ∷ []) zero in
+        let stamped : trail' ≡ trail ++ made (Site.Place s.place) 0 false ∷ [] = is ∙ ap (λ n. trail ++ made (Site.Place s.place) n false ∷ []) zero in
         record {
           of = still same of.may_open finds.0;
           outcome = record {
@@ -85,13 +86,14 @@ module _ {P : Type 0} (meld : P → P → P) (pack : P → ℕ) where
             };
             stands = found_at old new s.place k s.word finds.0 within key won.1;
           };
-          steps = one_more (made s.place 0 false) stamped;
-          last = last_is (made s.place 0 false) stamped;
+          cached = finds.0.cached;
+          steps = one_more (made (Site.Place s.place) 0 false) stamped;
+          last = last_is (made (Site.Place s.place) 0 false) stamped;
         })
 
     abbrev LostTells : (ℕ → Option P) → Step → ℕ → ℕ → Line P → Sight P → Type 0
     LostTells unpack s k found ask pass =
-        IsOf meld pass.name pass → IsWithin pass.name.limits s.place → k ≡ seat_in pass.name.limits s.place → b' ≡ b → Finds s k found ask → trail' ≡ trail ++ made s.place found false ∷ []
+        IsOf meld pass.name pass → IsWithin pass.name.limits s.place → k ≡ seat_in pass.name.limits s.place → b' ≡ b → Finds s k found ask → trail' ≡ trail ++ made (Site.Place s.place) found false ∷ []
         → found ≢ 0 → Sets meld pack unpack false pass.name s pass (Err found) (sight_of b' new trail')
 
     -- an exchange that was lost
@@ -106,8 +108,76 @@ module _ {P : Type 0} (meld : P → P → P) (pack : P → ℕ) where
             stands = found_at old new s.place k found finds.0 within key stands;
             did = others (history_in old) (history_in new) finds.0.history;
           };
-          steps = one_more (made s.place found false) is;
-          last = last_is (made s.place found false) is;
+          cached = finds.0.cached;
+          steps = one_more (made (Site.Place s.place) found false) is;
+          last = last_is (made (Site.Place s.place) found false) is;
+        })
+
+    -- where a block was looked at under this key
+    abbrev BlockTells : Block → ℕ → ℕ → Bool → Type 0 → Sight P → Type 0 → Type 0
+    BlockTells block k found load Saw pass Told =
+        IsOf meld pass.name pass → IsBlockWithin pass.name.limits block → k ≡ block_seat pass.name.limits block → b' ≡ b → Sees meld old new × Saw → trail' ≡ trail ++ made (Site.Block block) found load ∷ [] → Told
+
+    -- what was seen of all blocks with this key was seen of this one
+    of_block : (block : Block) (k : ℕ) (Saw : Block → Type 0) → Sees meld old new → IsBlockWithin (limits_in old) block → k ≡ block_seat (limits_in old) block → ((x : Block) → IsBlockWithin (limits_in new) x → k ≡ block_seat (limits_in new) x → Saw x) → Saw block
+    of_block block k Saw s within key all = all block (subst (λ n. IsBlockWithin n block) (sym s.limits) within) (key ∙ ap (λ n. block_seat n block) (sym s.limits))
+
+    abbrev LoadBlockTells : Block → ℕ → ℕ → Sight P → Type 0
+    LoadBlockTells block k found pass = BlockTells block k found true (IsBlockFound meld pack k found new) pass (LoadsBlock meld pack false pass.name block found pass (sight_of b' new trail'))
+
+    -- a load of a block's word
+    pub load_block_tells : (block : Block) (k found : ℕ) (pass : Sight P) → sight_of b old trail ≡ pass → LoadBlockTells block k found pass
+    load_block_tells block k found pass e =
+        subst (LoadBlockTells block k found) e (λ of within key same looks is.
+        let s = looks.0 in
+        let stands = of_block block k (λ x. IsOfBlock meld pack new x found) s within key looks.1 in
+        record {
+          of = still same of.may_open s;
+          did = others (history_in old) (history_in new) s.history;
+          cached = s.cached;
+          steps = one_more (made (Site.Block block) found true) is;
+          last = last_is (made (Site.Block block) found true) is;
+          stands = subst (λ n. IsCached meld pack n.ranks (history_in new) block found) s.limits stands.stands;
+          unset = stands.unset;
+          set = stands.set;
+        })
+
+    abbrev SawAdded : ℕ → ℕ → ℕ → Type 0
+    SawAdded k word found = (x : Block) → IsBlockWithin (limits_in new) x → k ≡ block_seat (limits_in new) x → IsAddedBlock word found x old new
+
+    abbrev CacheTells : Block → ℕ → ℕ → ℕ → Result (Unit {0}) ℕ → Sight P → Type 0
+    CacheTells block k word found result pass = BlockTells block k found false (SawAdded k word found) pass (Caches meld false pass.name block word pass result (sight_of b' new trail'))
+
+    -- an exchange of a block's word that was won
+    pub cache_won_tells : (block : Block) (k word found : ℕ) (pass : Sight P) → sight_of b old trail ≡ pass → found ≡ 0 → CacheTells block k word found (Ok tt) pass
+    cache_won_tells block k word found pass e zero =
+        subst (CacheTells block k word found (Ok tt)) e (λ of within key same looks is.
+        let s = looks.0 in
+        let added = of_block block k (λ x. IsAddedBlock word found x old new) s within key looks.1 in
+        record {
+          of = still same of.may_open s;
+          did = others (history_in old) (history_in new) s.history;
+          cached = s.cached;
+          steps = one_more (made (Site.Block block) found false) is;
+          last = last_is (made (Site.Block block) found false) is ∙ ap (λ n. Some (made (Site.Block block) n false).0) zero;
+          set = added.set;
+          stood = added.won zero;
+        })
+
+    -- .. and that was lost
+    pub cache_lost_tells : (block : Block) (k word found : ℕ) (pass : Sight P) → sight_of b old trail ≡ pass → found ≢ 0 → CacheTells block k word found (Err found) pass
+    cache_lost_tells block k word found pass e some =
+        subst (CacheTells block k word found (Err found)) e (λ of within key same looks is.
+        let s = looks.0 in
+        let added = of_block block k (λ x. IsAddedBlock word found x old new) s within key looks.1 in
+        record {
+          of = still same of.may_open s;
+          did = others (history_in old) (history_in new) s.history;
+          cached = s.cached;
+          steps = one_more (made (Site.Block block) found false) is;
+          last = last_is (made (Site.Block block) found false) is;
+          set = added.set;
+          stood = added.lost some;
         })
 
   module _ (b b' t : Book) (old told new : List (Line P)) (trail : List (Last × Bool)) where
@@ -123,9 +193,14 @@ module _ {P : Type 0} (meld : P → P → P) (pack : P → ℕ) where
           of = still b b' old new trail trail same of.may_open s;
           did = others (history_in old) (history_in new) s.history;
           hears = subst (λ (h : Heard P). IsPrefix h.seen (history_in new)) f (sees_told from);
+          cached = s.cached;
+          hears_cached = subst (λ (h : Heard P). IsPrefix h.cached (cached_in new)) f (cached_told from);
           steps = refl;
           last = refl;
         })
       where
         sees_told : IsPrefix told new → IsPrefix (history_in told) (history_in new)
         sees_told from = (history_in from.0, sym (history_in-append told from.0) ∙ ap history_in from.1)
+
+        cached_told : IsPrefix told new → IsPrefix (cached_in told) (cached_in new)
+        cached_told from = (cached_in from.0, sym (cached_in-append told from.0) ∙ ap cached_in from.1)

@@ -1,7 +1,9 @@
--- Where each place's word stands in the row of shared words.
+-- Where the word of each place, and of each block, stands in the row of shared words.
 use Rattle.std.specs.Prelude.{ℕ, ◌+◌, ◌*◌}
-use Rattle.ulfm_model.specs.declared.{limits.Limits.{Limits}, place.Place.{Place}}
+use Rattle.ulfm_model.specs.declared.{block.Block.{Block}, limits.Limits.{Limits}, place.Place.{Place}}
 use Rattle.ulfm_model.specs.declared.{place.Place.TheVariants.{List as ListAt, Comm as CommAt, Revoked as RevokedAt, Slot as SlotAt, Arrival as ArrivalAt}}
+use Rattle.ulfm_model.specs.Words.{size_of}
+use Rattle.ulfm_words.specs.Pass.{side_key}
 
 -- a rank's number among the ranks of all rounds of all communicators
 abbrev pub cell_in : Limits → ℕ → ℕ → ℕ → ℕ
@@ -28,3 +30,12 @@ seat_in limits (CommAt j) = limits.ranks + j
 seat_in limits (RevokedAt c) = limits.ranks + limits.comms + c
 seat_in limits (SlotAt c k r) = slots_from limits + cell_in limits c k r
 seat_in limits (ArrivalAt c k r) = arrivals_from limits + cell_in limits c k r
+
+-- how many words the row has: one for each place, and two for the blocks of each round of each communicator
+abbrev pub row_of : Limits → ℕ
+row_of limits = size_of limits + 2 * limits.rounds * limits.comms
+
+-- The blocks come behind all places, communicator by communicator and round by round. So both blocks of a round stand side by
+-- side, and so do those of all rounds.
+abbrev pub block_seat : Limits → Block → ℕ
+block_seat limits b = size_of limits + 2 * (b.comm * limits.rounds + b.round) + side_key b.side

@@ -1,3 +1,4 @@
+use ulfm_model::block::Block;
 use ulfm_model::event::Entry;
 use ulfm_model::limits::Limits;
 
@@ -7,4 +8,6 @@ pub(crate) enum Line<P> {
     Opened { limits: Limits },
     /// An event, with its caller's name.
     Made { entry: Entry<P> },
+    /// A block's word was set. No event comes of it.
+    Cached { block: Block },
 }

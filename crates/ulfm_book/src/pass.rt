@@ -1,21 +1,24 @@
 ghost use Rattle.std.specs.Prelude.{◌≡◌, [], false};
+ghost use Rattle.ulfm_model.specs.Blocks.{IsBlock, IsBlockWithin};
 ghost use Rattle.ulfm_model.specs.History.{IsLegal};
 ghost use Rattle.ulfm_model.specs.Words.{word_at};
+ghost use Rattle.ulfm_words.specs.Blocks.{Caches, LoadsBlock};
 ghost use Rattle.ulfm_words.specs.Places.{IsWithin};
 ghost use Rattle.ulfm_words.specs.Steps.{IsOf, Loads, MaySet, Sets, Learns};
 ghost use Rattle.ulfm_book.specs.Logs.{IsLog};
 ghost use Rattle.ulfm_book.specs.Rules.{book_of, sight_of, word_named};
-ghost use Rattle.ulfm_book.specs.Seats.{seat_in};
+ghost use Rattle.ulfm_book.specs.Seats.{block_seat, seat_in};
 
 use crate::line::Line;
-use crate::rule::{Add, Law, Look, Nothing};
+use crate::rule::{Add, AddBlock, Law, Look, LookBlock, Nothing};
 use http_server::Log;
 use logbook::{Offer, Seen, Word};
 use std::marker::Model;
 use ulfm_laws::meld::Packed;
+use ulfm_model::block::Block;
 use ulfm_model::event::Caller;
 use ulfm_model::place::Place;
-use ulfm_words::{Last, Step};
+use ulfm_words::{Last, Site, Step};
 
 /// What one caller has seen of shared words. It has no bytes, and may go to another thread. Contracts see it as a `Sight`.
 #[derive(Drop)]
@@ -85,14 +88,12 @@ impl<P: Packed> BookPass<P> {
             .plain::<Nothing, Step, Add<P>>(&nothing);
         let found = word.load::<Look<P>, Nothing>(&mut self.seen, &mut offer);
         let load = true;
-        self.trail = self.trail.and(
-            &Last {
-                place,
-                word: found,
-                load,
-            },
-            &load,
-        );
+        let last = Last {
+            at: Site::Place(place),
+            word: found,
+            load,
+        };
+        self.trail = self.trail.and(&last, &load);
         found
     }
 
@@ -120,21 +121,75 @@ impl<P: Packed> BookPass<P> {
             &mut pen,
         );
         let load = false;
-        self.trail = self.trail.and(
-            &Last {
-                place: step.place,
-                word: found,
-                load,
-            },
-            &load,
-        );
+        let last = Last {
+            at: Site::Place(step.place),
+            word: found,
+            load,
+        };
+        self.trail = self.trail.and(&last, &load);
         if found == 0 { Ok(()) } else { Err(found) }
+    }
+
+    // The word of this block is loaded.
+    pub(crate) fn load_block(&mut self, word: &Word<Line<P>, u64, Law<P>>, block: Block) -> u64
+        requires of { IsOf P.meld self.old.name self.old }
+        requires within { IsBlockWithin self.old.name.limits block }
+        requires word { word.now ≡ word_named (book_of self.old.name) (block_seat self.old.name.limits block) }
+        ensures { LoadsBlock P.meld P.pack false self.old.name block result self.old self.new }
+    {
+        let mut offer: Offer<Line<P>, u64, Law<P>, Nothing> = self
+            .seen
+            .plain::<Nothing, Block, AddBlock<P>>(&block);
+        let found = word.load::<LookBlock<P>, Nothing>(&mut self.seen, &mut offer);
+        let load = true;
+        let last = Last {
+            at: Site::Block(block),
+            word: found,
+            load,
+        };
+        self.trail = self.trail.and(&last, &load);
+        found
+    }
+
+    // The word of this block is set, if it is 0.
+    pub(crate) fn cache(
+        &mut self,
+        word: &Word<Line<P>, u64, Law<P>>,
+        block: Block,
+        said: u64,
+    ) -> Result<(), u64>
+        requires of { IsOf P.meld self.old.name self.old }
+        requires within { IsBlockWithin self.old.name.limits block }
+        requires word { word.now ≡ word_named (book_of self.old.name) (block_seat self.old.name.limits block) }
+        requires may { IsBlock P.meld P.pack self.old.name.limits.ranks self.old.seen block said }
+        ensures { Caches P.meld false self.old.name block said self.old result self.new }
+    {
+        let mut offer: Offer<Line<P>, u64, Law<P>, Nothing> = self
+            .seen
+            .plain::<Nothing, Block, AddBlock<P>>(&block);
+        let mut pen = self.seen.no_pen();
+        let stood = word.compare_exchange::<AddBlock<P>, Nothing>(
+            0,
+            said,
+            &mut self.seen,
+            &mut offer,
+            &mut pen,
+        );
+        let load = false;
+        let last = Last {
+            at: Site::Block(block),
+            word: stood,
+            load,
+        };
+        self.trail = self.trail.and(&last, &load);
+        if stood == 0 { Ok(()) } else { Err(stood) }
     }
 
     // All that was seen.
     pub(crate) fn told(&self) -> BookTold<P>
         ensures name { result.name ≡ self.now.name }
         ensures seen { result.seen ≡ self.now.seen }
+        ensures cached { result.cached ≡ self.now.cached }
     {
         BookTold {
             seen: self.seen.again(),

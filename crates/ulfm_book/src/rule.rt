@@ -2,6 +2,7 @@ use crate::line::Line;
 use logbook::{Gain, Opening, Plain, Play, Rule};
 use std::marker::PhantomData;
 use ulfm_laws::meld::Packed;
+use ulfm_model::block::Block;
 use ulfm_model::limits::Limits;
 use ulfm_words::Step;
 
@@ -41,13 +42,12 @@ impl<P: Packed> Gain<Line<P>, u64> for Nothing {
 pub(crate) struct Opens;
 
 impl<P: Packed> Opening<Limits, Line<P>> for Opens {
-    ghost use Rattle.std.specs.Prelude.{[]};
     ghost use Rattle.ulfm_book.specs.Logs.{log_of};
 
-    ghost log = { λ count limits. log_of limits [] };
+    ghost log = { λ count limits. log_of limits };
 }
 
-/// A load.
+/// A load of a place's word.
 pub(crate) struct Look<P: Packed> {
     of: PhantomData<P>,
 }
@@ -78,4 +78,36 @@ impl<P: Packed> Plain<Step, Line<P>, u64> for Add<P> {
     ghost ask = { λ s. line_of (entry_of P.unpack s) };
 
     ghost state = { λ s. None };
+}
+
+/// A load of a block's word.
+pub(crate) struct LookBlock<P: Packed> {
+    of: PhantomData<P>,
+}
+
+impl<P: Packed> Play<Line<P>, u64> for LookBlock<P> {
+    ghost use Rattle.ulfm_book.specs.Rules.{LooksBlock};
+
+    ghost then = { LooksBlock P.meld P.pack };
+}
+
+/// An exchange of a block's word, which adds the block where it wins.
+pub(crate) struct AddBlock<P: Packed> {
+    of: PhantomData<P>,
+}
+
+impl<P: Packed> Play<Line<P>, u64> for AddBlock<P> {
+    ghost use Rattle.ulfm_book.specs.Rules.{AddsBlock};
+
+    ghost then = { AddsBlock P.meld };
+}
+
+/// What it asks for: the line of the block.
+impl<P: Packed> Plain<Block, Line<P>, u64> for AddBlock<P> {
+    ghost use Rattle.std.specs.Prelude.{None};
+    ghost use Rattle.ulfm_book.specs.declared.line.Line.TheVariants.{Cached};
+
+    ghost ask = { λ b. Cached b };
+
+    ghost state = { λ b. None };
 }

@@ -1,17 +1,20 @@
-//! Where each place's word stands in the row of shared words.
+//! Where the word of each place, and of each block, stands in the row of shared words.
 ghost use Rattle.std.specs.Prelude.{◌≡◌};
-ghost use Rattle.ulfm_book.specs.Seats.{arrivals_from, seat_in, slots_from};
-ghost use Rattle.ulfm_model.specs.Words.{MayOpen};
+ghost use Rattle.ulfm_book.specs.Seats.{arrivals_from, block_seat, seat_in, slots_from};
+ghost use Rattle.ulfm_model.specs.Blocks.{IsBlockWithin};
+ghost use Rattle.ulfm_model.specs.Words.{MayOpen, size_of};
 ghost use Rattle.ulfm_words.specs.Places.{IsWithin};
 
+use ulfm_model::block::{Block, Side};
 use ulfm_model::limits::Limits;
 use ulfm_model::place::Place;
 
-/// Where in the row the slots begin, and where the arrivals.
+/// Where in the row the slots begin, where the arrivals, and where the blocks.
 #[derive(Clone, Copy)]
 pub(crate) struct Starts {
     pub slots: usize,
     pub arrivals: usize,
+    pub blocks: usize,
 }
 
 /// They are told once, when the row is made, so that a step multiplies once to find its word.
@@ -19,6 +22,7 @@ pub(crate) fn starts_in(limits: Limits) -> Starts
     requires { MayOpen limits }
     ensures slots { result.slots ≡ slots_from limits }
     ensures arrivals { result.arrivals ≡ arrivals_from limits }
+    ensures blocks { result.blocks ≡ size_of limits }
 {
     let ranks = limits.ranks as usize;
     let comms = limits.comms as usize;
@@ -27,6 +31,7 @@ pub(crate) fn starts_in(limits: Limits) -> Starts
     Starts {
         slots,
         arrivals: slots + comms * rounds * ranks,
+        blocks: limits.size() as usize,
     }
 }
 
@@ -58,4 +63,21 @@ pub(crate) fn place_in_row(place: Place, limits: Limits, starts: Starts) -> usiz
             starts.arrivals + (comm as usize * rounds + round as usize) * ranks + rank as usize
         }
     }
+}
+
+/// Where the word of this block stands in the row: behind those of all places, communicator by communicator and round by round,
+/// the front block's before the back one's. Two blocks have two positions.
+#[inline(always)]
+pub(crate) fn block_in_row(block: Block, limits: Limits, starts: Starts) -> usize
+    requires open { MayOpen limits }
+    requires blocks { starts.blocks ≡ size_of limits }
+    requires within { IsBlockWithin limits block }
+    ensures { result ≡ block_seat limits block }
+{
+    let round = block.comm as usize * limits.rounds as usize + block.round as usize;
+    let side = match block.side {
+        Side::Front => 0,
+        Side::Back => 1,
+    };
+    starts.blocks + 2 * round + side
 }

@@ -1,17 +1,19 @@
 ghost use Rattle.std.specs.Prelude.{◌≡◌, true, false, IfOk, IfErr};
+ghost use Rattle.ulfm_model.specs.Blocks.{IsBlockWithin};
 ghost use Rattle.ulfm_model.specs.Words.{MayOpen, size_of};
 ghost use Rattle.ulfm_words.specs.Places.{IsWithin};
 ghost use Rattle.ulfm_book.specs.Rules.{IsFault, book_of, word_named};
-ghost use Rattle.ulfm_book.specs.Seats.{seat_in};
+ghost use Rattle.ulfm_book.specs.Seats.{block_seat, row_of, seat_in};
 
 use crate::line::Line;
 use crate::pass::{BookPass, BookTold};
 use crate::rule::{Law, Opens};
-use crate::seats::{Starts, place_in_row, starts_in};
+use crate::seats::{Starts, block_in_row, place_in_row, starts_in};
 use logbook::{Seen, Start, Word};
 use std::alloc::{AllocError, Allocator, Global};
 use std::marker::Model;
 use ulfm_laws::meld::Packed;
+use ulfm_model::block::Block;
 use ulfm_model::limits::{Limits, OpenFault};
 use ulfm_model::place::Place;
 use ulfm_words::{OpenWords, Step, Words};
@@ -20,7 +22,7 @@ use ulfm_words::{OpenWords, Step, Words};
 /// the words as their name.
 #[derive(Drop)]
 pub struct BookWords<P: Packed, A: Allocator = Global> {
-    // One for each place, in the order of `place_in_row`.
+    // One for each place, in the order of `place_in_row`, and then one for each block, in that of `block_in_row`.
     words: Vec<Word<Line<P>, u64, Law<P>>, A>,
     limits: Limits,
     starts: Starts,
@@ -34,15 +36,16 @@ impl<P: Packed, A: Allocator> Model for BookWords<P, A> {
     ghost use Rattle.ulfm_words.specs.Steps.{Name};
     ghost use Rattle.ulfm_book.specs.Logs.{log_of};
     ghost use Rattle.ulfm_book.specs.Rules.{name_of, word_named};
-    ghost use Rattle.ulfm_book.specs.Seats.{arrivals_from, slots_from};
+    ghost use Rattle.ulfm_book.specs.Seats.{arrivals_from, row_of, slots_from};
 
     ghost Value = { Name };
 
     ghost view = { λ w. name_of w.start.book w.limits };
 
-    ghost invariant = { λ w. MayOpen w.limits × (w.start.log ≡ log_of w.limits []) × (vec_len w.words ≡ size_of w.limits)
-        × ((key : ℕ) → key < size_of w.limits → slice_get w.words.items key ≡ Some (word_named w.start.book key))
-        × (w.starts.slots ≡ slots_from w.limits) × (w.starts.arrivals ≡ arrivals_from w.limits) };
+    ghost invariant = { λ w. MayOpen w.limits × (w.start.log ≡ log_of w.limits) × (vec_len w.words ≡ row_of w.limits)
+        × ((key : ℕ) → key < row_of w.limits → slice_get w.words.items key ≡ Some (word_named w.start.book key))
+        × (w.starts.slots ≡ slots_from w.limits) × (w.starts.arrivals ≡ arrivals_from w.limits)
+        × (w.starts.blocks ≡ size_of w.limits) };
 }
 
 impl<P: Packed, A: Allocator> BookWords<P, A> {
@@ -70,7 +73,7 @@ impl<P: Packed, A: Allocator> BookWords<P, A> {
         requires { MayOpen limits }
         ensures { IfOk result (λ w. w.limits ≡ limits) }
     {
-        let size = limits.size() as usize;
+        let size = limits.size() as usize + 2 * limits.rounds as usize * limits.comms as usize;
         let (start, mut pens) = Seen::open_row::<Limits, Opens>(&limits, Start::alone(), size);
         let mut words = Vec::with_capacity(alloc, size)?;
         for _i in 0..size {
@@ -91,6 +94,14 @@ impl<P: Packed, A: Allocator> BookWords<P, A> {
         ensures { result.now ≡ word_named (book_of self.now) (seat_in self.now.limits place) }
     {
         &self.words[place_in_row(place, self.limits, self.starts)]
+    }
+
+    // The word of a block.
+    fn block_word(&self, block: Block) -> &Word<Line<P>, u64, Law<P>>
+        requires { IsBlockWithin self.now.limits block }
+        ensures { result.now ≡ word_named (book_of self.now) (block_seat self.now.limits block) }
+    {
+        &self.words[block_in_row(block, self.limits, self.starts)]
     }
 }
 
@@ -113,6 +124,14 @@ impl<P: Packed, A: Allocator + Copy + Drop> Words<P, A> for BookWords<P, A> {
 
     fn set_once(&self, pass: &mut BookPass<P>, step: Step) -> Result<(), u64> {
         pass.set_once(self.word(step.place), step)
+    }
+
+    fn load_block(&self, pass: &mut BookPass<P>, block: Block) -> u64 {
+        pass.load_block(self.block_word(block), block)
+    }
+
+    fn cache(&self, pass: &mut BookPass<P>, block: Block, word: u64) -> Result<(), u64> {
+        pass.cache(self.block_word(block), block, word)
     }
 
     fn known_legal(&self, pass: &BookPass<P>) {

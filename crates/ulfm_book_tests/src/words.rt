@@ -18,8 +18,9 @@ const FIRST: Place = Place::List { index: 0 };
 
 const WORLD: Place = Place::Revoked { comm: 0 };
 
-/// How many words the largest world of 1,024 ranks has: its failures, two of its communicator, and two of each rank's rounds.
-const LARGEST: usize = 4_193_282;
+/// How many words the largest world of 1,024 ranks has: its failures, two of its communicator, two of each rank's rounds, and two blocks
+/// of each round.
+const LARGEST: usize = 4_197_376;
 
 /// Limits of one communicator.
 pub(crate) fn limits(ranks: u16, rounds: u16) -> Limits

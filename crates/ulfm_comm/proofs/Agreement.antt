@@ -1,6 +1,5 @@
 -- The poll of an agreement, step by step.
-use Rattle.std.proofs.Common.{◌≡◌, ℕ, ◌<◌, ◌≤◌, ◌++◌, Bool, true, false, List, [], ◌∷◌, length, filter, take, Some, nat_lt, refl, ap, ap₂, sym, ◌∙◌, subst, arith, inr, IsTrue}
-use Rattle.ulfm_laws.specs.Summaries.{summary_unit}
+use Rattle.std.proofs.Common.{◌≡◌, ℕ, ◌<◌, ◌≤◌, ◌++◌, Bool, true, false, List, [], ◌∷◌, length, filter, take, Some, nat_lt, refl, ap, ap₂, sym, ◌∙◌, subst, arith, inr, IsTrue, if◌then◌else◌}
 use Rattle.ulfm_laws.specs.declared.{summary.Body.{Body}, summary.Body.TheVariants.{Unit as NoBody, Flag as OfFlags, Ctx as OfIds, Clash}, summary.Summary.{Summary}}
 use Rattle.ulfm_model.specs.declared.call.Call.TheVariants as call
 use Rattle.ulfm_model.specs.declared.{call.Call.{Call}, event.Caller.TheVariants.{Rank}, limits.Limits.{Limits}, refusal.Refusal.TheVariants.{Mismatch}}
@@ -8,12 +7,15 @@ use Rattle.ulfm_model.specs.declared.{reply.Reply.{Reply}, reply.Reply.TheVarian
 use Rattle.ulfm_model.specs.{Answers.{closed, traits_of}, History.{History, IsLegal, entries_by, failures, has, slot}, Records.{Fits, Held, Record, held_at}}
 use Rattle.ulfm_model.specs.{Runs.{Did}, Terms.{comm_of}}
 use Rattle.ulfm_model.proofs.Stable.{fits_stays}
-use Rattle.ulfm_words.specs.Steps.{IsOf, Name, Sight}
+use Rattle.ulfm_words.specs.{Steps.{IsOf, Name, Sight}, declared.step.Site.{Site}}
+use Rattle.ulfm_model.specs.declared.place.Place.TheVariants.{Slot as SlotAt}
+use Rattle.ulfm_model.specs.declared.step_name.StepName.TheVariants as step
 use Rattle.ulfm_words.proofs.Trails.{did_none, did_prefix, did_wait}
-use Rattle.ulfm_steps.specs.declared.{mark_all.MarkAll.{MarkAll}, read_round.ReadRound.{ReadRound}}
-use Rattle.ulfm_steps.specs.{Marks.{HasMarked as MarkedOn, IsAt, Marks, MayMarkAll, members_in}, Rounds.{IsMissing, IsRoundOf, IsSummed}}
-use Rattle.ulfm_steps.proofs.{Marking.{marks_join, marks_wait, new_members, take_all}, Reading.{summed_none}}
-use Rattle.ulfm_comm.specs.{Polls.{HasMarked, agreement}, Phase.{Answered, Stands}, Agreement.{HasReadAll, IsMarking, IsReading, agreed_reply}}
+use Rattle.ulfm_steps.specs.declared.{mark_all.MarkAll.{MarkAll}, read_blocks.ReadBlocks.{ReadBlocks}, round_blocks.RoundBlocks.{RoundBlocks}}
+use Rattle.ulfm_steps.specs.{Blocks.{AreOf, AtBlock, block_at, is_whole, next_of, site_of, starts_at}, Marks.{HasMarked as MarkedOn, IsAt, Marks, MayMarkAll, members_in}, Rounds.{IsMissing, IsRoundOf}, Turns.{IsStepAt}}
+use Rattle.ulfm_model.specs.Blocks.{IsSummed}
+use Rattle.ulfm_steps.proofs.{Blocks.{are_later, few_members, starts}, Marking.{marks_join, marks_wait, new_members, take_all}}
+use Rattle.ulfm_comm.specs.{Polls.{HasMarked, agreement}, Phase.{Answered, Stands, next_step}, StepsLeft.{MakesStep}, Agreement.{HasReadAll, IsMarking, IsReading, agreed_reply}}
 use Rattle.ulfm_comm.specs.declared.phases.phase.Phase.TheVariants.{Marking, Reading}
 use Rattle.ulfm_comm.proofs.{CallRuns.{calls_is}, Holding.{exists_is, group_is, holds, same_held}, AmongOthers.{did_loosely, marks_loosely}}
 use Rattle.ulfm_comm.proofs.Polls.{held_first, later, not_found, not_marked, open_round, poll_agreed, poll_mismatch, poll_pending}
@@ -51,25 +53,25 @@ marked_later meld limits alone c shrinks k x old before mid now after p did lega
       legal = legal;
     }
 
--- once all declared members are marked, the reading begins
+-- once all declared members are marked, the reading of those blocks begins that aren't known
 pub reading_begins : {P : Type 0} (meld : P → P → P) (limits : Limits) (alone : Bool) (c : ℕ) (shrinks : Bool) (k : ℕ) (x : Held) (old : Record) (before : History P) (mid : Record) (now : History P)
-    → HasMarked meld limits alone c shrinks k x old before mid now → (reading : ReadRound P) (comm round : ℕ) → reading ≡ record { comm = comm; round = round; read = 0; all = summary_unit } → comm ≡ c → round ≡ k
+    → HasMarked meld limits alone c shrinks k x old before mid now → (blocks : RoundBlocks P) (comm round members : ℕ) → AreOf meld now comm round x.group blocks → is_whole blocks (length x.group) ≡ false
+    → (reading : ReadBlocks P) → reading ≡ starts_at comm round blocks members → comm ≡ c → round ≡ k → members ≡ length x.group
     → IsReading meld limits alone c shrinks reading old before mid now
-reading_begins {P} meld limits alone c shrinks k x old before mid now p reading comm round is there at =
+reading_begins {P} meld limits alone c shrinks k x old before mid now p blocks comm round members are unknown reading is there at size =
     let some : 0 < length x.group = some_member x.group mid.number (holds meld limits p.look mid c x p.fits p.held).member in
-    let begun : IsReading meld limits alone c shrinks (record { comm = comm; round = round; read = 0; all = summary_unit }) old before mid now =
+    let begun : IsReading meld limits alone c shrinks (starts_at comm round blocks (length x.group)) old before mid now =
     record {
       x = x;
       marked = subst (λ w. HasMarked meld limits alone c shrinks w x old before mid now) (sym at) p;
       there = there;
-      within = some;
-      read = summed_none meld now c round;
+      at = starts meld now comm round x.group blocks some are unknown;
     } in
-    subst (λ (r : ReadRound P). IsReading meld limits alone c shrinks r old before mid now) (sym is) begun
+    subst (λ (r : ReadBlocks P). IsReading meld limits alone c shrinks r old before mid now) (sym (is ∙ ap (starts_at comm round blocks) size)) begun
 
 -- between two marks
-module _ {P : Type 0} (meld : P → P → P) (limits : Limits) (alone : Bool) (c : ℕ) (shrinks : Bool) (marks : MarkAll) (old : Record) (before : History P) (own : Record) (now : History P) (legal : IsLegal meld limits now)
-    (p : IsMarking meld limits alone c shrinks marks old before own now) where
+module _ {P : Type 0} (meld : P → P → P) (limits : Limits) (alone : Bool) (c : ℕ) (shrinks : Bool) (marks : MarkAll) (blocks : RoundBlocks P) (old : Record) (before : History P) (own : Record) (now : History P) (legal : IsLegal meld limits now)
+    (p : IsMarking meld limits alone c shrinks marks blocks old before own now) where
   marking_fits : Fits meld limits now own
   marking_fits =
       let did = did_wait alone (entries_by (Rank old.number) p.has_marked.own) p.look p.marked now p.has_marked.did p.waited in
@@ -106,8 +108,14 @@ module _ {P : Type 0} (meld : P → P → P) (limits : Limits) (alone : Bool) (c
         (marks_join alone old.number c marks.round before between p.look now after (new_members meld limits p.look p.x.group n before between p.legal all) first
         (marks_loosely alone quiet only old.number c marks.round between now after mine))
 
+    -- what is known of the blocks is so still
+    marks_blocks : (next : MarkAll) → next.comm ≡ marks.comm → next.round ≡ marks.round → AreOf meld after next.comm next.round p.x.group blocks
+    marks_blocks next comm round =
+        let longer = are_later meld now after marks.comm marks.round p.x.group blocks (did_prefix quiet (entries_by (Rank marks.rank) last.own) now after last.did) p.are in
+        subst (λ k. AreOf meld after next.comm k p.x.group blocks) (sym round) (subst (λ w. AreOf meld after w marks.round p.x.group blocks) (sym comm) longer)
+
     -- it goes on
-    marking_on : (next : MarkAll) → next.next ≡ n → next.rank ≡ marks.rank → next.comm ≡ marks.comm → next.round ≡ marks.round → IsAt p.x.group own.seen next.next next.known → IsMarking meld limits alone c shrinks next old before own after
+    marking_on : (next : MarkAll) → next.next ≡ n → next.rank ≡ marks.rank → next.comm ≡ marks.comm → next.round ≡ marks.round → IsAt p.x.group own.seen next.next next.known → IsMarking meld limits alone c shrinks next blocks old before own after
     marking_on next n_is rank comm round at =
         record {
           look = p.look;
@@ -123,6 +131,8 @@ module _ {P : Type 0} (meld : P → P → P) (limits : Limits) (alone : Bool) (c
           marked = after;
           has_marked = subst (λ k. Marks alone old.number c k (members_in p.x.group found next.next) p.look after) (sym round) (subst (λ m. Marks alone old.number c marks.round (members_in p.x.group found m) p.look after) (sym n_is) marks_further);
           waited = did_none alone after;
+          are = marks_blocks next comm round;
+          unknown = p.unknown;
         }
 
     -- or all are marked
@@ -142,10 +152,10 @@ module _ {P : Type 0} (meld : P → P → P) (limits : Limits) (alone : Bool) (c
         }
 
 -- a call that stands between two marks, by what the code knows of the communicator
-module _ {P : Type 0} (meld : P → P → P) (name : Name) (asked : Call P) (marks : MarkAll) (shrinks : Bool) (group : List ℕ) (own : Record) (now : Sight P) (of : IsOf meld name now) (y : Held) (w : ℕ) (found : held_at own w ≡ Some y) (w_is : w ≡ comm_of asked)
+module _ {P : Type 0} (meld : P → P → P) (name : Name) (asked : Call P) (marks : MarkAll) (blocks : RoundBlocks P) (shrinks : Bool) (group : List ℕ) (own : Record) (now : Sight P) (of : IsOf meld name now) (y : Held) (w : ℕ) (found : held_at own w ≡ Some y) (w_is : w ≡ comm_of asked)
     (members declared : List ℕ) (members_are : members ≡ y.group) (declared_are : declared ≡ own.seen) (alone : Bool) (old : Record) (before : Sight P)
-    (st : Stands meld alone name old before (record { asked = asked; phase = Marking marks shrinks; group = group }) own now) where
-  abbrev marking : IsMarking meld name.limits alone (comm_of asked) shrinks marks old before.seen own now.seen
+    (st : Stands meld alone name old before (record { asked = asked; phase = Marking marks blocks shrinks; group = group }) own now) where
+  abbrev marking : IsMarking meld name.limits alone (comm_of asked) shrinks marks blocks old before.seen own now.seen
   marking = st.at.1
 
   group_same : members ≡ marking.x.group
@@ -154,8 +164,19 @@ module _ {P : Type 0} (meld : P → P → P) (name : Name) (asked : Call P) (mar
   -- the next one may be made
   pub marking_may_on : MayMarkAll name.limits now.seen marks.comm marks.round members declared
   marking_may_on =
-      let may = marking_may meld name.limits alone (comm_of asked) shrinks marks old before.seen own now.seen of.legal marking in
+      let may = marking_may meld name.limits alone (comm_of asked) shrinks marks blocks old before.seen own now.seen of.legal marking in
       subst (λ ms. MayMarkAll name.limits now.seen marks.comm marks.round ms declared) (sym group_same) (subst (λ s. MayMarkAll name.limits now.seen marks.comm marks.round marking.x.group s) (sym declared_are) may)
+
+  -- the members are some, and no more than ranks
+  pub marking_few : length members ≤ 1024
+  marking_few = few_members name.limits now.seen marks.comm marks.round members of.may_open marking_may_on.round
+
+  pub marking_any : 0 < length members
+  marking_any = subst (λ ms. 0 < length ms) (sym group_same) (some_member marking.x.group own.number (holds meld name.limits marking.look own (comm_of asked) marking.x marking.fits marking.held).member)
+
+  -- not all blocks were set
+  pub marking_unknown : is_whole blocks (length members) ≡ false
+  marking_unknown = subst (λ ms. is_whole blocks (length ms) ≡ false) (sym group_same) marking.unknown
 
   module _ (quiet : Bool) (only : IsTrue alone → IsTrue quiet) (after : Sight P) (next : MarkAll) (rank : next.rank ≡ marks.rank) (comm : next.comm ≡ marks.comm) (round : next.round ≡ marks.round) (at : IsAt members declared next.next next.known)
       (marked : MarkedOn meld quiet name marks members declared next.next now after) where
@@ -168,32 +189,37 @@ module _ {P : Type 0} (meld : P → P → P) (name : Name) (asked : Call P) (mar
         (subst (λ s. members_in members s next.next ≡ members_in members s marks.next ++ marked.between) declared_are marked.members_are)
 
     -- more are left
-    pub marking_goes : next.next < length declared → Stands meld alone name old before (record { asked = asked; phase = Marking next shrinks; group = group }) own after
+    pub marking_goes : next.next < length declared → Stands meld alone name old before (record { asked = asked; phase = Marking next blocks shrinks; group = group }) own after
     unfolding marking_on
     marking_goes more =
-        let on = marking_on meld name.limits alone (comm_of asked) shrinks marks old before.seen own now.seen of.legal marking quiet only after.seen next.next marked.between members_next marked.marks.marks next refl rank comm round at_next in
+        let on = marking_on meld name.limits alone (comm_of asked) shrinks marks blocks old before.seen own now.seen of.legal marking quiet only after.seen next.next marked.between members_next marked.marks.marks next refl rank comm round at_next in
         record {
           fits = st.fits;
           mine = st.mine;
           onward = omega (arith, st.onward, marked.marks.onward);
-          at = (st.at.0, on, subst (λ s. next.next < length s) (declared_are ∙ marking_seen meld name.limits alone (comm_of asked) shrinks marks old before.seen own now.seen of.legal marking) more);
+          at = (st.at.0, on, subst (λ s. next.next < length s) (declared_are ∙ marking_seen meld name.limits alone (comm_of asked) shrinks marks blocks old before.seen own now.seen of.legal marking) more);
         }
 
     -- none is left
-    pub marking_reads : (reading : ReadRound P) → reading ≡ record { comm = next.comm; round = next.round; read = 0; all = summary_unit } → length declared ≤ next.next
+    pub marking_reads : (reading : ReadBlocks P) (size : ℕ) → reading ≡ starts_at next.comm next.round blocks size → size ≡ length members → length declared ≤ next.next
         → Stands meld alone name old before (record { asked = asked; phase = Reading reading shrinks; group = group }) own after
-    marking_reads reading is past =
-        let ended = marking_ends meld name.limits alone (comm_of asked) shrinks marks old before.seen own now.seen of.legal marking quiet only after.seen next.next marked.between members_next marked.marks.marks next.known at_next
+    marking_reads reading size is size_is past =
+        let ended = marking_ends meld name.limits alone (comm_of asked) shrinks marks blocks old before.seen own now.seen of.legal marking quiet only after.seen next.next marked.between members_next marked.marks.marks next.known at_next
         (subst (λ s. length s ≤ next.next) declared_are past) marked.marks.of.legal in
+        let are = marks_blocks meld name.limits alone (comm_of asked) shrinks marks blocks old before.seen own now.seen of.legal marking quiet only after.seen next.next marked.between members_next marked.marks.marks next comm round in
         record {
           fits = st.fits;
           mine = st.mine;
           onward = omega (arith, st.onward, marked.marks.onward);
-          at = (st.at.0, reading_begins meld name.limits alone (comm_of asked) shrinks marks.round marking.x old before.seen own after.seen ended reading next.comm next.round is (comm ∙ marking.there) round);
+          at = (
+            st.at.0,
+            reading_begins meld name.limits alone (comm_of asked) shrinks marks.round marking.x old before.seen own after.seen ended blocks next.comm next.round size are marking.unknown reading is (comm ∙ marking.there) round
+                (size_is ∙ ap length group_same),
+          );
         }
 
 -- one step of the reading
-module _ {P : Type 0} (meld : P → P → P) (limits : Limits) (alone : Bool) (c : ℕ) (shrinks : Bool) (reading : ReadRound P) (old : Record) (before : History P) (own : Record) (now : History P) (p : IsReading meld limits alone c shrinks reading old before own now) where
+module _ {P : Type 0} (meld : P → P → P) (limits : Limits) (alone : Bool) (c : ℕ) (shrinks : Bool) (reading : ReadBlocks P) (old : Record) (before : History P) (own : Record) (now : History P) (p : IsReading meld limits alone c shrinks reading old before own now) where
   -- the round is one of the members' that the rank holds
   reading_round : IsRoundOf limits now reading.comm reading.round p.x.group
   reading_round =
@@ -206,24 +232,14 @@ module _ {P : Type 0} (meld : P → P → P) (limits : Limits) (alone : Bool) (c
       } in
       subst (λ w. IsRoundOf limits now w reading.round p.x.group) (sym p.there) round
 
-  reading_read : IsSummed meld now reading.comm reading.round (take reading.read p.x.group) reading.all
-  reading_read = subst (λ w. IsSummed meld now w reading.round (take reading.read p.x.group) reading.all) (sym p.there) p.read
-
   module _ (quiet : Bool) (only : IsTrue alone → IsTrue quiet) (after : History P) (did : Did quiet [] now after) (legal : IsLegal meld limits after) where
     reading_marked : HasMarked meld limits alone c shrinks reading.round p.x old before own after
     reading_marked = marked_later meld limits alone c shrinks reading.round p.x old before own now after p.marked (did_loosely alone quiet only [] now after did) legal
 
     -- it goes on
-    reading_on : (next : ReadRound P) → next.comm ≡ reading.comm → next.round ≡ reading.round → next.read < length p.x.group → IsSummed meld after reading.comm reading.round (take next.read p.x.group) next.all
-        → IsReading meld limits alone c shrinks next old before own after
-    reading_on next comm round more read =
-        record {
-          x = p.x;
-          marked = subst (λ k. HasMarked meld limits alone c shrinks k p.x old before own after) (sym round) reading_marked;
-          there = comm ∙ p.there;
-          within = more;
-          read = subst (λ k. IsSummed meld after c k (take next.read p.x.group) next.all) (sym round) (subst (λ w. IsSummed meld after w reading.round (take next.read p.x.group) next.all) p.there read);
-        }
+    reading_on : (next : ReadBlocks P) → next.comm ≡ reading.comm → next.round ≡ reading.round → AtBlock meld after p.x.group next → IsReading meld limits alone c shrinks next old before own after
+    reading_on next comm round at =
+        record { x = p.x; marked = subst (λ k. HasMarked meld limits alone c shrinks k p.x old before own after) (sym round) reading_marked; there = comm ∙ p.there; at = at }
 
 -- the poll of an agreement that was read
 module _ {P : Type 0} (meld : P → P → P) (alone : Bool) (name : Name) (c k : ℕ) (old : Record) (before : Sight P) (mid : Record) (after : Sight P) (fits : Fits meld name.limits before.seen old) (of : IsOf meld name after) (onward : before.steps ≤ after.steps) where
@@ -280,8 +296,8 @@ module _ {P : Type 0} (meld : P → P → P) (alone : Bool) (name : Name) (c k :
       by_body (OfIds mask) is = mismatch (λ flag same. absurd (cc (is, same)))
       by_body Clash is = mismatch (λ flag same. absurd (cc (is, same)))
 
--- a call that stands between two loads of its round, by what the code knows of the communicator
-module _ {P : Type 0} (meld : P → P → P) (name : Name) (asked : Call P) (reading : ReadRound P) (shrinks : Bool) (group : List ℕ) (own : Record) (now : Sight P) (y : Held) (w : ℕ) (found : held_at own w ≡ Some y) (w_is : w ≡ comm_of asked)
+-- a call that reads its round's blocks, by what the code knows of the communicator
+module _ {P : Type 0} (meld : P → P → P) (name : Name) (asked : Call P) (reading : ReadBlocks P) (shrinks : Bool) (group : List ℕ) (own : Record) (now : Sight P) (y : Held) (w : ℕ) (found : held_at own w ≡ Some y) (w_is : w ≡ comm_of asked)
     (members : List ℕ) (members_are : members ≡ y.group) (alone : Bool) (old : Record) (before : Sight P) (st : Stands meld alone name old before (record { asked = asked; phase = Reading reading shrinks; group = group }) own now) where
   abbrev reads : IsReading meld name.limits alone (comm_of asked) shrinks reading old before.seen own now.seen
   reads = st.at.1
@@ -294,57 +310,59 @@ module _ {P : Type 0} (meld : P → P → P) (name : Name) (asked : Call P) (rea
   reading_may =
       subst (λ ms. IsRoundOf name.limits now.seen reading.comm reading.round ms) (sym read_same) (reading_round meld name.limits alone (comm_of asked) shrinks reading old before.seen own now.seen reads)
 
-  pub reading_within : reading.read < length members
-  reading_within = subst (λ ms. reading.read < length ms) (sym read_same) reads.within
-
-  pub reading_so_far : IsSummed meld now.seen reading.comm reading.round (take reading.read members) reading.all
-  reading_so_far =
-      subst (λ ms. IsSummed meld now.seen reading.comm reading.round (take reading.read ms) reading.all) (sym read_same) (reading_read meld name.limits alone (comm_of asked) shrinks reading old before.seen own now.seen reads)
+  pub reading_at : AtBlock meld now.seen members reading
+  reading_at = subst (λ ms. AtBlock meld now.seen ms reading) (sym read_same) reads.at
 
   module _ (quiet : Bool) (only : IsTrue alone → IsTrue quiet) (after : Sight P) (of : IsOf meld name after) (did : Did quiet [] now.seen after.seen) (steps : now.steps ≤ after.steps) where
     marked_on : HasMarked meld name.limits alone (comm_of asked) shrinks reading.round reads.x old before.seen own after.seen
     marked_on = reading_marked meld name.limits alone (comm_of asked) shrinks reading old before.seen own now.seen reads quiet only after.seen did of.legal
 
-    -- a member is missing
-    pub reading_pends : now.steps < after.steps → IsMissing after.last after.seen reading.comm reading.round members → Answered meld alone name asked old before Pending own after
-    reading_pends further missing =
-        let there : IsMissing after.last after.seen (comm_of asked) reading.round reads.x.group =
-        subst (λ ms. IsMissing after.last after.seen (comm_of asked) reading.round ms) read_same (subst (λ c. IsMissing after.last after.seen c reading.round members) reads.there missing) in
-        subst (λ (a : Call P). Answered meld alone name a old before Pending own after) (sym st.at.0)
-        (answers_pending meld alone name (comm_of asked) reading.round old before own after st.fits of (omega (arith, st.onward, steps)) shrinks reads.x marked_on (omega (arith, st.onward, further)) there)
+    module _ (next : ReadBlocks P) (comm : next.comm ≡ reading.comm) (round : next.round ≡ reading.round) where
+      -- a member is missing
+      pub reading_pends : now.steps < after.steps → IsMissing after.last after.seen next.comm next.round members → Answered meld alone name asked old before Pending own after
+      reading_pends further missing =
+          let there : IsMissing after.last after.seen (comm_of asked) reading.round reads.x.group =
+          subst (λ ms. IsMissing after.last after.seen (comm_of asked) reading.round ms) read_same
+          (subst (λ c. IsMissing after.last after.seen c reading.round members) (comm ∙ reads.there) (subst (λ k. IsMissing after.last after.seen next.comm k members) round missing)) in
+          subst (λ (a : Call P). Answered meld alone name a old before Pending own after) (sym st.at.0)
+          (answers_pending meld alone name (comm_of asked) reading.round old before own after st.fits of (omega (arith, st.onward, steps)) shrinks reads.x marked_on (omega (arith, st.onward, further)) there)
 
-    -- more are left
-    pub reading_goes : (next : ReadRound P) → next.comm ≡ reading.comm → next.round ≡ reading.round → next.read < length members → IsSummed meld after.seen reading.comm reading.round (take next.read members) next.all
-        → Stands meld alone name old before (record { asked = asked; phase = Reading next shrinks; group = group }) own after
-    reading_goes next comm round more read =
-        let on = reading_on meld name.limits alone (comm_of asked) shrinks reading old before.seen own now.seen reads quiet only after.seen did of.legal next comm round (subst (λ ms. next.read < length ms) read_same more)
-        (subst (λ ms. IsSummed meld after.seen reading.comm reading.round (take next.read ms) next.all) read_same read) in
-        record { fits = st.fits; mine = st.mine; onward = omega (arith, st.onward, steps); at = (st.at.0, on) }
+      -- more is left
+      pub reading_goes : AtBlock meld after.seen members next → Stands meld alone name old before (record { asked = asked; phase = Reading next shrinks; group = group }) own after
+      reading_goes at =
+          let on = reading_on meld name.limits alone (comm_of asked) shrinks reading old before.seen own now.seen reads quiet only after.seen did of.legal next comm round (subst (λ ms. AtBlock meld after.seen ms next) read_same at) in
+          record { fits = st.fits; mine = st.mine; onward = omega (arith, st.onward, steps); at = (st.at.0, on) }
 
-    -- none is left
-    module _ (next : ReadRound P) (round : next.round ≡ reading.round) (within : next.read ≤ length members) (past : length members ≤ next.read) (read : IsSummed meld after.seen reading.comm reading.round (take next.read members) next.all) where
-      all_read : IsSummed meld after.seen (comm_of asked) reading.round reads.x.group next.all
-      all_read =
-          let last : next.read ≡ length members = omega (arith, within, past) in
-          let whole : take next.read members ≡ reads.x.group = ap (λ n. take n members) last ∙ (take_all members ∙ read_same) in
-          subst (λ ms. IsSummed meld after.seen (comm_of asked) reading.round ms next.all) whole (subst (λ c. IsSummed meld after.seen c reading.round (take next.read members) next.all) reads.there read)
-
-      -- a shrink's round goes on
-      pub reading_shrinks : shrinks ≡ true → HasReadAll meld alone name asked true next.round next.all old before own after
-      reading_shrinks is =
+      -- nothing is left: this is what all say
+      pub reading_ends : (all : Summary P) → IsSummed meld after.seen next.comm next.round members all → HasReadAll meld alone name asked shrinks next.round all old before own after
+      reading_ends all read =
           record {
             fits = st.fits;
             polls = st.at.0;
             onward = omega (arith, st.onward, steps);
             x = reads.x;
-            marked = subst (λ b. HasMarked meld name.limits alone (comm_of asked) b next.round reads.x old before.seen own after.seen) is
-                (subst (λ k. HasMarked meld name.limits alone (comm_of asked) shrinks k reads.x old before.seen own after.seen) (sym round) marked_on);
-            read = subst (λ k. IsSummed meld after.seen (comm_of asked) k reads.x.group next.all) (sym round) all_read;
+            marked = subst (λ k. HasMarked meld name.limits alone (comm_of asked) shrinks k reads.x old before.seen own after.seen) (sym round) marked_on;
+            read = subst (λ c. IsSummed meld after.seen c next.round reads.x.group all) (comm ∙ reads.there) (subst (λ ms. IsSummed meld after.seen next.comm next.round ms all) read_same read);
           }
 
-      -- an agree's is answered
-      pub reading_agrees : shrinks ≡ false → (new : Record) → new ≡ closed own w → (reply : Reply P) → reply ≡ agreed_reply next.all next.all.body → Answered meld alone name asked old before reply new after
-      reading_agrees is new left reply reply_is =
-          subst (λ (a : Call P). Answered meld alone name a old before reply new after) (sym st.at.0)
-          (answers_agreed meld alone name (comm_of asked) reading.round old before own after st.fits of (omega (arith, st.onward, steps)) reads.x (subst (λ b. HasMarked meld name.limits alone (comm_of asked) b reading.round reads.x old before.seen own after.seen) is marked_on)
-          next.all all_read new (left ∙ ap (closed own) w_is) reply reply_is)
+-- the step that a reading makes is the one that is named
+pub reads_named : {P : Type 0} (members : List ℕ) (r : ReadBlocks P) (shrinks : Bool) (rank c : ℕ) (old new : Sight P) → r.comm ≡ c → IsStepAt (site_of members r) (nat_lt r.read r.width) old new → MakesStep (next_step (Reading r shrinks)) rank c old new
+reads_named {P} members r shrinks rank c old new there one = go (nat_lt r.read r.width) one
+  where
+    go : (b : Bool) → IsStepAt (if b then Site.Place (SlotAt r.comm r.round (next_of members r)) else Site.Block (block_at r.comm r.round r.side)) b old new → MakesStep (Some (if b then step.Slot else step.Cache)) rank c old new
+    go true at = (r.round, next_of members r, subst (λ w. IsStepAt (Site.Place (SlotAt w r.round (next_of members r))) true old new) there at)
+    go false at = (r.round, r.side, subst (λ w. IsStepAt (Site.Block (block_at w r.round r.side)) false old new) there at)
+
+-- an agree is answered once all that its round's members say is known
+pub round_agrees : {P : Type 0} (meld : P → P → P) (alone : Bool) (name : Name) (asked : Call P) (shrinks : Bool) (k : ℕ) (all : Summary P) (old : Record) (before : Sight P) (mid : Record) (now : Sight P) → IsOf meld name now
+    → HasReadAll meld alone name asked shrinks k all old before mid now → shrinks ≡ false → (w : ℕ) → w ≡ comm_of asked → (new : Record) → new ≡ closed mid w → (reply : Reply P) → reply ≡ agreed_reply all all.body
+    → Answered meld alone name asked old before reply new now
+round_agrees {P} meld alone name asked shrinks k all old before mid now of r is w w_is new left reply reply_is =
+    subst (λ (a : Call P). Answered meld alone name a old before reply new now) (sym r.polls)
+    (answers_agreed meld alone name (comm_of asked) k old before mid now r.fits of r.onward r.x (subst (λ b. HasMarked meld name.limits alone (comm_of asked) b k r.x old before.seen mid now.seen) is r.marked) all r.read new (left ∙ ap (closed mid) w_is) reply
+    reply_is)
+
+-- a shrink's goes on
+pub round_shrinks : {P : Type 0} (meld : P → P → P) (alone : Bool) (name : Name) (asked : Call P) (shrinks : Bool) (k : ℕ) (all : Summary P) (old : Record) (before : Sight P) (mid : Record) (now : Sight P)
+    → HasReadAll meld alone name asked shrinks k all old before mid now → shrinks ≡ true → HasReadAll meld alone name asked true k all old before mid now
+round_shrinks meld alone name asked shrinks k all old before mid now r is = subst (λ b. HasReadAll meld alone name asked b k all old before mid now) is r

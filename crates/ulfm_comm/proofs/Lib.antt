@@ -33,4 +33,5 @@ pub mod Starts
 pub mod Refusals
 pub mod Typed
 pub mod Agreement
+pub mod Peeking
 pub mod Ready

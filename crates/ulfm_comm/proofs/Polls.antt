@@ -12,7 +12,8 @@ use Rattle.ulfm_model.specs.{Answers.{AgreeReplies, IsPending, MarksDeclared, Po
 use Rattle.ulfm_model.specs.Terms.{IsOwn, contexts_of, request_of, settled_by}
 use Rattle.ulfm_model.proofs.{Decisions.{slot_stands}, Histories.{slot_stays}, LeftIds.{free_at_each}, Lists.{at_member, each_filter_map, each_from, has_filter, has_kept, has_passes, has_prefix, is_some_of}, Melds.{known_fits}, Stable.{decision_is, fits_stays}, StepsRounds.{IsFlagged, IsMasked, IsSort, given_stands, offered}}
 use Rattle.ulfm_words.proofs.Trails.{did_prefix, did_quiet, did_wait}
-use Rattle.ulfm_steps.specs.{Marks.{IsMarkOf}, Rounds.{IsSummed}}
+use Rattle.ulfm_model.specs.Blocks.{IsSummed}
+use Rattle.ulfm_steps.specs.Marks.{IsMarkOf}
 use Rattle.ulfm_comm.specs.{Ends.{IsEndRun}, Polls.{HasMarked, agreement}}
 use Rattle.ulfm_comm.proofs.{Holding.{comm_is, failed_is, group_is, holds}, WholeCall.{held_before, replied}}
 

@@ -11,7 +11,8 @@ use Rattle.ulfm_model.specs.{Answers.{IsReply, IsSelfFailed, MayOwn, PollAdds, P
 use Rattle.ulfm_model.specs.Terms.{new_held, settled_by}
 use Rattle.ulfm_model.proofs.{Decisions.{decision_stays}, Histories.{failures_begin}, Lists.{each_append, each_from, has_prefix, not_in_filter, prefix_trans}, Spawned.{members_of_spawned}, Stable.{failed_begins, fits_stays}, StepsRounds.{IsMasked}}
 use Rattle.ulfm_words.proofs.Trails.{did_after, did_more, did_prefix}
-use Rattle.ulfm_steps.specs.{Marks.{IsMarkOf}, Rounds.{IsSummed}}
+use Rattle.ulfm_model.specs.Blocks.{IsSummed}
+use Rattle.ulfm_steps.specs.Marks.{IsMarkOf}
 use Rattle.ulfm_steps.specs.ReadsOn.{ReadsOn}
 use Rattle.ulfm_comm.specs.{Calls.{IsDecidedFor}, Ends.{IsEndRun}, Polls.{HasMarked}}
 use Rattle.ulfm_steps.proofs.ReadingOn.{take_begins}

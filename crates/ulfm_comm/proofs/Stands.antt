@@ -1,5 +1,5 @@
 -- A call under way stands as it stood, after others' events.
-use Rattle.std.proofs.Common.{ℕ, Bool, List, [], arith, take}
+use Rattle.std.proofs.Common.{ℕ, Bool, List, [], arith}
 use mathlib.Core.List.{IsPrefix}
 use Rattle.ulfm_laws.specs.declared.ctx_mask.CtxMask.{CtxMask}
 use Rattle.ulfm_model.specs.declared.{call.Call.{Call}, limits.Limits.{Limits}}
@@ -8,13 +8,13 @@ use Rattle.ulfm_model.proofs.{Histories.{failures_begin}, Lists.{prefix_trans}}
 use Rattle.ulfm_model.specs.Terms.{comm_of}
 use Rattle.ulfm_words.specs.Steps.{IsOf, Name, Sight}
 use Rattle.ulfm_words.proofs.Trails.{did_prefix, did_wait}
-use Rattle.ulfm_steps.specs.declared.{append.Append.{Append}, mark_all.MarkAll.{MarkAll}, read_round.ReadRound.{ReadRound}}
-use Rattle.ulfm_steps.proofs.{Appending.{passed_stays}, Arriving.{at_arrival_stays}, Reading.{summed_later}}
+use Rattle.ulfm_steps.specs.declared.{append.Append.{Append}, mark_all.MarkAll.{MarkAll}, peek.Peek.{Peek}, read_blocks.ReadBlocks.{ReadBlocks}, round_blocks.RoundBlocks.{RoundBlocks}}
+use Rattle.ulfm_steps.proofs.{Blocks.{are_later, at_block_later}, Appending.{passed_stays}, Arriving.{at_arrival_stays}}
 use Rattle.ulfm_comm.specs.Polls.{HasMarked}
-use Rattle.ulfm_comm.specs.{Look.{HasLooked}, Spawning.{IsDecided, IsSpawning}, Agreement.{IsMarking, IsReading}, Barrier.{IsWaiting}}
+use Rattle.ulfm_comm.specs.{Look.{HasLooked}, Spawning.{IsDecided, IsSpawning}, Agreement.{IsMarking, IsPeeking, IsReading}, Barrier.{IsWaiting}}
 use Rattle.ulfm_comm.specs.Phase.{Stands, StandsAt, UnderWay, Waits}
 use Rattle.ulfm_comm.specs.declared.phases.phase.Phase.{Phase}
-use Rattle.ulfm_comm.specs.declared.phases.phase.Phase.TheVariants.{Over, Begun, Looking, Settling, Arriving, Revoking, Asking, Marking, Reading, ReadingOn, Spawning, Waiting, Checking}
+use Rattle.ulfm_comm.specs.declared.phases.phase.Phase.TheVariants.{Over, Begun, Looking, Settling, Arriving, Revoking, Asking, Peeking, Marking, Reading, ReadingOn, Spawning, Waiting, Checking}
 
 module _ {P : Type 0} (meld : P → P → P) (limits : Limits) (alone : Bool) (old : Record) (before : History P) (own : Record) (now later : History P) (did : Did alone [] now later) (legal : IsLegal meld limits later) where
   pub grows : IsPrefix now later
@@ -26,8 +26,23 @@ module _ {P : Type 0} (meld : P → P → P) (limits : Limits) (alone : Bool) (o
   abbrev pub looked_lasts : (asked : Call P) → HasLooked meld limits alone asked old before own now → HasLooked meld limits alone asked old before own later
   looked_lasts asked p = record { look = p.look; looked = p.looked; legal = p.legal; fits = p.fits; x = p.x; held = p.held; passed = p.passed; waited = did_wait alone [] p.look now later p.waited did }
 
-  abbrev pub marking_lasts : (c : ℕ) (shrinks : Bool) (marks : MarkAll) → IsMarking meld limits alone c shrinks marks old before own now → IsMarking meld limits alone c shrinks marks old before own later
-  marking_lasts c shrinks marks p = record {
+  abbrev pub peeking_lasts : (c : ℕ) (shrinks : Bool) (peek : Peek P) → IsPeeking meld limits alone c shrinks peek old before own now → IsPeeking meld limits alone c shrinks peek old before own later
+  peeking_lasts c shrinks peek p = record {
+    look = p.look;
+    looked = p.looked;
+    legal = p.legal;
+    fits = p.fits;
+    x = p.x;
+    held = p.held;
+    open_is = p.open_is;
+    there = p.there;
+    are = are_later meld now later peek.comm peek.round p.x.group peek.blocks grows p.are;
+    waited = did_wait alone [] p.look now later p.waited did;
+  }
+
+  abbrev pub marking_lasts : (c : ℕ) (shrinks : Bool) (marks : MarkAll) (blocks : RoundBlocks P) → IsMarking meld limits alone c shrinks marks blocks old before own now
+      → IsMarking meld limits alone c shrinks marks blocks old before own later
+  marking_lasts c shrinks marks blocks p = record {
     look = p.look;
     looked = p.looked;
     legal = p.legal;
@@ -41,6 +56,8 @@ module _ {P : Type 0} (meld : P → P → P) (limits : Limits) (alone : Bool) (o
     marked = p.marked;
     has_marked = p.has_marked;
     waited = did_wait alone [] p.marked now later p.waited did;
+    are = are_later meld now later marks.comm marks.round p.x.group blocks grows p.are;
+    unknown = p.unknown;
   }
 
   pub marked_lasts : (c : ℕ) (shrinks : Bool) (k : ℕ) (x : Held) → HasMarked meld limits alone c shrinks k x old before own now → HasMarked meld limits alone c shrinks k x old before own later
@@ -57,14 +74,13 @@ module _ {P : Type 0} (meld : P → P → P) (limits : Limits) (alone : Bool) (o
         legal = legal;
       }
 
-  pub reading_lasts : (c : ℕ) (shrinks : Bool) (reading : ReadRound P) → IsReading meld limits alone c shrinks reading old before own now → IsReading meld limits alone c shrinks reading old before own later
+  pub reading_lasts : (c : ℕ) (shrinks : Bool) (reading : ReadBlocks P) → IsReading meld limits alone c shrinks reading old before own now → IsReading meld limits alone c shrinks reading old before own later
   reading_lasts c shrinks reading p =
       record {
         x = p.x;
         marked = marked_lasts c shrinks reading.round p.x p.marked;
         there = p.there;
-        within = p.within;
-        read = summed_later meld now later c reading.round (take reading.read p.x.group) reading.all grows p.read;
+        at = at_block_later meld now later p.x.group reading grows p.at;
       }
 
   abbrev pub decided_lasts : (c k : ℕ) (mask : CtxMask) (x : Held) (count : ℕ) → IsDecided meld limits alone c k mask x count old before own now → IsDecided meld limits alone c k mask x count old before own later
@@ -115,7 +131,8 @@ module _ {P : Type 0} (meld : P → P → P) (alone : Bool) (name : Name) (asked
   at_lasts (Arriving round) p = (looked_lasts meld name.limits alone old before.seen own now.seen later.seen did of.legal asked p.0, p.1, p.2)
   at_lasts Revoking p = (looked_lasts meld name.limits alone old before.seen own now.seen later.seen did of.legal asked p.0, p.1)
   at_lasts Asking p = (looked_lasts meld name.limits alone old before.seen own now.seen later.seen did of.legal asked p.0, p.1)
-  at_lasts (Marking marks shrinks) p = (p.0, marking_lasts meld name.limits alone old before.seen own now.seen later.seen did of.legal (comm_of asked) shrinks marks p.1, p.2)
+  at_lasts (Peeking peek shrinks) p = (p.0, peeking_lasts meld name.limits alone old before.seen own now.seen later.seen did of.legal (comm_of asked) shrinks peek p.1, p.2)
+  at_lasts (Marking marks blocks shrinks) p = (p.0, marking_lasts meld name.limits alone old before.seen own now.seen later.seen did of.legal (comm_of asked) shrinks marks blocks p.1, p.2)
   at_lasts (Reading reading shrinks) p = (p.0, reading_lasts meld name.limits alone old before.seen own now.seen later.seen did of.legal (comm_of asked) shrinks reading p.1)
   at_lasts (ReadingOn on made) p = (p.0, p.1, decided_lasts meld name.limits alone old before.seen own now.seen later.seen did of.legal (comm_of asked) made.round made.mask p.1 made.count p.2, p.3, p.4)
   at_lasts (Spawning append context reach) p = (p.0, spawning_lasts meld name.limits alone old before.seen own now.seen later.seen did of.legal (comm_of asked) append context reach group p.1)

@@ -10,11 +10,11 @@ use Rattle.ulfm_model.proofs.Stable.{fits_stays}
 use Rattle.ulfm_words.proofs.Trails.{did_added, did_prefix, did_wait}
 use Rattle.ulfm_steps.proofs.Reading.{has_at}
 use Rattle.ulfm_steps.specs.Marks.{MarksOnce}
-use Rattle.ulfm_steps.specs.declared.mark_all.MarkAll.{MarkAll}
+use Rattle.ulfm_steps.specs.declared.{mark_all.MarkAll.{MarkAll}, round_blocks.RoundBlocks.{RoundBlocks}}
 use Rattle.ulfm_comm.specs.{Calls.{reply_of}, Polls.{agreement}, Step.{Adds, Makes, StepAdds}, Look.{HasLooked}, Agreement.{IsMarking}, Phase.{Stands}}
 use Rattle.ulfm_comm.specs.Exchange.{Settles, start_leaves, start_result}
 use Rattle.ulfm_comm.specs.declared.phases.phase.Phase.{Phase}
-use Rattle.ulfm_comm.specs.declared.phases.phase.Phase.TheVariants.{Over, Begun, Looking, Settling, Arriving, Revoking, Asking, Marking, Reading, ReadingOn, Spawning, Waiting, Checking}
+use Rattle.ulfm_comm.specs.declared.phases.phase.Phase.TheVariants.{Over, Begun, Looking, Settling, Arriving, Revoking, Asking, Peeking, Marking, Reading, ReadingOn, Spawning, Waiting, Checking}
 use Rattle.ulfm_comm.proofs.{Exchange.{fits_now, found_same, is_starting, number_is, passes_tests}, Holding.{comm_is}}
 
 module _ {P : Type 0} (quiet : Bool) (look : List ℕ) (own : Record) (asked : Call P) (reply : Option (Reply P)) (old new : History P) where
@@ -69,9 +69,9 @@ module _ {P : Type 0} (meld : P → P → P) (quiet : Bool) (limits : Limits) (a
       (did_added quiet _ now after added)
 
 -- the exchange of a mark
-module _ {P : Type 0} (meld : P → P → P) (quiet : Bool) (name : Name) (asked : Call P) (marks : MarkAll) (shrinks : Bool) (group : List ℕ) (old : Record) (before : Sight P) (own : Record) (now : Sight P) (after : History P) (of : IsOf meld name now)
-    (stood : Stands meld false name old before (record { asked = asked; phase = Marking marks shrinks; group = group }) own now) (reply : Option (Reply P)) where
-  abbrev marking : IsMarking meld name.limits false (comm_of asked) shrinks marks old before.seen own now.seen
+module _ {P : Type 0} (meld : P → P → P) (quiet : Bool) (name : Name) (asked : Call P) (marks : MarkAll) (blocks : RoundBlocks P) (shrinks : Bool) (group : List ℕ) (old : Record) (before : Sight P) (own : Record) (now : Sight P) (after : History P) (of : IsOf meld name now)
+    (stood : Stands meld false name old before (record { asked = asked; phase = Marking marks blocks shrinks; group = group }) own now) (reply : Option (Reply P)) where
+  abbrev marking : IsMarking meld name.limits false (comm_of asked) shrinks marks blocks old before.seen own now.seen
   marking = stood.at.1
 
   marking_seen : own.seen ≡ failures marking.look
@@ -127,7 +127,8 @@ step_did quiet own asked reply old new (Settling request offer) adds = (adds.eve
 step_did quiet own asked reply old new (Arriving round) adds = (adds.events, adds.did)
 step_did quiet own asked reply old new Revoking adds = (adds.events, adds.did)
 step_did quiet own asked reply old new Asking adds = ([], adds)
-step_did quiet own asked reply old new (Marking marks shrinks) adds = (adds.events, adds.did)
+step_did quiet own asked reply old new (Peeking peek shrinks) adds = ([], adds)
+step_did quiet own asked reply old new (Marking marks blocks shrinks) adds = (adds.events, adds.did)
 step_did quiet own asked reply old new (Reading reading shrinks) adds = ([], adds)
 step_did quiet own asked reply old new (ReadingOn on made) adds = ([], adds)
 step_did quiet own asked reply old new (Spawning append context reach) adds = (adds.events, adds.did)

@@ -1,19 +1,20 @@
 -- How many steps a call makes at most.
-use Rattle.std.proofs.Common.{◌≡◌, ℕ, ◌+◌, ◌-◌, ◌<◌, ◌≤◌, Bool, true, false, List, [], length, filter, take, max, min, Option, Some, None, is_some, if◌then◌else◌, refl, ap, ap₂, sym, ◌∙◌, subst, length-append, arith}
+use Rattle.std.proofs.Common.{◌≡◌, ℕ, ◌+◌, ◌-◌, ◌*◌, ◌<◌, ◌≤◌, Bool, true, false, List, [], length, filter, take, max, min, Option, Some, None, is_some, if◌then◌else◌, refl, ap, ap₂, sym, ◌∙◌, subst, length-append, arith}
 use Rattle.std.proofs.lemmas.List.{length-take}
 use mathlib.Core.List.{IsPrefix}
 use Rattle.ulfm_model.specs.declared.call.Call.TheVariants as call
 use Rattle.ulfm_model.specs.declared.{call.Call.{Call}, call.Request.{Request}, call.Request.TheVariants.{Agree, Shrink, Barrier}, limits.Limits.{Limits}, refusal.Refusal.{Refusal}}
 use Rattle.ulfm_model.specs.{Answers.{first_refusal, refusal_of, refusal_on}, History.{History, IsLegal, failures, has, without}, Records.{Held, Record, held_at}}
 use Rattle.ulfm_model.specs.Terms.{comm_of, request_of}
-use Rattle.ulfm_steps.specs.{Arriving.{arrivals_left, in_order}, Marks.{marks_left}, Rounds.{reads_left}}
-use Rattle.ulfm_steps.specs.declared.{arrivals.{Arrivals.{Arrivals}}, mark_all.MarkAll.{MarkAll}, read_round.ReadRound.{ReadRound}}
-use Rattle.ulfm_steps.proofs.Arriving.{in_order_few}
+use Rattle.ulfm_steps.specs.{Arriving.{arrivals_left, in_order}, Blocks.{blocks_cost, blocks_left, is_whole, peeks_left, starts_at, unread_cost}, Marks.{marks_left}}
+use Rattle.ulfm_steps.specs.declared.{arrivals.{Arrivals.{Arrivals}}, mark_all.MarkAll.{MarkAll}, peek.Peek.{Peek}, read_blocks.ReadBlocks.{ReadBlocks}}
+use Rattle.ulfm_steps.specs.declared.round_blocks.RoundBlocks.{RoundBlocks}
+use Rattle.ulfm_steps.proofs.{Arriving.{in_order_few}, Blocks.{peek_most, peek_some, starts_left, unread_most}}
 use Rattle.ulfm_comm.proofs.Look.{tests_same}
 use Rattle.ulfm_words.specs.Steps.{Sight}
-use Rattle.ulfm_comm.specs.{Bound.{call_bound, poll_bound, step_bound}, Look.{Passes}, Polls.{agreement}, StepsLeft.{FewerLeft, Spends, after_look, after_round, behind_look, group_of, polling, steps_left, with_look}}
+use Rattle.ulfm_comm.specs.{Bound.{call_bound, poll_bound, step_bound}, Look.{Passes}, Phase.{NextBelow}, Polls.{agreement}, StepsLeft.{FewerLeft, Spends, after_look, after_peek, after_round, behind_look, group_of, polling, steps_left, with_look}}
 use Rattle.ulfm_comm.specs.declared.{phases.phase.Next.{Next}, phases.phase.Next.TheVariants.{Goes, Ends}}
-use Rattle.ulfm_comm.specs.declared.phases.phase.Phase.TheVariants.{Over, Begun, Looking, Marking, Reading, Waiting}
+use Rattle.ulfm_comm.specs.declared.phases.phase.Phase.TheVariants.{Over, Begun, Looking, Marking, Peeking, Reading, Waiting}
 
 -- what was seen makes no difference to what follows a look that goes on
 behind_look_same : {P : Type 0} (limits : Limits) (own : Record) (seen : List ℕ) (asked : Call P) → behind_look limits (record own { seen = seen }) asked ≡ behind_look limits own asked
@@ -70,25 +71,119 @@ module _ {P : Type 0} (limits : Limits) (own : Record) (asked : Call P) where
         let all = look_poll passed rank c x (Some (Barrier k)) is held is_open in
         subst (λ g. arrivals_left g own.seen arrivals + 1 < most) (sym (ap group_of held)) (omega (arith, all, few))
 
-    pub marking_after : (k : ℕ) (shrinks : Bool) (marks : MarkAll) → x.request ≡ Some (agreement shrinks k) → steps_left limits own asked (Marking marks shrinks) < most
-    marking_after k shrinks marks is_open =
-        subst (λ g. marks_left g own.seen marks.next + length g + after_round limits own shrinks < most) (sym (ap group_of held)) (by_kind shrinks is_open)
+    pub peeking_after : (k : ℕ) (shrinks : Bool) (peek : Peek P) → x.request ≡ Some (agreement shrinks k) → 0 < length x.group → steps_left limits own asked (Peeking peek shrinks) < most
+    peeking_after k shrinks peek is_open any =
+        subst (λ g. peeks_left (length g) peek.side + (length (filter (has g) own.seen) + blocks_cost (length g) + after_round limits own shrinks) < most) (sym (ap group_of held)) (by_kind shrinks is_open)
       where
-        by_kind : (b : Bool) → x.request ≡ Some (agreement b k) → marks_left x.group own.seen marks.next + length x.group + after_round limits own b < most
+        cost : peeks_left (length x.group) peek.side + blocks_cost (length x.group) ≤ 2 * length x.group + 2
+        cost = peek_most (length x.group) peek.side any
+
+        by_kind : (b : Bool) → x.request ≡ Some (agreement b k) → peeks_left (length x.group) peek.side + (length (filter (has x.group) own.seen) + blocks_cost (length x.group) + after_round limits own b) < most
         by_kind false is_open =
             let all = look_poll passed rank c x (Some (Agree k)) is held is_open in
-            omega (arith, all, few, length-append (filter (has x.group) own.seen) (without x.group own.seen))
+            omega (arith, all, few, cost, length-append (filter (has x.group) own.seen) (without x.group own.seen))
         by_kind true is_open =
             let all = look_poll passed rank c x (Some (Shrink k)) is held is_open in
-            omega (arith, all, few, some, length-append (filter (has x.group) own.seen) (without x.group own.seen))
+            omega (arith, all, few, cost, some, length-append (filter (has x.group) own.seen) (without x.group own.seen))
 
-    pub reading_after : (k : ℕ) (shrinks : Bool) (reading : ReadRound P) → x.request ≡ Some (agreement shrinks k) → steps_left limits own asked (Reading reading shrinks) < most
-    reading_after k shrinks reading is_open =
-        subst (λ g. reads_left g reading + after_round limits own shrinks < most) (sym (ap group_of held)) (by_kind shrinks is_open)
-      where
-        by_kind : (b : Bool) → x.request ≡ Some (agreement b k) → reads_left x.group reading + after_round limits own b < most
-        by_kind false is_open = let all = look_poll passed rank c x (Some (Agree k)) is held is_open in omega (arith, all)
-        by_kind true is_open = let all = look_poll passed rank c x (Some (Shrink k)) is held is_open in omega (arith, all, some)
+-- a poll that has loaded its round's blocks has no more left than its marks, its readings, and what comes after them
+module _ {P : Type 0} (limits : Limits) (own : Record) (asked : Call P) (x : Held) (held : held_at own (comm_of asked) ≡ Some x) (shrinks : Bool) (blocks : RoundBlocks P) where
+  abbrev group_now : group_of (held_at own (comm_of asked)) ≡ x.group
+  group_now = ap group_of held
+
+  pub unread_marks : (marks : MarkAll) → steps_left limits own asked (Marking marks blocks shrinks) ≤ after_peek limits own asked shrinks
+  unread_marks marks =
+      let group = group_of (held_at own (comm_of asked)) in
+      let cost : unread_cost blocks (length group) ≤ blocks_cost (length group) = unread_most blocks (length group) in
+      omega (arith, cost)
+
+  -- the reading of the blocks that aren't known begins
+  reads_unread : (reading : ReadBlocks P) (comm round size : ℕ) → reading ≡ starts_at comm round blocks size → size ≡ length x.group → is_whole blocks (length x.group) ≡ false
+      → blocks_left (length (group_of (held_at own (comm_of asked)))) reading ≤ unread_cost blocks (length (group_of (held_at own (comm_of asked))))
+  reads_unread reading comm round size is size_is unknown =
+      let left : blocks_left (length x.group) (starts_at comm round blocks (length x.group)) ≤ unread_cost blocks (length x.group) = starts_left comm round (length x.group) blocks unknown in
+      subst (λ g. blocks_left (length g) reading ≤ unread_cost blocks (length g)) (sym group_now) (subst (λ (r : ReadBlocks P). blocks_left (length x.group) r ≤ unread_cost blocks (length x.group)) (sym (is ∙ ap (starts_at comm round blocks) size_is)) left)
+
+  pub unread_reads : (reading : ReadBlocks P) (comm round size : ℕ) → reading ≡ starts_at comm round blocks size → size ≡ length x.group → is_whole blocks (length x.group) ≡ false
+      → steps_left limits own asked (Reading reading shrinks) ≤ after_peek limits own asked shrinks
+  unread_reads reading comm round size is size_is unknown =
+      let group = group_of (held_at own (comm_of asked)) in
+      let cost : unread_cost blocks (length group) ≤ blocks_cost (length group) = unread_most blocks (length group) in
+      let left = reads_unread reading comm round size is size_is unknown in
+      omega (arith, cost, left)
+
+  -- after the last mark
+  pub marks_read : (members declared : List ℕ) → members ≡ x.group → declared ≡ own.seen → (marks : MarkAll) (reading : ReadBlocks P) (comm round size : ℕ) → reading ≡ starts_at comm round blocks size → size ≡ length members
+      → is_whole blocks (length members) ≡ false → (now after left : ℕ) → after + left ≤ now + marks_left members declared marks.next
+      → after + steps_left limits own asked (Reading reading shrinks) ≤ now + steps_left limits own asked (Marking marks blocks shrinks)
+  marks_read members declared members_are declared_are marks reading comm round size is size_is unknown now after rest few =
+      let group = group_of (held_at own (comm_of asked)) in
+      let left : blocks_left (length group) reading ≤ unread_cost blocks (length group) = reads_unread reading comm round size is (size_is ∙ ap length members_are) (subst (λ g. is_whole blocks (length g) ≡ false) members_are unknown) in
+      let few_now : after + rest ≤ now + marks_left group own.seen marks.next =
+      subst (λ g. after + rest ≤ now + marks_left g own.seen marks.next) (members_are ∙ sym group_now) (subst (λ s. after + rest ≤ now + marks_left members s marks.next) declared_are few) in
+      omega (arith, left, few_now)
+
+-- the steps of a peek and of a reading, and what comes after them
+module _ {P : Type 0} (limits : Limits) (own : Record) (asked : Call P) (x : Held) (held : held_at own (comm_of asked) ≡ Some x) (shrinks : Bool) (members : List ℕ) (members_are : members ≡ x.group) where
+  same_length : length members ≡ length (group_of (held_at own (comm_of asked)))
+  same_length = ap length (members_are ∙ sym (ap group_of held))
+
+  -- a peek that goes on
+  pub peeks_on : (peek next : Peek P) (now after : ℕ) → after + peeks_left (length members) next.side ≤ now + peeks_left (length members) peek.side
+      → after + steps_left limits own asked (Peeking next shrinks) ≤ now + steps_left limits own asked (Peeking peek shrinks)
+  peeks_on peek next now after few =
+      let few_now = subst (λ n. after + peeks_left n next.side ≤ now + peeks_left n peek.side) same_length few in omega (arith, few_now)
+
+  -- one that has ended
+  pub peeks_past : (peek : Peek P) (rest : ℕ) → rest ≤ after_peek limits own asked shrinks → rest < steps_left limits own asked (Peeking peek shrinks)
+  peeks_past peek rest le = let some = peek_some (length (group_of (held_at own (comm_of asked)))) peek.side in omega (arith, le, some)
+
+  pub peeks_over : (peek : Peek P) (rest now after : ℕ) → rest ≤ after_peek limits own asked shrinks → after ≤ now + peeks_left (length members) peek.side → after + rest ≤ now + steps_left limits own asked (Peeking peek shrinks)
+  peeks_over peek rest now after le few = let few_now = subst (λ n. after ≤ now + peeks_left n peek.side) same_length few in omega (arith, le, few_now)
+
+  -- .. or whose round is decided
+  pub peeks_fewer : (peek : Peek P) (new : Record) (next : Next P) → FewerLeft (after_round limits own shrinks + 1) limits new asked next → FewerLeft (steps_left limits own asked (Peeking peek shrinks)) limits new asked next
+  peeks_fewer peek new next fewer =
+      let some = peek_some (length (group_of (held_at own (comm_of asked)))) peek.side in
+      fewer_more limits new asked (after_round limits own shrinks + 1) (steps_left limits own asked (Peeking peek shrinks)) (omega (arith, some)) next fewer
+
+  pub peeks_spend : (peek : Peek P) (new : Record) (next : Next P) (now after : Sight P) → after.steps ≤ now.steps + peeks_left (length members) peek.side → FewerLeft (after_round limits own shrinks + 1) limits new asked next
+      → Spends (steps_left limits own asked (Peeking peek shrinks)) limits new asked next now after
+  peeks_spend peek new next now after few fewer = spends next fewer
+    where
+      few_now : after.steps ≤ now.steps + peeks_left (length (group_of (held_at own (comm_of asked)))) peek.side
+      few_now = subst (λ n. after.steps ≤ now.steps + peeks_left n peek.side) same_length few
+
+      spends : (next : Next P) → FewerLeft (after_round limits own shrinks + 1) limits new asked next → Spends (steps_left limits own asked (Peeking peek shrinks)) limits new asked next now after
+      spends (Goes phase) fewer = omega (arith, few_now, fewer)
+      spends (Ends reply) fewer = omega (arith, few_now)
+
+  -- a reading that goes on
+  pub reads_on : (reading next : ReadBlocks P) (now after : ℕ) → after + blocks_left (length members) next ≤ now + blocks_left (length members) reading
+      → after + steps_left limits own asked (Reading next shrinks) ≤ now + steps_left limits own asked (Reading reading shrinks)
+  reads_on reading next now after few =
+      let n = length (group_of (held_at own (comm_of asked))) in
+      let few_now : after + blocks_left n next ≤ now + blocks_left n reading = subst (λ n. after + blocks_left n next ≤ now + blocks_left n reading) same_length few in omega (arith, few_now)
+
+  -- one whose round is decided, or in which a member is missing
+  pub reads_fewer : (reading : ReadBlocks P) (new : Record) (next : Next P) → FewerLeft (after_round limits own shrinks + 1) limits new asked next → FewerLeft (steps_left limits own asked (Reading reading shrinks)) limits new asked next
+  reads_fewer reading new next fewer = fewer_more limits new asked (after_round limits own shrinks + 1) (steps_left limits own asked (Reading reading shrinks)) (omega arith) next fewer
+
+  pub reads_spend : (reading : ReadBlocks P) (new : Record) (next : Next P) (now after : Sight P) → after.steps ≤ now.steps + blocks_left (length members) reading → FewerLeft (after_round limits own shrinks + 1) limits new asked next
+      → Spends (steps_left limits own asked (Reading reading shrinks)) limits new asked next now after
+  reads_spend reading new next now after few fewer = spends next fewer
+    where
+      few_now : after.steps ≤ now.steps + blocks_left (length (group_of (held_at own (comm_of asked)))) reading
+      few_now = subst (λ n. after.steps ≤ now.steps + blocks_left n reading) same_length few
+
+      spends : (next : Next P) → FewerLeft (after_round limits own shrinks + 1) limits new asked next → Spends (steps_left limits own asked (Reading reading shrinks)) limits new asked next now after
+      spends (Goes phase) fewer = omega (arith, few_now, fewer)
+      spends (Ends reply) fewer = omega (arith, few_now)
+
+-- what comes nearer than some comes nearer than more
+pub below_more : {P : Type 0} (few more : ℕ) → few ≤ more → (next : Next P) → NextBelow few next → NextBelow more next
+below_more few more le (Goes phase) lt = omega (arith, le, lt)
+below_more few more le (Ends reply) lt = tt
 
 -- once a look has ended, fewer steps are left than before its last load
 pub looks_up : {P : Type 0} (limits : Limits) (own new : Record) (asked : Call P) → new ≡ record own { seen = new.seen } → length own.seen < limits.ranks → length own.seen ≤ length new.seen

@@ -10,8 +10,8 @@ use Rattle.ulfm_comm.specs.StepsLeft.{group_of}
 -- none is open it is refused.
 abbrev pub poll_bound : ℕ → ℕ → ℕ → ℕ → Option Request → ℕ
 poll_bound N v n M None = N - v
-poll_bound N v n M (Some (Agree k)) = N - v + 2 * n
-poll_bound N v n M (Some (Shrink k)) = N - v + 2 * n + 2 * M
+poll_bound N v n M (Some (Agree k)) = N - v + 3 * n + 2
+poll_bound N v n M (Some (Shrink k)) = N - v + 3 * n + 2 * M + 1
 poll_bound N v n M (Some (Barrier k)) = N - v + n + 1
 
 -- any call, on a communicator where this request is open; a declaration is no call of a rank

@@ -1,16 +1,17 @@
 -- Where a call of a rank stands between two steps.
-use Rattle.std.specs.Prelude.{◌≡◌, ◌⊎◌, ℕ, ◌<◌, ◌≤◌, Bool, true, false, List, [], Some, None, Option, length, IsTrue, IsFalse, if◌then◌else◌, ⊤}
+use Rattle.std.specs.Prelude.{◌≡◌, ◌⊎◌, ℕ, ◌<◌, ◌≤◌, Bool, true, false, List, [], Some, None, Option, length, nat_lt, IsTrue, IsFalse, if◌then◌else◌, ⊤}
 use Rattle.ulfm_model.specs.declared.call.Call.TheVariants as call
 use Rattle.ulfm_model.specs.declared.{call.Call.{Call}, event.Caller.TheVariants.{Rank}, reply.Reply.{Reply}, reply.Reply.TheVariants.{Pending}}
 use Rattle.ulfm_model.specs.{Answers.{polled_by, traits_of}, History.{History, failures}, Records.{Fits, Held, Record}, Runs.{Did}, Terms.{comm_of}}
+use Rattle.ulfm_model.specs.Blocks.{IsSide}
 use Rattle.ulfm_words.specs.Steps.{Name, Sight}
 use Rattle.ulfm_steps.specs.{Arriving.{AtArrival}, Looks.{LookIs}, ReadsOn.{AtFailure}}
 use Rattle.ulfm_comm.specs.{Calls.{EndsReply}, Ends.{IsRefusedAgain}, Polls.{EndsInMissing, IsAgreement}, Look.{HasLooked}, Exchange.{StartsWith}}
-use Rattle.ulfm_comm.specs.{Agreement.{IsMarking, IsReading}, Spawning.{IsDecided, IsSpawning}, Barrier.{IsWaiting, IsChecking}}
+use Rattle.ulfm_comm.specs.{Agreement.{IsMarking, IsPeeking, IsReading}, Spawning.{IsDecided, IsSpawning}, Barrier.{IsWaiting, IsChecking}}
 use Rattle.ulfm_comm.specs.declared.{phases.phase.Next.{Next}, phases.phase.Next.TheVariants.{Goes, Ends}, phases.phase.Phase.{Phase}}
 use Rattle.ulfm_model.specs.declared.step_name.StepName.{StepName}
-use Rattle.ulfm_comm.specs.declared.phases.phase.Phase.TheVariants.{Over, Begun, Looking, Settling, Arriving, Revoking, Asking, Marking, Reading, ReadingOn}
-use Rattle.ulfm_comm.specs.declared.phases.phase.Phase.TheVariants.{Spawning, Waiting, Checking}
+use Rattle.ulfm_comm.specs.declared.phases.phase.Phase.TheVariants.{Over, Begun, Looking, Settling, Arriving, Revoking, Asking, Peeking, Marking}
+use Rattle.ulfm_comm.specs.declared.phases.phase.Phase.TheVariants.{Reading, ReadingOn, Spawning, Waiting, Checking}
 use Rattle.ulfm_model.specs.declared.step_name.StepName.TheVariants as step
 
 -- a call under way: what is asked, what it does next, and the members of a communicator that it makes
@@ -28,8 +29,9 @@ next_step (Settling request offer) = Some step.Settle
 next_step (Arriving round) = Some step.Arrive
 next_step Revoking = Some step.Revoke
 next_step Asking = Some step.Revocation
-next_step (Marking marks shrinks) = Some step.Mark
-next_step (Reading reading shrinks) = Some step.Slot
+next_step (Peeking peek shrinks) = Some step.Block
+next_step (Marking marks blocks shrinks) = Some step.Mark
+next_step (Reading reading shrinks) = Some (if nat_lt reading.read reading.width then step.Slot else step.Cache)
 next_step (ReadingOn on made) = Some step.List
 next_step (Spawning append context reach) = Some (if append.empty then step.Spawn else step.Comm)
 next_step (Waiting arrivals) = Some step.Arrival
@@ -49,13 +51,14 @@ is_checking _ = false
 -- how far a call is from its reply, by what it does next
 abbrev pub left : {P : Type 0} → Phase P → ℕ
 left Over = 0
-left Begun = 8
-left Looking = 7
+left Begun = 9
+left Looking = 8
 left (Settling request offer) = 1
 left (Arriving round) = 1
 left Revoking = 1
 left Asking = 1
-left (Marking marks shrinks) = 6
+left (Peeking peek shrinks) = 7
+left (Marking marks blocks shrinks) = 6
 left (Reading reading shrinks) = 5
 left (ReadingOn on made) = 4
 left (Spawning append context reach) = 3
@@ -126,8 +129,11 @@ StandsAt meld alone name asked old before Revoking group own now =
     HasLooked meld name.limits alone asked old before.seen own now.seen × (asked ≡ call.Revoke old.number (comm_of asked))
 StandsAt meld alone name asked old before Asking group own now =
     HasLooked meld name.limits alone asked old before.seen own now.seen × (asked ≡ call.IsRevoked old.number (comm_of asked))
-StandsAt meld alone name asked old before (Marking marks shrinks) group own now =
-    (asked ≡ call.Poll old.number (comm_of asked)) × (p : IsMarking meld name.limits alone (comm_of asked) shrinks marks old before.seen own now.seen)
+StandsAt meld alone name asked old before (Peeking peek shrinks) group own now =
+    (asked ≡ call.Poll old.number (comm_of asked)) × (p : IsPeeking meld name.limits alone (comm_of asked) shrinks peek old before.seen own now.seen)
+    × IsSide peek.side p.x.group
+StandsAt meld alone name asked old before (Marking marks blocks shrinks) group own now =
+    (asked ≡ call.Poll old.number (comm_of asked)) × (p : IsMarking meld name.limits alone (comm_of asked) shrinks marks blocks old before.seen own now.seen)
     × (marks.next < length (failures p.look))
 StandsAt meld alone name asked old before (Reading reading shrinks) group own now =
     (asked ≡ call.Poll old.number (comm_of asked)) × IsReading meld name.limits alone (comm_of asked) shrinks reading old before.seen own now.seen

@@ -8,7 +8,9 @@ use Rattle.ulfm_model.specs.declared.{reply.Reply.TheVariants.{Agreed as AgreedO
 use Rattle.ulfm_model.specs.{Answers.{polled_by}, History.{History, IsLegal, failures, has, slot}, Records.{Fits, Held, Record, held_at, is_shrink}}
 use Rattle.ulfm_model.specs.{Runs.{Did, IsRun}}
 use Rattle.ulfm_words.specs.Steps.{IsOf, Name, Sight}
-use Rattle.ulfm_steps.specs.{Marks.{Marks}, Rounds.{IsSummed}}
+use Rattle.ulfm_model.specs.Blocks.{IsSummed}
+use Rattle.ulfm_words.specs.declared.step.Site.{Site}
+use Rattle.ulfm_steps.specs.Marks.{Marks}
 use Rattle.ulfm_comm.specs.{Calls.{Calls, EndsBy, is_out_of_memory}, Look.{Looked}}
 use Rattle.ulfm_comm.specs.declared.{calls.polled.Polled.{Polled}, calls.polled.Polled.TheVariants.{Agreed, Done, Pending, Shrunk}}
 
@@ -84,7 +86,7 @@ pub record EndsInMissing {P : Type 0} (meld : P → P → P) (alone : Bool) (nam
   pub not_declared : IsFalse (has (failures run.span.look) member)
   pub unsettled : slot run.span.point c round member ≡ None
   pub in_call : before.steps < after.steps
-  pub loaded : after.last ≡ Some (record { place = SlotAt c round member; word = 0; load = true })
+  pub loaded : after.last ≡ Some (record { at = Site.Place (SlotAt c round member); word = 0; load = true })
 
 -- a pending poll of an agreement ends so
 abbrev pub EndsIn : {P : Type 0} → (P → P → P) → Bool → Name → ℕ → Record → Sight P → Record → Sight P → Polled P → Type 0

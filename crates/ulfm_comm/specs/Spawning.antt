@@ -9,7 +9,8 @@ use Rattle.ulfm_model.specs.{History.{History, entries_by, failures, has, withou
 use Rattle.ulfm_model.specs.{Runs.{Did}, Terms.{comm_of, contexts_of, new_held, settled_by}, Answers.{closed}}
 use Rattle.ulfm_words.specs.Steps.{IsOf, Name, Sight}
 use Rattle.ulfm_steps.specs.declared.{append.Append.{Append}, item.Item.TheVariants.{Comm as OfComm}}
-use Rattle.ulfm_steps.specs.{Appends.{Passed, room, MayAppend, turns_left}, Rounds.{IsSummed}, ReadsOn.{ReadsOn}, Turns.{Takes}}
+use Rattle.ulfm_model.specs.Blocks.{IsSummed}
+use Rattle.ulfm_steps.specs.{Appends.{Passed, room, MayAppend, turns_left}, ReadsOn.{ReadsOn}, Turns.{Takes}}
 use Rattle.ulfm_comm.specs.Polls.{HasMarked}
 use Rattle.ulfm_comm.specs.declared.{phases.phase.Made.{Made}, phases.spawning.Spawned.{Spawned}}
 use Rattle.ulfm_comm.specs.declared.phases.spawning.Spawned.TheVariants as spawned

@@ -48,7 +48,7 @@ abbrev pub StepAdds : {P : Type 0} → Bool → Record → Call P → Phase P �
 StepAdds quiet own asked (Settling request offer) reply old new = Adds quiet own.seen own asked reply old new
 StepAdds quiet own asked (Arriving round) reply old new = Adds quiet own.seen own asked reply old new
 StepAdds quiet own asked Revoking reply old new = Adds quiet own.seen own asked reply old new
-StepAdds quiet own asked (Marking marks shrinks) reply old new = Adds quiet own.seen own asked reply old new
+StepAdds quiet own asked (Marking marks blocks shrinks) reply old new = Adds quiet own.seen own asked reply old new
 StepAdds quiet own asked (Spawning append context reach) reply old new = Adds quiet [] own asked reply old new
 StepAdds quiet own asked _ reply old new = Did quiet [] old new
 

@@ -1,24 +1,28 @@
 -- Which atomic step a call makes next, and how many it makes at most.
-use Rattle.std.specs.Prelude.{◌≡◌, ℕ, ◌+◌, ◌-◌, ◌*◌, ◌<◌, ◌≤◌, Bool, true, false, List, [], length, max, Option, Some, None, is_some, if◌then◌else◌, ⊤}
+use Rattle.std.specs.Prelude.{◌≡◌, ℕ, ◌+◌, ◌-◌, ◌*◌, ◌<◌, ◌≤◌, Bool, true, false, List, [], length, filter, max, Option, Some, None, is_some, if◌then◌else◌, ⊤}
 use Rattle.ulfm_model.specs.declared.call.Call.TheVariants as call
 use Rattle.ulfm_model.specs.declared.{call.Call.{Call}, call.Request.{Request}, call.Request.TheVariants.{Agree, Shrink, Barrier}, limits.Limits.{Limits}}
 use Rattle.ulfm_model.specs.declared.place.Place.TheVariants.{List as ListAt, Comm as CommAt, Revoked as RevokedAt, Slot as SlotAt, Arrival as ArrivalAt}
-use Rattle.ulfm_model.specs.{Answers.{refusal_of}, Records.{Held, Record, held_at}}
+use Rattle.ulfm_model.specs.declared.block.Side.{Side}
+use Rattle.ulfm_model.specs.{Answers.{refusal_of}, History.{has}, Records.{Held, Record, held_at}}
 use Rattle.ulfm_model.specs.Terms.{comm_of, request_of}
-use Rattle.ulfm_words.specs.Steps.{Sight}
-use Rattle.ulfm_steps.specs.{Appends.{turns_left}, Arriving.{arrivals_left}, Marks.{marks_left}, Rounds.{reads_left}, Turns.{IsOneStep}}
+use Rattle.ulfm_words.specs.{Steps.{Sight}, declared.step.Site.{Site}}
+use Rattle.ulfm_steps.specs.{Appends.{turns_left}, Arriving.{arrivals_left}, Blocks.{block_at, blocks_cost, blocks_left, peeks_left, unread_cost}}
+use Rattle.ulfm_steps.specs.{Marks.{marks_left}, Turns.{IsOneStep, IsStepAt}}
 use Rattle.ulfm_comm.specs.declared.{phases.phase.Next.{Next}, phases.phase.Next.TheVariants.{Goes, Ends}, phases.phase.Phase.{Phase}}
 use Rattle.ulfm_model.specs.declared.step_name.StepName.{StepName}
-use Rattle.ulfm_comm.specs.declared.phases.phase.Phase.TheVariants.{Over, Begun, Looking, Settling, Arriving, Revoking, Asking, Marking}
+use Rattle.ulfm_comm.specs.declared.phases.phase.Phase.TheVariants.{Over, Begun, Looking, Settling, Arriving, Revoking, Asking, Peeking, Marking}
 use Rattle.ulfm_comm.specs.declared.phases.phase.Phase.TheVariants.{Reading, ReadingOn, Spawning, Waiting, Checking}
 use Rattle.ulfm_model.specs.declared.step_name.StepName.TheVariants as step
 
--- one atomic step of this name, of rank r on communicator c: its place, and whether it is a load
+-- one atomic step of this name, of rank r on communicator c: where it is made, and whether it is a load
 abbrev pub IsStepOf : {P : Type 0} → StepName → ℕ → ℕ → Sight P → Sight P → Type 0
 IsStepOf step.List r c old new = (i : ℕ) × IsOneStep (ListAt i) true old new
 IsStepOf step.Settle r c old new = (k : ℕ) × IsOneStep (SlotAt c k r) false old new
+IsStepOf step.Block r c old new = (k : ℕ) × (side : Side) × IsStepAt (Site.Block (block_at c k side)) true old new
 IsStepOf step.Mark r c old new = (k member : ℕ) × IsOneStep (SlotAt c k member) false old new
 IsStepOf step.Slot r c old new = (k member : ℕ) × IsOneStep (SlotAt c k member) true old new
+IsStepOf step.Cache r c old new = (k : ℕ) × (side : Side) × IsStepAt (Site.Block (block_at c k side)) false old new
 IsStepOf step.Comm r c old new = (j : ℕ) × IsOneStep (CommAt j) true old new
 IsStepOf step.Spawn r c old new = (j : ℕ) × IsOneStep (CommAt j) false old new
 IsStepOf step.Arrive r c old new = (k : ℕ) × IsOneStep (ArrivalAt c k r) false old new
@@ -39,8 +43,8 @@ group_of (Some x) = x.group
 -- how many steps the poll of a request makes after its look, at most, where the communicator has n members
 abbrev pub polling : Limits → ℕ → Option Request → ℕ
 polling limits n None = 0
-polling limits n (Some (Agree k)) = 2 * n
-polling limits n (Some (Shrink k)) = 2 * n + 2 * limits.comms
+polling limits n (Some (Agree k)) = 3 * n + 2
+polling limits n (Some (Shrink k)) = 3 * n + 2 * limits.comms + 1
 polling limits n (Some (Barrier k)) = n + 1
 
 -- how many a call makes after its look that goes on behind it
@@ -64,11 +68,17 @@ after_look limits own asked = if is_some (refusal_of own asked) then 0 else behi
 abbrev pub with_look : {P : Type 0} → Limits → Record → Call P → ℕ
 with_look limits own asked = after_look limits own asked + max 1 (limits.ranks - length own.seen)
 
--- how many the poll of an agreement makes once its round is read through: a shrink may read on in the list of failures, and looks for
+-- how many the poll of an agreement makes once it knows its round's decision: a shrink may read on in the list of failures, and looks for
 -- its communicator
 abbrev pub after_round : Limits → Record → Bool → ℕ
 after_round limits own false = 0
 after_round limits own true = limits.ranks - length own.seen + 2 * (limits.comms - 1)
+
+-- how many it makes once it has loaded its round's blocks: marks of the declared members, and readings of the blocks, come before that
+abbrev pub after_peek : {P : Type 0} → Limits → Record → Call P → Bool → ℕ
+after_peek limits own asked shrinks =
+    let group = group_of (held_at own (comm_of asked)) in
+    length (filter (has group) own.seen) + blocks_cost (length group) + after_round limits own shrinks
 
 -- how many steps a call makes from here on, at most, by what it does next
 abbrev pub steps_left : {P : Type 0} → Limits → Record → Call P → Phase P → ℕ
@@ -79,10 +89,13 @@ steps_left limits own asked (Settling request offer) = 1
 steps_left limits own asked (Arriving round) = 1
 steps_left limits own asked Revoking = 1
 steps_left limits own asked Asking = 1
-steps_left limits own asked (Marking marks shrinks) =
+steps_left limits own asked (Peeking peek shrinks) =
+    peeks_left (length (group_of (held_at own (comm_of asked)))) peek.side + after_peek limits own asked shrinks
+steps_left limits own asked (Marking marks blocks shrinks) =
     let group = group_of (held_at own (comm_of asked)) in
-    marks_left group own.seen marks.next + length group + after_round limits own shrinks
-steps_left limits own asked (Reading reading shrinks) = reads_left (group_of (held_at own (comm_of asked))) reading + after_round limits own shrinks
+    marks_left group own.seen marks.next + unread_cost blocks (length group) + after_round limits own shrinks
+steps_left limits own asked (Reading reading shrinks) =
+    blocks_left (length (group_of (held_at own (comm_of asked)))) reading + after_round limits own shrinks
 steps_left limits own asked (ReadingOn on made) = after_round limits own true
 steps_left limits own asked (Spawning append context reach) = turns_left (limits.comms - 1) append
 steps_left limits own asked (Waiting arrivals) = arrivals_left (group_of (held_at own (comm_of asked))) own.seen arrivals + 1

@@ -99,9 +99,9 @@ fn shrinking(rt: &impl Abort, alloc: Global, steps: u32) -> Result<Disturbed, Fa
     Ok(job)
 }
 
-/// The poll of rank 3 takes one step to look, one to mark rank 1, four to read the round, and then a load and an exchange of
-/// the first place in the list of communicators. The other comes after so many of them: the communicator is made in this
-/// name, and all ranks have it.
+/// The poll of rank 3 takes one step to look, one to load the round's only block, one to mark rank 1, four to read the block and one to
+/// cache it, and then a load and an exchange of the first place in the list of communicators. The other comes after so many of them: the
+/// communicator is made in this name, and all ranks have it.
 fn spawn_after(rt: &impl Abort, alloc: Global, steps: u32, by: Caller) -> Result<(), Fail> {
     let mut job = shrinking(rt, alloc, steps)?;
     let mut group = Vec::new(alloc);
@@ -125,11 +125,11 @@ fn is_made(rt: &impl Abort, job: &Disturbed, by: Caller) {
 #[test]
 fn one_spawn(rt: HostRuntime) -> Result<(), Fail> {
     // Before the mark the round isn't decided, so the other doesn't come.
-    spawn_after(&rt, rt.alloc(), 1, Caller::Rank(3))?;
-    spawn_after(&rt, rt.alloc(), 2, Caller::Rank(2))?;
+    spawn_after(&rt, rt.alloc(), 2, Caller::Rank(3))?;
+    spawn_after(&rt, rt.alloc(), 3, Caller::Rank(2))?;
     // Just before the exchange, and just after it.
-    spawn_after(&rt, rt.alloc(), 7, Caller::Rank(2))?;
-    spawn_after(&rt, rt.alloc(), 8, Caller::Rank(3))
+    spawn_after(&rt, rt.alloc(), 9, Caller::Rank(2))?;
+    spawn_after(&rt, rt.alloc(), 10, Caller::Rank(3))
 }
 
 /// Fills a heap, block by block, until it has no more than so many bytes of room. The room comes back with what is

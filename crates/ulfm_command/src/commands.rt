@@ -119,6 +119,7 @@ fn reading_commands<'a>(global: Global) -> Result<Command<'a>, AllocError>
     ensures { IfOk result (IsCommand readers) }
 {
     Command::new(global, "ulfm")
+        .bin_name("ulfm")?
         .about("A fault tolerant agreement core, driven by scripts and by races of threads")
         .after_help(ULFM_HELP)
         .version(VERSION)

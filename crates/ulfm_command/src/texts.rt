@@ -69,7 +69,8 @@ line is 'ulfm-steps 1 RANKS COMMS ROUNDS', and each further line is one of these
   finish R        all steps of R's call
   fail R          rank R is declared failed, whole
 
-K is one of list, settle, arrive, revoke, revocation, mark, slot, comm, spawn, arrival.
+K is one of list, settle, arrive, revoke, revocation, block, mark, slot, cache, comm, spawn,
+arrival.
 
 Nothing appears before the input ends or 8192 bytes of output are full.
 

@@ -198,6 +198,23 @@ fn rank_begin(rt: HostRuntime) -> Result<(), Fail> {
 }
 
 #[test]
+fn rank_step(rt: HostRuntime) -> Result<(), Fail> {
+    let (_, member) = two(&rt, rt.alloc())?;
+    let (world, mut rank, mut pass) = member.into_parts();
+
+    let asked = Call::IsRevoked {
+        rank: rank.number(),
+        comm: 0,
+    };
+    let mut doing = rank.begin(asked);
+    // The call looks for failures, with a load that finds none, before it loads whether the communicator is revoked.
+    assert!(rt; rank.step(&world, &mut pass, &mut doing).is_none());
+    assert!(rt; doing.next() == Some(StepName::Revocation));
+
+    Ok(())
+}
+
+#[test]
 fn doing_next(rt: HostRuntime) -> Result<(), Fail> {
     let (_, member) = two(&rt, rt.alloc())?;
     let (_, rank, _) = member.into_parts();

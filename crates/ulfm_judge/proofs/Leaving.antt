@@ -13,7 +13,7 @@ use Rattle.ulfm_record.specs.{declared.record.RankRecord.{RankRecord}, Kept.{Fit
 use Rattle.ulfm_trace_model.specs.declared.line.{Line.{Line}, Why.{Why}}
 use Rattle.ulfm_trace_model.specs.Traces.{MayReply, Takes, Traced, Under, after_reply, call_by, caller_of, record_of as record_at, records_after, same_caller}
 use Rattle.ulfm_judge.specs.ReplyTests.{reply_test}
-use Rattle.ulfm_judge.specs.{declared.calls.OpenCall.{OpenCall}, declared.numbers.Numbers.{Numbers}, Kept.{MayLeave, traced_of, under_of}, Telling.{Goes, Tells}}
+use Rattle.ulfm_judge.specs.{declared.calls.OpenCall.{OpenCall}, declared.numbers.Numbers.{Numbers}, Kept.{AreCalls, GoesWith, MayLeave, traced_of}, Telling.{Goes, Tells}}
 use Rattle.ulfm_judge.proofs.{Answering.{reply_decides}, Deciding.{true_and}}
 
 -- a reply leaves a record's number
@@ -78,17 +78,6 @@ module _ {X Y : Type 0} (v : X → Y) (number : Y → ℕ) (r : ℕ) (f : Y → 
       → map v (set xs i y) ≡ changed xs
   one_changed xs i d y distinct at is = let first = position-Some (λ (x : X). number (v x) == r) xs i d at in changed_at xs i d y distinct is first.0 first.1 first.2
 
--- the calls of others, as the definitions see them
-pub others_stay : {P A : Type 0} (by : Caller) (calls : List (OpenCall P A))
-    → map under_of (filter (λ v. not (same_caller (traits_of v.asked).by by)) calls) ≡ filter (λ v. not (same_caller (caller_of v) by)) (map under_of calls)
-others_stay by [] = refl
-others_stay by (x ∷ xs) =
-    let rest = others_stay by xs in
-    elim (same_caller (traits_of x.asked).by by) as (λ b.
-    map under_of (cond (not b) (x ∷ filter (λ v. not (same_caller (traits_of v.asked).by by)) xs) (filter (λ v. not (same_caller (traits_of v.asked).by by)) xs))
-    ≡ cond (not b) (under_of x ∷ filter (λ v. not (same_caller (caller_of v) by)) (map under_of xs)) (filter (λ v. not (same_caller (caller_of v) by)) (map under_of xs)))
-    [ true ↦ rest | false ↦ ap (λ zs. under_of x ∷ zs) rest ]
-
 -- what a rank's reply says that has started has a round whose next number fits, if so it is by the record that is found
 pub may_leave : {P : Type 0} (now : Traced P) (r : ℕ) (u : Under P) (reply : Reply P) (own : Record) → record_at now r ≡ Some own
     → ((x : Held) → reply ≡ Reply.Started → held_at own (comm_of u.asked) ≡ Some x → FitsNext ((traits_of u.asked).starts x)) → MayLeave now (Caller.Rank r) u reply
@@ -98,9 +87,9 @@ may_leave now r u reply own has fits = λ s other x is found starts holds.
     fits x starts (ap (λ (o : Record). held_at o (comm_of u.asked)) (sym one) ∙ holds)
 
 module _ {P A : Type 0} (meld : P → P → P) (pack : P → ℕ) (tells : (x y : P) → pack x ≡ pack y → x ≡ y)
-    (limits : Limits) (h : History P) (records : List (RankRecord A)) (calls : List (OpenCall P A)) (group : List ℕ) where
+    (limits : Limits) (h : History P) (records : List (RankRecord A)) (us : List (Under P)) (group : List ℕ) where
   abbrev now : Traced P
-  now = traced_of limits h records calls
+  now = traced_of limits h records us
 
   module _ (by : Caller) (point : ℕ) (reply : Reply P) where
     abbrev line : Line P
@@ -134,14 +123,12 @@ module _ {P A : Type 0} (meld : P → P → P) (pack : P → ℕ) (tells : (x y 
     answered u there is = (reply_decides meld pack tells now by point group reply).0 (at_call u there true is)
 
     -- and it is taken
-    pub taken : (u : Under P) (new : List (RankRecord A)) (others : List (OpenCall P A)) → call_by now by ≡ Some u → IsTest u true
-        → map (record_of limits) new ≡ records_after now by u point reply → others ≡ filter (λ v. not (same_caller (traits_of v.asked).by by)) calls
-        → Takes meld now group line (traced_of limits h new others) None
-    taken u new others there is left stay =
-        let others_are : map under_of others ≡ filter (λ v. not (same_caller (caller_of v) by)) (map under_of calls) = ap (map under_of) stay ∙ others_stay by calls in (
-          answered u there is,
-          ap₂ (λ (rs : List Record) (us : List (Under P)). record now { records = rs; calls = us }) left others_are ∙ sym (ap (after_reply now by point reply) there),
-        )
+    pub taken : (u : Under P) (new : List (RankRecord A)) → call_by now by ≡ Some u → IsTest u true → map (record_of limits) new ≡ records_after now by u point reply
+        → Takes meld now group line (traced_of limits h new (filter (λ v. not (same_caller (caller_of v) by)) us)) None
+    taken u new there is left = (
+      answered u there is,
+      ap (λ (rs : List Record). record now { records = rs; calls = filter (λ v. not (same_caller (caller_of v) by)) us }) left ∙ sym (ap (after_reply now by point reply) there),
+    )
 
 -- a word tells its value apart from others
 pub packs_apart : {P : Type 0} (pack : P → ℕ) (unpack : ℕ → Option P) → ((x : P) → unpack (pack x) ≡ Some x) → (x y : P) → pack x ≡ pack y → x ≡ y
@@ -166,17 +153,18 @@ on_test (Ok b) test Q goes same = λ is. goes (sym same ∙ is)
 on_test (Err e) test Q goes same = tt
 
 -- a state whose history stays passes where what is said with it does
-pub goes_on : {P A E W : Type 0} (limits : Limits) (numbers : Numbers P A) (records : List (RankRecord A)) (calls : List (OpenCall P A)) (Taken : Traced P → W → Type 0) (h : History P) (result : Result W E)
-    → Tells limits.ranks numbers h → IfOk result (Taken (traced_of limits h records calls)) → IfOk result (Goes limits numbers records calls Taken)
-goes_on limits numbers records calls Taken h (Ok why) tells taken = (h, tells, taken)
+pub goes_on : {P A E W : Type 0} {g : _} (limits : Limits) (numbers : Numbers P A g) (records : List (RankRecord A)) (calls : List (OpenCall P A)) (Taken : Traced P → W → Type 0) (h : History P) (result : Result W E)
+    → Tells limits.ranks numbers h → IfOk result (GoesWith calls (λ next. Taken (traced_of limits h records next))) → IfOk result (Goes limits numbers records calls Taken)
+goes_on limits numbers records calls Taken h (Ok why) tells taken = (h, taken.0, tells, taken.1, taken.2)
 goes_on limits numbers records calls Taken h (Err e) tells taken = tt
 
 -- what is kept stands for what lines said, before a line and after it
-pub stands_on : {P A E : Type 0} (meld : P → P → P) (limits : Limits) (numbers : Numbers P A) (records : List (RankRecord A)) (calls : List (OpenCall P A)) (group : List ℕ) (told : Line P) (result : Result (Option Why) E) (old new : Traced P)
+pub stands_on : {P A E : Type 0} {g : _} (meld : P → P → P) (limits : Limits) (numbers : Numbers P A g) (records : List (RankRecord A)) (calls : List (OpenCall P A)) (group : List ℕ) (told : Line P) (result : Result (Option Why) E) (old new : Traced P)
     → new ≡ old → IfOk result (Goes limits numbers records calls (Takes meld old group told))
-    → IfOk result (λ why. (next : Traced P) × Takes meld new group told next why × (Tells limits.ranks numbers next.history × (next ≡ traced_of limits next.history records calls)))
+    → IfOk result (λ why. (next : Traced P) × Takes meld new group told next why
+    × (Tells limits.ranks numbers next.history × AreCalls calls next.calls × (next ≡ traced_of limits next.history records next.calls)))
 stands_on meld limits numbers records calls group told (Ok why) old new same goes =
-    (traced_of limits goes.0 records calls, subst (λ w. Takes meld w group told (traced_of limits goes.0 records calls) why) (sym same) goes.2, (goes.1, refl))
+    let next = traced_of limits goes.0 records goes.1 in (next, subst (λ w. Takes meld w group told next why) (sym same) goes.4, (goes.2, goes.3, refl))
 stands_on meld limits numbers records calls group told (Err e) old new same goes = tt
 
 -- what a slice lent of a list leaves, where it keeps its length

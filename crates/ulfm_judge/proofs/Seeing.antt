@@ -3,18 +3,18 @@ use Rattle.std.proofs.Common.{zero, suc, length-append, append-nil, ◌≡◌, �
 use Rattle.std.proofs.lemmas.Bool.{leb-false, leb-true, ne_eqb}
 use Rattle.std.proofs.lemmas.List.{take-append-drop}
 use Rattle.std.proofs.Math.Seq.{take-length}
-use Rattle.std.specs.{List.{cons_option}, Option.{option_map, option_map_or}}
-use Rattle.std.specs.Prelude.{Vec}
+use Rattle.std.specs.{List.{cons_option}, Option.{option_map}}
+use Rattle.std.specs.Prelude.{Vec, map, unwrap_or}
 use Rattle.ulfm_model.specs.declared.event.Entry.{Entry}
 use Rattle.ulfm_model.specs.{History.{History, failures, first_ranks, members, same_place, says, spawns}, Terms.{put_at}}
 use Rattle.ulfm_model.proofs.Histories.{members_made, members_same, members_stay, spawns_push}
 use Rattle.ulfm_history.proofs.Walks.{members_missing}
 use Rattle.ulfm_judge.specs.declared.numbers.Numbers.{Numbers}
-use Rattle.ulfm_judge.specs.{Seen.{Seen, made_in, seen_of}, Telling.{Tells, TellsGroups, group_at, items_of, seen_at}}
+use Rattle.ulfm_judge.specs.{Failed.{members_of}, Groups.{group_at, items_of}, Seen.{Seen, made_in, seen_of}, Telling.{Tells, TellsGroups, seen_at}}
 use Rattle.ulfm_judge.specs.Numbers.{before_then, by_then, count_by}
 use Rattle.ulfm_judge.proofs.Tabling.{first_by, given_at, passing_at}
 
-module _ {P A : Type 0} (ranks : ℕ) (numbers : Numbers P A) (h : History P) (tells : Tells ranks numbers h) (point : ℕ) where
+module _ {P A : Type 0} {g : _} (ranks : ℕ) (numbers : Numbers P A g) (h : History P) (tells : Tells ranks numbers h) (point : ℕ) where
   slots_same : (at : ℕ × ℕ × ℕ) → (seen_at numbers point).slots at ≡ (seen_of ranks (take point h)).slots at
   slots_same at = ap (by_then point) (tells.slots at) ∙ sym (first_by (λ (e : Entry P). put_at at (says e.event).settles) point h)
 
@@ -37,7 +37,7 @@ module _ {P A : Type 0} (ranks : ℕ) (numbers : Numbers P A) (h : History P) (t
 
   -- a communicator that there is keeps its members, and one that there isn't has none
   members_told : (c : ℕ) (b : Bool) → nat_le c (length (spawns (take point h))) ≡ b
-      → (if b then group_at numbers.groups.items c else []) ≡ members ranks (take point h) c
+      → (if b then group_at (map members_of numbers.groups.items) c else []) ≡ members ranks (take point h) c
   members_told c true is =
       let here : c ≤ length (spawns (take point h)) = leb-true c (length (spawns (take point h))) is in
       let both = members_stay ranks (take point h) h c (drop point h, take-append-drop point h) here in
@@ -47,7 +47,7 @@ module _ {P A : Type 0} (ranks : ℕ) (numbers : Numbers P A) (h : History P) (t
       sym (members_missing ranks (take point h) c (inr beyond) ∙ ap (λ (b : Bool). first_ranks (if b then ranks else 0)) (ne_eqb c 0 (λ same. omega (arith, beyond, same))))
 
   members_seen : (c : ℕ) → (seen_at numbers point).members c ≡ members ranks (take point h) c
-  members_seen c = ap (λ (xs : List (ℕ × ℕ)). if nat_le c (length xs) then group_at numbers.groups.items c else []) spawns_same ∙ members_told c (nat_le c (length (spawns (take point h)))) refl
+  members_seen c = ap (λ (xs : List (ℕ × ℕ)). if nat_le c (length xs) then group_at (map members_of numbers.groups.items) c else []) spawns_same ∙ members_told c (nat_le c (length (spawns (take point h)))) refl
 
   pub seen_same : seen_at numbers point ≡ seen_of ranks (take point h)
   seen_same = λ i. record {
@@ -69,7 +69,7 @@ get_last : {X : Type 0} (xs : List X) (x : X) → slice_get (xs ++ x ∷ []) (le
 get_last [] x = refl
 get_last (y ∷ xs) x = get_last xs x
 
-module _ {P A : Type 0} (ranks : ℕ) (groups : List (Vec ℕ A)) (h : History P) (e : Entry P) (tells : TellsGroups ranks groups h) where
+module _ {P : Type 0} (ranks : ℕ) (groups : List (List ℕ)) (h : History P) (e : Entry P) (tells : TellsGroups ranks groups h) where
   -- an event that makes no communicator
   pub groups_kept : (says e.event).makes ≡ None → TellsGroups ranks groups (h ++ e ∷ [])
   groups_kept none =
@@ -82,7 +82,7 @@ module _ {P A : Type 0} (ranks : ℕ) (groups : List (Vec ℕ A)) (h : History P
       }
 
   -- one that makes a communicator
-  pub groups_grow : (of : ℕ × ℕ) (group : Vec ℕ A) → (says e.event).makes ≡ Some of → group.items ≡ made_in (seen_of ranks h) (of.0) (of.1) → TellsGroups ranks (groups ++ group ∷ []) (h ++ e ∷ [])
+  pub groups_grow : (of : ℕ × ℕ) (group : List ℕ) → (says e.event).makes ≡ Some of → group ≡ made_in (seen_of ranks h) (of.0) (of.1) → TellsGroups ranks (groups ++ group ∷ []) (h ++ e ∷ [])
   groups_grow of group makes is = record { count = omega (arith, length-append groups (group ∷ []), tells.count, longer); each = λ c here. at c here (nat_le c (length (spawns h))) refl }
     where
       longer : length (spawns (h ++ e ∷ [])) ≡ length (spawns h) + 1
@@ -92,37 +92,37 @@ module _ {P A : Type 0} (ranks : ℕ) (groups : List (Vec ℕ A)) (h : History P
       at c here true is_there =
           let there : c ≤ length (spawns h) = leb-true c (length (spawns h)) is_there in
           let within : c < length groups = omega (arith, there, tells.count) in
-          ap (λ (o : Option (Vec ℕ A)). option_map_or (λ (v : Vec ℕ A). v.items) o []) (get_before groups (group ∷ []) c within) ∙ (tells.each c there ∙ sym (members_same ranks h e c there))
+          ap (λ (o : Option (List ℕ)). unwrap_or o []) (get_before groups (group ∷ []) c within) ∙ (tells.each c there ∙ sym (members_same ranks h e c there))
       at c here false is_new =
           let next : c ≡ length (spawns h) + 1 = omega (arith, leb-false c (length (spawns h)) is_new, here, longer) in
           let last : c ≡ length groups = omega (arith, next, tells.count) in
-          ap (λ (o : Option (Vec ℕ A)). option_map_or (λ (v : Vec ℕ A). v.items) o []) (ap (slice_get (groups ++ group ∷ [])) last ∙ get_last groups group)
+          ap (λ (o : Option (List ℕ)). unwrap_or o []) (ap (slice_get (groups ++ group ∷ [])) last ∙ get_last groups group)
           ∙ (is ∙ sym (members_made ranks h e c (of.0) (of.1) makes next))
 
 -- what they say of now is what the whole history says
-pub seen_now : {P A : Type 0} (ranks : ℕ) (numbers : Numbers P A) (h : History P) → Tells ranks numbers h → seen_at numbers numbers.count ≡ seen_of ranks h
+pub seen_now : {P A : Type 0} {g : _} (ranks : ℕ) (numbers : Numbers P A g) (h : History P) → Tells ranks numbers h → seen_at numbers numbers.count ≡ seen_of ranks h
 seen_now ranks numbers h tells = seen_same ranks numbers h tells numbers.count ∙ ap (seen_of ranks) (ap (λ n. take n h) tells.count ∙ take-length h)
 
 -- the groups at first: the world's members alone
-pub groups_first : {A : Type 0} (P : Type 0) (ranks : ℕ) (groups : List (Vec ℕ A)) (world : Vec ℕ A) → groups ≡ world ∷ [] → world.items ≡ first_ranks ranks → TellsGroups {P = P} ranks groups []
-groups_first {A} P ranks groups world is members_are = record { count = ap length is; each = each }
+pub groups_first : (P : Type 0) (ranks : ℕ) (groups : List (List ℕ)) (world : List ℕ) → groups ≡ world ∷ [] → world ≡ first_ranks ranks → TellsGroups {P = P} ranks groups []
+groups_first P ranks groups world is members_are = record { count = ap length is; each = each }
   where
     each : (c : ℕ) → c ≤ length (spawns {P = P} []) → group_at groups c ≡ members {P = P} ranks [] c
-    each zero here = ap (λ (gs : List (Vec ℕ A)). group_at gs 0) is ∙ members_are
+    each zero here = ap (λ (gs : List (List ℕ)). group_at gs 0) is ∙ members_are
     each (suc c) here = absurd (omega (arith, here))
 
 -- the groups after one more event, where that of the communicator that it makes, if it makes one, was noted
-pub groups_noted : {P A : Type 0} (ranks : ℕ) (groups longer : List (Vec ℕ A)) (h : History P) (e : Entry P) (seen : Seen P) (made : Option (Vec ℕ A)) → TellsGroups ranks groups h → seen ≡ seen_of ranks h
-    → items_of made ≡ option_map (λ (of : ℕ × ℕ). made_in seen (of.0) (of.1)) (says e.event).makes → longer ≡ groups ++ cons_option made [] → TellsGroups ranks longer (h ++ e ∷ [])
+pub groups_noted : {P A : Type 0} (ranks : ℕ) (groups longer : List (List ℕ)) (h : History P) (e : Entry P) (seen : Seen P) (made : Option (Vec ℕ A)) → TellsGroups ranks groups h → seen ≡ seen_of ranks h
+    → items_of made ≡ option_map (λ (of : ℕ × ℕ). made_in seen (of.0) (of.1)) (says e.event).makes → longer ≡ groups ++ cons_option (items_of made) [] → TellsGroups ranks longer (h ++ e ∷ [])
 groups_noted {P} {A} ranks groups longer h e seen made tells sees is longer_is =
-    subst (λ (gs : List (Vec ℕ A)). TellsGroups ranks gs (h ++ e ∷ [])) (sym longer_is) (by_event ((says e.event).makes) refl made is)
+    subst (λ (gs : List (List ℕ)). TellsGroups ranks gs (h ++ e ∷ [])) (sym longer_is) (by_event ((says e.event).makes) refl (items_of made) is)
   where
-    by_event : (o : Option (ℕ × ℕ)) → (says e.event).makes ≡ o → (made : Option (Vec ℕ A)) → items_of made ≡ option_map (λ (of : ℕ × ℕ). made_in seen (of.0) (of.1)) ((says e.event).makes)
+    by_event : (o : Option (ℕ × ℕ)) → (says e.event).makes ≡ o → (made : Option (List ℕ)) → made ≡ option_map (λ (of : ℕ × ℕ). made_in seen (of.0) (of.1)) ((says e.event).makes)
         → TellsGroups ranks (groups ++ cons_option made []) (h ++ e ∷ [])
-    by_event None none None is = subst (λ (gs : List (Vec ℕ A)). TellsGroups ranks gs (h ++ e ∷ [])) (sym (append-nil groups)) (groups_kept ranks groups h e tells none)
+    by_event None none None is = subst (λ (gs : List (List ℕ)). TellsGroups ranks gs (h ++ e ∷ [])) (sym (append-nil groups)) (groups_kept ranks groups h e tells none)
     by_event None none (Some group) is = absurd (cc (is ∙ ap (λ o. option_map (λ (of : ℕ × ℕ). made_in seen (of.0) (of.1)) o) none))
     by_event (Some of) some None is = absurd (cc (is ∙ ap (λ o. option_map (λ (of : ℕ × ℕ). made_in seen (of.0) (of.1)) o) some))
     by_event (Some of) some (Some group) is =
-        let same : Some group.items ≡ Some (made_in seen (of.0) (of.1)) = is ∙ ap (λ o. option_map (λ (of : ℕ × ℕ). made_in seen (of.0) (of.1)) o) some in
-        let items : group.items ≡ made_in seen (of.0) (of.1) = cc same in
+        let same : Some group ≡ Some (made_in seen (of.0) (of.1)) = is ∙ ap (λ o. option_map (λ (of : ℕ × ℕ). made_in seen (of.0) (of.1)) o) some in
+        let items : group ≡ made_in seen (of.0) (of.1) = cc same in
         groups_grow ranks groups h e tells of group some (items ∙ ap (λ (s : Seen P). made_in s (of.0) (of.1)) sees)

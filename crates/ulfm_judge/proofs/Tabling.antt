@@ -174,7 +174,7 @@ module _ {X Y : Type 0} (f : X → Option Y) where
   given_at point xs = let same : 0 + point ≡ point = omega arith in given_from 0 point xs ∙ ap (λ m. take (count_by m (numbers_from f 0 xs)) (filter_map f xs)) same
 
   -- one more event
-  numbers_more : (n : ℕ) (xs : List X) (x : X) → numbers_from f n (xs ++ x ∷ []) ≡ numbers_from f n xs ++ cons_option (option_map (λ y. n + length xs) (f x)) []
+  pub numbers_more : (n : ℕ) (xs : List X) (x : X) → numbers_from f n (xs ++ x ∷ []) ≡ numbers_from f n xs ++ cons_option (option_map (λ y. n + length xs) (f x)) []
   numbers_more n [] x = let same : n ≡ n + 0 = omega arith in ap (λ m. cons_option (option_map (λ y. m) (f x)) []) same
   numbers_more n (z ∷ xs) x = go (f z) (numbers_more (n + 1) xs x)
     where

@@ -1,111 +1,91 @@
 -- What the judge's steps do, over plain lists.
-use Rattle.std.proofs.Common.{◌≡◌, ◌<◌, ◌∷◌, ◌++◌, [], ℕ, zero, suc, Bool, true, false, cond, not, List, length, map, Option, Some, None, is_some, get_or, set, refl, sym, ap, ap₂, ◌∙◌, arith, inl, inr}
-use Rattle.std.specs.List.{position}
+use Rattle.std.proofs.Common.{◌≡◌, ◌<◌, ◌∷◌, ◌++◌, [], ℕ, Bool, true, false, cond, not, List, length, Option, Some, None, is_some, get_or, set, refl, sym, ap, ap₂, ◌∙◌, inl, inr}
 use Rattle.std.specs.Prelude.{◌&&◌, find, take, unwrap_or}
-use Rattle.std.proofs.lemmas.List.{map-append, set-get_or}
-use Rattle.std.proofs.lemmas.List.Quantifiers.{position-Some}
 use Rattle.ulfm_model.specs.declared.{call.Call.{Call}, event.Caller.{Caller}, event.Event.{Event}, limits.Limits.{Limits}}
 use Rattle.ulfm_model.specs.{Answers.{traits_of}, History.{History, failures}, Records.{Record}}
 use Rattle.ulfm_record.specs.declared.record.RankRecord.{RankRecord}
-use Rattle.ulfm_record.proofs.Places.{find_no_place, find_place, position_below}
 use Rattle.ulfm_trace_model.specs.declared.line.{Line.{Line}, Why.{Why}}
-use Rattle.ulfm_trace_model.specs.Traces.{Takes, Traced, Under, call_by, change_by, found_by, is_owned, record_of, same_caller, with_event}
+use Rattle.ulfm_trace_model.specs.Traces.{Takes, Traced, Under, call_by, caller_of, change_by, found_by, is_owned, record_of, same_caller, with_event}
 use Rattle.ulfm_judge.specs.declared.calls.OpenCall.{OpenCall}
-use Rattle.ulfm_judge.specs.{Kept.{traced_of, under_of}, Seen.{seen_of}, Tests.{due_test, follow_test, own_by_test, own_call_test, own_test}}
+use Rattle.ulfm_judge.specs.{Kept.{AreCalls, GoesWith, place_by, seat_of, traced_of, under_of}, Seen.{seen_of}, Tests.{due_test, follow_test, own_by_test, own_call_test, own_test}}
 use Rattle.ulfm_judge.proofs.Deciding.{due_decides, follow_decides, own_by_decides}
+use Rattle.ulfm_judge.proofs.Seating.{begun_at, changed_at, kept_here, kept_nowhere, stood}
 
-unchanged : {P : Type 0} (by : Caller) (f : Under P → Under P) (ys : List (Under P)) → find (λ u. same_caller (traits_of u.asked).by by) ys ≡ None → ys ≡ change_by by f ys
-unchanged by f [] e = refl
-unchanged by f (y ∷ ys) e =
-    elim (same_caller (traits_of y.asked).by by) as (λ b. cond b (Some y) (find (λ u. same_caller (traits_of u.asked).by by) ys) ≡ None → y ∷ ys ≡ cond b (f y ∷ ys) (y ∷ change_by by f ys))
-    [ true ↦ λ e. absurd (cc e) | false ↦ λ e. ap (λ zs. y ∷ zs) (unchanged by f ys e) ] e
+-- a caller without a call: nothing changes
+pub change_nobody : {P : Type 0} (by : Caller) (f : Under P → Under P) (ys : List (Under P)) → find (λ u. same_caller (caller_of u) by) ys ≡ None → ys ≡ change_by by f ys
+change_nobody by f [] e = refl
+change_nobody by f (y ∷ ys) e =
+    elim (same_caller (caller_of y) by) as (λ b. cond b (Some y) (find (λ u. same_caller (caller_of u) by) ys) ≡ None → y ∷ ys ≡ cond b (f y ∷ ys) (y ∷ change_by by f ys))
+    [ true ↦ λ e. absurd (cc e) | false ↦ λ e. ap (λ zs. y ∷ zs) (change_nobody by f ys e) ] e
 
-module _ {P A : Type 0} (by : Caller) (f : Under P → Under P) where
-  changed_at : (xs : List (OpenCall P A)) (i : ℕ) (d y : OpenCall P A) → i < length xs → same_caller (traits_of (get_or xs i d).asked).by by ≡ true
-      → ((k : ℕ) → k < i → same_caller (traits_of (get_or xs k d).asked).by by ≡ false) → under_of y ≡ f (under_of (get_or xs i d))
-      → map under_of (set xs i y) ≡ change_by by f (map under_of xs)
-  changed_at [] i d y within is before same = absurd (omega arith)
-  changed_at (x ∷ xs) zero d y within is before same =
-      ap (λ z. z ∷ map under_of xs) same ∙ sym (ap (λ b. cond b (f (under_of x) ∷ map under_of xs) (under_of x ∷ change_by by f (map under_of xs))) is)
-  changed_at (x ∷ xs) (suc i) d y within is before same =
-      ap (λ zs. under_of x ∷ zs) (changed_at xs i d y (omega arith) is (λ k le. before (suc k) (omega arith)) same)
-      ∙ sym (ap (λ b. cond b (f (under_of x) ∷ map under_of xs) (under_of x ∷ change_by by f (map under_of xs))) (before 0 (omega arith)))
+-- a further event leaves a call's caller
+pub event_keeps : {P : Type 0} (event : Event P) (u : Under P) → caller_of (with_event event u) ≡ caller_of u
+event_keeps event u = go (is_owned u event)
+  where
+    go : (b : Bool) → caller_of (cond b (record u { own = u.own ++ event ∷ [] }) u) ≡ caller_of u
+    go true = refl
+    go false = refl
 
-  -- a write at the place of a caller's call
-  pub change_place : (xs : List (OpenCall P A)) (i : ℕ) (d y : OpenCall P A) → position (λ u. same_caller (traits_of u.asked).by by) xs ≡ Some i → under_of y ≡ f (under_of (get_or xs i d))
-      → map under_of (set xs i y) ≡ change_by by f (map under_of xs)
-  change_place xs i d y at same = let first = position-Some (λ (u : OpenCall P A). same_caller (traits_of u.asked).by by) xs i d at in changed_at xs i d y first.0 first.1 first.2 same
-
-  -- a caller without a call: nothing changes
-  pub change_nobody : (xs : List (OpenCall P A)) → position (λ u. same_caller (traits_of u.asked).by by) xs ≡ None → map under_of xs ≡ change_by by f (map under_of xs)
-  change_nobody xs at = unchanged by f (map under_of xs) (find_no_place under_of (λ (u : Under P). same_caller (traits_of u.asked).by by) xs at)
-
-  -- a call that f leaves as it is
-  pub change_nothing : (xs : List (OpenCall P A)) (i : ℕ) (d : OpenCall P A) → position (λ u. same_caller (traits_of u.asked).by by) xs ≡ Some i → under_of (get_or xs i d) ≡ f (under_of (get_or xs i d))
-      → map under_of xs ≡ change_by by f (map under_of xs)
-  change_nothing xs i d at same = ap (map under_of) (sym (set-get_or xs i d)) ∙ change_place xs i d (get_or xs i d) at same
-
-module _ {P A : Type 0} (meld : P → P → P) (limits : Limits) (h : History P) (records : List (RankRecord A)) (calls : List (OpenCall P A)) (group : List ℕ) where
+module _ {P A : Type 0} (meld : P → P → P) (limits : Limits) (h : History P) (records : List (RankRecord A)) (calls : List (OpenCall P A)) (us : List (Under P)) (are : AreCalls calls us) (group : List ℕ) where
   abbrev now : Traced P
-  now = traced_of limits h records calls
+  now = traced_of limits h records us
 
-  pub open_at : (by : Caller) (i : ℕ) (d : OpenCall P A) → position (λ u. same_caller (traits_of u.asked).by by) calls ≡ Some i → call_by now by ≡ Some (under_of (get_or calls i d))
-  open_at by i d at = find_place under_of (λ (u : Under P). same_caller (traits_of u.asked).by by) calls i d at
+  -- what is said with other calls
+  abbrev with_calls : List (Under P) → Traced P
+  with_calls next = traced_of limits h records next
 
-  pub none_open : (by : Caller) → position (λ u. same_caller (traits_of u.asked).by by) calls ≡ None → call_by now by ≡ None
-  none_open by at = find_no_place under_of (λ (u : Under P). same_caller (traits_of u.asked).by by) calls at
+  pub open_here : (by : Caller) (i : ℕ) (d : OpenCall P A) → place_by calls by ≡ Some i → call_by now by ≡ Some (under_of (get_or calls i d))
+  open_here by i d at = are by ∙ kept_here calls by i d at
 
-  -- a call begins
-  pub begins : (asked : Call P) (u : OpenCall P A) → position (λ v. same_caller (traits_of v.asked).by (traits_of asked).by) calls ≡ None
-      → under_of u ≡ record { asked = asked; begun = length h; look = None; own = [] } → Takes meld now group (Line.Called asked) (traced_of limits h records (calls ++ u ∷ [])) None
-  begins asked u at is = (
-    none_open (traits_of asked).by at,
-    ap (λ (us : List (Under P)). record now { calls = us }) (map-append under_of calls (u ∷ []) ∙ ap (λ v. map under_of calls ++ v ∷ []) is),
-  )
+  pub none_open : (by : Caller) → place_by calls by ≡ None → call_by now by ≡ None
+  none_open by at = are by ∙ kept_nowhere calls by at
 
   -- where a call stands, one is open
-  pub open_somewhere : (by : Caller) (i : ℕ) → position (λ v. same_caller (traits_of v.asked).by by) calls ≡ Some i → (u : Under P) × (call_by now by ≡ Some u)
-  open_somewhere by i at = let d = some_of calls i at in (under_of (get_or calls i d), open_at by i d at)
-    where
-      some_of : (xs : List (OpenCall P A)) (i : ℕ) → position (λ v. same_caller (traits_of v.asked).by by) xs ≡ Some i → OpenCall P A
-      some_of [] i at = absurd (omega (arith, position_below (λ (v : OpenCall P A). same_caller (traits_of v.asked).by by) [] i at))
-      some_of (x ∷ xs) i at = x
+  pub open_somewhere : (by : Caller) (i : ℕ) → place_by calls by ≡ Some i → (u : Under P) × (call_by now by ≡ Some u)
+  open_somewhere by i at = let d = (stood calls by i at).call in (under_of (get_or calls i d), open_here by i d at)
+
+  -- a call begins, where there is room for it
+  pub begins : (asked : Call P) (roomy : List (OpenCall P A)) (i : ℕ) (y : OpenCall P A) → place_by calls (traits_of asked).by ≡ None → AreCalls roomy us → i ≡ seat_of (traits_of asked).by → i < length roomy
+      → y.is_open ≡ true → under_of y ≡ record { asked = asked; begun = length h; look = None; own = [] } → GoesWith (set roomy i y) (λ next. Takes meld now group (Line.Called asked) (with_calls next)) None
+  begins asked roomy i y at roomy_are seat within holds is =
+      let by = (traits_of asked).by in
+      let new : Under P = record { asked = asked; begun = length h; look = None; own = [] } in
+      let none = none_open by at in
+      (us ++ new ∷ [], begun_at roomy us by i y new roomy_are seat within none refl holds is, (none, refl))
 
   -- its caller has one open
-  pub busy : (asked : Call P) (i : ℕ) → position (λ v. same_caller (traits_of v.asked).by (traits_of asked).by) calls ≡ Some i → Takes meld now group (Line.Called asked) now (Some Why.Call)
-  busy asked i at = let there = open_somewhere (traits_of asked).by i at in ((refl, λ none. absurd (cc (there.1, none))), refl)
+  pub busy : (asked : Call P) (i : ℕ) → place_by calls (traits_of asked).by ≡ Some i → GoesWith calls (λ next. Takes meld now group (Line.Called asked) (with_calls next)) (Some Why.Call)
+  busy asked i at = let there = open_somewhere (traits_of asked).by i at in (us, are, ((refl, λ none. absurd (cc (there.1, none))), refl))
 
   -- a look by a rank that has no call open
-  pub no_call : (r count : ℕ) → position (λ u. same_caller (traits_of u.asked).by (Caller.Rank r)) calls ≡ None → Takes meld now group (Line.Looked r count) now (Some Why.Call)
-  no_call r count at = (inl (refl, λ is_open. absurd (cc (ap is_some (none_open (Caller.Rank r) at), is_open))), refl)
+  pub no_call : (r count : ℕ) → place_by calls (Caller.Rank r) ≡ None → GoesWith calls (λ next. Takes meld now group (Line.Looked r count) (with_calls next)) (Some Why.Call)
+  no_call r count at = (us, are, (inl (refl, λ is_open. absurd (cc (ap is_some (none_open (Caller.Rank r) at), is_open))), refl))
 
   -- a look that is due and exact
-  pub looks : (r count i : ℕ) (d y : OpenCall P A) → position (λ u. same_caller (traits_of u.asked).by (Caller.Rank r)) calls ≡ Some i
-      → due_test (record_of now r) (get_or calls i d).look ≡ true → count ≡ length (failures h) → under_of y ≡ record (under_of (get_or calls i d)) { look = Some count }
-      → Takes meld now group (Line.Looked r count) (traced_of limits h records (set calls i y)) None
-  looks r count i d y at due exact is = (
-    ((due_decides now r (under_of (get_or calls i d)) (open_at (Caller.Rank r) i d at)).0 due, exact),
-    ap (λ (us : List (Under P)). record now { calls = us }) (change_place (Caller.Rank r) (λ (u : Under P). record u { look = Some count }) calls i d y at is),
-  )
+  pub looks : (r count i : ℕ) (d y : OpenCall P A) → place_by calls (Caller.Rank r) ≡ Some i → due_test (record_of now r) (get_or calls i d).look ≡ true → count ≡ length (failures h)
+      → y.is_open ≡ true → under_of y ≡ record (under_of (get_or calls i d)) { look = Some count } → GoesWith (set calls i y) (λ next. Takes meld now group (Line.Looked r count) (with_calls next)) None
+  looks r count i d y at due exact holds is =
+      let by = Caller.Rank r in
+      let looked = λ (u : Under P). record u { look = Some count } in (
+        change_by by looked us,
+        changed_at calls us by looked (λ u. refl) i d y are at holds is,
+        (((due_decides now r (under_of (get_or calls i d)) (open_here by i d at)).0 due, exact), refl),
+      )
 
   -- one that isn't due
-  pub undue : (r count i : ℕ) (d : OpenCall P A) → position (λ u. same_caller (traits_of u.asked).by (Caller.Rank r)) calls ≡ Some i
-      → due_test (record_of now r) (get_or calls i d).look ≡ false → Takes meld now group (Line.Looked r count) now (Some Why.Look)
-  undue r count i d at due = (
-    inr (
-      refl,
-      ap is_some (open_at (Caller.Rank r) i d at),
-      λ may.
-          let is_due = (due_decides now r (under_of (get_or calls i d)) (open_at (Caller.Rank r) i d at)).1 may.0 in
-          absurd (cc (due, is_due)),
-    ),
-    refl,
-  )
+  pub undue : (r count i : ℕ) (d : OpenCall P A) → place_by calls (Caller.Rank r) ≡ Some i → due_test (record_of now r) (get_or calls i d).look ≡ false
+      → GoesWith calls (λ next. Takes meld now group (Line.Looked r count) (with_calls next)) (Some Why.Look)
+  undue r count i d at due =
+      let there = open_here (Caller.Rank r) i d at in (
+        us,
+        are,
+        (inr (refl, ap is_some there, λ may. let is_due = (due_decides now r (under_of (get_or calls i d)) there).1 may.0 in absurd (cc (due, is_due))), refl),
+      )
 
   -- one that found another number
-  pub inexact : (r count i : ℕ) (d : OpenCall P A) → position (λ u. same_caller (traits_of u.asked).by (Caller.Rank r)) calls ≡ Some i
-      → (count ≡ length (failures h) → ⊥) → Takes meld now group (Line.Looked r count) now (Some Why.Look)
-  inexact r count i d at apart = (inr (refl, ap is_some (open_at (Caller.Rank r) i d at), λ may. apart may.1), refl)
+  pub inexact : (r count i : ℕ) (d : OpenCall P A) → place_by calls (Caller.Rank r) ≡ Some i → (count ≡ length (failures h) → ⊥)
+      → GoesWith calls (λ next. Takes meld now group (Line.Looked r count) (with_calls next)) (Some Why.Look)
+  inexact r count i d at apart = (us, are, (inr (refl, ap is_some (open_here (Caller.Rank r) i d at), λ may. apart may.1), refl))
 
   -- an event that may not come next
   pub bad_event : (by : Caller) (event : Event P) → follow_test meld limits (seen_of limits.ranks h) event ≡ false → Takes meld now group (Line.Happened by (Some event)) now (Some Why.Event)
@@ -117,13 +97,9 @@ module _ {P A : Type 0} (meld : P → P → P) (limits : Limits) (h : History P)
       (inr (refl, (follow_decides meld limits h event).0 may, λ own. let yes_it : own_by_test now by event ≡ true = (own_by_decides now by event).1 own in cc (is, yes_it)), refl)
 
   -- one that may come
-  pub happens : (by : Caller) (event : Event P) (h' : History P) (calls' : List (OpenCall P A)) → follow_test meld limits (seen_of limits.ranks h) event ≡ true → own_by_test now by event ≡ true
-      → h' ≡ h ++ record { by = by; event = event } ∷ [] → map under_of calls' ≡ change_by by (with_event event) (map under_of calls)
-      → Takes meld now group (Line.Happened by (Some event)) (traced_of limits h' records calls') None
-  happens by event h' calls' may own longer changed = (
-    ((follow_decides meld limits h event).0 may, (own_by_decides now by event).0 own),
-    ap₂ (λ (w : History P) (us : List (Under P)). record now { history = w; calls = us }) longer changed,
-  )
+  pub happens : (by : Caller) (event : Event P) → follow_test meld limits (seen_of limits.ranks h) event ≡ true → own_by_test now by event ≡ true
+      → Takes meld now group (Line.Happened by (Some event)) (traced_of limits (h ++ record { by = by; event = event } ∷ []) records (change_by by (with_event event) us)) None
+  happens by event may own = (((follow_decides meld limits h event).0 may, (own_by_decides now by event).0 own), refl)
 
 -- an event that isn't the call's own
 pub unowned : {P : Type 0} (event : Event P) (u : Under P) → is_owned u event ≡ false → u ≡ with_event event u

@@ -1,6 +1,9 @@
+pub mod Failed
+pub mod Groups
 pub mod Kept
 pub mod Numbers
 pub mod ReplyTests
+pub mod Rounds
 pub mod Seen
 pub mod Standing
 pub mod Telling

@@ -29,6 +29,10 @@ numbers_from f n (x ∷ xs) = cons_option (option_map (λ y. n) (f x)) (numbers_
 abbrev pub count_by : ℕ → List ℕ → ℕ
 count_by point numbers = length (filter (λ n. nat_lt n point) numbers)
 
+-- each of these numbers is below a point
+abbrev pub AreBefore : ℕ → List ℕ → Type 0
+AreBefore point numbers = count_by point numbers ≡ length numbers
+
 -- whether something had happened by then, by its number
 abbrev pub before_then : ℕ → Option ℕ → Bool
 before_then point (Some n) = nat_lt n point

@@ -133,9 +133,13 @@ abbrev pub pending_said : {P : Type 0} → Reply P → Bool
 pending_said Reply.Pending = true
 pending_said _ = false
 
--- whether a member that the look didn't find declared is unsettled
+-- whether a rank that the look didn't find declared is unsettled
+abbrev pub late_test : {P : Type 0} → List ℕ → Seen P → ℕ → ℕ → ℕ → Bool
+late_test look seen c k r = not (has look r) && not (is_some (seen.slots (c, k, r)))
+
+-- whether a member is such a rank
 abbrev pub pending_test : {P : Type 0} → List ℕ → Seen P → Held → ℕ → Bool
-pending_test look seen x k = list_any (λ r. not (has look r) && not (is_some (seen.slots (x.comm, k, r)))) x.group
+pending_test look seen x k = list_any (late_test look seen x.comm k) x.group
 
 -- whether a body is this flag
 abbrev pub flag_test : {P : Type 0} → (P → ℕ) → Body P → P → Bool

@@ -2,9 +2,10 @@
 use Rattle.std.specs.Prelude.{◌≡◌}
 use Rattle.ulfm_trace_model.specs.Traces.{Traced}
 use Rattle.ulfm_judge.specs.declared.judge.Judge.{Judge}
-use Rattle.ulfm_judge.specs.{Kept.{traced_of}, Telling.{Tells}}
+use Rattle.ulfm_judge.specs.{Kept.{AreCalls, traced_of}, Telling.{Tells}}
 
--- a judge stands for what lines said: its tables tell the history, and the records and the calls under way are those that it keeps
-abbrev pub Stands : {P A : Type 0} → Judge P A → Traced P → Type 0
+-- A judge stands for what lines said: its tables tell the history, the records are those that it keeps, and each caller has the call under way that
+-- it keeps at that caller's place.
+abbrev pub Stands : {P A : Type 0} {g : _} → Judge P A g → Traced P → Type 0
 Stands judge now =
-    Tells judge.limits.ranks judge.numbers now.history × (now ≡ traced_of judge.limits now.history judge.records.items judge.calls.items)
+    Tells judge.limits.ranks judge.numbers now.history × AreCalls judge.calls.items now.calls × (now ≡ traced_of judge.limits now.history judge.records.items now.calls)

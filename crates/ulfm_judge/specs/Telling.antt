@@ -1,42 +1,34 @@
 -- The tables of numbers tell a history.
-use Rattle.std.specs.Prelude.{◌≡◌, ℕ, ◌+◌, ◌≤◌, nat_le, nat_eq, if◌then◌else◌, List, [], length, take, slice_get, Option, Vec}
-use Rattle.std.specs.{HashMap.{get}, Option.{option_map, option_map_or}}
+use Rattle.std.specs.Prelude.{◌≡◌, ℕ, ◌+◌, ◌≤◌, nat_le, nat_eq, if◌then◌else◌, List, [], length, map, take}
+use Rattle.std.specs.HashMap.{get}
 use Rattle.ulfm_model.specs.History.{History, members, same_place, spawns}
 use Rattle.ulfm_model.specs.declared.limits.Limits.{Limits}
 use Rattle.ulfm_record.specs.declared.record.RankRecord.{RankRecord}
-use Rattle.ulfm_trace_model.specs.Traces.{Traced}
+use Rattle.ulfm_trace_model.specs.Traces.{Traced, Under}
 use Rattle.ulfm_judge.specs.declared.calls.OpenCall.{OpenCall}
-use Rattle.ulfm_judge.specs.{Kept.{traced_of}, Seen.{Seen}}
+use Rattle.ulfm_judge.specs.{Failed.{members_of}, Groups.{group_at}, Kept.{AreCalls, traced_of}, Seen.{Seen}}
 use Rattle.ulfm_judge.specs.declared.numbers.Numbers.{Numbers}
 use Rattle.ulfm_judge.specs.Numbers.{TellsArrivals, TellsDeclared, TellsFailures, TellsRevocations, TellsSlots, TellsSpawns}
 use Rattle.ulfm_judge.specs.Numbers.{before_then, by_then, count_by}
 
--- the group of a number, or nobody
-abbrev pub group_at : {A : Type 0} → List (Vec ℕ A) → ℕ → List ℕ
-group_at {A} groups c = option_map_or (λ (group : Vec ℕ A). group.items) (slice_get groups c) []
-
--- the ranks of a list of them, if there is one
-abbrev pub items_of : {A : Type 0} → Option (Vec ℕ A) → Option (List ℕ)
-items_of {A} group = option_map (λ (ranks : Vec ℕ A). ranks.items) group
-
--- the groups are the members of each communicator there is
-pub record TellsGroups {P A : Type 0} (ranks : ℕ) (groups : List (Vec ℕ A)) (h : History P) : Type 0 where
+-- these are the members of each communicator there is
+pub record TellsGroups {P : Type 0} (ranks : ℕ) (groups : List (List ℕ)) (h : History P) : Type 0 where
   pub count : length groups ≡ length (spawns h) + 1
   pub each : (c : ℕ) → c ≤ length (spawns h) → group_at groups c ≡ members ranks h c
 
 -- the tables are those of a history in a world of so many ranks
-pub record Tells {P A : Type 0} (ranks : ℕ) (numbers : Numbers P A) (h : History P) : Type 0 where
+pub record Tells {P A : Type 0} {g : _} (ranks : ℕ) (numbers : Numbers P A g) (h : History P) : Type 0 where
   pub slots : TellsSlots numbers.slots h
   pub arrivals : TellsArrivals numbers.arrivals h
   pub revocations : TellsRevocations numbers.revocations h
   pub declared : TellsDeclared numbers.declared h
   pub failures : TellsFailures numbers.failures.items numbers.failed_at.items h
   pub spawns : TellsSpawns numbers.spawns.items numbers.spawned_at.items h
-  pub groups : TellsGroups ranks numbers.groups.items h
+  pub groups : TellsGroups ranks (map members_of numbers.groups.items) h
   pub count : numbers.count ≡ length h
 
 -- what the tables say of a point, which is a number of events
-abbrev pub seen_at : {P A : Type 0} → Numbers P A → ℕ → Seen P
+abbrev pub seen_at : {P A : Type 0} {g : _} → Numbers P A g → ℕ → Seen P
 seen_at numbers point = record {
   slots = λ at. by_then point (get same_place numbers.slots at);
   arrived = λ at. before_then point (get same_place numbers.arrivals at);
@@ -44,9 +36,10 @@ seen_at numbers point = record {
   declared = λ r. before_then point (get nat_eq numbers.declared r);
   failures = take (count_by point numbers.failed_at.items) numbers.failures.items;
   spawns = take (count_by point numbers.spawned_at.items) numbers.spawns.items;
-  members = λ c. if nat_le c (length (take (count_by point numbers.spawned_at.items) numbers.spawns.items)) then group_at numbers.groups.items c else [];
+  members = λ c. if nat_le c (length (take (count_by point numbers.spawned_at.items) numbers.spawns.items)) then group_at (map members_of numbers.groups.items) c else [];
 }
 
 -- what is kept goes on to a state that passes: there is a history that the tables tell, and what is said with it does
-abbrev pub Goes : {P A W : Type 0} → Limits → Numbers P A → List (RankRecord A) → List (OpenCall P A) → (Traced P → W → Type 0) → W → Type 0
-Goes {P} limits numbers records calls Taken why = (h : History P) × Tells limits.ranks numbers h × Taken (traced_of limits h records calls) why
+abbrev pub Goes : {P A W : Type 0} {g : _} → Limits → Numbers P A g → List (RankRecord A) → List (OpenCall P A) → (Traced P → W → Type 0) → W → Type 0
+Goes {P} limits numbers records calls Taken why =
+    (h : History P) × (us : List (Under P)) × Tells limits.ranks numbers h × AreCalls calls us × Taken (traced_of limits h records us) why

@@ -5,17 +5,17 @@ ghost use Rattle.ulfm_judge.specs.Seen.{decision_in, failed_in, is_decided_in, i
 ghost use Rattle.ulfm_judge.specs.Telling.{seen_at};
 ghost use Rattle.ulfm_judge.specs.Tests.{at_test, follow_test, ids_test, place_test, spawn_test};
 
+use crate::groups::has_member;
 use crate::numbers::Numbers;
 use std::alloc::{AllocError, Allocator};
 use ulfm_history::decide::{Decided, decided_by};
-use ulfm_history::reads::has_rank;
 use ulfm_laws::meld::Meld;
 use ulfm_laws::summary::Body;
 use ulfm_model::event::Event;
 use ulfm_model::limits::Limits;
 
 /// Whether a communicator exists.
-fn exists<P: Copy, A: Allocator + Copy + Drop>(
+fn exists<P: Meld, A: Allocator + Copy + Drop>(
     numbers: &Numbers<P, A>,
     point: u64,
     comm: u16,
@@ -26,7 +26,7 @@ fn exists<P: Copy, A: Allocator + Copy + Drop>(
 }
 
 /// Whether a rank is a member of a communicator that has a round of this number.
-fn is_place<P: Copy, A: Allocator + Copy + Drop>(
+fn is_place<P: Meld, A: Allocator + Copy + Drop>(
     limits: Limits,
     numbers: &Numbers<P, A>,
     point: u64,
@@ -37,12 +37,11 @@ fn is_place<P: Copy, A: Allocator + Copy + Drop>(
     ensures { result ≡ place_test limits (seen_at numbers.now point) comm round rank }
 {
     exists(numbers, point, comm)
-        && (has_rank(numbers.members_at(comm, point), rank) && round < limits.rounds)
+        && (has_member(numbers.members_at(comm, point), rank) && round < limits.rounds)
 }
 
 /// Whether a rank may contribute to a round, knowing so many failures.
-fn may_settle<P: Copy, A: Allocator + Copy + Drop>(
-    alloc: A,
+fn may_settle<P: Meld, A: Allocator + Copy + Drop>(
     limits: Limits,
     numbers: &Numbers<P, A>,
     point: u64,
@@ -50,15 +49,15 @@ fn may_settle<P: Copy, A: Allocator + Copy + Drop>(
     round: u16,
     rank: u16,
     known: u16,
-) -> Result<bool, AllocError>
+) -> bool
     ensures { let seen = seen_at numbers.now point in
         let open_yet = not (is_some (seen.slots (comm, round, rank))) in let few = nat_le known (length (failed_in seen comm)) in
-        IfOk result (λ b. b ≡ (place_test limits seen comm round rank && (open_yet && few))) }
+        result ≡ (place_test limits seen comm round rank && (open_yet && few)) }
 {
     let is_place = is_place(limits, numbers, point, comm, round, rank);
     let is_open = numbers.slot_at((comm, round, rank), point).is_none();
-    let group = numbers.failed_at_point(alloc, comm, point)?;
-    Ok(is_place && (is_open && usize::from(known) <= group.len()))
+    let group = numbers.failed_at_point(comm, point);
+    is_place && (is_open && usize::from(known) <= group.len())
 }
 
 /// Whether this rank stands at this place of a group, counted from 1.
@@ -73,8 +72,7 @@ fn is_at(group: &[u16], place: u16, rank: u16) -> bool
 }
 
 /// Whether a rank may be marked in a round, as the one of so many failures that is declared last.
-fn may_mark<P: Copy, A: Allocator + Copy + Drop>(
-    alloc: A,
+fn may_mark<P: Meld, A: Allocator + Copy + Drop>(
     limits: Limits,
     numbers: &Numbers<P, A>,
     point: u64,
@@ -82,16 +80,16 @@ fn may_mark<P: Copy, A: Allocator + Copy + Drop>(
     round: u16,
     rank: u16,
     known: u16,
-) -> Result<bool, AllocError>
+) -> bool
     requires { 0 < known }
     ensures { let seen = seen_at numbers.now point in
         let open_yet = not (is_some (seen.slots (comm, round, rank))) in let at_place = at_test (slice_get (failed_in seen comm) (known - 1)) rank in
-        IfOk result (λ b. b ≡ (place_test limits seen comm round rank && (open_yet && at_place))) }
+        result ≡ (place_test limits seen comm round rank && (open_yet && at_place)) }
 {
     let is_place = is_place(limits, numbers, point, comm, round, rank);
     let is_open = numbers.slot_at((comm, round, rank), point).is_none();
-    let group = numbers.failed_at_point(alloc, comm, point)?;
-    Ok(is_place && (is_open && is_at(&group, known, rank)))
+    let group = numbers.failed_at_point(comm, point);
+    is_place && (is_open && is_at(group, known, rank))
 }
 
 /// Whether a body is a set of context ids that isn't empty.
@@ -105,7 +103,7 @@ pub(crate) fn has_ids<P: Copy>(body: &Body<P>) -> bool
 }
 
 /// Whether a round was decided at a point: each member was settled.
-pub(crate) fn is_decided<P: Copy, A: Allocator + Copy + Drop>(
+pub(crate) fn is_decided<P: Meld, A: Allocator + Copy + Drop>(
     numbers: &Numbers<P, A>,
     point: u64,
     comm: u16,
@@ -128,9 +126,9 @@ pub(crate) fn decision<P: Meld, A: Allocator + Copy + Drop>(
 ) -> Result<Decided<P, A>, AllocError>
     ensures { IfOk result (λ made. decision_of made ≡ decision_in P.meld (seen_at numbers.now point) comm round) }
 {
-    let failed = numbers.failed_at_point(alloc, comm, point)?;
+    let failed = numbers.failed_at_point(comm, point);
     let settled = numbers.settled_at(alloc, comm, round, point)?;
-    decided_by(alloc, &failed, &settled)
+    decided_by(alloc, failed, &settled)
 }
 
 /// Whether a round decides on a set of context ids that isn't empty.
@@ -148,7 +146,7 @@ fn decides_ids<P: Meld, A: Allocator + Copy + Drop>(
 }
 
 /// Whether a communicator has the next number.
-fn is_next<P: Copy, A: Allocator + Copy + Drop>(
+fn is_next<P: Meld, A: Allocator + Copy + Drop>(
     numbers: &Numbers<P, A>,
     point: u64,
     made: u16,
@@ -166,7 +164,7 @@ fn is_of(made: (u16, u16), comm: u16, round: u16) -> bool
 }
 
 /// Whether a communicator was made of a round by a point.
-pub(crate) fn is_made<P: Copy, A: Allocator + Copy + Drop>(
+pub(crate) fn is_made<P: Meld, A: Allocator + Copy + Drop>(
     numbers: &Numbers<P, A>,
     point: u64,
     comm: u16,
@@ -221,31 +219,13 @@ pub(crate) fn may_follow<P: Meld, A: Allocator + Copy + Drop>(
             round,
             rank,
             given,
-        } => may_settle(
-            alloc,
-            limits,
-            numbers,
-            point,
-            comm,
-            round,
-            rank,
-            given.known.count,
-        ),
+        } => Ok(may_settle(limits, numbers, point, comm, round, rank, given.known.count)),
         Event::Mark {
             comm,
             round,
             rank,
             known,
-        } => may_mark(
-            alloc,
-            limits,
-            numbers,
-            point,
-            comm,
-            round,
-            rank,
-            known.known.count,
-        ),
+        } => Ok(may_mark(limits, numbers, point, comm, round, rank, known.known.count)),
         Event::Arrive { comm, round, rank } => {
             let is_place = is_place(limits, numbers, point, comm, round, rank);
             Ok(is_place && !numbers.has_arrived_at((comm, round, rank), point))

@@ -1,5 +1,6 @@
 //! Whether a reply is an answer to a caller's call, at a point.
-ghost use Rattle.std.specs.Prelude.{◌≡◌, IfOk, length};
+ghost use Rattle.std.specs.Prelude.{◌≡◌, IfOk, filter, length};
+ghost use Rattle.ulfm_model.specs.History.{has};
 ghost use Rattle.ulfm_model.specs.Answers.{comm_of, refusal_of};
 ghost use Rattle.ulfm_model.specs.Records.{held_at};
 ghost use Rattle.ulfm_record.specs.Kept.{record_of};
@@ -15,7 +16,7 @@ use crate::replies::{
 };
 use std::alloc::{AllocError, Allocator};
 use ulfm_history::reads::has_rank;
-use ulfm_laws::meld::Packed;
+use ulfm_laws::meld::{Meld, Packed};
 use ulfm_model::call::{Call, comm_of};
 use ulfm_model::contribution::Offer;
 use ulfm_model::event::Event;
@@ -51,20 +52,18 @@ fn is_self_failed<P: Copy>(
 }
 
 /// How many failures of a communicator there were at a point.
-fn count_failed<P: Copy, A: Allocator + Copy + Drop>(
-    alloc: A,
+fn count_failed<P: Meld, A: Allocator + Copy + Drop>(
     numbers: &Numbers<P, A>,
     point: u64,
     comm: u16,
-) -> Result<usize, AllocError>
-    ensures { IfOk result (λ count. count ≡ length (failed_in (seen_at numbers.now point) comm)) }
+) -> usize
+    ensures { result ≡ length (failed_in (seen_at numbers.now point) comm) }
 {
-    let group = numbers.failed_at_point(alloc, comm, point)?;
-    Ok(group.len())
+    numbers.failed_at_point(comm, point).len()
 }
 
 /// Whether a look found all that were declared at a point.
-fn found_all<P: Copy, A: Allocator + Copy + Drop>(
+fn found_all<P: Meld, A: Allocator + Copy + Drop>(
     look: &[u16],
     numbers: &Numbers<P, A>,
     point: u64,
@@ -72,6 +71,21 @@ fn found_all<P: Copy, A: Allocator + Copy + Drop>(
     ensures { result ≡ same_ranks (seen_at numbers.now point).failures look.now }
 {
     same_ranks(numbers.failures_at(point), look)
+}
+
+/// How many of a communicator's members a look found declared, where these are the members that a rank knows.
+fn count_found<P: Meld, A: Allocator + Copy + Drop>(
+    numbers: &Numbers<P, A>,
+    look: &[u16],
+    comm: u16,
+    group: &[u16],
+) -> usize
+    ensures { result ≡ length (filter (has group.now) look.now) }
+{
+    match numbers.known_of(look, comm, group) {
+        Some(known) => known.len(),
+        None => count_known(look, group),
+    }
 }
 
 /// Whether a call that the record doesn't refuse is answered so.
@@ -94,23 +108,23 @@ fn is_reply_on<P: Packed, A: Allocator + Copy + Drop>(
         Call::Fail { .. } => Ok(false),
         Call::GetFailed { comm, .. } => {
             let all = found_all(look, numbers, point);
-            let count = count_failed(alloc, numbers, point, comm)?;
+            let count = count_failed(numbers, point, comm);
             Ok(all && is_group_reply(count, reply))
         }
         Call::Ack { comm, count, .. } => {
             let all = found_all(look, numbers, point);
-            let known = count_failed(alloc, numbers, point, comm)?;
+            let known = count_failed(numbers, point, comm);
             let acked = usize::from(x.acked).max(usize::from(count).min(known));
             Ok(all && is_acked_reply(acked, reply))
         }
         Call::Agree { value, .. } => {
             let stood = numbers.slot_at((x.comm, x.next_agreement, rank), point);
-            let known = count_known(look, &x.group);
+            let known = count_found(numbers, look, x.comm, &x.group);
             Ok(is_start_reply(events, stood, known, rank, x, Offer::Flag(value), reply))
         }
         Call::Shrink { .. } => {
             let stood = numbers.slot_at((x.comm, x.next_agreement, rank), point);
-            let known = count_known(look, &x.group);
+            let known = count_found(numbers, look, x.comm, &x.group);
             let free = free_ids(held);
             Ok(is_start_reply(events, stood, known, rank, x, Offer::Ctx(free), reply))
         }
@@ -183,24 +197,18 @@ pub(crate) fn is_answer<P: Packed, A: Allocator + Copy + Drop>(
 }
 
 /// Whether a reply lists this group.
-pub(crate) fn lists<P: Copy, A: Allocator + Copy + Drop>(
-    alloc: A,
+pub(crate) fn lists<P: Meld, A: Allocator + Copy + Drop>(
     numbers: &Numbers<P, A>,
     point: u64,
     comm: u16,
     reply: &Reply<P>,
     group: &[u16],
-) -> Result<bool, AllocError>
-    ensures { IfOk result (λ b. b ≡ same_ranks group.now (listed_in (seen_at numbers.now point) comm reply.now)) }
+) -> bool
+    ensures { result ≡ same_ranks group.now (listed_in (seen_at numbers.now point) comm reply.now) }
 {
     match *reply {
-        Reply::Shrunk { comm: made, .. } => {
-            Ok(same_ranks(group, numbers.members_at(made, point)))
-        }
-        Reply::FailedGroup { .. } => {
-            let listed = numbers.failed_at_point(alloc, comm, point)?;
-            Ok(same_ranks(group, &listed))
-        }
-        _ => Ok(same_ranks(group, &[])),
+        Reply::Shrunk { comm: made, .. } => { same_ranks(group, numbers.members_at(made, point)) }
+        Reply::FailedGroup { .. } => same_ranks(group, numbers.failed_at_point(comm, point)),
+        _ => same_ranks(group, &[]),
     }
 }

@@ -1,25 +1,27 @@
-//! The calls under way: lines that begin one, and looks.
-ghost use Rattle.std.specs.Prelude.{◌≡◌, ◌<◌, ◌==◌, IfOk, IfSome, List, ℕ, find, length, map, position, take};
-ghost use Rattle.ulfm_judge.specs.Kept.{traced_of};
+//! The calls under way, each at its caller's place: lines that begin one, and looks.
+ghost use Rattle.std.specs.Prelude.{◌≡◌, ◌<◌, ◌≤◌, ◌==◌, IfOk, IfSome, List, OnOk, ℕ, find, length, map, position, take};
+ghost use Rattle.ulfm_judge.specs.Kept.{AreCalls, GoesWith, place_by, seat_of, traced_of};
 ghost use Rattle.ulfm_judge.specs.Tests.{due_test};
 ghost use Rattle.ulfm_model.specs.Answers.{traits_of};
-ghost use Rattle.ulfm_model.specs.History.{History, failures};
-ghost use Rattle.ulfm_model.specs.declared.limits.Limits.{Limits};
+ghost use Rattle.ulfm_model.specs.History.{History, failures, first_ranks};
 ghost use Rattle.ulfm_record.specs.Kept.{record_of};
 ghost use Rattle.ulfm_record.specs.declared.record.RankRecord.{RankRecord};
-ghost use Rattle.ulfm_trace_model.specs.Traces.{Takes, same_caller};
+ghost use Rattle.ulfm_trace_model.specs.Traces.{Takes, Under};
 ghost use Rattle.ulfm_trace_model.specs.declared.line.Line.{Line};
 
 use std::alloc::{AllocError, Allocator};
 use ulfm_laws::meld::Meld;
 use ulfm_model::call::{Call, rank_of};
 use ulfm_model::event::{Caller, Event};
+use ulfm_model::limits::Limits;
 use ulfm_record::record::RankRecord;
 use ulfm_trace_model::line::Why;
 
-/// A call under way.
+/// A caller's place for a call.
 #[derive(Drop)]
 pub struct OpenCall<P: Copy, A: Allocator> {
+    /// Whether a call is under way there; the rest is this call's.
+    pub is_open: bool,
     pub asked: Call<P>,
     /// How many events there were when it began.
     pub begun: u64,
@@ -39,35 +41,49 @@ fn caller_of<P: Copy>(asked: &Call<P>) -> Caller
     }
 }
 
-/// Whether two callers are one.
-fn same_caller(x: Caller, y: Caller) -> bool
-    ensures { result ≡ same_caller x y }
+/// The place of a caller: the outside's is first, and then come those of the ranks.
+fn seat_of(by: Caller) -> usize
+    ensures is { result ≡ seat_of by }
+    ensures small { result ≤ 65536 }
 {
-    match x {
-        Caller::Outside => match y {
-            Caller::Outside => true,
-            Caller::Rank(_) => false,
-        },
-        Caller::Rank(r) => match y {
-            Caller::Outside => false,
-            Caller::Rank(s) => r == s,
-        },
+    match by {
+        Caller::Outside => 0,
+        Caller::Rank(rank) => usize::from(rank) + 1,
     }
 }
 
-/// Whether a call is by this caller.
-pub(crate) fn is_by<P: Meld, A: Allocator>(call: &OpenCall<P, A>, by: Caller) -> bool
-    ensures { result ≡ same_caller (traits_of call.now.asked).by by }
-{
-    same_caller(caller_of(&call.asked), by)
-}
-
-/// Where the call of a caller stands.
+/// Where the call of a caller stands, if it has one under way.
 pub(crate) fn place_by<P: Meld, A: Allocator>(calls: &[OpenCall<P, A>], by: Caller) -> Option<usize>
-    ensures at { result ≡ position (λ u. same_caller (traits_of u.asked).by by) calls.now }
+    ensures at { result ≡ place_by calls.now by }
     ensures within { IfSome result (λ i. i < length calls.now) }
 {
-    calls.iter().position(|u| is_by(u, by))
+    let seat = seat_of(by);
+    match calls.get(seat) {
+        Some(u) if u.is_open => Some(seat),
+        _ => None,
+    }
+}
+
+/// Makes so many places at least; at new ones no call is under way, and what they say is asked counts for nothing.
+fn make_room<P: Meld, A: Allocator + Copy + Drop>(
+    alloc: A,
+    calls: &mut Vec<OpenCall<P, A>, A>,
+    count: usize,
+    asked: Call<P>,
+) -> Result<(), AllocError>
+    ensures room { OnOk result (count ≤ length calls.new.items) }
+    ensures same { (us : List (Under P)) → AreCalls calls.old.items us → AreCalls calls.new.items us }
+{
+    'room: for _place in calls.len()..count {
+        calls.push(OpenCall {
+            is_open: false,
+            asked,
+            begun: 0,
+            look: None,
+            own: Vec::new(alloc),
+        })?;
+    }
+    Ok(())
 }
 
 /// Takes in that a call begins, after so many events.
@@ -77,37 +93,54 @@ pub(crate) fn begin<P: Meld, A: Allocator + Copy + Drop>(
     calls: &mut Vec<OpenCall<P, A>, A>,
     asked: Call<P>,
 ) -> Result<Option<Why>, AllocError>
-    ensures { (limits : Limits) (h : History P) (records : List (RankRecord A)) (group : List ℕ) → count ≡ length h
-        → let old = traced_of limits h records calls.old.items in
-        IfOk result (λ why. Takes P.meld old group (Line.Called asked) (traced_of limits h records calls.new.items) why) }
+    ensures { (limits : Limits) (h : History P) (records : List (RankRecord A)) (us : List (Under P)) (group : List ℕ) → count ≡ length h
+        → AreCalls calls.old.items us → let old = traced_of limits h records us in
+        IfOk result (GoesWith calls.new.items (λ next. Takes P.meld old group (Line.Called asked) (traced_of limits h records next))) }
 {
     let by = caller_of(&asked);
     if let Some(_) = place_by(calls, by) {
         return Ok(Some(Why::Call));
     }
-    let call = OpenCall {
-        asked,
-        begun: count,
-        look: None,
-        own: Vec::new(alloc),
-    };
-    calls.push(call)?;
+    let seat = seat_of(by);
+    make_room(alloc, calls, seat + 1, asked)?;
+    let u = &mut calls[seat];
+    u.asked = asked;
+    u.begun = count;
+    u.look = None;
+    u.own.clear();
+    u.is_open = true;
     Ok(None)
 }
 
-/// Where the record of a rank stands.
-pub(crate) fn place_of_rank<A: Allocator>(records: &[RankRecord<A>], rank: u16) -> Option<usize>
+/// Where the record of a rank stands, in a world of so many ranks.
+pub(crate) fn place_of_rank<A: Allocator>(
+    ranks: u16,
+    records: &[RankRecord<A>],
+    rank: u16,
+) -> Option<usize>
+    requires { map (λ own. own.number) records.now ≡ first_ranks ranks }
     ensures at { result ≡ position (λ own. own.number == rank) records.now }
     ensures within { IfSome result (λ i. i < length records.now) }
 {
-    records.iter().position(|own| own.number == rank)
+    let place = usize::from(rank);
+    if place < records.len() {
+        Some(place)
+    } else {
+        None
+    }
 }
 
 /// Whether a look is due.
-fn is_due<A: Allocator>(records: &[RankRecord<A>], rank: u16, look: Option<u16>) -> bool
-    ensures { (limits : Limits) → result ≡ due_test (find (λ x. x.number == rank) (map (record_of limits) records.now)) look }
+fn is_due<A: Allocator>(
+    limits: Limits,
+    records: &[RankRecord<A>],
+    rank: u16,
+    look: Option<u16>,
+) -> bool
+    requires { map (λ own. own.number) records.now ≡ first_ranks limits.ranks }
+    ensures { result ≡ due_test (find (λ x. x.number == rank) (map (record_of limits) records.now)) look }
 {
-    match place_of_rank(records, rank) {
+    match place_of_rank(limits.ranks, records, rank) {
         Some(i) => match look {
             None => !records[i].refused,
             Some(_) => false,
@@ -118,20 +151,23 @@ fn is_due<A: Allocator>(records: &[RankRecord<A>], rank: u16, look: Option<u16>)
 
 /// Takes in that a look has ended, where these are declared.
 pub(crate) fn look<P: Meld, A: Allocator>(
+    limits: Limits,
     known: &[u16],
     records: &[RankRecord<A>],
     calls: &mut [OpenCall<P, A>],
     rank: u16,
     count: u16,
 ) -> Option<Why>
-    ensures { (limits : Limits) (h : History P) (group : List ℕ) → known.now ≡ failures h → let old = traced_of limits h records.now calls.old in
-        Takes P.meld old group (Line.Looked rank count) (traced_of limits h records.now calls.new) result }
+    requires { map (λ own. own.number) records.now ≡ first_ranks limits.ranks }
+    ensures { (h : History P) (us : List (Under P)) (group : List ℕ) → known.now ≡ failures h → AreCalls calls.old us
+        → let old = traced_of limits h records.now us in
+        GoesWith calls.new (λ next. Takes P.meld old group (Line.Looked rank count) (traced_of limits h records.now next)) result }
 {
     let Some(i) = place_by(calls, Caller::Rank(rank)) else {
         return Some(Why::Call);
     };
     let u = &mut calls[i];
-    if !is_due(records, rank, u.look) {
+    if !is_due(limits, records, rank, u.look) {
         return Some(Why::Look);
     }
     if usize::from(count) != known.len() {

@@ -1,6 +1,6 @@
 //! Replies: whether one may come, and what the judge keeps of it.
-ghost use Rattle.std.specs.Prelude.{◌≡◌, ◌∷◌, ◌++◌, [], IfOk, IsTrue, OnOk, Some, filter, if◌then◌else◌, is_some, map, not, take, unwrap_or};
-ghost use Rattle.ulfm_judge.specs.Kept.{MayLeave, traced_of, under_of};
+ghost use Rattle.std.specs.Prelude.{◌≡◌, ◌∷◌, ◌++◌, [], IfOk, IsTrue, List, OnOk, Some, filter, if◌then◌else◌, is_some, map, not, take, unwrap_or};
+ghost use Rattle.ulfm_judge.specs.Kept.{AreCalls, GoesWith, MayLeave, traced_of, under_of};
 ghost use Rattle.ulfm_judge.specs.ReplyTests.{call_test, rank_test, reply_test};
 ghost use Rattle.ulfm_judge.specs.Telling.{Tells};
 ghost use Rattle.ulfm_model.specs.Answers.{closed, comm_of, left_by, traits_of};
@@ -10,14 +10,15 @@ ghost use Rattle.ulfm_model.specs.Words.{MayOpen};
 ghost use Rattle.ulfm_model.specs.declared.event.Caller.{Caller};
 ghost use Rattle.ulfm_model.specs.declared.reply.Reply.{Reply};
 ghost use Rattle.ulfm_record.specs.Kept.{FitsNext, record_of};
-ghost use Rattle.ulfm_trace_model.specs.Traces.{Takes, record_of as record_at, records_after, same_caller};
+ghost use Rattle.ulfm_trace_model.specs.Traces.{Takes, Under, caller_of, record_of as record_at, records_after, same_caller};
 ghost use Rattle.ulfm_trace_model.specs.declared.line.Line.{Line};
 
 use crate::answers::{is_answer, lists};
-use crate::calls::{OpenCall, first_of, is_by, place_by, place_of_rank};
+use crate::calls::{OpenCall, first_of, place_by, place_of_rank};
 use crate::numbers::Numbers;
 use crate::replies::{is_fail_reply, is_refused};
 use std::alloc::{AllocError, Allocator};
+use std::mem;
 use ulfm_laws::meld::{Meld, Packed};
 use ulfm_model::call::{Call, comm_of, rank_of};
 use ulfm_model::event::Caller;
@@ -40,12 +41,13 @@ fn answers_rank<P: Packed, A: Allocator + Copy + Drop>(
     point: u64,
     reply: &Reply<P>,
 ) -> Result<bool, AllocError>
+    requires { map (λ own. own.number) records.now ≡ first_ranks limits.ranks }
     ensures told { (h : History P) → Tells limits.ranks numbers.now h → let now = traced_of limits h records.now [] in
         IfOk result (λ b. b ≡ rank_test P.meld P.pack now (under_of u.now) point reply.now (record_at now rank)) }
     ensures fits { let now = traced_of limits [] records.now [] in
         MayOpen limits → IfOk result (λ b. IsTrue b → MayLeave now (Caller.Rank rank) (under_of u.now) reply.now) }
 {
-    let Some(j) = place_of_rank(records, rank) else {
+    let Some(j) = place_of_rank(limits.ranks, records, rank) else {
         return Ok(is_refused(reply, Refusal::NoSuchRank));
     };
     let own = &records[j];
@@ -72,6 +74,7 @@ fn answers_call<P: Packed, A: Allocator + Copy + Drop>(
     point: u64,
     reply: &Reply<P>,
 ) -> Result<bool, AllocError>
+    requires { map (λ own. own.number) records.now ≡ first_ranks limits.ranks }
     ensures told { (h : History P) → Tells limits.ranks numbers.now h → let now = traced_of limits h records.now [] in
         IfOk result (λ b. b ≡ call_test P.meld P.pack now by (under_of u.now) point reply.now) }
     ensures fits { let now = traced_of limits [] records.now [] in
@@ -101,6 +104,7 @@ fn may_reply<P: Packed, A: Allocator + Copy + Drop>(
     group: &[u16],
     reply: &Reply<P>,
 ) -> Result<bool, AllocError>
+    requires { map (λ own. own.number) records.now ≡ first_ranks limits.ranks }
     ensures told { (h : History P) → Tells limits.ranks numbers.now h → let now = traced_of limits h records.now [] in
         IfOk result (λ b. b ≡ reply_test P.meld P.pack now by point group.now reply.now (Some (under_of u.now))) }
     ensures fits { let now = traced_of limits [] records.now [] in
@@ -113,24 +117,24 @@ fn may_reply<P: Packed, A: Allocator + Copy + Drop>(
         return Ok(false);
     }
     let answers = answers_call(alloc, limits, numbers, records, u, by, point, reply)?;
-    let lists = lists(alloc, numbers, point, comm_of(&u.asked), reply, group)?;
+    let lists = lists(numbers, point, comm_of(&u.asked), reply, group);
     Ok(answers && lists)
 }
 
 /// The failures that a rank has seen after a call, where these are declared: those that the call's look found, or those from before where it made none.
 fn seen_after<A: Allocator + Copy + Drop>(
-    alloc: A,
     known: &[u16],
     look: Option<u16>,
-    before: &[u16],
+    before: Vec<u16, A>,
 ) -> Result<Vec<u16, A>, AllocError>
-    ensures { IfOk result (λ seen. seen.items ≡ (if is_some look then take (unwrap_or look 0) known.now else before.now)) }
+    ensures { IfOk result (λ seen. seen.items ≡ (if is_some look then take (unwrap_or look 0) known.now else before.items)) }
 {
-    let seen = match look {
-        Some(count) => first_of(known, count),
-        None => before,
-    };
-    seen.iter().copied().collect(alloc)
+    let mut seen = before;
+    if let Some(count) = look {
+        seen.clear();
+        seen.extend_from_slice(first_of(known, count))?;
+    }
+    Ok(seen)
 }
 
 /// A list of ranks as a vector.
@@ -162,7 +166,7 @@ fn hold_made<P: Copy, A: Allocator + Copy + Drop>(
 }
 
 /// Takes a reply into a record, by the tables at its point, with the failures that the rank has seen then.
-fn leave<P: Copy, A: Allocator + Copy + Drop>(
+fn leave<P: Meld, A: Allocator + Copy + Drop>(
     alloc: A,
     limits: Limits,
     numbers: &Numbers<P, A>,
@@ -210,19 +214,22 @@ fn settle_call<P: Meld, A: Allocator + Copy + Drop>(
     let Caller::Rank(rank) = by else {
         return Ok(());
     };
-    let Some(j) = place_of_rank(records, rank) else {
+    let Some(j) = place_of_rank(limits.ranks, records, rank) else {
         return Ok(());
     };
     let own = &mut records[j];
-    let seen = seen_after(alloc, &numbers.failures, u.look, &own.seen)?;
+    let before = mem::replace(&mut own.seen, Vec::new(alloc));
+    let seen = seen_after(&numbers.failures, u.look, before)?;
     leave(alloc, limits, numbers, point, own, seen, &u.asked, reply)
 }
 
 /// A caller's call is no longer under way.
-fn close_call<P: Meld, A: Allocator>(calls: &mut Vec<OpenCall<P, A>, A>, by: Caller)
-    ensures { calls.new.items ≡ filter (λ v. not (same_caller (traits_of v.asked).by by)) calls.old.items }
+fn close_call<P: Meld, A: Allocator>(calls: &mut [OpenCall<P, A>], by: Caller)
+    ensures { (us : List (Under P)) → AreCalls calls.old us → AreCalls calls.new (filter (λ v. not (same_caller (caller_of v) by)) us) }
 {
-    calls.retain(|v| !is_by(v, by));
+    if let Some(i) = place_by(calls, by) {
+        calls[i].is_open = false;
+    }
 }
 
 /// Takes in a reply.
@@ -231,7 +238,7 @@ pub(crate) fn take_reply<P: Packed, A: Allocator + Copy + Drop>(
     limits: Limits,
     numbers: &Numbers<P, A>,
     records: &mut [RankRecord<A>],
-    calls: &mut Vec<OpenCall<P, A>, A>,
+    calls: &mut [OpenCall<P, A>],
     by: Caller,
     point: u32,
     reply: Reply<P>,
@@ -240,8 +247,9 @@ pub(crate) fn take_reply<P: Packed, A: Allocator + Copy + Drop>(
     requires may { MayOpen limits }
     requires numbers { map (λ own. own.number) records.old ≡ first_ranks limits.ranks }
     ensures numbers { map (λ own. own.number) records.new ≡ map (λ own. own.number) records.old }
-    ensures taken { (h : History P) → Tells limits.ranks numbers.now h → let old = traced_of limits h records.old calls.old.items in
-        IfOk result (λ why. Takes P.meld old group.now (Line.Replied by point (Some reply)) (traced_of limits h records.new calls.new.items) why) }
+    ensures taken { (h : History P) (us : List (Under P)) → Tells limits.ranks numbers.now h → AreCalls calls.old us
+        → let old = traced_of limits h records.old us in let line = Line.Replied by point (Some reply) in
+        IfOk result (GoesWith calls.new (λ next. Takes P.meld old group.now line (traced_of limits h records.new next))) }
 {
     let Some(i) = place_by(calls, by) else {
         return Ok(Some(Why::Call));

@@ -1,11 +1,11 @@
 //! Events: whether one is its caller's own, and what the judge keeps of it.
 ghost use Rattle.std.specs.Prelude.{◌≡◌, ◌==◌, false, IfOk, List, OnOk, ℕ, Some, map};
 ghost use Rattle.std.specs.Option.{option_map_or};
-ghost use Rattle.ulfm_model.specs.History.{History, failures, says};
-ghost use Rattle.ulfm_judge.specs.Kept.{traced_of, under_of};
+ghost use Rattle.ulfm_model.specs.History.{History, failures, first_ranks, says};
+ghost use Rattle.ulfm_judge.specs.Kept.{AreCalls, traced_of, under_of};
 ghost use Rattle.ulfm_judge.specs.Telling.{Goes, Tells};
 ghost use Rattle.ulfm_judge.specs.Tests.{own_by_test};
-ghost use Rattle.ulfm_trace_model.specs.Traces.{Takes, change_by, is_owned, with_event};
+ghost use Rattle.ulfm_trace_model.specs.Traces.{Takes, Under, change_by, is_owned, with_event};
 ghost use Rattle.ulfm_trace_model.specs.declared.line.Line.{Line};
 
 use crate::allowed::may_follow;
@@ -46,7 +46,7 @@ fn add_own<P: Meld, A: Allocator + Copy + Drop>(
     by: Caller,
     event: Event<P>,
 ) -> Result<(), AllocError>
-    ensures { OnOk result (map under_of calls.new ≡ change_by by (with_event event) (map under_of calls.old)) }
+    ensures { (us : List (Under P)) → AreCalls calls.old us → OnOk result (AreCalls calls.new (change_by by (with_event event) us)) }
 {
     let Some(i) = place_by(calls, by) else {
         return Ok(());
@@ -67,7 +67,9 @@ fn is_own<P: Meld, A: Allocator>(
     by: Caller,
     event: &Event<P>,
 ) -> bool
-    ensures { (h : History P) → known.now ≡ failures h → result ≡ own_by_test (traced_of limits h records.now calls.now) by event.now }
+    requires { map (λ own. own.number) records.now ≡ first_ranks limits.ranks }
+    ensures { (h : History P) (us : List (Under P)) → known.now ≡ failures h → AreCalls calls.now us
+        → result ≡ own_by_test (traced_of limits h records.now us) by event.now }
 {
     let Caller::Rank(rank) = by else {
         return true;
@@ -75,7 +77,7 @@ fn is_own<P: Meld, A: Allocator>(
     let Some(i) = place_by(calls, by) else {
         return false;
     };
-    let Some(j) = place_of_rank(records, rank) else {
+    let Some(j) = place_of_rank(limits.ranks, records, rank) else {
         return false;
     };
     let u = &calls[i];
@@ -97,7 +99,9 @@ pub(crate) fn happen<P: Meld, A: Allocator + Copy + Drop>(
     by: Caller,
     event: Event<P>,
 ) -> Result<Option<Why>, AllocError>
-    ensures { (h : History P) (group : List ℕ) → Tells limits.ranks numbers.old h → let old = traced_of limits h records.now calls.old in
+    requires { map (λ own. own.number) records.now ≡ first_ranks limits.ranks }
+    ensures { (h : History P) (us : List (Under P)) (group : List ℕ) → Tells limits.ranks numbers.old h → AreCalls calls.old us
+        → let old = traced_of limits h records.now us in
         IfOk result (Goes limits numbers.new records.now calls.new (Takes P.meld old group (Line.Happened by (Some event)))) }
 {
     if !may_follow(alloc, limits, numbers, numbers.count, &event)? {

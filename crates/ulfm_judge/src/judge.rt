@@ -1,12 +1,10 @@
 //! The judge of traces.
 ghost use Rattle.std.specs.Prelude.{◌≡◌, IfOk, List, ℕ, map};
-ghost use Rattle.ulfm_judge.specs.Kept.{traced_of};
+ghost use Rattle.ulfm_judge.specs.Kept.{AreCalls, GoesWith, traced_of};
 ghost use Rattle.ulfm_judge.specs.Telling.{Goes, Tells};
 ghost use Rattle.ulfm_model.specs.History.{History, first_ranks};
-ghost use Rattle.ulfm_model.specs.Records.{new_record};
 ghost use Rattle.ulfm_model.specs.Words.{MayOpen};
-ghost use Rattle.ulfm_record.specs.Kept.{record_of};
-ghost use Rattle.ulfm_trace_model.specs.Traces.{Takes, Traced, nothing};
+ghost use Rattle.ulfm_trace_model.specs.Traces.{Takes, Traced, Under, nothing};
 ghost use Rattle.ulfm_trace_model.specs.declared.line.Line.{Line};
 
 use crate::calls::{OpenCall, begin, look, place_by};
@@ -14,19 +12,18 @@ use crate::closing::take_reply;
 use crate::events::happen;
 use crate::numbers::Numbers;
 use std::alloc::{AllocError, Allocator};
-use ulfm_history::groups::first_ranks;
 use ulfm_laws::meld::{Meld, Packed};
 use ulfm_model::event::{Caller, Event};
 use ulfm_model::limits::Limits;
 use ulfm_model::reply::Reply;
-use ulfm_record::held::HeldComm;
+use ulfm_record::fresh::new_records;
 use ulfm_record::record::RankRecord;
 use ulfm_trace_model::line::{Line, Why};
 
 /// Judges the lines of a trace one after another. Of what happened it keeps when, by what was said, and no history: what a line takes
 /// grows with the members of its communicator, with the communicators and with the failures, and not with the lines before it.
 #[derive(Drop)]
-pub struct Judge<P: Copy, A: Allocator> {
+pub struct Judge<P: Meld, A: Allocator> {
     alloc: A,
     limits: Limits,
     numbers: Numbers<P, A>,
@@ -34,41 +31,6 @@ pub struct Judge<P: Copy, A: Allocator> {
     calls: Vec<OpenCall<P, A>, A>,
     ghost may: { MayOpen limits },
     ghost numbered: { map (λ own. own.number) records.items ≡ first_ranks limits.ranks },
-}
-
-/// A new rank's record: it holds the world's communicator alone.
-fn new_record<A: Allocator + Copy + Drop>(
-    alloc: A,
-    limits: Limits,
-    number: u16,
-) -> Result<RankRecord<A>, AllocError>
-    ensures { IfOk result (λ own. record_of limits own ≡ new_record limits number) }
-{
-    let group = first_ranks(alloc, limits.ranks)?;
-    let mut held = Vec::new(alloc);
-    held.push(HeldComm::new(0, 0, group))?;
-    let seen = Vec::new(alloc);
-    Ok(RankRecord {
-        number,
-        held,
-        seen,
-        refused: false,
-    })
-}
-
-/// A new record of each rank.
-fn new_records<A: Allocator + Copy + Drop>(
-    alloc: A,
-    limits: Limits,
-) -> Result<Vec<RankRecord<A>, A>, AllocError>
-    ensures { IfOk result (λ records. map (record_of limits) records.items ≡ map (new_record limits) (first_ranks limits.ranks)) }
-{
-    let mut records = Vec::new(alloc);
-    for number in 0..limits.ranks {
-        let record = new_record(alloc, limits, number)?;
-        records.push(record)?;
-    }
-    Ok(records)
 }
 
 /// Takes in an event, if the line tells one.
@@ -81,7 +43,9 @@ fn happen_told<P: Packed, A: Allocator + Copy + Drop>(
     by: Caller,
     event: Option<Event<P>>,
 ) -> Result<Option<Why>, AllocError>
-    ensures { (h : History P) (group : List ℕ) → Tells limits.ranks numbers.old h → let old = traced_of limits h records.now calls.old in
+    requires { map (λ own. own.number) records.now ≡ first_ranks limits.ranks }
+    ensures { (h : History P) (us : List (Under P)) (group : List ℕ) → Tells limits.ranks numbers.old h → AreCalls calls.old us
+        → let old = traced_of limits h records.now us in
         IfOk result (Goes limits numbers.new records.now calls.new (Takes P.meld old group (Line.Happened by event))) }
 {
     match event {
@@ -96,7 +60,7 @@ fn reply_told<P: Packed, A: Allocator + Copy + Drop>(
     limits: Limits,
     numbers: &Numbers<P, A>,
     records: &mut [RankRecord<A>],
-    calls: &mut Vec<OpenCall<P, A>, A>,
+    calls: &mut [OpenCall<P, A>],
     by: Caller,
     point: u32,
     reply: Option<Reply<P>>,
@@ -105,8 +69,9 @@ fn reply_told<P: Packed, A: Allocator + Copy + Drop>(
     requires may { MayOpen limits }
     requires numbers { map (λ own. own.number) records.old ≡ first_ranks limits.ranks }
     ensures numbers { map (λ own. own.number) records.new ≡ map (λ own. own.number) records.old }
-    ensures taken { (h : History P) → Tells limits.ranks numbers.now h → let old = traced_of limits h records.old calls.old.items in
-        IfOk result (λ why. Takes P.meld old group.now (Line.Replied by point reply) (traced_of limits h records.new calls.new.items) why) }
+    ensures taken { (h : History P) (us : List (Under P)) → Tells limits.ranks numbers.now h → AreCalls calls.old us
+        → let old = traced_of limits h records.old us in
+        IfOk result (GoesWith calls.new (λ next. Takes P.meld old group.now (Line.Replied by point reply) (traced_of limits h records.new next))) }
 {
     match reply {
         Some(reply) => {
@@ -134,13 +99,14 @@ fn take_line<P: Packed, A: Allocator + Copy + Drop>(
     requires may { MayOpen limits }
     requires numbers { map (λ own. own.number) records.old ≡ first_ranks limits.ranks }
     ensures numbers { map (λ own. own.number) records.new ≡ map (λ own. own.number) records.old }
-    ensures taken { (h : History P) → Tells limits.ranks numbers.old h → let old = traced_of limits h records.old calls.old.items in
+    ensures taken { (h : History P) (us : List (Under P)) → Tells limits.ranks numbers.old h → AreCalls calls.old.items us
+        → let old = traced_of limits h records.old us in
         IfOk result (Goes limits numbers.new records.new calls.new.items (Takes P.meld old group.now line.now)) }
 {
     match *line {
         Line::Called(asked) => begin(alloc, numbers.count, calls, asked),
         Line::Looked { rank, failures } => {
-            Ok(look(&numbers.failures, records, calls, rank, failures))
+            Ok(look(limits, &numbers.failures, records, calls, rank, failures))
         }
         Line::Happened { by, event } => {
             happen_told(alloc, limits, numbers, records, calls, by, event)

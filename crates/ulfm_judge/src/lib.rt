@@ -6,10 +6,12 @@ mod answers;
 pub mod calls;
 mod closing;
 mod events;
+mod groups;
 pub mod judge;
 mod numbers;
 mod own;
 mod polls;
 mod replies;
+mod rounds;
 
 pub use judge::Judge;

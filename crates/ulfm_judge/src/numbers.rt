@@ -1,20 +1,27 @@
 //! When things happened: tables of the numbers of events, in place of walks of a history. Each answer is at a point, which is a
 //! number of events; the tables tell it for every point so far, at no cost by the length of the history. Who the members of a
 //! communicator are is kept when it is made.
-ghost use Rattle.std.specs.Prelude.{◌≡◌, ◌++◌, ◌∷◌, [], ℕ, IfOk, OnOk, filter, length, take};
-ghost use Rattle.std.specs.List.{cons_option};
+ghost use Rattle.std.specs.Prelude.{◌≡◌, ◌+◌, ◌++◌, ◌∷◌, [], ℕ, IfOk, IfSome, OnOk, filter, filter_map, is_some, length, map, take, true};
+ghost use Rattle.std.specs.List.{cons_option, list_all};
+ghost use Rattle.ulfm_history.specs.Walked.{decision_of};
 ghost use Rattle.std.specs.Option.{option_map};
+ghost use Rattle.ulfm_judge.specs.Failed.{AreFailed, members_of};
 ghost use Rattle.ulfm_judge.specs.Numbers.{TellsArrivals, TellsDeclared, TellsFailures, TellsRevocations, TellsSlots, TellsSpawns};
-ghost use Rattle.ulfm_judge.specs.Numbers.{before_then, by_then, count_by};
-ghost use Rattle.ulfm_judge.specs.Seen.{failed_in, made_in, settled_in};
-ghost use Rattle.ulfm_judge.specs.Telling.{Tells, group_at, items_of, seen_at};
+ghost use Rattle.ulfm_judge.specs.Numbers.{AreBefore, before_then, by_then, count_by};
+ghost use Rattle.ulfm_judge.specs.Seen.{decision_in, failed_in, is_decided_in, made_in, settled_in};
+ghost use Rattle.ulfm_judge.specs.Groups.{group_at, items_of};
+ghost use Rattle.ulfm_judge.specs.Rounds.{AreDone, IsDone, KeepsSlots};
 ghost use Rattle.ulfm_model.specs.History.{History, has, says};
 
+use crate::groups::{Group, declare_in_all, group_of, has_member};
+use crate::replies::same_ranks;
+use crate::rounds::{Done, have_common, know_few};
 use std::alloc::{AllocError, Allocator};
 use std::collections::HashMap;
 use std::hash::{BuildHasherDefault, FoldHasher};
+use ulfm_history::decide::{Decided, decided_by};
 use ulfm_history::groups::{first_ranks, union_of, without};
-use ulfm_history::reads::has_rank;
+use ulfm_laws::meld::Meld;
 use ulfm_model::contribution::Slot;
 use ulfm_model::event::{Entry, Event};
 
@@ -26,7 +33,7 @@ pub type Table<K, V, A> = HashMap<K, V, BuildHasherDefault<FoldHasher>, A>;
 
 /// The numbers of the events so far, by what they say.
 #[derive(Drop)]
-pub struct Numbers<P: Copy, A: Allocator> {
+pub struct Numbers<P: Meld, A: Allocator> {
     /// By place, the event that settled it, and what it is settled by.
     pub slots: Table<Place, (u64, Slot<P>), A>,
     /// By place, the arrival of its rank.
@@ -43,10 +50,18 @@ pub struct Numbers<P: Copy, A: Allocator> {
     pub spawns: Vec<(u16, u16), A>,
     /// The numbers of their events.
     pub spawned_at: Vec<u64, A>,
-    /// The members of each communicator, the world's first.
-    pub groups: Vec<Vec<u16, A>, A>,
+    /// The group of each communicator, the world's first.
+    pub groups: Vec<Group<A>, A>,
+    /// By communicator and round, with rank 0, what those rounds decided that have.
+    pub rounds: Table<Place, Done<P, A>, A>,
+    /// By communicator and round, with rank 0, where the search for a member that isn't settled begins, and who was settled last.
+    pub hints: Table<Place, (usize, u16), A>,
     /// How many events there are.
     pub count: u64,
+    ghost rounds_done: { AreDone P.meld rounds slots failures.items (map members_of groups.items) },
+    ghost failed: { AreFailed failures.items groups.items },
+    ghost failed_before: { AreBefore count failed_at.items },
+    ghost spawned_before: { AreBefore count spawned_at.items },
 }
 
 /// What was given by a point.
@@ -126,7 +141,8 @@ fn note_slot<P: Copy, A: Allocator + Copy>(
     number: u64,
     entry: &Entry<P>,
 ) -> Result<(), AllocError>
-    ensures { (h : History P) → TellsSlots slots.old h → number ≡ length h → OnOk result (TellsSlots slots.new (h ++ entry.now ∷ [])) }
+    ensures told { (h : History P) → TellsSlots slots.old h → number ≡ length h → OnOk result (TellsSlots slots.new (h ++ entry.now ∷ [])) }
+    ensures kept { OnOk result (KeepsSlots slots.old slots.new) }
 {
     let Some((place, slot)) = settled_by(entry) else {
         return Ok(());
@@ -206,15 +222,21 @@ fn made_by<P: Copy>(entry: &Entry<P>) -> Option<(u16, u16)>
 fn note_failure<P: Copy, A: Allocator + Copy>(
     ranks: &mut Vec<u16, A>,
     numbers: &mut Vec<u64, A>,
+    groups: &mut [Group<A>],
     number: u64,
     entry: &Entry<P>,
 ) -> Result<(), AllocError>
-    ensures { (h : History P) → TellsFailures ranks.old.items numbers.old.items h → number ≡ length h
+    ensures told { (h : History P) → TellsFailures ranks.old.items numbers.old.items h → number ≡ length h
         → OnOk result (TellsFailures ranks.new.items numbers.new.items (h ++ entry.now ∷ [])) }
+    ensures before { AreBefore number numbers.old.items → OnOk result (AreBefore (number + 1) numbers.new.items) }
+    ensures longer { OnOk result (ranks.new.items ≡ ranks.old.items ++ cons_option (says entry.now.event).declares []) }
+    ensures members { map members_of groups.new ≡ map members_of groups.old }
+    ensures failed { AreFailed ranks.old.items groups.old → OnOk result (AreFailed ranks.new.items groups.new) }
 {
     let Some(rank) = declared_by(entry) else {
         return Ok(());
     };
+    declare_in_all(groups, rank, ranks.len() as u64)?;
     ranks.push(rank)?;
     numbers.push(number)?;
     Ok(())
@@ -227,8 +249,9 @@ fn note_spawn<P: Copy, A: Allocator + Copy>(
     number: u64,
     entry: &Entry<P>,
 ) -> Result<(), AllocError>
-    ensures { (h : History P) → TellsSpawns made.old.items numbers.old.items h → number ≡ length h
+    ensures told { (h : History P) → TellsSpawns made.old.items numbers.old.items h → number ≡ length h
         → OnOk result (TellsSpawns made.new.items numbers.new.items (h ++ entry.now ∷ [])) }
+    ensures before { AreBefore number numbers.old.items → OnOk result (AreBefore (number + 1) numbers.new.items) }
 {
     let Some(of) = made_by(entry) else {
         return Ok(());
@@ -238,24 +261,72 @@ fn note_spawn<P: Copy, A: Allocator + Copy>(
     Ok(())
 }
 
-/// How many of these numbers there were by a point.
-fn count_by(numbers: &[u64], point: u64) -> usize
+/// How many of these numbers are below a point, where all are below another one.
+fn count_by(numbers: &[u64], point: u64, end: u64) -> usize
+    requires { AreBefore end numbers.now }
     ensures { result ≡ count_by point numbers.now }
 {
+    if end <= point {
+        return numbers.len();
+    }
     numbers.iter().filter(|number| **number < point).count()
 }
 
-/// Notes the members of a further communicator, if one was made.
+/// Notes the members of a further communicator, if one was made, where these are declared.
 fn note_group<A: Allocator + Copy + Drop>(
-    groups: &mut Vec<Vec<u16, A>, A>,
-    group: Option<Vec<u16, A>>,
+    alloc: A,
+    groups: &mut Vec<Group<A>, A>,
+    failures: &[u16],
+    made: Option<Vec<u16, A>>,
 ) -> Result<(), AllocError>
-    ensures { OnOk result (groups.new.items ≡ groups.old.items ++ cons_option group []) }
+    ensures members { OnOk result (map members_of groups.new.items ≡ map members_of groups.old.items ++ cons_option (items_of made) []) }
+    ensures failed { AreFailed failures.now groups.old.items → OnOk result (AreFailed failures.now groups.new.items) }
 {
-    if let Some(group) = group {
-        groups.push(group)?;
+    if let Some(members) = made {
+        groups.push(group_of(alloc, members, failures)?)?;
     }
     Ok(())
+}
+
+/// Notes one more event in each table, and the members of the communicator that it makes.
+fn note_all<P: Copy, A: Allocator + Copy + Drop>(
+    alloc: A,
+    slots: &mut Table<Place, (u64, Slot<P>), A>,
+    arrivals: &mut Table<Place, u64, A>,
+    revocations: &mut Table<u16, u64, A>,
+    declared: &mut Table<u16, u64, A>,
+    failures: &mut Vec<u16, A>,
+    failed_at: &mut Vec<u64, A>,
+    spawns: &mut Vec<(u16, u16), A>,
+    spawned_at: &mut Vec<u64, A>,
+    groups: &mut Vec<Group<A>, A>,
+    number: u64,
+    entry: &Entry<P>,
+    made: Option<Vec<u16, A>>,
+) -> Result<(), AllocError>
+    ensures slots { (h : History P) → TellsSlots slots.old h → number ≡ length h → OnOk result (TellsSlots slots.new (h ++ entry.now ∷ [])) }
+    ensures arrivals { (h : History P) → TellsArrivals arrivals.old h → number ≡ length h → OnOk result (TellsArrivals arrivals.new (h ++ entry.now ∷ [])) }
+    ensures revocations { (h : History P) → TellsRevocations revocations.old h → number ≡ length h
+        → OnOk result (TellsRevocations revocations.new (h ++ entry.now ∷ [])) }
+    ensures declared { (h : History P) → TellsDeclared declared.old h → number ≡ length h → OnOk result (TellsDeclared declared.new (h ++ entry.now ∷ [])) }
+    ensures failures { (h : History P) → TellsFailures failures.old.items failed_at.old.items h → number ≡ length h
+        → OnOk result (TellsFailures failures.new.items failed_at.new.items (h ++ entry.now ∷ [])) }
+    ensures spawns { (h : History P) → TellsSpawns spawns.old.items spawned_at.old.items h → number ≡ length h
+        → OnOk result (TellsSpawns spawns.new.items spawned_at.new.items (h ++ entry.now ∷ [])) }
+    ensures kept { OnOk result (KeepsSlots slots.old slots.new) }
+    ensures longer { OnOk result (failures.new.items ≡ failures.old.items ++ cons_option (says entry.now.event).declares []) }
+    ensures members { OnOk result (map members_of groups.new.items ≡ map members_of groups.old.items ++ cons_option (items_of made) []) }
+    ensures failed { AreFailed failures.old.items groups.old.items → OnOk result (AreFailed failures.new.items groups.new.items) }
+    ensures failed_before { AreBefore number failed_at.old.items → OnOk result (AreBefore (number + 1) failed_at.new.items) }
+    ensures spawned_before { AreBefore number spawned_at.old.items → OnOk result (AreBefore (number + 1) spawned_at.new.items) }
+{
+    note_slot(slots, number, entry)?;
+    note_arrival(arrivals, number, entry)?;
+    note_revocation(revocations, number, entry)?;
+    note_declaration(declared, number, entry)?;
+    note_failure(failures, failed_at, groups, number, entry)?;
+    note_spawn(spawns, spawned_at, number, entry)?;
+    note_group(alloc, groups, failures, made)
 }
 
 /// The first so many ranks of a list, or all of it.
@@ -280,12 +351,31 @@ fn first_spawns(made: &[(u16, u16)], count: usize) -> &[(u16, u16)]
     }
 }
 
-/// The group of a number, or nobody.
-fn group_at<A: Allocator>(groups: &[Vec<u16, A>], number: u16) -> &[u16]
-    ensures { result.now ≡ group_at groups.now number }
+/// The members of the communicator of a number, or nobody.
+fn group_at<A: Allocator>(groups: &[Group<A>], number: u16) -> &[u16]
+    ensures { result.now ≡ group_at (map members_of groups.now) number }
 {
     match groups.get(usize::from(number)) {
-        Some(group) => group,
+        Some(group) => &group.members,
+        None => &[],
+    }
+}
+
+/// Who of the communicator of a number is among the first so many failures, where these are declared.
+fn failed_of<'a, A: Allocator>(
+    groups: &'a [Group<A>],
+    failures: &[u16],
+    number: u16,
+    count: usize,
+) -> &'a [u16]
+    requires { AreFailed failures.now groups.now }
+    ensures { result.now ≡ filter (has (group_at (map members_of groups.now) number)) (take count failures.now) }
+{
+    match groups.get(usize::from(number)) {
+        Some(group) => {
+            let end = failures.len() as u64;
+            first_so_many(&group.failed, count_by(&group.places, count as u64, end))
+        }
         None => &[],
     }
 }
@@ -301,18 +391,20 @@ pub(crate) fn among<A: Allocator + Copy>(
     ranks
         .iter()
         .copied()
-        .filter(|rank| has_rank(group, *rank))
+        .filter(|rank| has_member(group, *rank))
         .collect(alloc)
 }
 
-impl<P: Copy, A: Allocator + Copy + Drop> Numbers<P, A> {
+impl<P: Meld, A: Allocator + Copy + Drop> Numbers<P, A> {
+    ghost use Rattle.ulfm_judge.specs.Telling.{Tells, seen_at};
+
     /// The tables of an empty history, in a world of so many ranks.
     pub(crate) fn new(alloc: A, ranks: u16) -> Result<Numbers<P, A>, AllocError>
         ensures { IfOk result (λ numbers. Tells ranks numbers []) }
     {
         let world = first_ranks(alloc, ranks)?;
         let mut groups = Vec::new(alloc);
-        groups.push(world)?;
+        groups.push(group_of(alloc, world, &[])?)?;
         Ok(Numbers {
             slots: HashMap::new(alloc),
             arrivals: HashMap::new(alloc),
@@ -323,6 +415,8 @@ impl<P: Copy, A: Allocator + Copy + Drop> Numbers<P, A> {
             spawns: Vec::new(alloc),
             spawned_at: Vec::new(alloc),
             groups,
+            rounds: HashMap::new(alloc),
+            hints: HashMap::new(alloc),
             count: 0,
         })
     }
@@ -334,16 +428,152 @@ impl<P: Copy, A: Allocator + Copy + Drop> Numbers<P, A> {
         if self.count == u64::MAX {
             return Err(AllocError);
         }
-        let group = self.group_made(alloc, entry)?;
-        note_slot(&mut self.slots, self.count, entry)?;
-        note_arrival(&mut self.arrivals, self.count, entry)?;
-        note_revocation(&mut self.revocations, self.count, entry)?;
-        note_declaration(&mut self.declared, self.count, entry)?;
-        note_failure(&mut self.failures, &mut self.failed_at, self.count, entry)?;
-        note_spawn(&mut self.spawns, &mut self.spawned_at, self.count, entry)?;
-        note_group(&mut self.groups, group)?;
-        self.count += 1;
+        let made = self.group_made(alloc, entry)?;
+        let noted = note_all(
+            alloc,
+            &mut self.slots,
+            &mut self.arrivals,
+            &mut self.revocations,
+            &mut self.declared,
+            &mut self.failures,
+            &mut self.failed_at,
+            &mut self.spawns,
+            &mut self.spawned_at,
+            &mut self.groups,
+            self.count,
+            entry,
+            made,
+        );
+        match noted {
+            Ok(()) => {
+                self.count += 1;
+                self.note_settled(alloc, entry)
+            }
+            Err(error) => {
+                self.rounds.clear();
+                self.failures.clear();
+                self.failed_at.clear();
+                self.spawned_at.clear();
+                self.groups.clear();
+                Err(error)
+            }
+        }
+    }
+
+    /// Notes who was settled last in a round, if an event settles somebody, and what the round decides, if it does now.
+    fn note_settled(&mut self, alloc: A, entry: &Entry<P>) -> Result<(), AllocError>
+        ensures { (ranks : ℕ) (h : History P) → Tells ranks self.old h → Tells ranks self.new h }
+    {
+        let Some(((comm, round, rank), _)) = settled_by(entry) else {
+            return Ok(());
+        };
+        let open = self.first_open(comm, round);
+        self.hints.insert((comm, round, 0), (open, rank))?;
+        if open < group_at(&self.groups, comm).len() {
+            return Ok(());
+        }
+        self.note_decided(alloc, comm, round)
+    }
+
+    /// Where the first member of a round stands that isn't settled, or how many members there are; those before the hint are passed over.
+    fn first_open(&self, comm: u16, round: u16) -> usize {
+        let group = group_at(&self.groups, comm);
+        let begin = self.hint_of(comm, round).0;
+        let open = match group.get(begin..) {
+            Some(rest) => rest
+                .iter()
+                .position(|rank| self.slots.get(&(comm, round, *rank)).is_none()),
+            None => None,
+        };
+        match open {
+            Some(i) => begin.saturating_add(i),
+            None => group.len(),
+        }
+    }
+
+    /// Notes what a round decides, if it does now.
+    fn note_decided(&mut self, alloc: A, comm: u16, round: u16) -> Result<(), AllocError>
+        ensures { (ranks : ℕ) (h : History P) → Tells ranks self.old h → Tells ranks self.new h }
+    {
+        if let Some(done) = self.done_now(alloc, comm, round)? {
+            self.rounds.insert((comm, round, 0), done)?;
+        }
         Ok(())
+    }
+
+    /// What a round of a communicator that there is decides, if all its members are settled now.
+    fn done_now(&self, alloc: A, comm: u16, round: u16) -> Result<Option<Done<P, A>>, AllocError>
+        ensures { IfOk result (λ found. IfSome found (IsDone P.meld self.now.slots self.now.failures.items (map members_of self.now.groups.items) comm round)) }
+    {
+        let since = self.count;
+        let group = group_at(&self.groups, comm);
+        let failed = failed_of(&self.groups, &self.failures, comm, self.failures.len());
+        let settled = self.settled_among(alloc, group, comm, round, since)?;
+        let is_there = usize::from(comm) < self.groups.len();
+        let fits = know_few(&settled, failed.len());
+        let is_full = self.are_settled(group, comm, round, since);
+        if !is_there || !fits || !is_full {
+            return Ok(None);
+        }
+        let made = decided_by(alloc, failed, &settled)?;
+        let failed = failed.len();
+        Ok(Some(Done {
+            since,
+            failed,
+            made,
+        }))
+    }
+
+    /// Where the search for a member of a round that isn't settled begins, and who was settled last.
+    pub(crate) fn hint_of(&self, comm: u16, round: u16) -> (usize, u16) {
+        match self.hints.get(&(comm, round, 0)) {
+            Some(hint) => *hint,
+            None => (0, 0),
+        }
+    }
+
+    /// What a round decided, if that is kept and holds at a point.
+    pub(crate) fn decided_at(&self, comm: u16, round: u16, point: u64) -> Option<&Decided<P, A>>
+        ensures { IfSome result (λ made. let seen = seen_at self.now point in
+            (is_decided_in seen comm round ≡ true) × (decision_of made.now ≡ decision_in P.meld seen comm round)) }
+    {
+        let done = self.rounds.get(&(comm, round, 0))?;
+        if point < done.since || self.count_made_at(point) < usize::from(comm) {
+            return None;
+        }
+        let failed = self.failed_at_point(comm, point);
+        if failed.len() < done.failed
+            || have_common(&failed[done.failed..], &failed[..done.failed])
+        {
+            return None;
+        }
+        Some(&done.made)
+    }
+
+    /// Whether each of these was settled in a round at a point.
+    pub(crate) fn are_settled(&self, group: &[u16], comm: u16, round: u16, point: u64) -> bool
+        ensures { result ≡ list_all (λ r. is_some ((seen_at self.now point).slots (comm, round, r))) group.now }
+    {
+        group
+            .iter()
+            .all(|rank| self.slot_at((comm, round, *rank), point).is_some())
+    }
+
+    /// What had settled these members of a round at a point, in their order.
+    fn settled_among(
+        &self,
+        alloc: A,
+        group: &[u16],
+        comm: u16,
+        round: u16,
+        point: u64,
+    ) -> Result<Vec<Slot<P>, A>, AllocError>
+        ensures { IfOk result (λ settled. settled.items ≡ filter_map (λ r. (seen_at self.now point).slots (comm, round, r)) group.now) }
+    {
+        group
+            .iter()
+            .filter_map(|rank| self.slot_at((comm, round, *rank), point))
+            .collect(alloc)
     }
 
     /// The members of the communicator that an event makes, if it makes one: its parent's without those that the round leaves out.
@@ -356,9 +586,9 @@ impl<P: Copy, A: Allocator + Copy + Drop> Numbers<P, A> {
         };
         let point = self.count;
         let group = self.members_at(parent, point);
-        let failed = self.failed_at_point(alloc, parent, point)?;
+        let failed = self.failed_at_point(parent, point);
         let settled = self.settled_at(alloc, parent, round, point)?;
-        let out = union_of(alloc, &failed, &settled)?;
+        let out = union_of(alloc, failed, &settled)?;
         let rest = without(alloc, group, &out)?;
         Ok(Some(rest))
     }
@@ -395,14 +625,14 @@ impl<P: Copy, A: Allocator + Copy + Drop> Numbers<P, A> {
     pub(crate) fn failures_at(&self, point: u64) -> &[u16]
         ensures { result.now ≡ (seen_at self.now point).failures }
     {
-        first_so_many(&self.failures, count_by(&self.failed_at, point))
+        first_so_many(&self.failures, count_by(&self.failed_at, point, self.count))
     }
 
     /// Of which parents and rounds communicators were made at a point, that of communicator 1 first.
     pub(crate) fn spawns_at(&self, point: u64) -> &[(u16, u16)]
         ensures { result.now ≡ (seen_at self.now point).spawns }
     {
-        first_spawns(&self.spawns, count_by(&self.spawned_at, point))
+        first_spawns(&self.spawns, count_by(&self.spawned_at, point, self.count))
     }
 
     /// How many communicators were made at a point.
@@ -424,15 +654,29 @@ impl<P: Copy, A: Allocator + Copy + Drop> Numbers<P, A> {
     }
 
     /// The failed group of a communicator at a point.
-    pub(crate) fn failed_at_point(
-        &self,
-        alloc: A,
-        comm: u16,
-        point: u64,
-    ) -> Result<Vec<u16, A>, AllocError>
-        ensures { IfOk result (λ group. group.items ≡ failed_in (seen_at self.now point) comm) }
+    pub(crate) fn failed_at_point(&self, comm: u16, point: u64) -> &[u16]
+        ensures { result.now ≡ failed_in (seen_at self.now point) comm }
     {
-        among(alloc, self.failures_at(point), self.members_at(comm, point))
+        if self.count_made_at(point) >= usize::from(comm) {
+            let count = count_by(&self.failed_at, point, self.count);
+            failed_of(&self.groups, &self.failures, comm, count)
+        } else {
+            &[]
+        }
+    }
+
+    /// Who of a group a look found declared, where these are the failures and the members of a communicator that are kept; else none.
+    pub(crate) fn known_of(&self, look: &[u16], comm: u16, group: &[u16]) -> Option<&[u16]>
+        ensures { IfSome result (λ known. known.now ≡ filter (has group.now) look.now) }
+    {
+        if !same_ranks(group, group_at(&self.groups, comm)) {
+            return None;
+        }
+        let count = look.len();
+        if !same_ranks(look, first_so_many(&self.failures, count)) {
+            return None;
+        }
+        Some(failed_of(&self.groups, &self.failures, comm, count))
     }
 
     /// What had settled the members of a round at a point, in their order.
@@ -445,9 +689,6 @@ impl<P: Copy, A: Allocator + Copy + Drop> Numbers<P, A> {
     ) -> Result<Vec<Slot<P>, A>, AllocError>
         ensures { IfOk result (λ settled. settled.items ≡ settled_in (seen_at self.now point) comm round) }
     {
-        self.members_at(comm, point)
-            .iter()
-            .filter_map(|rank| self.slot_at((comm, round, *rank), point))
-            .collect(alloc)
+        self.settled_among(alloc, self.members_at(comm, point), comm, round, point)
     }
 }

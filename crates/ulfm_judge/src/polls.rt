@@ -1,20 +1,21 @@
 //! Whether a reply is an answer to a poll.
-ghost use Rattle.std.specs.Prelude.{◌≡◌, ◌<◌, ◌+◌, ◌-◌, ◌==◌, ◌&&◌, ℕ, IfOk, filter, length, nat_lt, slice_get};
-ghost use Rattle.std.specs.List.{list_all};
+ghost use Rattle.std.specs.Prelude.{◌≡◌, ◌<◌, ◌+◌, ◌-◌, ◌==◌, ◌&&◌, ℕ, IfOk, false, filter, length, nat_lt, slice_get};
+ghost use Rattle.std.specs.{List.{list_all}, Option.{option_map_or}};
 ghost use Rattle.ulfm_history.specs.Walked.{decision_of};
 ghost use Rattle.ulfm_model.specs.History.{has};
-ghost use Rattle.ulfm_judge.specs.ReplyTests.{agree_test, barrier_test, clash_test, flag_test, full_test, least_test, made_test, no_ids_test};
+ghost use Rattle.ulfm_judge.specs.ReplyTests.{agree_test, barrier_test, clash_test, flag_test, full_test, late_test, least_test, made_test, no_ids_test};
 ghost use Rattle.ulfm_judge.specs.ReplyTests.{pending_said, pending_test, polled_test, shrink_test, shrunk_test, unmade_test};
 ghost use Rattle.ulfm_judge.specs.Seen.{decision_in, is_decided_in};
 ghost use Rattle.ulfm_judge.specs.Telling.{seen_at};
 
 use crate::allowed::{decision, has_ids, is_decided, is_made};
+use crate::groups::has_member;
 use crate::numbers::{Numbers, among};
 use crate::replies::{same_answer, same_refusal};
 use std::alloc::{AllocError, Allocator};
 use ulfm_history::decide::Decided;
 use ulfm_history::reads::has_rank;
-use ulfm_laws::meld::Packed;
+use ulfm_laws::meld::{Meld, Packed};
 use ulfm_laws::summary::Body;
 use ulfm_model::call::Request;
 use ulfm_model::limits::Limits;
@@ -23,8 +24,39 @@ use ulfm_model::reply::Reply;
 use ulfm_record::held::HeldComm;
 use ulfm_record::ids::lowest_id;
 
-/// Whether a member that the look didn't find declared is unsettled.
-fn is_pending<P: Copy, A: Allocator + Copy + Drop>(
+/// Whether a rank that the look didn't find declared is unsettled.
+fn is_late<P: Meld, A: Allocator + Copy + Drop>(
+    look: &[u16],
+    numbers: &Numbers<P, A>,
+    point: u64,
+    comm: u16,
+    round: u16,
+    rank: u16,
+) -> bool
+    ensures { result ≡ late_test look.now (seen_at numbers.now point) comm round rank }
+{
+    !has_rank(look, rank) && numbers.slot_at((comm, round, rank), point).is_none()
+}
+
+/// Whether the member at a place, if there is one, is such a rank.
+fn is_late_at<P: Meld, A: Allocator + Copy + Drop>(
+    look: &[u16],
+    numbers: &Numbers<P, A>,
+    point: u64,
+    x: &HeldComm<A>,
+    round: u16,
+    place: usize,
+) -> bool
+    ensures { result ≡ option_map_or (late_test look.now (seen_at numbers.now point) x.now.comm round) (slice_get x.now.group place) false }
+{
+    match x.group.get(place) {
+        Some(rank) => is_late(look, numbers, point, x.comm, round, *rank),
+        None => false,
+    }
+}
+
+/// Whether a member that the look didn't find declared is unsettled. It is looked for first where the hint says that it may be.
+fn is_pending<P: Meld, A: Allocator + Copy + Drop>(
     look: &[u16],
     numbers: &Numbers<P, A>,
     point: u64,
@@ -33,8 +65,16 @@ fn is_pending<P: Copy, A: Allocator + Copy + Drop>(
 ) -> bool
     ensures { result ≡ pending_test look.now (seen_at numbers.now point) x.now round }
 {
-    x.group.iter().any(|rank| !has_rank(look, *rank)
-        && numbers.slot_at((x.comm, round, *rank), point).is_none())
+    let (open, last) = numbers.hint_of(x.comm, round);
+    if is_late_at(look, numbers, point, x, round, open) {
+        return true;
+    }
+    if has_member(&x.group, last) && is_late(look, numbers, point, x.comm, round, last) {
+        return true;
+    }
+    x.group
+        .iter()
+        .any(|rank| is_late(look, numbers, point, x.comm, round, *rank))
 }
 
 /// Whether a body is this flag.
@@ -89,7 +129,7 @@ fn is_made_at(spawned: &[(u16, u16)], made: u16, comm: u16, round: u16) -> bool
 }
 
 /// Whether the communicator of a number was made of a round.
-fn was_made<P: Copy, A: Allocator + Copy + Drop>(
+fn was_made<P: Meld, A: Allocator + Copy + Drop>(
     numbers: &Numbers<P, A>,
     point: u64,
     made: u16,
@@ -147,7 +187,7 @@ fn is_full<P: Packed, A: Allocator + Copy + Drop>(
 }
 
 /// Whether as many communicators exist as there is room for.
-fn is_last<P: Copy, A: Allocator + Copy + Drop>(
+fn is_last<P: Meld, A: Allocator + Copy + Drop>(
     limits: Limits,
     numbers: &Numbers<P, A>,
     point: u64,
@@ -259,7 +299,7 @@ fn is_barrier_reply<P: Copy>(revoked: bool, all: bool, known: bool, reply: &Repl
 }
 
 /// Whether all of a group had arrived in a barrier round.
-fn have_arrived<P: Copy, A: Allocator + Copy + Drop>(
+fn have_arrived<P: Meld, A: Allocator + Copy + Drop>(
     group: &[u16],
     numbers: &Numbers<P, A>,
     point: u64,
@@ -300,6 +340,9 @@ fn is_agree_poll<P: Packed, A: Allocator + Copy + Drop>(
     if says_pending(reply) {
         return Ok(is_pending(look, numbers, point, x, round));
     }
+    if let Some(made) = numbers.decided_at(x.comm, round, point) {
+        return Ok(is_agree_reply(false, true, made, reply));
+    }
     let decided = is_decided(numbers, point, x.comm, round);
     let made = decision(alloc, numbers, point, x.comm, round)?;
     Ok(is_agree_reply(false, decided, &made, reply))
@@ -324,11 +367,32 @@ fn is_shrink_poll<P: Packed, A: Allocator + Copy + Drop>(
     if says_pending(reply) {
         return Ok(is_pending(look, numbers, point, x, round));
     }
+    if let Some(made) = numbers.decided_at(x.comm, round, point) {
+        return Ok(is_shrink_reply(
+            limits, numbers, point, rank, x, round, false, true, made, reply,
+        ));
+    }
     let decided = is_decided(numbers, point, x.comm, round);
     let made = decision(alloc, numbers, point, x.comm, round)?;
     Ok(is_shrink_reply(
         limits, numbers, point, rank, x, round, false, decided, &made, reply,
     ))
+}
+
+/// Whom of a communicator's members a look found declared, where these are the members that a rank knows.
+fn found_among<P: Meld, A: Allocator + Copy + Drop>(
+    alloc: A,
+    numbers: &Numbers<P, A>,
+    look: &[u16],
+    comm: u16,
+    group: &[u16],
+) -> Result<Vec<u16, A>, AllocError>
+    ensures { IfOk result (λ found. found.items ≡ filter (has group.now) look.now) }
+{
+    match numbers.known_of(look, comm, group) {
+        Some(known) => known.iter().copied().collect(alloc),
+        None => among(alloc, look, group),
+    }
 }
 
 /// Whether the poll of a barrier is answered so.
@@ -347,7 +411,7 @@ fn is_barrier_poll<P: Packed, A: Allocator + Copy + Drop>(
 {
     let revoked = numbers.is_revoked_at(x.comm, point);
     let all = have_arrived(&x.group, numbers, point, x.comm, round);
-    let found = among(alloc, look, &x.group)?;
+    let found = found_among(alloc, numbers, look, x.comm, &x.group)?;
     let known = have_arrived(&found, numbers, point, x.comm, round);
     Ok(is_barrier_reply(revoked, all, known, reply))
 }

@@ -6,9 +6,9 @@ ghost use Rattle.ulfm_judge.specs.ReplyTests.{acked_test, barrier_start_test, fa
 ghost use Rattle.ulfm_judge.specs.ReplyTests.{group_test, is_given, only_of, only_test, refused_test, revoke_test, same_answer, same_offer};
 ghost use Rattle.ulfm_judge.specs.ReplyTests.{same_ranks, same_refusal, stands_test, standing_test, start_test};
 
+use crate::groups::has_member;
 use crate::own::{arrives, revokes};
 use std::alloc::Allocator;
-use ulfm_history::reads::has_rank;
 use ulfm_laws::meld::Packed;
 use ulfm_model::contribution::{Contribution, Offer, Slot};
 use ulfm_model::event::Event;
@@ -199,7 +199,7 @@ fn is_given<P: Copy>(stood: &Option<Slot<P>>) -> bool
 pub(crate) fn count_known(look: &[u16], group: &[u16]) -> usize
     ensures { result ≡ length (filter (has group.now) look.now) }
 {
-    look.iter().filter(|rank| has_rank(group, **rank)).count()
+    look.iter().filter(|rank| has_member(group, **rank)).count()
 }
 
 /// Whether the start of an agree or of a shrink is answered so, by what stands at the rank's place.

@@ -10,7 +10,8 @@ use crate::meld::Meld;
 ///
 /// ```
 /// let flags = [FlagAnd { bits: 0x0f }, FlagAnd { bits: 0x3c }];
-/// let both = meld_all(&flags); // FlagAnd { bits: 0x0c }
+/// assert!(rt; meld_all(&flags) == FlagAnd { bits: 0x0c });
+/// assert!(rt; meld_all(&none) == FlagAnd { bits: 0xffff_ffff });
 /// ```
 pub fn meld_all<P: Meld>(values: &[P]) -> P
     ensures { result ≡ combined P.unit P.meld values.now }

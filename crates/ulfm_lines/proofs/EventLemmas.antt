@@ -9,7 +9,7 @@ use Rattle.ulfm_model.proofs.OnlyMarks.{same_mark}
 use Rattle.ulfm_script.specs.declared.line_kind.LineKind.{LineKind}
 use Rattle.ulfm_script.specs.declared.line_kind.LineKind.TheVariants.{Words}
 use Rattle.ulfm_script.specs.{Steps.{◌>>=◌}, Words.{next_word}}
-use Rattle.ulfm_script.proofs.{Spelled.{chosen}, WordLemmas.{IsWord, done, joined, next_before, next_found, same_done, step_found}}
+use Rattle.ulfm_script.proofs.{Spelled.{verb_found}, WordLemmas.{IsWord, done, joined, next_before, next_found, same_done, step_found}}
 use Rattle.ulfm_lines.specs.{EventReading.{ReadEvent, arrive_event, event_from, event_of, fail_event, mark_event, marked, revoke_event, settle_event, settled, spawn_event}, Fields.{Field, both, comm_field, labelled, number_field, offer_field, place_field, rank_field, whole}, LineTexts.{TraceEvent, event_text, mark_text, offer_text, place_text, settle_text}, Telling.{EventFits, IsForgedMark, IsForgedSettlement, PlaceFits, TellsEvent}}
 use Rattle.ulfm_lines.proofs.FieldLemmas.{IsField, both_fields, is_comm, is_labelled, is_number, is_offer, is_place, is_rank, whole_again, whole_found}
 use Rattle.ulfm_lines.proofs.Literals.{literal}
@@ -200,23 +200,16 @@ spawn_found : Reads (codes "spawn") spawn_event
 unfolding spawn_event
 spawn_found = fields_found (codes "spawn") (both comm_field (both comm_field number_field)) at_place spawn_fits (λ x. Some (Spawn x.0 x.1.0 x.1.1)) is_spawning (λ x h. (h, refl))
 
-verb_found : (word verb : List ℕ) (fields : Option (List ℕ)) (event_at : Option (List ℕ) → ReadEvent) (other : ReadEvent) (event : Option TraceEvent) → Reads verb event_at
-    → (other ≡ Ok event → TellsEvent (joined word fields) event) → cond (bytes_eq word verb) (event_at fields) other ≡ Ok event → TellsEvent (joined word fields) event
-verb_found word verb fields event_at other event reads rest e = elim (chosen (bytes_eq word verb) (event_at fields) other (Ok event) e) [
-  | inl this ↦ subst (λ (w : List ℕ). TellsEvent (joined w fields) event) (sym ((bytes_eq-Decides word verb).0 this.0)) (reads fields event this.1)
-  | inr that ↦ rest that.1
-]
-
 no_verb : (text : List ℕ) (event : Option TraceEvent) → (let r : ReadEvent = Err Words in r) ≡ Ok event → TellsEvent text event
 no_verb text event e = absurd cc
 
 read_from : (word : List ℕ) (fields : Option (List ℕ)) (event : Option TraceEvent) → event_from (word, fields) ≡ Ok event → TellsEvent (joined word fields) event
-read_from word fields event e = verb_found word (codes "fail") fields fail_event _ event fail_found
-    (verb_found word (codes "settle") fields settle_event _ event settle_found
-    (verb_found word (codes "mark") fields mark_event _ event mark_found
-    (verb_found word (codes "arrive") fields arrive_event _ event arrive_found
-    (verb_found word (codes "revoke") fields revoke_event _ event revoke_found
-    (verb_found word (codes "spawn") fields spawn_event _ event spawn_found (no_verb (joined word fields) event)))))) e
+read_from word fields event e = verb_found TellsEvent word (codes "fail") fields fail_event _ event fail_found
+    (verb_found TellsEvent word (codes "settle") fields settle_event _ event settle_found
+    (verb_found TellsEvent word (codes "mark") fields mark_event _ event mark_found
+    (verb_found TellsEvent word (codes "arrive") fields arrive_event _ event arrive_found
+    (verb_found TellsEvent word (codes "revoke") fields revoke_event _ event revoke_found
+    (verb_found TellsEvent word (codes "spawn") fields spawn_event _ event spawn_found (no_verb (joined word fields) event)))))) e
 
 -- an event that was read is told by the text
 pub event_found : (text : Option (List ℕ)) (event : Option TraceEvent) → event_of text ≡ Ok event → (t : List ℕ) × (text ≡ Some t) × TellsEvent t event

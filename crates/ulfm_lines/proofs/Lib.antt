@@ -1,8 +1,11 @@
+pub mod Calls
 pub mod EventLemmas
 pub mod FieldLemmas
+pub mod Joined
 pub mod LineLemmas
 pub mod Literals
 pub mod RankLemmas
 pub mod ReadLemmas
 pub mod ReplyLemmas
 pub mod StepsSpelled
+pub mod Taking

@@ -6,7 +6,7 @@ use Rattle.ulfm_model.specs.declared.event.Caller.{Caller}
 use Rattle.ulfm_script.specs.declared.line_kind.LineKind.{LineKind}
 use Rattle.ulfm_script.specs.declared.line_kind.LineKind.TheVariants.{Words}
 use Rattle.ulfm_script.specs.{Calls.{ScriptCall, call_of}, Steps.{◌>>=◌}, Words.{word_of}}
-use Rattle.ulfm_script.proofs.{Spelled.{chosen, read_is_spelled, spelled_again}, WordLemmas.{done, joined, joined_word, same_done, step_found}}
+use Rattle.ulfm_script.proofs.{Spelled.{read_is_spelled, spelled_again, verb_found}, WordLemmas.{done, joined, joined_word, same_done, step_found}}
 use Rattle.ulfm_lines.specs.{EventReading.{ReadEvent, event_of}, Fields.{Field, both, caller_field, number_field, point_field, rank_field, whole}, LineReading.{SomeReply, called_line, happened_line, line_from, line_head, line_listing, looked_line, replied_line, some_reply_of, told_listing}, LineTexts.{TraceLine, caller_text, two_text}, Telling.{AreRanks, CallerFits, TellsLine, behind_ranks}}
 use Rattle.ulfm_trace_model.specs.declared.line.Line.TheVariants.{Called, Looked, Happened, Replied}
 use Rattle.ulfm_lines.proofs.{EventLemmas.{event_again, event_found}, FieldLemmas.{IsField, both_fields, is_caller, is_number, is_point, is_rank, same_field, whole_again, whole_found}, RankLemmas.{nobody}, ReplyLemmas.{reply_again, reply_found}}
@@ -74,21 +74,18 @@ replied_found fields line rest e g ranks behind =
     subst (λ (l : TraceLine). TellsLine (joined (codes "reply") fields) g (line_listing (length g) l)) same.0
     (t.0, f.0.0, f.0.1, text, t.2 g ranks (behind ∙ sym same.1))
 
-verb_found : (word verb : List ℕ) (fields : Option (List ℕ)) (line_at : Option (List ℕ) → Field TraceLine) (other : Field TraceLine) (line : TraceLine) (rest : Option (List ℕ)) → Reads verb line_at
+verb_listed : (word verb : List ℕ) (fields : Option (List ℕ)) (line_at : Option (List ℕ) → Field TraceLine) (other : Field TraceLine) (line : TraceLine) (rest : Option (List ℕ)) → Reads verb line_at
     → (other ≡ Ok (line, rest) → LineListed (joined word fields) line rest) → cond (bytes_eq word verb) (line_at fields) other ≡ Ok (line, rest) → LineListed (joined word fields) line rest
-verb_found word verb fields line_at other line rest reads more e = elim (chosen (bytes_eq word verb) (line_at fields) other (Ok (line, rest)) e) [
-  | inl this ↦ subst (λ (w : List ℕ). LineListed (joined w fields) line rest) (sym ((bytes_eq-Decides word verb).0 this.0)) (reads fields line rest this.1)
-  | inr that ↦ more that.1
-]
+verb_listed word verb fields line_at other line rest reads = verb_found (λ text x. LineListed text x.0 x.1) word verb fields line_at other (line, rest) (λ behind x. reads behind x.0 x.1)
 
 no_verb : (text : List ℕ) (line : TraceLine) (rest : Option (List ℕ)) → (let r : Field TraceLine = Err Words in r) ≡ Ok (line, rest) → LineListed text line rest
 no_verb text line rest e = absurd cc
 
 read_from : (word : List ℕ) (fields : Option (List ℕ)) (line : TraceLine) (rest : Option (List ℕ)) → line_from (word, fields) ≡ Ok (line, rest) → LineListed (joined word fields) line rest
-read_from word fields line rest e = verb_found word (codes "call") fields called_line _ line rest called_found
-    (verb_found word (codes "look") fields looked_line _ line rest looked_found
-    (verb_found word (codes "event") fields happened_line _ line rest happened_found
-    (verb_found word (codes "reply") fields replied_line _ line rest replied_found (no_verb (joined word fields) line rest)))) e
+read_from word fields line rest e = verb_listed word (codes "call") fields called_line _ line rest called_found
+    (verb_listed word (codes "look") fields looked_line _ line rest looked_found
+    (verb_listed word (codes "event") fields happened_line _ line rest happened_found
+    (verb_listed word (codes "reply") fields replied_line _ line rest replied_found (no_verb (joined word fields) line rest)))) e
 
 -- what was read is told by the line
 pub line_found : (text : List ℕ) (line : TraceLine) (rest : Option (List ℕ)) → line_head text ≡ Ok (line, rest) → LineListed text line rest

@@ -10,7 +10,7 @@ use Rattle.ulfm_model.specs.Answers.{printed}
 use Rattle.ulfm_script.specs.declared.line_kind.LineKind.{LineKind}
 use Rattle.ulfm_script.specs.declared.line_kind.LineKind.TheVariants.{Number, Words}
 use Rattle.ulfm_script.specs.{Digits.{flag_text, number_in, number_to}, Printed.{ranks_text, reply_text, shrunk_text}, Steps.{◌>>=◌}, Words.{next_word}}
-use Rattle.ulfm_script.proofs.{Spelled.{chosen}, WordLemmas.{IsWord, done, joined, next_found, same_done, step_found}}
+use Rattle.ulfm_script.proofs.{Spelled.{chosen, verb_found}, WordLemmas.{IsWord, done, joined, next_found, same_done, step_found}}
 use Rattle.ulfm_lines.specs.{Fields.{Field, both, comm_field, error_field, flag_field, label_field, labelled, number_field, over, rank_field, whole}, LineReading.{SomeReply, acked_reply, agreed_reply, alone, failed_reply, listing, made, or_refusal, or_reply, plain_of, refusal_field, refusal_of, refused_reply, reply_from, shrunk_reply, some_reply_of, told_listing}, Telling.{AreRanks, IsForgedReply, ReplyFits, TellsReply, behind_ranks}}
 use Rattle.ulfm_lines.proofs.FieldLemmas.{IsField, both_fields, error_word, two_ways, is_comm, is_error, is_flag, is_label, is_labelled, is_number, joined_more, next_joined, over_found, same_field, whole_again, whole_found}
 use Rattle.ulfm_lines.proofs.RankLemmas.{nobody, rank_again, somebody}
@@ -256,12 +256,9 @@ shrunk_found fields told rest e g ranks behind =
     listed one None e = absurd cc
     listed one (Some ranks) e = (ranks, refl, same_field one told (Some ranks) rest e)
 
-verb_found : (word verb : List ℕ) (fields : Option (List ℕ)) (reply_at : Option (List ℕ) → Field SomeReply) (other : Field SomeReply) (told : SomeReply) (rest : Option (List ℕ)) → Reads verb reply_at
+verb_listed : (word verb : List ℕ) (fields : Option (List ℕ)) (reply_at : Option (List ℕ) → Field SomeReply) (other : Field SomeReply) (told : SomeReply) (rest : Option (List ℕ)) → Reads verb reply_at
     → (other ≡ Ok (told, rest) → Listed (joined word fields) told rest) → cond (bytes_eq word verb) (reply_at fields) other ≡ Ok (told, rest) → Listed (joined word fields) told rest
-verb_found word verb fields reply_at other told rest reads more e = elim (chosen (bytes_eq word verb) (reply_at fields) other (Ok (told, rest)) e) [
-  | inl this ↦ subst (λ (w : List ℕ). Listed (joined w fields) told rest) (sym ((bytes_eq-Decides word verb).0 this.0)) (reads fields told rest this.1)
-  | inr that ↦ more that.1
-]
+verb_listed word verb fields reply_at other told rest reads = verb_found (λ text x. Listed text x.0 x.1) word verb fields reply_at other (told, rest) (λ behind x. reads behind x.0 x.1)
 
 last_found : (word : List ℕ) (fields : Option (List ℕ)) (told : SomeReply) (rest : Option (List ℕ)) → (over fields >>= λ fin. alone (λ one. one) (plain_of word)) ≡ Ok (told, rest) → Listed (joined word fields) told rest
 last_found word fields told rest e g ranks behind =
@@ -275,11 +272,11 @@ last_found word fields told rest e g ranks behind =
     subst (TellsReply (joined word fields) g) (sym listed) (subst (λ (h : List ℕ). TellsReply (joined word fields) h (Some x.0)) (sym none) says)
 
 read_from : (word : List ℕ) (fields : Option (List ℕ)) (told : SomeReply) (rest : Option (List ℕ)) → reply_from (word, fields) ≡ Ok (told, rest) → Listed (joined word fields) told rest
-read_from word fields told rest e = verb_found word (codes "agreed") fields agreed_reply _ told rest agreed_found
-    (verb_found word (codes "shrunk") fields shrunk_reply _ told rest shrunk_found
-    (verb_found word (codes "failed") fields failed_reply _ told rest failed_found
-    (verb_found word (codes "acked") fields acked_reply _ told rest acked_found
-    (verb_found word (codes "refused") fields refused_reply _ told rest refused_found (last_found word fields told rest))))) e
+read_from word fields told rest e = verb_listed word (codes "agreed") fields agreed_reply _ told rest agreed_found
+    (verb_listed word (codes "shrunk") fields shrunk_reply _ told rest shrunk_found
+    (verb_listed word (codes "failed") fields failed_reply _ told rest failed_found
+    (verb_listed word (codes "acked") fields acked_reply _ told rest acked_found
+    (verb_listed word (codes "refused") fields refused_reply _ told rest refused_found (last_found word fields told rest))))) e
 
 -- a reply that was read is told by the text
 pub reply_found : (text : Option (List ℕ)) (told : SomeReply) (rest : Option (List ℕ)) → some_reply_of text ≡ Ok (told, rest) → (t : List ℕ) × (text ≡ Some t) × Listed t told rest

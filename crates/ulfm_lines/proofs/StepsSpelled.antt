@@ -9,7 +9,7 @@ use Rattle.ulfm_trace_model.specs.declared.step_line.StepLine.TheVariants.{Calle
 use Rattle.ulfm_script.specs.declared.line_kind.LineKind.{LineKind}
 use Rattle.ulfm_script.specs.declared.line_kind.LineKind.TheVariants.{Number, Step, Verb, Words}
 use Rattle.ulfm_script.specs.{Calls.{ScriptCall, call_of}, Digits.{number_of, rank_of}, Spelling.{Spells}, Steps.{◌>>=◌}, Words.{one_of, two_of, word_of}}
-use Rattle.ulfm_script.proofs.{Numerals.{number_again, number_found, number_to_found}, Spelled.{chosen, number_is_word, rank_again, read_is_spelled, spelled_again}, WordLemmas.{IsWord, joined, joined_word, one_again, one_found, same_done, step_found, two_again, two_found}}
+use Rattle.ulfm_script.proofs.{Numerals.{number_again, number_found, number_to_found}, Spelled.{chosen, number_is_word, rank_again, read_is_spelled, spelled_again, verb_found}, WordLemmas.{IsWord, joined, joined_word, one_again, one_found, same_done, step_found, two_again, two_found}}
 use Rattle.ulfm_lines.specs.{StepLines.{IsByRank, ScriptStep, SpellsStep, asked_in, asked_of, before_of, failed_of, finished_of, step_from, step_line_of, stepped_of}, StepNames.{name_of, or_name, step_text}}
 use Rattle.ulfm_lines.proofs.Literals.{literal}
 
@@ -28,9 +28,9 @@ no_name word found e = absurd cc
 -- a name that was read stands there
 pub name_found : (word : List ℕ) (found : StepName) → name_of word ≡ Ok found → word ≡ step_text found
 unfolding name_of
-name_found word found e = tested word name.List found _ (tested word name.Settle found _ (tested word name.Mark found _ (tested word name.Slot found _
-    (tested word name.Comm found _ (tested word name.Spawn found _ (tested word name.Arrive found _ (tested word name.Arrival found _
-    (tested word name.Revoke found _ (tested word name.Revocation found _ (no_name word found)))))))))) e
+name_found word found e = tested word name.List found _ (tested word name.Settle found _ (tested word name.Block found _ (tested word name.Mark found _ (tested word name.Slot found _
+    (tested word name.Cache found _ (tested word name.Comm found _ (tested word name.Spawn found _ (tested word name.Arrive found _ (tested word name.Arrival found _
+    (tested word name.Revoke found _ (tested word name.Revocation found _ (no_name word found)))))))))))) e
 
 -- the same at a result
 pub names_found : (word : List ℕ) (r : Result StepName LineKind) → r ≡ name_of word → IfOk r (λ name. word ≡ step_text name)
@@ -42,8 +42,10 @@ pub name_again : (found : StepName) → name_of (step_text found) ≡ Ok found
 unfolding name_of
 name_again name.List = refl
 name_again name.Settle = refl
+name_again name.Block = refl
 name_again name.Mark = refl
 name_again name.Slot = refl
+name_again name.Cache = refl
 name_again name.Comm = refl
 name_again name.Spawn = refl
 name_again name.Arrive = refl
@@ -54,8 +56,10 @@ name_again name.Revocation = refl
 name_is_word : (found : StepName) → IsWord (step_text found)
 name_is_word name.List = literal _ refl
 name_is_word name.Settle = literal _ refl
+name_is_word name.Block = literal _ refl
 name_is_word name.Mark = literal _ refl
 name_is_word name.Slot = literal _ refl
+name_is_word name.Cache = literal _ refl
 name_is_word name.Comm = literal _ refl
 name_is_word name.Spawn = literal _ refl
 name_is_word name.Arrive = literal _ refl
@@ -196,23 +200,15 @@ failed_found fields step e =
     subst (SpellsStep (joined (codes "fail") fields)) (same_done (Failed r.0) step r.2)
     (omega (arith, rank.0), ap (joined (codes "fail")) (one_found fields w.0 w.1) ∙ ap (λ (t : List ℕ). codes "fail" ++ 32 ∷ t) rank.1)
 
--- a first word that is tested for one verb after another
-verb_found : (word verb : List ℕ) (fields : Option (List ℕ)) (fields_of : Option (List ℕ) → Result ScriptStep LineKind) (other : Result ScriptStep LineKind) (step : ScriptStep) → Reads verb fields_of
-    → (other ≡ Ok step → SpellsStep (joined word fields) step) → cond (bytes_eq word verb) (fields_of fields) other ≡ Ok step → SpellsStep (joined word fields) step
-verb_found word verb fields fields_of other step reads rest e = elim (chosen (bytes_eq word verb) (fields_of fields) other (Ok step) e) [
-  | inl this ↦ subst (λ (w : List ℕ). SpellsStep (joined w fields) step) (sym ((bytes_eq-Decides word verb).0 this.0)) (reads fields step this.1)
-  | inr that ↦ rest that.1
-]
-
 no_verb : (line : List ℕ) (step : ScriptStep) → (let r : Result ScriptStep LineKind = Err Verb in r) ≡ Ok step → SpellsStep line step
 no_verb line step e = absurd cc
 
 read_from : (word : List ℕ) (fields : Option (List ℕ)) (step : ScriptStep) → step_from (word, fields) ≡ Ok step → SpellsStep (joined word fields) step
-read_from word fields step e = verb_found word (codes "call") fields asked_of _ step asked_found
-    (verb_found word (codes "step") fields stepped_of _ step stepped_found
-    (verb_found word (codes "before") fields before_of _ step before_found
-    (verb_found word (codes "finish") fields finished_of _ step finished_found
-    (verb_found word (codes "fail") fields failed_of _ step failed_found (no_verb (joined word fields) step))))) e
+read_from word fields step e = verb_found SpellsStep word (codes "call") fields asked_of _ step asked_found
+    (verb_found SpellsStep word (codes "step") fields stepped_of _ step stepped_found
+    (verb_found SpellsStep word (codes "before") fields before_of _ step before_found
+    (verb_found SpellsStep word (codes "finish") fields finished_of _ step finished_found
+    (verb_found SpellsStep word (codes "fail") fields failed_of _ step failed_found (no_verb (joined word fields) step))))) e
 
 read_is_step : (line : List ℕ) (step : ScriptStep) → step_line_of line ≡ Ok step → SpellsStep line step
 unfolding step_line_of

@@ -6,3 +6,4 @@ pub mod StepLines
 pub mod StepNames
 pub mod Stepped
 pub mod Telling
+pub mod Walked

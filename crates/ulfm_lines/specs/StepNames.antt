@@ -10,8 +10,10 @@ use Rattle.ulfm_script.specs.declared.line_kind.LineKind.TheVariants.{Step}
 abbrev pub step_text : StepName → List ℕ
 step_text name.List = codes "list"
 step_text name.Settle = codes "settle"
+step_text name.Block = codes "block"
 step_text name.Mark = codes "mark"
 step_text name.Slot = codes "slot"
+step_text name.Cache = codes "cache"
 step_text name.Comm = codes "comm"
 step_text name.Spawn = codes "spawn"
 step_text name.Arrive = codes "arrive"
@@ -26,6 +28,6 @@ or_name word name other = if bytes_eq word (step_text name) then Ok name else ot
 -- the step whose name a word is
 unfoldable pub name_of : List ℕ → Result StepName LineKind
 name_of word =
-    or_name word name.List (or_name word name.Settle (or_name word name.Mark (or_name word name.Slot (or_name word name.Comm
-    (or_name word name.Spawn (or_name word name.Arrive (or_name word name.Arrival (or_name word name.Revoke
-    (or_name word name.Revocation (Err Step))))))))))
+    or_name word name.List (or_name word name.Settle (or_name word name.Block (or_name word name.Mark (or_name word name.Slot
+    (or_name word name.Cache (or_name word name.Comm (or_name word name.Spawn (or_name word name.Arrive (or_name word name.Arrival
+    (or_name word name.Revoke (or_name word name.Revocation (Err Step))))))))))))

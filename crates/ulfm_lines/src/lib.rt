@@ -15,7 +15,7 @@ pub mod trace_line;
 pub use laws::{one_text_tells_one_line, printed_lines_are_told};
 pub use printing::print_line;
 pub use step_line::read_step_line;
-pub use step_machine::{StepMachine, Taken};
+pub use step_machine::{Reach, StepMachine, Taken, count_up};
 pub use step_name::{read_step_name, step_word};
 pub use teller::Teller;
 pub use trace_line::read_line;

@@ -13,8 +13,10 @@ pub fn step_word(name: StepName) -> &'static [u8]
     match name {
         StepName::List => b"list",
         StepName::Settle => b"settle",
+        StepName::Block => b"block",
         StepName::Mark => b"mark",
         StepName::Slot => b"slot",
+        StepName::Cache => b"cache",
         StepName::Comm => b"comm",
         StepName::Spawn => b"spawn",
         StepName::Arrive => b"arrive",
@@ -41,10 +43,14 @@ fn parse_name(word: &[u8]) -> Result<StepName, LineKind>
         Ok(StepName::List)
     } else if word == step_word(StepName::Settle) {
         Ok(StepName::Settle)
+    } else if word == step_word(StepName::Block) {
+        Ok(StepName::Block)
     } else if word == step_word(StepName::Mark) {
         Ok(StepName::Mark)
     } else if word == step_word(StepName::Slot) {
         Ok(StepName::Slot)
+    } else if word == step_word(StepName::Cache) {
+        Ok(StepName::Cache)
     } else if word == step_word(StepName::Comm) {
         Ok(StepName::Comm)
     } else if word == step_word(StepName::Spawn) {

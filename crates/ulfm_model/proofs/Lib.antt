@@ -1,3 +1,4 @@
+pub mod Blocks
 pub mod Contexts
 pub mod Decisions
 pub mod Excluded
@@ -25,6 +26,7 @@ pub mod OnlyReply
 pub mod OnlyRuns
 pub mod OnlySpawned
 pub mod OnlyStep
+pub mod Ranks
 pub mod Rows
 pub mod Says
 pub mod Spawned
@@ -37,5 +39,6 @@ pub mod StepsPolls
 pub mod StepsRounds
 pub mod StepsShrinks
 pub mod StepsStarts
+pub mod Summed
 pub mod WordRows
 pub mod WordRules

@@ -1,4 +1,5 @@
 pub mod Answers
+pub mod Blocks
 pub mod Computed
 pub mod History
 pub mod Laws

@@ -1,6 +1,7 @@
 //! The agreement object: what a world is made of, what ranks ask of it, and what it answers.
 #![tactic(auto)]
 
+pub mod block;
 pub mod call;
 pub mod contribution;
 pub mod event;
@@ -11,6 +12,7 @@ pub mod refusal;
 pub mod reply;
 pub mod step_name;
 
+pub use block::{Block, Side};
 pub use call::{Call, Request};
 pub use contribution::{Contribution, MarkCount, Offer, Slot};
 pub use event::{Caller, Entry, Event};

@@ -44,6 +44,10 @@ impl Limits {
 
     /// The size by which it is decided whether a world is too large: a word for each rank, two for each communicator, and
     /// two for each rank in each round of each communicator.
+    ///
+    /// ```
+    /// assert!(rt; limits.size() == 3 + 2 * 2 + 2 * 2 * 4 * 3);
+    /// ```
     pub fn size(&self) -> u64
         ensures { result ≡ size_of self.now }
     {
@@ -55,6 +59,15 @@ impl Limits {
 
     /// Whether a world of these limits may be opened: `OutOfRange` or `TooLarge`, the first that applies, where it may
     /// not. It takes no memory, so it never answers `OutOfMemory`.
+    ///
+    /// ```
+    /// // Of 1,024 ranks, 1 communicator and 2,047 rounds.
+    /// assert!(rt; limits.check().is_ok());
+    /// limits.rounds = 2048;
+    /// assert!(rt; limits.check() == Err(OpenFault::TooLarge));
+    /// limits.rounds = 4097;
+    /// assert!(rt; limits.check() == Err(OpenFault::OutOfRange));
+    /// ```
     pub fn check(&self) -> Result<(), OpenFault>
         ensures { MatchResult result (λ _. MayOpen self.now) (IsUnfit self.now) }
     {

@@ -40,6 +40,10 @@ pub enum Refusal {
 
 impl Refusal {
     /// The name that is printed after the number.
+    ///
+    /// ```
+    /// assert!(rt; refusal.name() == "no-such-comm");
+    /// ```
     pub fn name(self) -> &'static str
         ensures { result.now ≡ (printed self).1 }
     {
@@ -72,6 +76,10 @@ impl Display for Refusal {
 }
 
 /// The number of a refusal, 1 to 15.
+///
+/// ```
+/// assert!(rt; refusal_number(refusal) == 2);
+/// ```
 pub fn refusal_number(refusal: Refusal) -> u8
     ensures { result ≡ (printed refusal).0 }
 {

@@ -7,10 +7,14 @@ pub enum StepName {
     List,
     /// The exchange of a rank's own place in an agreement round.
     Settle,
+    /// A load of a block of an agreement round.
+    Block,
     /// The exchange of the place of a member that is known to have failed.
     Mark,
     /// A load of a member's place in an agreement round.
     Slot,
+    /// The exchange of a block, once all its members were found settled: what they say together.
+    Cache,
     /// A load of the list of communicators.
     Comm,
     /// The exchange of that list's first empty place.

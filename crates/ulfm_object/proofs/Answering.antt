@@ -15,7 +15,8 @@ use Rattle.ulfm_model.specs.Terms.{record_at}
 use Rattle.ulfm_object.specs.Objects.{IsFew, TakesStep, state_of}
 use Rattle.ulfm_record.specs.Kept.{record_of}
 use Rattle.ulfm_model.proofs.LeftSound.{step_sound}
-use Rattle.ulfm_object.proofs.ObjectSteps.{few_of, next_of_call, ranks_distinct, replaced}
+use Rattle.ulfm_object.proofs.ObjectSteps.{few_of, next_of_call, replaced}
+use Rattle.ulfm_model.proofs.Ranks.{ranks_distinct}
 use Rattle.ulfm_record.proofs.Places.{find_no_place, find_place}
 use Rattle.ulfm_model.proofs.OnlyStep.{step_is_next}
 use Rattle.ulfm_model.proofs.StepsNext.{next_is_step}

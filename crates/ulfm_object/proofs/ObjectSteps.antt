@@ -15,44 +15,7 @@ use Rattle.ulfm_record.specs.Kept.{FitsNext}
 use Rattle.ulfm_model.proofs.Lists.{any_none, distinct_push, each_from, each_push, none_distinct}
 use Rattle.ulfm_model.proofs.Marking.{failures_few}
 use Rattle.ulfm_model.proofs.StepsShrinks.{spawns_fit}
-
--- where no test of several refuses, the first doesn't, and none of the others does
-none_first_test : (test : Bool × Refusal) (tests : List (Bool × Refusal)) → first_refusal (test ∷ tests) ≡ None → (test.0 ≡ false) × (first_refusal tests ≡ None)
-none_first_test test tests none = go test.0 refl none
-  where
-    go : (b : Bool) → test.0 ≡ b → (if b then Some test.1 else first_refusal tests) ≡ None → (test.0 ≡ false) × (first_refusal tests ≡ None)
-    go true is none = absurd (cc none)
-    go false is none = (is, none)
-
-round_left : (rounds next : ℕ) → rounds ≤ 4096 → nat_le rounds next ≡ false → next + 1 < 2 ^ 16
-round_left rounds next small left = grind (arith, nat_tests)
-
-round_before : (rounds next : ℕ) → rounds ≤ 4096 → nat_le rounds (next + 1) ≡ false → next + 1 < 2 ^ 16
-round_before rounds next small left = grind (arith, nat_tests)
-
--- a request that the record's tests allow has a round whose next number fits
-allowed_fits : {P : Type 0} (own : Record) (x : Held) (asked : Call P) → own.limits.rounds ≤ 4096 → first_refusal (tests_of own x asked) ≡ None → FitsNext ((traits_of asked).starts x)
-allowed_fits own x (call.Fail rank) small none = tt
-allowed_fits own x (call.GetFailed rank c) small none = tt
-allowed_fits own x (call.Ack rank c count) small none = tt
-allowed_fits own x (call.Agree rank c value) small none =
-    let used : Bool × Refusal = (nat_le own.limits.rounds (x.next_agreement + 1), RoundsUsedUp) in
-    let rest = none_first_test (is_some x.request, Busy) (used ∷ []) none in
-    round_before own.limits.rounds x.next_agreement small (none_first_test used [] rest.1).0
-allowed_fits own x (call.Shrink rank c) small none =
-    let used : Bool × Refusal = (nat_le own.limits.rounds x.next_agreement, RoundsUsedUp) in
-    let other : Bool × Refusal = (list_any (λ y. is_shrink y.request) own.held, ShrinkOpen) in
-    let rest = none_first_test (is_some x.request, Busy) (other ∷ used ∷ []) none in
-    let last = none_first_test other (used ∷ []) rest.1 in
-    round_left own.limits.rounds x.next_agreement small (none_first_test used [] last.1).0
-allowed_fits own x (call.Barrier rank c) small none =
-    let used : Bool × Refusal = (nat_le own.limits.rounds x.next_barrier, RoundsUsedUp) in
-    let rest = none_first_test (is_some x.request, Busy) (used ∷ []) none in
-    round_left own.limits.rounds x.next_barrier small (none_first_test used [] rest.1).0
-allowed_fits own x (call.Poll rank c) small none = tt
-allowed_fits own x (call.Revoke rank c) small none = tt
-allowed_fits own x (call.IsRevoked rank c) small none = tt
-allowed_fits own x (call.Free rank c) small none = tt
+use Rattle.ulfm_record.proofs.Allowed.{allowed_fits}
 
 -- a call that has started something has a round whose next number fits
 pub started_fits : {P : Type 0} (meld : P → P → P) (limits : Limits) (h : History P) (own : Record) (asked : Call P) → own.limits.rounds ≤ 4096 → (outcome_of meld limits h own asked).reply ≡ Started
@@ -75,18 +38,6 @@ few_of meld limits h may legal =
     let ranks = may.in_range.ranks in
     let comms = may.in_range.comms in
     record { failures = omega (arith, failed, ranks); spawns = omega (arith, made, comms) }
-
-all_below : (n : ℕ) → AllByRecursion (λ r. r < n) (first_ranks n)
-all_below zero = tt
-all_below (suc n) =
-    each_push (λ r. r < suc n) (first_ranks n) n (each_from (λ r. r < n) (λ r. r < suc n) (λ r less. omega (arith, less)) (first_ranks n) (all_below n)) (omega arith)
-
--- all ranks differ
-pub ranks_distinct : (n : ℕ) → IsDistinct nat_eq (first_ranks n)
-ranks_distinct zero = none_distinct nat_eq
-ranks_distinct (suc n) =
-    distinct_push nat_eq (first_ranks n) n (ranks_distinct n)
-    (any_none (λ r. nat_eq r n) (first_ranks n) (each_from (λ r. r < n) (λ r. nat_eq r n ≡ false) (λ r less. ne_eqb r n (λ same. omega (arith, less, same))) (first_ranks n) (all_below n)))
 
 module _ {X Y : Type 0} (v : X → Y) (number : Y → ℕ) (r : ℕ) (y : Y) where
   -- the elements with those of number r changed

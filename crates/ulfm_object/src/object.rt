@@ -6,7 +6,7 @@ ghost use Rattle.ulfm_model.specs.Computed.{next_of_fail, next_of_rank, outcome_
 ghost use Rattle.ulfm_model.specs.Terms.{record_at};
 ghost use Rattle.ulfm_model.specs.Answers.{left_by, rank_of};
 ghost use Rattle.ulfm_model.specs.History.{Exists, entries_by, failed, failures, first_ranks, members};
-ghost use Rattle.ulfm_model.specs.Records.{Record, new_record};
+ghost use Rattle.ulfm_model.specs.Records.{Record};
 ghost use Rattle.ulfm_model.specs.Runs.{IsSound, State, new_state};
 ghost use Rattle.ulfm_model.specs.Words.{IsUnfit, MayOpen};
 ghost use Rattle.ulfm_object.specs.Objects.{IsFew, TakesStep, state_of};
@@ -18,7 +18,7 @@ use crate::leaves::leave;
 use crate::outcome::outcome_of;
 use std::alloc::{AllocError, Allocator};
 use std::marker::Model;
-use ulfm_history::groups::{failed, first_ranks, members};
+use ulfm_history::groups::{failed, members};
 use ulfm_history::reads::{failures, is_declared};
 use ulfm_laws::meld::Meld;
 use ulfm_model::call::{Call, rank_of};
@@ -26,7 +26,7 @@ use ulfm_model::event::{Caller, Entry, Event};
 use ulfm_model::limits::{Limits, OpenFault};
 use ulfm_model::refusal::Refusal;
 use ulfm_model::reply::Reply;
-use ulfm_record::held::HeldComm;
+use ulfm_record::fresh::new_records;
 use ulfm_record::record::RankRecord;
 
 /// The sequential object.
@@ -44,41 +44,6 @@ impl<P: Meld, A: Allocator> Model for Object<P, A> {
     ghost view = { λ a. state_of a.limits a.log.items a.records.items };
 
     ghost invariant = { λ a. MayOpen a.limits × IsSound P.meld (state_of a.limits a.log.items a.records.items) };
-}
-
-/// A new rank's record: it holds the world's communicator alone.
-fn new_record<A: Allocator + Copy + Drop>(
-    alloc: A,
-    limits: Limits,
-    number: u16,
-) -> Result<RankRecord<A>, AllocError>
-    ensures { IfOk result (λ own. record_of limits own ≡ new_record limits number) }
-{
-    let group = first_ranks(alloc, limits.ranks)?;
-    let mut held = Vec::new(alloc);
-    held.push(HeldComm::new(0, 0, group))?;
-    let seen = Vec::new(alloc);
-    Ok(RankRecord {
-        number,
-        held,
-        seen,
-        refused: false,
-    })
-}
-
-/// A new record of each rank.
-fn new_records<A: Allocator + Copy + Drop>(
-    alloc: A,
-    limits: Limits,
-) -> Result<Vec<RankRecord<A>, A>, AllocError>
-    ensures { IfOk result (λ records. map (record_of limits) records.items ≡ map (new_record limits) (first_ranks limits.ranks)) }
-{
-    let mut records = Vec::new(alloc);
-    for number in 0..limits.ranks {
-        let record = new_record(alloc, limits, number)?;
-        records.push(record)?;
-    }
-    Ok(records)
 }
 
 /// The outside declares a rank.
@@ -186,6 +151,11 @@ fn take_step<P: Meld, A: Allocator + Copy + Drop>(
 impl<P: Meld, A: Allocator + Copy + Drop> Object<P, A> {
     /// A new object: nothing has happened, and each rank holds the world's communicator alone. The faults are tested in
     /// their order: `OutOfRange`, `TooLarge`, `OutOfMemory`.
+    ///
+    /// ```
+    /// let object: Object<FlagAnd, _> = Object::open(alloc, limits)?;
+    /// assert!(rt; object.history().is_empty() && object.records().len() == 2);
+    /// ```
     pub fn open(alloc: A, limits: Limits) -> Result<Object<P, A>, OpenFault>
         ensures ok { IfOk result (λ object. (object ≡ new_state limits) × MayOpen limits) }
         ensures err { IfErr result (λ fault. IsUnfit limits fault ⊎ ((fault ≡ OutOfMemory) × MayOpen limits)) }
@@ -203,6 +173,12 @@ impl<P: Meld, A: Allocator + Copy + Drop> Object<P, A> {
     }
 
     /// Answers one call. After an error, which is want of memory, the object is as it was.
+    ///
+    /// ```
+    /// assert!(rt; object.apply(&Call::Fail { rank: 1 })? == Reply::Declared);
+    /// let asked = Call::Poll { rank: 1, comm: 0 };
+    /// assert!(rt; object.apply(&asked)? == Reply::Refused(Refusal::SelfFailed));
+    /// ```
     pub fn apply(&mut self, asked: &Call<P>) -> Result<Reply<P>, AllocError>
         ensures step { IfOk result (TakesStep P.meld self.old asked.now self.new) }
         ensures err { OnErr result (self.new ≡ self.old) }
@@ -217,6 +193,11 @@ impl<P: Meld, A: Allocator + Copy + Drop> Object<P, A> {
     }
 
     /// What has happened, in order.
+    ///
+    /// ```
+    /// object.apply(&Call::Fail { rank: 1 })?;
+    /// assert!(rt; object.history().len() == 1);
+    /// ```
     pub fn history(&self) -> &[Entry<P>]
         ensures { result.now ≡ self.now.history }
     {
@@ -224,6 +205,10 @@ impl<P: Meld, A: Allocator + Copy + Drop> Object<P, A> {
     }
 
     /// What each rank holds, rank after rank.
+    ///
+    /// ```
+    /// assert!(rt; object.records()[1].number == 1);
+    /// ```
     pub fn records(&self) -> &[RankRecord<A>]
         ensures { map (record_of self.now.limits) result.now ≡ self.now.records }
     {
@@ -231,6 +216,11 @@ impl<P: Meld, A: Allocator + Copy + Drop> Object<P, A> {
     }
 
     /// The members of a communicator, in order; nobody where it doesn't exist.
+    ///
+    /// ```
+    /// assert!(rt; object.members(0)?.as_slice() == [0, 1].as_slice());
+    /// assert!(rt; object.members(1)?.is_empty());
+    /// ```
     pub fn members(&self, comm: u16) -> Result<Vec<u16, A>, AllocError>
         ensures group { IfOk result (λ group. group.items ≡ members self.now.limits.ranks self.now.history comm) }
         ensures nobody { ¬ Exists self.now.history comm → IfOk result (λ group. group.items ≡ []) }
@@ -239,6 +229,11 @@ impl<P: Meld, A: Allocator + Copy + Drop> Object<P, A> {
     }
 
     /// The failed group of a communicator, in the order of the failures; nobody where it doesn't exist.
+    ///
+    /// ```
+    /// object.apply(&Call::Fail { rank: 1 })?;
+    /// assert!(rt; object.failed(0)?.as_slice() == [1].as_slice());
+    /// ```
     pub fn failed(&self, comm: u16) -> Result<Vec<u16, A>, AllocError>
         ensures group { IfOk result (λ group. group.items ≡ failed self.now.limits.ranks self.now.history comm) }
         ensures nobody { ¬ Exists self.now.history comm → IfOk result (λ group. group.items ≡ []) }

@@ -1,5 +1,6 @@
-ghost use Rattle.std.specs.Prelude.{◌≡◌, [], IfOk, map, length, None};
+ghost use Rattle.std.specs.Prelude.{◌≡◌, [], IfErr, IfOk, IsTrue, map, length, None};
 ghost use Rattle.ulfm_laws.specs.Flags.{flag_meld};
+ghost use Rattle.ulfm_model.specs.History.{failures, has};
 ghost use Rattle.ulfm_words.specs.Steps.{IsOf};
 ghost use Rattle.ulfm_race.specs.Races.{IsNewRank, IsOutcome, IsPlan, IsReported, IsStarted, Numbered, limits_of};
 
@@ -208,6 +209,7 @@ fn start<'s, E, G: Gate + Sync, R: Wait + Sync>(
     requires of { IsOf flag_meld world.now.words outside.old }
     ensures of { IsOf flag_meld world.now.words outside.new }
     ensures started { IfOk result (λ h. IsStarted world.now.words said.now plan rank.number h.promise) }
+    ensures declared { IfErr result (λ _. IsTrue (has (failures outside.new.seen) rank.number)) }
 {
     let number = rank.number();
     let promised = Promised {

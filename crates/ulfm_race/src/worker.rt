@@ -1,14 +1,15 @@
 // The part of one rank.
-ghost use Rattle.std.specs.Prelude.{◌≡◌, ◌<◌, Bool, List, [], ◌∷◌, ◌++◌, false, map, IfOk, MatchBool, None, Ok};
+ghost use Rattle.std.specs.Prelude.{◌≡◌, ◌<◌, Bool, List, [], ◌∷◌, ◌++◌, false, map, IfOk, IfSome, IsTrue, MatchBool, None, Ok, Err};
 ghost use Rattle.std.specs.List.{AllByRecursion};
 ghost use mathlib.Core.List.{IsPrefix};
 ghost use Rattle.boxcar.specs.Table.{Shows};
+ghost use Rattle.ulfm_model.specs.History.{failures, has};
 ghost use Rattle.ulfm_model.specs.Records.{new_record};
 ghost use Rattle.ulfm_laws.specs.Flags.{flag_meld};
 ghost use Rattle.ulfm_model.specs.declared.reply.Reply.{Reply as ReplyOf};
 ghost use Rattle.ulfm_wait.specs.Waits.{IsPolledOn};
 ghost use Rattle.ulfm_race.specs.declared.plan.Plan.{Plan as PlanOf};
-ghost use Rattle.ulfm_race.specs.Races.{AreOf, IsAnswered, IsKept, IsPlan, IsReady, IsReported, SaysAgree, flag_of, is_refused, limits_of};
+ghost use Rattle.ulfm_race.specs.Races.{AreOf, IsAnswered, IsKept, IsPlan, IsReady, IsReported, SaysAgree, flag_of, is_refused, is_stopped, limits_of};
 
 use crate::plan::{Gate, Plan, RaceFault, Turn};
 use std::alloc::Global;
@@ -54,6 +55,7 @@ pub(crate) fn work<G: Gate, R: Wait>(
     requires own { AreOf world.now.words rank pass }
     ensures { IsReported world.now.words said.now plan rank.number result.rank result.told result.tokens.items result.fault }
 {
+    let number = rank.number();
     let mut rank = rank;
     let mut pass = pass;
     let mut tokens = Vec::new(alloc);
@@ -68,7 +70,7 @@ pub(crate) fn work<G: Gate, R: Wait>(
         &mut tokens,
     );
     let fault = fault_in(&ended);
-    declare(world, &rank, &mut pass, is_stopped(&ended));
+    declare(world, &rank, number, &mut pass, is_stopped(&ended));
     let told = world.told(&pass);
     Report {
         rank,
@@ -79,13 +81,16 @@ pub(crate) fn work<G: Gate, R: Wait>(
 }
 
 // Whether a worker stopped before it was answered all.
-fn is_stopped(ended: &Result<bool, RaceFault>) -> bool {
+fn is_stopped(ended: &Result<bool, RaceFault>) -> bool
+    ensures { result ≡ is_stopped ended.now }
+{
     !matches!(ended, Ok(true))
 }
 
 // The fault that a worker met, if any.
 fn fault_in(ended: &Result<bool, RaceFault>) -> Option<RaceFault>
-    ensures { result ≡ None → (whole : Bool) × (ended.now ≡ Ok whole) }
+    ensures none { result ≡ None → (whole : Bool) × (ended.now ≡ Ok whole) }
+    ensures some { IfSome result (λ fault. ended.now ≡ Err fault) }
 {
     match ended {
         Ok(_) => None,
@@ -93,14 +98,15 @@ fn fault_in(ended: &Result<bool, RaceFault>) -> Option<RaceFault>
     }
 }
 
-// The rank of a worker that stopped is declared.
-fn declare(world: &Shared, rank: &Own, pass: &mut BookPass<FlagAnd>, stopped: bool)
+// The rank of a worker that stopped, of this number, is declared.
+fn declare(world: &Shared, rank: &Own, number: u16, pass: &mut BookPass<FlagAnd>, stopped: bool)
     requires own { AreOf world.now.words rank.now pass.old }
     ensures own { AreOf world.now.words rank.now pass.new }
     ensures seen { IsPrefix pass.old.seen pass.new.seen }
+    ensures declared { IsTrue stopped → number < world.now.words.limits.ranks → IsTrue (has (failures pass.new.seen) number) }
 {
     if stopped {
-        let _ = world.fail(pass, rank.number());
+        let _ = world.fail(pass, number);
     }
 }
 

@@ -1,3 +1,4 @@
+pub mod Allowed
 pub mod Contexts
 pub mod Places
 pub mod Testing

@@ -3,10 +3,12 @@
 #![tactic(auto)]
 
 mod calls;
+pub mod fresh;
 pub mod held;
 pub mod ids;
 pub mod leaves;
 pub mod record;
 
+pub use fresh::{new_record, new_records};
 pub use held::HeldComm;
 pub use record::RankRecord;

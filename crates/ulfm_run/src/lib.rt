@@ -5,4 +5,4 @@ pub mod over_words;
 pub mod running;
 
 pub use over_words::WordsMachine;
-pub use running::{run_calls, run_steps};
+pub use running::{run_calls, run_steps, run_steps_failing};

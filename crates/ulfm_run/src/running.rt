@@ -1,12 +1,13 @@
-ghost use Rattle.ulfm_script.specs.Runs.{Runs};
-ghost use Rattle.ulfm_step_script.specs.StepScripts.{RunsSteps};
+ghost use Rattle.std.specs.Prelude.{◌<◌, IfOk};
+ghost use Rattle.ulfm_script.specs.{Ends.{EndsAlone, ended}, Runs.{Runs}};
+ghost use Rattle.ulfm_step_script.specs.{FailingScripts.{RunsFailing, failing_scripts}, StepScripts.{RunsSteps}};
 
 use crate::over_words::WordsMachine;
 use std::alloc::Allocator;
 use std::io::{Read, Write};
 use ulfm_script::{RunFault, run_script};
 use ulfm_seats::StepTable;
-use ulfm_step_script::run_step_script;
+use ulfm_step_script::{Failing, run_failing_script, run_step_script};
 
 /// Runs the call script that the reader gives over the words of a new world, writes a line for each call, and flushes the writer once.
 ///
@@ -20,6 +21,13 @@ use ulfm_step_script::run_step_script;
 /// that line. At `Write` a beginning of the output was written: the writer failed, took nothing, or couldn't be flushed, also where
 /// it had to take what waited at another fault. Every error of the reader or the writer is a fault, of whatever kind; none is tried
 /// again. Reader and writer have buffers of 8 KB here and need none of their own.
+///
+/// ```
+/// let mut script = b"ulfm 1 1 1 2\nagree 0 0 000000ff\npoll 0 0\n".as_slice();
+/// let mut output = Vec::new(alloc);
+/// assert!(rt; run_calls(alloc, &mut script, &mut output).is_ok());
+/// assert!(rt; output.as_slice() == b"started\nagreed 000000ff failed 0 clean\n".as_slice());
+/// ```
 pub fn run_calls<A: Allocator + Copy + Drop, R: Read, W: Write>(
     alloc: A,
     reader: &mut R,
@@ -39,6 +47,14 @@ pub fn run_calls<A: Allocator + Copy + Drop, R: Read, W: Write>(
 ///
 /// What is written at `Ok` and at each fault is told at `run_step_script`: as of call scripts, with the fault `Open` besides, where a line
 /// begins a call of a rank that has one under way.
+///
+/// ```
+/// let mut script = b"ulfm-steps 1 1 1 2\ncall isrevoked 0 0\nfinish 0\n".as_slice();
+/// let mut output = Vec::new(alloc);
+/// assert!(rt; run_steps(alloc, &mut script, &mut output).is_ok());
+/// let trace = b"ulfm-trace 1 1 1 2\ncall isrevoked 0 0\nlook 0 0\nreply 0 0 no\n".as_slice();
+/// assert!(rt; output.as_slice() == trace);
+/// ```
 pub fn run_steps<A: Allocator + Copy + Drop, R: Read, W: Write>(
     alloc: A,
     reader: &mut R,
@@ -47,4 +63,29 @@ pub fn run_steps<A: Allocator + Copy + Drop, R: Read, W: Write>(
     ensures { RunsSteps (R.remaining reader.old) (R.remaining reader.new) (W.contents writer.old) (W.contents writer.new) result }
 {
     run_step_script::<StepTable<A>, A, R, W>(alloc, reader, writer)
+}
+
+/// Runs a script as [`run_steps`] does, and declares a rank failed, whole, as the outside does, right behind this atomic step of the script's
+/// lines, counted from 1, and all lines of the trace that the step tells. For 0 it comes right behind the header; where fewer steps are made there
+/// is no such declaration. `rank` is one that a script can name; one that the world doesn't have is answered so.
+///
+/// At `Ok` it gives the number of steps that the script's lines made; those of this declaration and of the script's `fail` lines aren't counted.
+/// The trace is legal, and follows the script but for the two or three lines of this declaration; it has no more events of ranks than the number
+/// says. At a fault what was written is as by [`run_steps`], but for this declaration.
+///
+/// The script of `examples/contribution_in_flight.steps` makes 20 steps: with 1000 for `at` its trace is what [`run_steps`] writes, and the
+/// answer is `Ok(20)`.
+pub fn run_steps_failing<A: Allocator + Copy + Drop, R: Read, W: Write>(
+    alloc: A,
+    reader: &mut R,
+    writer: &mut W,
+    at: u32,
+    rank: u16,
+) -> Result<u32, RunFault>
+    requires { rank < 1024 }
+    ensures ends { EndsAlone failing_scripts (R.remaining reader.old) (R.remaining reader.new) (W.contents writer.old) (W.contents writer.new)
+        (ended result) }
+    ensures fails { IfOk result (λ number. RunsFailing rank number (R.remaining reader.old) (W.contents writer.old) (W.contents writer.new)) }
+{
+    run_failing_script::<StepTable<A>, A, R, W>(alloc, Failing { at, rank }, reader, writer)
 }

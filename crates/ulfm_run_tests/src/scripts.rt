@@ -144,8 +144,10 @@ fn refusals_come_in_their_states(rt: HostRuntime) -> Result<(), Fail> {
     let scripts: [(&str, &[u8], &[u8]); 4] = [
         (
             "first_refusal",
-            b"ulfm 1 1 1 2\nget 0 1\npoll 0 0\nagree 0 0 00000001\nagree 0 0 00000001\npoll 0 0\nagree 0 0 00000001\npoll 1 0\nfail 0\nget 0 1\n",
-            b"refused 2 no-such-comm\nrefused 6 idle\nstarted\nrefused 3 busy\nagreed 00000001 failed 0 clean\nrefused 5 rounds-used-up\nrefused 13 no-such-rank\ndeclared\nrefused 1 self-failed\n",
+            b"ulfm 1 1 1 2\nget 0 1\npoll 0 0\nagree 0 0 00000001\nagree 0 0 00000001\npoll 0 0\nagree 0 0 00000001\npoll 1 0\nfail 0\n\
+                get 0 1\n",
+            b"refused 2 no-such-comm\nrefused 6 idle\nstarted\nrefused 3 busy\nagreed 00000001 failed 0 clean\nrefused 5 rounds-used-up\n\
+                refused 13 no-such-rank\ndeclared\nrefused 1 self-failed\n",
         ),
         (
             "failed_after_arriving",
@@ -154,13 +156,23 @@ fn refusals_come_in_their_states(rt: HostRuntime) -> Result<(), Fail> {
         ),
         (
             "one_rank_of_three_rounds",
-            b"ulfm 1 1 1 3\npoll 0 0\nagree 0 0 00000001\nagree 0 0 00000001\nbarrier 0 0\npoll 0 0\npoll 0 0\nagree 0 0 00000003\nagree 0 0 00000003\npoll 0 0\nagree 0 0 00000003\nshrink 0 0\nshrink 0 0\npoll 0 0\nshrink 0 0\nbarrier 0 0\npoll 0 0\nget 0 1\nack 0 1 1\nagree 0 1 00000001\npoll 0 1\nget 1 0\nagree 1 1 00000001\nfail 0\nagree 0 0 00000001\npoll 0 1\nget 1 1\n",
-            b"refused 6 idle\nstarted\nrefused 3 busy\nrefused 3 busy\nagreed 00000001 failed 0 clean\nrefused 6 idle\nstarted\nrefused 3 busy\nagreed 00000003 failed 0 clean\nrefused 5 rounds-used-up\nstarted\nrefused 3 busy\nrefused 9 no-room\nrefused 5 rounds-used-up\nstarted\ndone\nrefused 2 no-such-comm\nrefused 2 no-such-comm\nrefused 2 no-such-comm\nrefused 2 no-such-comm\nrefused 13 no-such-rank\nrefused 13 no-such-rank\ndeclared\nrefused 1 self-failed\nrefused 1 self-failed\nrefused 13 no-such-rank\n",
+            b"ulfm 1 1 1 3\npoll 0 0\nagree 0 0 00000001\nagree 0 0 00000001\nbarrier 0 0\npoll 0 0\npoll 0 0\nagree 0 0 00000003\n\
+                agree 0 0 00000003\npoll 0 0\nagree 0 0 00000003\nshrink 0 0\nshrink 0 0\npoll 0 0\nshrink 0 0\nbarrier 0 0\npoll 0 0\n\
+                get 0 1\nack 0 1 1\nagree 0 1 00000001\npoll 0 1\nget 1 0\nagree 1 1 00000001\nfail 0\nagree 0 0 00000001\npoll 0 1\n\
+                get 1 1\n",
+            b"refused 6 idle\nstarted\nrefused 3 busy\nrefused 3 busy\nagreed 00000001 failed 0 clean\nrefused 6 idle\nstarted\n\
+                refused 3 busy\nagreed 00000003 failed 0 clean\nrefused 5 rounds-used-up\nstarted\nrefused 3 busy\nrefused 9 no-room\n\
+                refused 5 rounds-used-up\nstarted\ndone\nrefused 2 no-such-comm\nrefused 2 no-such-comm\nrefused 2 no-such-comm\n\
+                refused 2 no-such-comm\nrefused 13 no-such-rank\nrefused 13 no-such-rank\ndeclared\nrefused 1 self-failed\n\
+                refused 1 self-failed\nrefused 13 no-such-rank\n",
         ),
         (
             "refused_for_good",
-            b"ulfm 1 2 2 4\nagree 1 0 00000001\nfail 1\npoll 1 0\nget 1 0\nack 1 0 1\nagree 1 0 00000001\nshrink 1 0\nbarrier 1 0\npoll 1 0\nrevoke 1 0\nisrevoked 1 0\nfree 1 0\npoll 1 3\nisrevoked 0 0\nfail 1\n",
-            b"started\ndeclared\nrefused 1 self-failed\nrefused 1 self-failed\nrefused 1 self-failed\nrefused 1 self-failed\nrefused 1 self-failed\nrefused 1 self-failed\nrefused 1 self-failed\nrefused 1 self-failed\nrefused 1 self-failed\nrefused 1 self-failed\nrefused 1 self-failed\nno\nalready-failed\n",
+            b"ulfm 1 2 2 4\nagree 1 0 00000001\nfail 1\npoll 1 0\nget 1 0\nack 1 0 1\nagree 1 0 00000001\nshrink 1 0\nbarrier 1 0\n\
+                poll 1 0\nrevoke 1 0\nisrevoked 1 0\nfree 1 0\npoll 1 3\nisrevoked 0 0\nfail 1\n",
+            b"started\ndeclared\nrefused 1 self-failed\nrefused 1 self-failed\nrefused 1 self-failed\nrefused 1 self-failed\n\
+                refused 1 self-failed\nrefused 1 self-failed\nrefused 1 self-failed\nrefused 1 self-failed\nrefused 1 self-failed\n\
+                refused 1 self-failed\nrefused 1 self-failed\nno\nalready-failed\n",
         ),
     ];
     for (name, script, wanted) in scripts {
@@ -202,8 +214,11 @@ fn worked_rows(rt: HostRuntime) -> Result<(), Fail> {
         ),
         (
             "agrees_though_revoked",
-            b"ulfm 1 2 4 8\nrevoke 1 0\nrevoke 0 0\nbarrier 0 0\npoll 0 0\nagree 0 0 0000000f\nagree 1 0 00000007\npoll 0 0\npoll 1 0\nshrink 0 0\nshrink 1 0\npoll 0 0\npoll 1 0\nisrevoked 0 0\nisrevoked 0 1\n",
-            b"revoked\nalready-revoked\nstarted\nrefused 10 is-revoked\nstarted\nstarted\nagreed 00000007 failed 0 clean\nagreed 00000007 failed 0 clean\nstarted\nstarted\nshrunk 1 context 1 members 0 1\nshrunk 1 context 1 members 0 1\nyes\nno\n",
+            b"ulfm 1 2 4 8\nrevoke 1 0\nrevoke 0 0\nbarrier 0 0\npoll 0 0\nagree 0 0 0000000f\nagree 1 0 00000007\npoll 0 0\npoll 1 0\n\
+                shrink 0 0\nshrink 1 0\npoll 0 0\npoll 1 0\nisrevoked 0 0\nisrevoked 0 1\n",
+            b"revoked\nalready-revoked\nstarted\nrefused 10 is-revoked\nstarted\nstarted\nagreed 00000007 failed 0 clean\n\
+                agreed 00000007 failed 0 clean\nstarted\nstarted\nshrunk 1 context 1 members 0 1\nshrunk 1 context 1 members 0 1\nyes\n\
+                no\n",
         ),
         (
             "barrier_and_failure_a",
@@ -218,12 +233,31 @@ fn worked_rows(rt: HostRuntime) -> Result<(), Fail> {
         (
             "contexts_come_back_a",
             b"ulfm 1 2 4 8\nshrink 0 0\nshrink 1 0\npoll 0 0\npoll 1 0\nfree 0 1\nshrink 0 0\nshrink 1 0\npoll 0 0\npoll 1 0\n",
-            b"started\nstarted\nshrunk 1 context 1 members 0 1\nshrunk 1 context 1 members 0 1\nfreed\nstarted\nstarted\nshrunk 2 context 2 members 0 1\nshrunk 2 context 2 members 0 1\n",
+            b"started\nstarted\nshrunk 1 context 1 members 0 1\nshrunk 1 context 1 members 0 1\nfreed\nstarted\nstarted\n\
+                shrunk 2 context 2 members 0 1\nshrunk 2 context 2 members 0 1\n",
         ),
         (
             "contexts_come_back_b",
-            b"ulfm 1 1 40 40\nshrink 0 0\npoll 0 0\nshrink 0 0\npoll 0 0\nshrink 0 0\npoll 0 0\nshrink 0 0\npoll 0 0\nshrink 0 0\npoll 0 0\nshrink 0 0\npoll 0 0\nshrink 0 0\npoll 0 0\nshrink 0 0\npoll 0 0\nshrink 0 0\npoll 0 0\nshrink 0 0\npoll 0 0\nshrink 0 0\npoll 0 0\nshrink 0 0\npoll 0 0\nshrink 0 0\npoll 0 0\nshrink 0 0\npoll 0 0\nshrink 0 0\npoll 0 0\nshrink 0 0\npoll 0 0\nshrink 0 0\npoll 0 0\nshrink 0 0\npoll 0 0\nshrink 0 0\npoll 0 0\nshrink 0 0\npoll 0 0\nshrink 0 0\npoll 0 0\nshrink 0 0\npoll 0 0\nshrink 0 0\npoll 0 0\nshrink 0 0\npoll 0 0\nshrink 0 0\npoll 0 0\nshrink 0 0\npoll 0 0\nshrink 0 0\npoll 0 0\nshrink 0 0\npoll 0 0\nshrink 0 0\npoll 0 0\nshrink 0 0\npoll 0 0\nshrink 0 0\npoll 0 0\nshrink 0 0\npoll 0 0\nfree 0 7\nshrink 0 0\npoll 0 0\n",
-            b"started\nshrunk 1 context 1 members 0\nstarted\nshrunk 2 context 2 members 0\nstarted\nshrunk 3 context 3 members 0\nstarted\nshrunk 4 context 4 members 0\nstarted\nshrunk 5 context 5 members 0\nstarted\nshrunk 6 context 6 members 0\nstarted\nshrunk 7 context 7 members 0\nstarted\nshrunk 8 context 8 members 0\nstarted\nshrunk 9 context 9 members 0\nstarted\nshrunk 10 context 10 members 0\nstarted\nshrunk 11 context 11 members 0\nstarted\nshrunk 12 context 12 members 0\nstarted\nshrunk 13 context 13 members 0\nstarted\nshrunk 14 context 14 members 0\nstarted\nshrunk 15 context 15 members 0\nstarted\nshrunk 16 context 16 members 0\nstarted\nshrunk 17 context 17 members 0\nstarted\nshrunk 18 context 18 members 0\nstarted\nshrunk 19 context 19 members 0\nstarted\nshrunk 20 context 20 members 0\nstarted\nshrunk 21 context 21 members 0\nstarted\nshrunk 22 context 22 members 0\nstarted\nshrunk 23 context 23 members 0\nstarted\nshrunk 24 context 24 members 0\nstarted\nshrunk 25 context 25 members 0\nstarted\nshrunk 26 context 26 members 0\nstarted\nshrunk 27 context 27 members 0\nstarted\nshrunk 28 context 28 members 0\nstarted\nshrunk 29 context 29 members 0\nstarted\nshrunk 30 context 30 members 0\nstarted\nshrunk 31 context 31 members 0\nstarted\nrefused 8 no-context\nfreed\nstarted\nshrunk 32 context 7 members 0\n",
+            b"ulfm 1 1 40 40\nshrink 0 0\npoll 0 0\nshrink 0 0\npoll 0 0\nshrink 0 0\npoll 0 0\nshrink 0 0\npoll 0 0\nshrink 0 0\n\
+                poll 0 0\nshrink 0 0\npoll 0 0\nshrink 0 0\npoll 0 0\nshrink 0 0\npoll 0 0\nshrink 0 0\npoll 0 0\nshrink 0 0\npoll 0 0\n\
+                shrink 0 0\npoll 0 0\nshrink 0 0\npoll 0 0\nshrink 0 0\npoll 0 0\nshrink 0 0\npoll 0 0\nshrink 0 0\npoll 0 0\n\
+                shrink 0 0\npoll 0 0\nshrink 0 0\npoll 0 0\nshrink 0 0\npoll 0 0\nshrink 0 0\npoll 0 0\nshrink 0 0\npoll 0 0\n\
+                shrink 0 0\npoll 0 0\nshrink 0 0\npoll 0 0\nshrink 0 0\npoll 0 0\nshrink 0 0\npoll 0 0\nshrink 0 0\npoll 0 0\n\
+                shrink 0 0\npoll 0 0\nshrink 0 0\npoll 0 0\nshrink 0 0\npoll 0 0\nshrink 0 0\npoll 0 0\nshrink 0 0\npoll 0 0\n\
+                shrink 0 0\npoll 0 0\nshrink 0 0\npoll 0 0\nfree 0 7\nshrink 0 0\npoll 0 0\n",
+            b"started\nshrunk 1 context 1 members 0\nstarted\nshrunk 2 context 2 members 0\nstarted\nshrunk 3 context 3 members 0\n\
+                started\nshrunk 4 context 4 members 0\nstarted\nshrunk 5 context 5 members 0\nstarted\nshrunk 6 context 6 members 0\n\
+                started\nshrunk 7 context 7 members 0\nstarted\nshrunk 8 context 8 members 0\nstarted\nshrunk 9 context 9 members 0\n\
+                started\nshrunk 10 context 10 members 0\nstarted\nshrunk 11 context 11 members 0\nstarted\n\
+                shrunk 12 context 12 members 0\nstarted\nshrunk 13 context 13 members 0\nstarted\nshrunk 14 context 14 members 0\n\
+                started\nshrunk 15 context 15 members 0\nstarted\nshrunk 16 context 16 members 0\nstarted\n\
+                shrunk 17 context 17 members 0\nstarted\nshrunk 18 context 18 members 0\nstarted\nshrunk 19 context 19 members 0\n\
+                started\nshrunk 20 context 20 members 0\nstarted\nshrunk 21 context 21 members 0\nstarted\n\
+                shrunk 22 context 22 members 0\nstarted\nshrunk 23 context 23 members 0\nstarted\nshrunk 24 context 24 members 0\n\
+                started\nshrunk 25 context 25 members 0\nstarted\nshrunk 26 context 26 members 0\nstarted\n\
+                shrunk 27 context 27 members 0\nstarted\nshrunk 28 context 28 members 0\nstarted\nshrunk 29 context 29 members 0\n\
+                started\nshrunk 30 context 30 members 0\nstarted\nshrunk 31 context 31 members 0\nstarted\nrefused 8 no-context\nfreed\n\
+                started\nshrunk 32 context 7 members 0\n",
         ),
         (
             "failed_rank_raises",
@@ -252,8 +286,10 @@ fn worked_rows(rt: HostRuntime) -> Result<(), Fail> {
         ),
         (
             "refusals_in_order",
-            b"ulfm 1 2 4 8\nshrink 0 0\nshrink 0 0\npoll 0 0\npoll 1 0\nshrink 1 0\npoll 0 0\nshrink 0 0\nshrink 0 1\nagree 0 1 00000001\nfree 0 1\nfree 0 0\nget 1 1\n",
-            b"started\nrefused 3 busy\npending\nrefused 6 idle\nstarted\nshrunk 1 context 1 members 0 1\nstarted\nrefused 4 shrink-open\nstarted\nrefused 3 busy\nrefused 12 world-kept\nrefused 2 no-such-comm\n",
+            b"ulfm 1 2 4 8\nshrink 0 0\nshrink 0 0\npoll 0 0\npoll 1 0\nshrink 1 0\npoll 0 0\nshrink 0 0\nshrink 0 1\n\
+                agree 0 1 00000001\nfree 0 1\nfree 0 0\nget 1 1\n",
+            b"started\nrefused 3 busy\npending\nrefused 6 idle\nstarted\nshrunk 1 context 1 members 0 1\nstarted\nrefused 4 shrink-open\n\
+                started\nrefused 3 busy\nrefused 12 world-kept\nrefused 2 no-such-comm\n",
         ),
         (
             "rounds_and_room_used_up",
@@ -262,8 +298,11 @@ fn worked_rows(rt: HostRuntime) -> Result<(), Fail> {
         ),
         (
             "shrinks_keep_order",
-            b"ulfm 1 4 4 4\nfail 1\nshrink 3 0\nshrink 0 0\nshrink 2 0\npoll 3 0\npoll 0 0\npoll 2 0\nfail 0\nshrink 3 1\nshrink 2 1\npoll 3 1\npoll 2 1\n",
-            b"declared\nstarted\nstarted\nstarted\nshrunk 1 context 1 members 0 2 3\nshrunk 1 context 1 members 0 2 3\nshrunk 1 context 1 members 0 2 3\ndeclared\nstarted\nstarted\nshrunk 2 context 2 members 2 3\nshrunk 2 context 2 members 2 3\n",
+            b"ulfm 1 4 4 4\nfail 1\nshrink 3 0\nshrink 0 0\nshrink 2 0\npoll 3 0\npoll 0 0\npoll 2 0\nfail 0\nshrink 3 1\nshrink 2 1\n\
+                poll 3 1\npoll 2 1\n",
+            b"declared\nstarted\nstarted\nstarted\nshrunk 1 context 1 members 0 2 3\nshrunk 1 context 1 members 0 2 3\n\
+                shrunk 1 context 1 members 0 2 3\ndeclared\nstarted\nstarted\nshrunk 2 context 2 members 2 3\n\
+                shrunk 2 context 2 members 2 3\n",
         ),
         (
             "three_flags",

@@ -3,6 +3,7 @@ pub mod CallLemmas
 pub mod HeaderLemmas
 pub mod Hexadecimal
 pub mod Numerals
+pub mod Powers
 pub mod RunLemmas
 pub mod ScriptLemmas
 pub mod Spelled

@@ -1,6 +1,6 @@
 -- Runs, line after line, of any kind of script.
 use Rattle.std.proofs.Common.{◌≡◌, ℕ, ◌+◌, ◌<◌, ◌≤◌, List, [], ◌∷◌, ◌++◌, length, length-append, take, Option, Some, None, Result, Ok, Err, refl, sym, ap, subst, ◌∙◌, append_assoc, arith, inl, inr}
-use Rattle.std.specs.{Prelude.{◌⊎◌, IsErrAnd}, Io.KnownBytes.{Appends, Consumes, IsAtEnd, Keeps, prepend_known}}
+use Rattle.std.specs.{Prelude.{◌⊎◌, IfOk, IsErrAnd}, Io.KnownBytes.{Appends, Consumes, IsAtEnd, Keeps, prepend_known}}
 use Rattle.std.proofs.KnownBytes.{prepend_known-nil}
 use Rattle.std.proofs.lemmas.List.{append-nil}
 use Rattle.ulfm_model.specs.declared.limits.Limits.{Limits}
@@ -9,7 +9,7 @@ use Rattle.ulfm_script.specs.declared.line_kind.LineKind.TheVariants.{Cut, Heade
 use Rattle.ulfm_script.specs.declared.fault.RunFault.{RunFault}
 use Rattle.ulfm_script.specs.declared.fault.RunFault.TheVariants.{Line, Memory, Read, Write}
 use Rattle.ulfm_script.specs.{Buffers.{Drains, HasNoNewline, IsOfLine, Puts, TakesLine}, Headers.{header_of}, Written.{Begins, Holds, WritesPart}}
-use Rattle.ulfm_script.specs.Ends.{Claim, EndsAlone, EndsThrough, EndsUpTo, FindsFault, HasFault, IsOpened, IsTextOf, Known, Opens, PrintsAll, PrintsFrom, PrintsSome, RunEnd, RunsAll, RunsLine, Stage, StopsInLine, StopsInOutput, TakesItem}
+use Rattle.ulfm_script.specs.Ends.{Claim, EndsAlone, EndsThrough, EndsUpTo, FindsFault, HasFault, HasRunAll, IsOpened, IsTextOf, Known, Opens, PrintsAll, PrintsFrom, PrintsSome, RunEnd, RunsAll, RunsLine, Stage, StopsInLine, StopsInOutput, TakesItem}
 use Rattle.ulfm_script.specs.Scripts.{Asked, Language, Script, asked_last, asked_then, header_at, item_at, script_of, stopped, without_header}
 use Rattle.ulfm_script.proofs.ByteLemmas.{appends_start, appends_then, consumes_keeps, consumes_start, consumes_then, end_behind, taken_of_reader}
 use Rattle.ulfm_script.proofs.ScriptLemmas.{BeginsWith, Comes, asked_from, before_last, comes_cut, comes_end, comes_fault, comes_first, comes_on, comes_unopened, ended_script, going, kept_header, line_comes, long_header, no_header, plain_item, script_begins, short_header}
@@ -155,6 +155,23 @@ ended_done lang HasRun known b left old mid v ahead n i k z =
       },
       end_behind ahead left z,
     )
+
+-- there is no further line, and the machine has run all of the text
+pub ran_all : (lang : Language) (HasRun : Stage lang) (known b left old mid : Known) (v ahead : List ℕ) (n : ℕ)
+    → Going lang HasRun known b old mid v n → Keeps b (prepend_known ahead left) → IsAtEnd (prepend_known ahead left)
+    → HasRunAll lang HasRun known (Holds old mid v)
+ran_all lang HasRun known b left old mid v ahead n i k z =
+    let c = prepend_known ahead left in
+    record {
+      text = i.done;
+      limits = i.limits;
+      items = i.items;
+      out = i.out;
+      whole = whole_text known c i.done (consumes_keeps known b c i.done i.taken k) z;
+      script_is = comes_end lang i.done i.limits i.items n i.comes;
+      has_run = i.has_run;
+      told = i.held;
+    }
 
 -- a fault that all texts with this beginning have
 fault_told : (lang : Language) (known : Known) (text : List ℕ) (old new : Known) (w out : List ℕ) (limits : Limits) (items : List lang.Item)
@@ -452,6 +469,20 @@ all_drained lang known old mid new w fault h k = record {
   told = holds_drained old mid new w h.out h.told k;
 }
 
+-- what waited was written after a run of the whole text by a machine
+pub ran_all_drained : (lang : Language) (HasRun : Stage lang) (known old mid new : Known) (w : List ℕ) → HasRunAll lang HasRun known (Holds old mid w)
+    → Appends mid new w → HasRunAll lang HasRun known (Appends old new)
+ran_all_drained lang HasRun known old mid new w h k = record {
+  text = h.text;
+  limits = h.limits;
+  items = h.items;
+  out = h.out;
+  whole = h.whole;
+  script_is = h.script_is;
+  has_run = h.has_run;
+  told = holds_drained old mid new w h.out h.told k;
+}
+
 -- what waited was written after a run that found a fault
 found_drained : (lang : Language) (known old mid new : Known) (w : List ℕ) (n : ℕ) (kind : LineKind) → FindsFault lang known n kind (Holds old mid w)
     → Appends mid new w → FindsFault lang known n kind (Appends old new)
@@ -514,6 +545,14 @@ pub ran_alone : (lang : Language) (known left old new : Known) (pending ahead : 
 ran_alone lang known left old new pending ahead result e few h =
     let same : prepend_known pending known ≡ known = rw e (prepend_known-nil known) in
     (ahead, few, subst (λ (k : Known). EndsThrough lang k left ahead old new result) same h)
+
+-- the same of a run of the whole text
+pub ran_all_alone : {M : Type 0} (lang : Language) (HasRun : M → Stage lang) (known : Known) (pending : List ℕ) (Told : Claim) (result : Result M RunFault)
+    → pending ≡ [] → IfOk result (λ machine. HasRunAll lang (HasRun machine) (prepend_known pending known) Told)
+    → IfOk result (λ machine. HasRunAll lang (HasRun machine) known Told)
+ran_all_alone lang HasRun known pending Told result e h =
+    let same : prepend_known pending known ≡ known = rw e (prepend_known-nil known) in
+    subst (λ (k : Known). IfOk result (λ machine. HasRunAll lang (HasRun machine) k Told)) same h
 
 -- the buffer itself was refused
 pub ran_none : (lang : Language) (left old : Known) → EndsAlone lang left left old old (Err Memory)

@@ -164,11 +164,12 @@ pub chosen : {A : Type 0} (b : Bool) (x y z : A) → cond b x y ≡ z → ((b �
 chosen true x y z e = inl (refl, e)
 chosen false x y z e = inr (refl, e)
 
--- a first word that is tested for one verb after another
-verb_found : (word verb : List ℕ) (fields : Option (List ℕ)) (fields_of : Option (List ℕ) → Result ScriptCall LineKind) (other : Result ScriptCall LineKind) (call : ScriptCall) → Reads verb fields_of
-    → (other ≡ Ok call → Spells (joined word fields) call) → cond (bytes_eq word verb) (fields_of fields) other ≡ Ok call → Spells (joined word fields) call
-verb_found word verb fields fields_of other call reads rest e = elim (chosen (bytes_eq word verb) (fields_of fields) other (Ok call) e) [
-  | inl this ↦ subst (λ (w : List ℕ). Spells (joined w fields) call) (sym ((bytes_eq-Decides word verb).0 this.0)) (reads fields call this.1)
+-- a first word that is tested for one verb after another: what stands behind a verb says what the line tells
+pub verb_found : {X : Type 0} (Tells : List ℕ → X → Type 0) (word verb : List ℕ) (fields : Option (List ℕ)) (fields_of : Option (List ℕ) → Result X LineKind) (other : Result X LineKind)
+    (found : X) → ((behind : Option (List ℕ)) (x : X) → fields_of behind ≡ Ok x → Tells (joined verb behind) x) → (other ≡ Ok found → Tells (joined word fields) found)
+    → cond (bytes_eq word verb) (fields_of fields) other ≡ Ok found → Tells (joined word fields) found
+verb_found Tells word verb fields fields_of other found reads rest e = elim (chosen (bytes_eq word verb) (fields_of fields) other (Ok found) e) [
+  | inl this ↦ subst (λ (w : List ℕ). Tells (joined w fields) found) (sym ((bytes_eq-Decides word verb).0 this.0)) (reads fields found this.1)
   | inr that ↦ rest that.1
 ]
 
@@ -176,16 +177,16 @@ no_verb : (line : List ℕ) (call : ScriptCall) → (let r : Result ScriptCall L
 no_verb line call e = absurd cc
 
 read_from : (word : List ℕ) (fields : Option (List ℕ)) (call : ScriptCall) → call_from (word, fields) ≡ Ok call → Spells (joined word fields) call
-read_from word fields call e = verb_found word (codes "fail") fields fail_of _ call fail_found
-    (verb_found word (codes "get") fields (plain_of GetFailed) _ call (plain_found (codes "get") GetFailed (λ line rank comm h. h))
-    (verb_found word (codes "ack") fields ack_of _ call ack_found
-    (verb_found word (codes "agree") fields agree_of _ call agree_found
-    (verb_found word (codes "shrink") fields (plain_of Shrink) _ call (plain_found (codes "shrink") Shrink (λ line rank comm h. h))
-    (verb_found word (codes "barrier") fields (plain_of Barrier) _ call (plain_found (codes "barrier") Barrier (λ line rank comm h. h))
-    (verb_found word (codes "poll") fields (plain_of Poll) _ call (plain_found (codes "poll") Poll (λ line rank comm h. h))
-    (verb_found word (codes "revoke") fields (plain_of Revoke) _ call (plain_found (codes "revoke") Revoke (λ line rank comm h. h))
-    (verb_found word (codes "isrevoked") fields (plain_of IsRevoked) _ call (plain_found (codes "isrevoked") IsRevoked (λ line rank comm h. h))
-    (verb_found word (codes "free") fields (plain_of Free) _ call (plain_found (codes "free") Free (λ line rank comm h. h)) (no_verb (joined word fields) call)))))))))) e
+read_from word fields call e = verb_found Spells word (codes "fail") fields fail_of _ call fail_found
+    (verb_found Spells word (codes "get") fields (plain_of GetFailed) _ call (plain_found (codes "get") GetFailed (λ line rank comm h. h))
+    (verb_found Spells word (codes "ack") fields ack_of _ call ack_found
+    (verb_found Spells word (codes "agree") fields agree_of _ call agree_found
+    (verb_found Spells word (codes "shrink") fields (plain_of Shrink) _ call (plain_found (codes "shrink") Shrink (λ line rank comm h. h))
+    (verb_found Spells word (codes "barrier") fields (plain_of Barrier) _ call (plain_found (codes "barrier") Barrier (λ line rank comm h. h))
+    (verb_found Spells word (codes "poll") fields (plain_of Poll) _ call (plain_found (codes "poll") Poll (λ line rank comm h. h))
+    (verb_found Spells word (codes "revoke") fields (plain_of Revoke) _ call (plain_found (codes "revoke") Revoke (λ line rank comm h. h))
+    (verb_found Spells word (codes "isrevoked") fields (plain_of IsRevoked) _ call (plain_found (codes "isrevoked") IsRevoked (λ line rank comm h. h))
+    (verb_found Spells word (codes "free") fields (plain_of Free) _ call (plain_found (codes "free") Free (λ line rank comm h. h)) (no_verb (joined word fields) call)))))))))) e
 
 -- what is read is spelled so
 pub read_is_spelled : (line : List ℕ) (call : ScriptCall) → call_of line ≡ Ok call → Spells line call

@@ -35,6 +35,11 @@ IsTextOf known text = IfSome known (λ xs. text ≡ xs)
 abbrev pub RunEnd : Type 0
 RunEnd = Result (Unit {0}) RunFault
 
+-- the same of a run that gives something at its end
+abbrev pub ended : {T : Type 0} → Result T RunFault → RunEnd
+ended (Ok given) = Ok tt
+ended (Err fault) = Err fault
+
 -- what is said of an output
 abbrev pub Claim : Type 1
 Claim = List ℕ → Type 0
@@ -111,6 +116,17 @@ EndsAlone lang known left old new result = (ahead : List ℕ) × (length ahead �
 -- what a machine has run and printed: its world's limits, the items, and the output
 abbrev pub Stage : Language → Type 1
 Stage lang = Limits → List lang.Item → List ℕ → Type 0
+
+-- A machine has run all items of a reader's whole text, which has no fault: what it printed is told.
+pub record HasRunAll (lang : Language) (HasRun : Stage lang) (known : Known) (Told : Claim) : Type 0 where
+  pub text : List ℕ
+  pub limits : Limits
+  pub items : List lang.Item
+  pub out : List ℕ
+  pub whole : IsTextOf known text
+  pub script_is : script_of lang text ≡ record { limits = Some limits; items = items; fault = None }
+  pub has_run : HasRun limits items out
+  pub told : Told out
 
 -- a machine was opened by the first line, and printed this
 pub record IsOpened (lang : Language) (HasRun : Stage lang) (old new : Known) (text : List ℕ) : Type 0 where

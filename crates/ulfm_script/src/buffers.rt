@@ -180,8 +180,11 @@ impl<A: Allocator> Output<A> {
     }
 }
 
-/// Writes all bytes. Any error of the writer is a fault, of whatever kind, and so is a write that takes nothing.
-fn write_out<W: Write>(bytes: &[u8], writer: &mut W) -> Result<(), RunFault>
+/// Writes all bytes, and doesn't flush the writer. Any error of the writer is the fault `Write`, of whatever kind, `Interrupted` too, and so
+/// is a write that takes nothing; none is tried again. Only a beginning of the bytes was written then.
+///
+/// To a writer that takes nothing, `write_out(b"legal\n", &mut writer)` is `Err(RunFault::Write)`.
+pub fn write_out<W: Write>(bytes: &[u8], writer: &mut W) -> Result<(), RunFault>
     ensures { WritesAll bytes.now (W.contents writer.old) (W.contents writer.new) result }
 {
     let mut written = 0;

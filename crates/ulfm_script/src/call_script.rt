@@ -8,7 +8,7 @@ ghost use Rattle.ulfm_script.specs.Spelling.{IsSpelled};
 
 use crate::buffers::Input;
 use crate::calls::read_call;
-use crate::engine::{run_text, run_text_through};
+use crate::engine::{end_of, run_text, run_text_through};
 use crate::fault::RunFault;
 use crate::header_kind::HeaderKind;
 use crate::interpreter::Interpreter;
@@ -43,7 +43,7 @@ pub fn run_script<M: Machine<A>, A: Allocator + Copy, R: Read, W: Write>(
 ) -> Result<(), RunFault>
     ensures { Runs (R.remaining reader.old) (R.remaining reader.new) (W.contents writer.old) (W.contents writer.new) result }
 {
-    run_text::<CallLines<M, A>, A, R, W>(alloc, reader, writer)
+    end_of(run_text::<CallLines<M, A>, A, R, W>(alloc, (), reader, writer))
 }
 
 /// Runs a script as [`run_script`] does, through a buffer of the caller's. What it holds of the reader's bytes is read first.
@@ -60,7 +60,8 @@ pub fn run_script_through<M: Machine<A>, A: Allocator + Copy, R: Read, W: Write>
     ensures { RunsThrough (unread R.remaining input.old reader.old) (R.remaining reader.new) (pending input.new)
         (W.contents writer.old) (W.contents writer.new) result }
 {
-    run_text_through::<CallLines<M, A>, A, R, W>(alloc, input, reader, writer)
+    let ran = run_text_through::<CallLines<M, A>, A, R, W>(alloc, (), input, reader, writer);
+    end_of(ran)
 }
 
 /// A machine, and the lines of its replies.
@@ -73,9 +74,11 @@ struct CallLines<M, A: Allocator> {
 }
 
 impl<M: Machine<A>, A: Allocator + Copy> Interpreter<A> for CallLines<M, A> {
+    type Plan = ();
+
     ghost lang = { call_scripts };
 
-    ghost HasRun = { λ it limits calls out. Prints (new_state limits) calls out (M.state it.machine) };
+    ghost HasRun = { λ plan it limits calls out. Prints (new_state limits) calls out (M.state it.machine) };
 
     ghost text = { λ it. it.text.items };
 
@@ -83,7 +86,7 @@ impl<M: Machine<A>, A: Allocator + Copy> Interpreter<A> for CallLines<M, A> {
         HeaderKind::Calls
     }
 
-    fn open(alloc: A, limits: Limits) -> Result<Self, AllocError> {
+    fn open(alloc: A, limits: Limits, _plan: ()) -> Result<Self, AllocError> {
         let text = Vec::with_capacity(alloc, ROOM)?;
         let machine = M::open(alloc, limits)?;
         Ok(CallLines {
@@ -114,7 +117,7 @@ impl<M: Machine<A>, A: Allocator + Copy> Interpreter<A> for CallLines<M, A> {
         &self.text
     }
 
-    ghost prints = { λ it limits calls out ran. (M.state it.machine, ran) };
+    ghost prints = { λ plan it limits calls out ran. (M.state it.machine, ran) };
 }
 
 /// Answers a call by the machine, and makes the line that it prints.

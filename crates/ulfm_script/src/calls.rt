@@ -17,6 +17,11 @@ use ulfm_model::Call;
 /// A line is `fail R`, `get R C`, `ack R C N`, `agree R C F`, `shrink R C`, `barrier R C`, `poll R C`, `revoke R C`,
 /// `isrevoked R C` or `free R C`: ranks R are 0 to 1023, communicators C 0 to 255, counts N 0 to 9999, in decimal without
 /// leading zeros, and a flag F is eight lower case hexadecimal digits.
+///
+/// ```
+/// assert!(rt; read_call(b"free 0 1") == Ok(Call::Free { rank, comm }));
+/// assert!(rt; read_call(b"free 0") == Err(LineKind::Words));
+/// ```
 pub fn read_call(line: &[u8]) -> Result<Call<FlagAnd>, LineKind>
     // What is read is spelled so, and what is spelled so is read.
     ensures found { IfOk result (λ call. Spells line.now call) }

@@ -1,9 +1,11 @@
 //! The engine that runs the text of a script, over anything that runs its lines.
-ghost use Rattle.std.specs.Prelude.{◌≡◌, ℕ, List, []};
+ghost use Rattle.std.specs.Prelude.{◌≡◌, ℕ, List, [], IfOk};
+ghost use Rattle.std.specs.Io.KnownBytes.{Appends};
 ghost use Rattle.ulfm_model.specs.declared.limits.Limits.{Limits};
 ghost use Rattle.ulfm_script.specs.Buffers.{pending, waiting, unread};
-ghost use Rattle.ulfm_script.specs.Ends.{EndsAlone, EndsThrough, EndsUpTo, Opens, RunsLine};
+ghost use Rattle.ulfm_script.specs.Ends.{EndsAlone, EndsThrough, EndsUpTo, HasRunAll, Opens, RunsLine, ended};
 ghost use Rattle.ulfm_script.specs.Scripts.{item_at};
+ghost use Rattle.ulfm_script.specs.Written.{Holds};
 
 use crate::buffers::{Input, LineEnd, Output};
 use crate::fault::RunFault;
@@ -19,7 +21,18 @@ const LONGEST: usize = 64;
 /// The most lines that a script may have.
 const LAST_LINE: u32 = 100_000;
 
-/// Runs the script that the reader gives on a new interpreter, writes what it prints, and flushes the writer.
+/// How a run ended, without what it gave.
+pub fn end_of<T: Drop>(ran: Result<T, RunFault>) -> Result<(), RunFault>
+    ensures { result ≡ ended ran }
+{
+    match ran {
+        Ok(_) => Ok(()),
+        Err(fault) => Err(fault),
+    }
+}
+
+/// Runs the script that the reader gives on a new interpreter by this plan, writes what it prints, flushes the writer, and gives the
+/// interpreter back.
 ///
 /// The first line is a header of the interpreter's kind, with the world's limits; each other line has at most 64 bytes, and there
 /// are at most 100,000 lines.
@@ -34,13 +47,17 @@ const LAST_LINE: u32 = 100_000;
 /// own.
 pub fn run_text<M: Interpreter<A>, A: Allocator + Copy, R: Read, W: Write>(
     alloc: A,
+    plan: M::Plan,
     reader: &mut R,
     writer: &mut W,
-) -> Result<(), RunFault>
-    ensures { EndsAlone M.lang (R.remaining reader.old) (R.remaining reader.new) (W.contents writer.old) (W.contents writer.new) result }
+) -> Result<M, RunFault>
+    ensures ends { EndsAlone M.lang (R.remaining reader.old) (R.remaining reader.new) (W.contents writer.old) (W.contents writer.new)
+        (ended result) }
+    ensures all { IfOk result (λ machine. HasRunAll M.lang (M.HasRun plan machine) (R.remaining reader.old)
+        (Appends (W.contents writer.old) (W.contents writer.new))) }
 {
     let mut input = Input::new(alloc)?;
-    run_text_through::<M, A, R, W>(alloc, &mut input, reader, writer)
+    run_text_through::<M, A, R, W>(alloc, plan, &mut input, reader, writer)
 }
 
 /// Runs a script as [`run_text`] does, through a buffer of the caller's. What it holds of the reader's bytes is read first.
@@ -50,16 +67,23 @@ pub fn run_text<M: Interpreter<A>, A: Allocator + Copy, R: Read, W: Write>(
 /// after another end nothing is said of what it holds.
 pub fn run_text_through<M: Interpreter<A>, A: Allocator + Copy, R: Read, W: Write>(
     alloc: A,
+    plan: M::Plan,
     input: &mut Input<A>,
     reader: &mut R,
     writer: &mut W,
-) -> Result<(), RunFault>
-    ensures { EndsThrough M.lang (unread R.remaining input.old reader.old) (R.remaining reader.new) (pending input.new)
-        (W.contents writer.old) (W.contents writer.new) result }
+) -> Result<M, RunFault>
+    ensures ends { EndsThrough M.lang (unread R.remaining input.old reader.old) (R.remaining reader.new) (pending input.new)
+        (W.contents writer.old) (W.contents writer.new) (ended result) }
+    ensures all { IfOk result (λ machine. HasRunAll M.lang (M.HasRun plan machine) (unread R.remaining input.old reader.old)
+        (Appends (W.contents writer.old) (W.contents writer.new))) }
 {
     let mut output = Output::new(alloc)?;
-    let Err(fault) = run_lines::<M, A, R, W>(alloc, reader, writer, input, &mut output) else {
-        return output.finish(writer);
+    let fault = match run_lines::<M, A, R, W>(alloc, plan, reader, writer, input, &mut output) {
+        Ok(machine) => {
+            output.finish(writer)?;
+            return Ok(machine);
+        }
+        Err(fault) => fault,
     };
     match fault {
         RunFault::Write => Err(RunFault::Write),
@@ -73,21 +97,24 @@ pub fn run_text_through<M: Interpreter<A>, A: Allocator + Copy, R: Read, W: Writ
 /// Runs a script up to its end or its first fault. What it prints may still wait in the output.
 fn run_lines<M: Interpreter<A>, A: Allocator + Copy, R: Read, W: Write>(
     alloc: A,
+    plan: M::Plan,
     reader: &mut R,
     writer: &mut W,
     input: &mut Input<A>,
     output: &mut Output<A>,
-) -> Result<(), RunFault>
+) -> Result<M, RunFault>
     requires { waiting output.old ≡ [] }
-    ensures { EndsUpTo M.lang (unread R.remaining input.old reader.old) (R.remaining reader.new) (pending input.new)
-        (W.contents writer.old) (W.contents writer.new) (waiting output.new) result }
+    ensures ends { EndsUpTo M.lang (unread R.remaining input.old reader.old) (R.remaining reader.new) (pending input.new)
+        (W.contents writer.old) (W.contents writer.new) (waiting output.new) (ended result) }
+    ensures all { IfOk result (λ machine. HasRunAll M.lang (M.HasRun plan machine) (unread R.remaining input.old reader.old)
+        (Holds (W.contents writer.old) (W.contents writer.new) (waiting output.new))) }
 {
     let mut line = Vec::with_capacity(alloc, LONGEST + 1)?;
-    let mut machine: M = open_machine(alloc, reader, input, &mut line)?;
+    let mut machine: M = open_machine(alloc, plan, reader, input, &mut line)?;
     output.put(writer, machine.text())?;
     'lines: for number in 2..LAST_LINE + 2 {
         match input.read_line(reader, &mut line, LONGEST + 1)? {
-            LineEnd::Done => return Ok(()),
+            LineEnd::Done => return Ok(machine),
             LineEnd::Cut => {
                 let kind = LineKind::Cut;
                 return Err(RunFault::Line { number, kind });
@@ -102,11 +129,12 @@ fn run_lines<M: Interpreter<A>, A: Allocator + Copy, R: Read, W: Write>(
 /// A machine of the limits in the first line.
 fn open_machine<M: Interpreter<A>, A: Allocator + Copy, R: Read>(
     alloc: A,
+    plan: M::Plan,
     reader: &mut R,
     input: &mut Input<A>,
     line: &mut Vec<u8, A>,
 ) -> Result<M, RunFault>
-    ensures { Opens M.lang M.HasRun M.text (unread R.remaining input.old reader.old) (unread R.remaining input.new reader.new)
+    ensures { Opens M.lang (M.HasRun plan) M.text (unread R.remaining input.old reader.old) (unread R.remaining input.new reader.new)
         (pending input.new) result }
 {
     let number = 1;
@@ -118,7 +146,7 @@ fn open_machine<M: Interpreter<A>, A: Allocator + Copy, R: Read>(
                 LineKind::Long
             } else {
                 match read_header(M::kind(), line) {
-                    Ok(limits) => return Ok(M::open(alloc, limits)?),
+                    Ok(limits) => return Ok(M::open(alloc, limits, plan)?),
                     Err(kind) => kind,
                 }
             }
@@ -135,8 +163,8 @@ fn run_line<M: Interpreter<A>, A: Allocator, W: Write>(
     number: u32,
     line: &[u8],
 ) -> Result<(), RunFault>
-    ensures { (limits : Limits) (items : List M.lang.Item) (out : List ℕ) → M.HasRun machine.old limits items out
-        → RunsLine M.lang (M.HasRun machine.new) limits items out number (item_at M.lang number line.now) (W.contents writer.old)
+    ensures { (plan : M.Plan) (limits : Limits) (items : List M.lang.Item) (out : List ℕ) → M.HasRun plan machine.old limits items out
+        → RunsLine M.lang (M.HasRun plan machine.new) limits items out number (item_at M.lang number line.now) (W.contents writer.old)
         (waiting output.old) (W.contents writer.new) (waiting output.new) result }
 {
     if line.len() > LONGEST {

@@ -10,11 +10,14 @@ use ulfm_model::Limits;
 
 /// Whatever runs the lines of scripts of one kind, one after another.
 pub trait Interpreter<A: Allocator>: Drop {
+    /// What it is given beside the limits of its world.
+    type Plan: Copy;
+
     /// The kind of its scripts.
     ghost lang: { Language };
 
-    /// In a world of these limits it has run these items, and printed this.
-    ghost HasRun: { Self → Stage lang };
+    /// By this plan, in a world of these limits, it has run these items, and printed this.
+    ghost HasRun: { Self.Plan → Self → Stage lang };
 
     /// What it printed last.
     ghost text: { Self → List ℕ };
@@ -24,21 +27,21 @@ pub trait Interpreter<A: Allocator>: Drop {
         ensures { result ≡ lang.kind };
 
     /// A world of these limits to which nothing has happened. Only memory can be refused.
-    fn open(alloc: A, limits: Limits) -> Result<Self, AllocError>
+    fn open(alloc: A, limits: Limits, plan: Self::Plan) -> Result<Self, AllocError>
         requires { MayOpen limits }
-        ensures { IfOk result (λ it. HasRun it limits [] (text it)) };
+        ensures { IfOk result (λ it. HasRun plan it limits [] (text it)) };
 
     /// Runs a line, without its newline, and prints what comes of it, in place of what it printed last. An inner fault is the line's;
     /// nothing was done then. After any fault it isn't used again.
     fn run(&mut self, line: &[u8]) -> Result<Result<(), LineKind>, AllocError>
-        ensures { (limits : Limits) (items : List lang.Item) (out : List ℕ) → HasRun self.old limits items out
-            → IfOk result (λ ran. TakesItem lang (HasRun self.new) limits items out (lang.read line.now) (text self.new) ran) };
+        ensures { (plan : Self.Plan) (limits : Limits) (items : List lang.Item) (out : List ℕ) → HasRun plan self.old limits items out
+            → IfOk result (λ ran. TakesItem lang (HasRun plan self.new) limits items out (lang.read line.now) (text self.new) ran) };
 
     /// What it printed last, whole lines.
     fn text(&self) -> &[u8]
         ensures { result.now ≡ text self.now };
 
     /// What it has printed is what its items print.
-    ghost prints: { (it : Self) (limits : Limits) (items : List lang.Item) (out : List ℕ) → HasRun it limits items out
+    ghost prints: { (plan : Self.Plan) (it : Self) (limits : Limits) (items : List lang.Item) (out : List ℕ) → HasRun plan it limits items out
         → lang.Prints limits items out };
 }

@@ -16,10 +16,10 @@ pub mod machine;
 pub mod printing;
 pub mod words;
 
-pub use buffers::{Input, LineEnd};
+pub use buffers::{Input, LineEnd, write_out};
 pub use call_script::{run_script, run_script_through};
 pub use calls::read_call;
-pub use engine::{run_text, run_text_through};
+pub use engine::{end_of, run_text, run_text_through};
 pub use fault::RunFault;
 pub use header::{print_header, read_header};
 pub use header_kind::HeaderKind;

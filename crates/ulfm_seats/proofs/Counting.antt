@@ -6,7 +6,7 @@ use Rattle.ulfm_model.specs.declared.step_name.StepName.{StepName}
 use Rattle.ulfm_model.specs.Records.{Record}
 use Rattle.ulfm_words.specs.Steps.{Name, Sight}
 use Rattle.ulfm_comm.specs.{Phase.{StandsAt, UnderWay, is_looking, next_step}, StepsLeft.{IsStepOf, MakesStep}}
-use Rattle.ulfm_comm.specs.declared.phases.phase.{Phase.{Phase}, Phase.TheVariants.{Over, Begun, Looking, Settling, Arriving, Revoking, Asking, Marking, Reading, ReadingOn, Spawning, Waiting, Checking}}
+use Rattle.ulfm_comm.specs.declared.phases.phase.{Phase.{Phase}, Phase.TheVariants.{Over, Begun, Looking, Settling, Arriving, Revoking, Asking, Peeking, Marking, Reading, ReadingOn, Spawning, Waiting, Checking}}
 use Rattle.ulfm_trace_model.specs.Traces.{Traced}
 use Rattle.ulfm_stepping.specs.Seats.{Sits, SitsAt, next_in}
 use Rattle.ulfm_seats.specs.Walks.{FlagSeat}
@@ -15,8 +15,10 @@ use Rattle.ulfm_seats.specs.Walks.{FlagSeat}
 one_step : (name : StepName) (r c : ℕ) (old new : Sight FlagAnd) → IsStepOf name r c old new → new.steps ≡ old.steps + 1
 one_step step.List r c old new is = is.1.steps
 one_step step.Settle r c old new is = is.1.steps
+one_step step.Block r c old new is = is.2.steps
 one_step step.Mark r c old new is = is.2.steps
 one_step step.Slot r c old new is = is.2.steps
+one_step step.Cache r c old new is = is.2.steps
 one_step step.Comm r c old new is = is.1.steps
 one_step step.Spawn r c old new is = is.1.steps
 one_step step.Arrive r c old new is = is.1.steps
@@ -33,7 +35,8 @@ has_next (Settling request offer) goes = (_, refl)
 has_next (Arriving round) goes = (_, refl)
 has_next Revoking goes = (_, refl)
 has_next Asking goes = (_, refl)
-has_next (Marking marks shrinks) goes = (_, refl)
+has_next (Peeking peek shrinks) goes = (_, refl)
+has_next (Marking marks blocks shrinks) goes = (_, refl)
 has_next (Reading reading shrinks) goes = (_, refl)
 has_next (ReadingOn on made) goes = (_, refl)
 has_next (Spawning append context reach) goes = (_, refl)

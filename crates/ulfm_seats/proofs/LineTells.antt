@@ -1,5 +1,5 @@
 -- What one line of a step script tells: a call that begins, a call of a rank that the world doesn't have, and steps.
-use Rattle.std.proofs.Common.{◌≡◌, ℕ, ◌<◌, ◌≤◌, ◌==◌, true, false, List, [], ◌∷◌, ◌++◌, length, find, get_or, set, Option, Some, None, is_some, refl, ap, sym, ◌∙◌, subst, arith, append-nil, inl, inr, IsTrue}
+use Rattle.std.proofs.Common.{◌≡◌, ◌⊎◌, ℕ, ◌<◌, ◌≤◌, ◌==◌, true, false, List, [], ◌∷◌, ◌++◌, length, find, get_or, set, Option, Some, None, is_some, refl, ap, sym, ◌∙◌, subst, arith, append-nil, inl, inr, IsTrue}
 use Rattle.std.specs.Prelude.{slice_get}
 use Rattle.std.proofs.lemmas.Bool.{eqb-true}
 use Rattle.ulfm_laws.specs.{Flags.{flag_meld}, declared.flag_and.FlagAnd.{FlagAnd}}
@@ -8,14 +8,15 @@ use Rattle.ulfm_model.specs.declared.{call.Call.{Call}, event.Caller.{Caller}, r
 use Rattle.ulfm_model.specs.{Answers.{rank_of, traits_of}, Records.{Record}}
 use Rattle.ulfm_comm.specs.Phase.{UnderWay}
 use Rattle.ulfm_words.specs.Steps.{IsOf, Name, Sight}
-use Rattle.ulfm_trace_model.specs.declared.{line.Line.{Line}, step_line.StepLine.TheVariants.{Before, Called, Failed, Finished, Stepped}}
+use Rattle.ulfm_trace_model.specs.declared.{line.Line.{Line}, step_line.StepLine.TheVariants.{Called}}
 use Rattle.ulfm_trace_model.specs.{Follows.{AreOf, IsPiece}, Traces.{AnswersRank, AreLegalAfter, IsOpen, MayCome, Told, Traced, Under, after, after_reply, call_by, caller_of, record_of, said_by, same_caller, taken_in}}
 use Rattle.ulfm_trace_model.proofs.Callers.{same_rank}
-use Rattle.ulfm_lines.specs.{LineTexts.{lines_text}, StepLines.{IsByRank, ScriptStep}, Stepped.{TellsStep}}
+use Rattle.ulfm_lines.specs.{LineTexts.{lines_text}, StepLines.{IsByRank}, Stepped.{TellsStep}, Walked.{TellsSteps}}
+use Rattle.ulfm_lines.specs.declared.step_machine.Reach.{Reach}
 use Rattle.ulfm_lines.specs.declared.step_machine.Taken.TheVariants.{Open, Run}
 use Rattle.ulfm_stepping.specs.Stepping.{replied}
-use Rattle.ulfm_stepping.specs.{Seats.{Sits, SitsAt as SitsWith, begun_piece, reply_piece}, declared.told.Answer.{Answer}}
-use Rattle.ulfm_seats.specs.{Lines.{BeginsCall, IsWalkOf, WalksBy, unknown_piece}, Table.{IsNobody, StandsFor}, Walks.{FlagSeat, Walks}}
+use Rattle.ulfm_stepping.specs.{Seats.{Sits, SitsAt as SitsWith, begun_piece, next_in, reply_piece}, declared.told.Answer.{Answer}}
+use Rattle.ulfm_seats.specs.{Lines.{BeginsCall, unknown_piece}, Table.{IsNobody, StandsFor}, Walks.{FlagSeat, GoesOn, IsReached, WalksUntil}}
 use Rattle.ulfm_seats.proofs.{Pieces.{AllBy, are_by, find_no_record, piece_call, piece_entries, piece_history}, Standing.{find_last, get_there, ranks_differ, reply_frees, stands_on, stands_seat, tells_step}}
 
 -- a call of a rank is its own
@@ -118,19 +119,19 @@ module _ (name : Name) (pass : Sight FlagAnd) (seats : List FlagSeat) (now : Tra
         none (Some answer) = refl
 
     -- a call is under way exactly where the seat has one
-    open_there : (own : Record) (found : ℕ) (call : Option (UnderWay FlagAnd)) → SitsWith flag_meld name now pass own found call → IsOpen now (Caller.Rank own.number) → IsTrue (is_some call)
-    open_there own found None sits is_open = absurd (cc (ap is_some sits.free, is_open))
-    open_there own found (Some doing) sits is_open = refl
+    open_there : (t : Traced FlagAnd) (later : Sight FlagAnd) (own : Record) (found : ℕ) (call : Option (UnderWay FlagAnd)) → SitsWith flag_meld name t later own found call → IsOpen t (Caller.Rank own.number) → IsTrue (is_some call)
+    open_there t later own found None sits is_open = absurd (cc (ap is_some sits.free, is_open))
+    open_there t later own found (Some doing) sits is_open = refl
 
-    there_open : (own : Record) (found : ℕ) (call : Option (UnderWay FlagAnd)) → SitsWith flag_meld name now pass own found call → IsTrue (is_some call) → IsOpen now (Caller.Rank own.number)
-    there_open own found None sits is = absurd (cc is)
-    there_open own found (Some doing) (inl begun) is = ap is_some begun.call
-    there_open own found (Some doing) (inr called) is = ap is_some called.call
+    there_open : (t : Traced FlagAnd) (later : Sight FlagAnd) (own : Record) (found : ℕ) (call : Option (UnderWay FlagAnd)) → SitsWith flag_meld name t later own found call → IsTrue (is_some call) → IsOpen t (Caller.Rank own.number)
+    there_open t later own found None sits is = absurd (cc is)
+    there_open t later own found (Some doing) (inl begun) is = ap is_some begun.call
+    there_open t later own found (Some doing) (inr called) is = ap is_some called.call
 
     -- a call of a rank that has one under way
     pub open_tells : (asked : Call FlagAnd) (text : List ℕ) (left : List FlagSeat) → (traits_of asked).by ≡ Caller.Rank r → IsTrue (is_some seat.call) → TellsStep (StandsFor name pass left) now (Called asked) Open text text
     open_tells asked text left mine is =
-        ((asked, refl, subst (IsOpen now) (ap Caller.Rank number ∙ sym mine) (there_open seat.own seat.found seat.call (stands.each r seat there).sits is)), refl)
+        ((asked, refl, subst (IsOpen now) (ap Caller.Rank number ∙ sym mine) (there_open now pass seat.own seat.found seat.call (stands.each r seat there).sits is)), refl)
 
     -- what lines say is what the pass has seen
     said_seen : (t : Traced FlagAnd) (later : Sight FlagAnd) (own : Record) (found : ℕ) (call : Option (UnderWay FlagAnd)) → SitsWith flag_meld name t later own found call → t.history ≡ later.seen
@@ -138,38 +139,83 @@ module _ (name : Name) (pass : Sight FlagAnd) (seats : List FlagSeat) (now : Tra
     said_seen t later own found (Some doing) (inl begun) = begun.history
     said_seen t later own found (Some doing) (inr called) = called.history
 
+    -- no step of a rank without a call
+    pub closed_there : seat.call ≡ None → ¬ IsOpen now (Caller.Rank r)
+    closed_there none is_open =
+        let is = open_there now pass seat.own seat.found seat.call (stands.each r seat there).sits (subst (λ n. IsOpen now (Caller.Rank n)) (sym number) is_open) in
+        absurd (cc (ap is_some none, is))
+
     -- steps of its call
-    module _ (later : Sight FlagAnd) (left : FlagSeat) (of : IsOf flag_meld name later) (text more : List ℕ) where
-      walk_tells : (step : ScriptStep) (most : ℕ) (w : Walks name most pass seat text later left more) → IsPiece now step w.piece → TellsStep (StandsFor name later (set seats r left)) now step Run text more
-      walk_tells step most w is_piece =
-          let goes = w.goes now (stands.each r seat there).sits in
-          tells_step (StandsFor name later (set seats r left)) now step w.piece text more goes.legal is_piece
-          (stands_seat name pass seats now stands w.piece (Caller.Rank seat.own.number) (are_by (Caller.Rank seat.own.number) w.piece w.by) later (said_seen (said_by now w.piece) later left.own left.found left.call goes.sits) of w.onward
-          r (ap Caller.Rank number) seat left there w.number goes.sits)
-          w.told
+    module _ (later : Sight FlagAnd) (left : FlagSeat) (of : IsOf flag_meld name later) (text more : List ℕ) (reach : Reach) (made : ℕ) (w : WalksUntil reach made name pass seat text later left more)
+        (is_open : IsTrue (is_some seat.call)) (few : length later.seen ≤ 4294967295) where
+      abbrev said : Traced FlagAnd
+      said = said_by now w.walks.piece
 
-      pub walks_tell : (step : ScriptStep) → IsWalkOf r step → WalksBy step name pass seat text later left more → TellsStep (StandsFor name later (set seats r left)) now step Run text more
-      walks_tell (Called asked) is w = absurd w
-      walks_tell (Stepped rank count) is w = walk_tells (Stepped rank count) count w (subst (λ n. AreOf (Caller.Rank n) w.piece) (number ∙ sym is) w.by, w.few)
-      walks_tell (Before rank step) is w = walk_tells (Before rank step) w.0 w.1 (subst (λ n. AreOf (Caller.Rank n) w.1.piece) (number ∙ sym is) w.1.by)
-      walks_tell (Finished rank) is w =
-          walk_tells (Finished rank) w.0.0 w.0.1 (
-            subst (λ n. AreOf (Caller.Rank n) w.0.1.piece) (number ∙ sym is) w.0.1.by,
-            λ is_open. w.0.1.ends (open_there seat.own seat.found seat.call (stands.each r seat there).sits (subst (λ n. IsOpen now (Caller.Rank n)) (is ∙ sym number) is_open)) w.1,
-          )
-      walks_tell (Failed rank) is w = absurd w
+      goes : GoesOn name now w.walks.piece later left
+      goes = w.walks.goes now (stands.each r seat there).sits
 
-  -- steps of a rank that the world doesn't have are none
-  pub nobody_walks : (r : ℕ) → name.limits.ranks ≤ r → (step : ScriptStep) → IsWalkOf r step → (text : List ℕ) → TellsStep (StandsFor name pass seats) now step Run text text
-  nobody_walks r above step is text =
-      tells_step (StandsFor name pass seats) now step [] text text tt (none step is) stands (sym (append-nil text))
-    where
-      none : (line : ScriptStep) → IsWalkOf r line → IsPiece now line []
-      none (Called asked) is = absurd is
-      none (Stepped rank count) is = (tt, omega arith)
-      none (Before rank step) is = tt
-      none (Finished rank) is = (tt, λ is_open. absurd (cc (ap is_some (stands.beyond r above).free, subst (λ n. IsOpen now (Caller.Rank n)) is is_open)))
-      none (Failed rank) is = absurd is
+      left_number : left.own.number ≡ r
+      left_number = w.walks.number ∙ number
+
+      still_open : IsTrue (is_some left.call) → IsOpen said (Caller.Rank r)
+      still_open is = subst (λ n. IsOpen said (Caller.Rank n)) left_number (there_open said later left.own left.found left.call goes.sits is)
+
+      over : (call : Option (UnderWay FlagAnd)) → left.call ≡ call → ¬ IsOpen said (Caller.Rank r) → call ≡ None
+      over None is closed = refl
+      over (Some doing) is closed = absurd (closed (still_open (ap is_some is)))
+
+      closed_now : left.call ≡ None → ¬ IsOpen said (Caller.Rank r)
+      closed_now none is =
+          let some = open_there said later left.own left.found left.call goes.sits (subst (λ n. IsOpen said (Caller.Rank n)) (sym left_number) is) in
+          absurd (cc (ap is_some none, some))
+
+      stops : reach.name ≡ None → (left.call ≡ None) ⊎ IsReached reach made (next_in left.call) → (¬ IsOpen said (Caller.Rank r)) ⊎ (reach.most ≡ Some made)
+      stops unnamed (inl none) = inl (closed_now none)
+      stops unnamed (inr (inl reached)) = inr reached
+      stops unnamed (inr (inr named)) = absurd (cc (unnamed, named.1))
+
+      history : said.history ≡ later.seen
+      history = said_seen said later left.own left.found left.call goes.sits
+
+      pub until_tells : TellsSteps (StandsFor name later (set seats r left)) now r reach made text more
+      until_tells = record {
+        piece = w.walks.piece;
+        count = w.count;
+        told = w.walks.told;
+        by = subst (λ n. AreOf (Caller.Rank n) w.walks.piece) number w.walks.by;
+        legal = goes.legal;
+        few = w.walks.few;
+        counted = w.counted;
+        within = w.within;
+        idle = λ closed. absurd (closed (subst (λ n. IsOpen now (Caller.Rank n)) number (there_open now pass seat.own seat.found seat.call (stands.each r seat there).sits is_open)));
+        ends = λ was closed. w.walks.ends is_open (over left.call refl closed);
+        stops = λ unnamed. stops unnamed w.stops;
+        room = omega (arith, few, ap length history);
+        stands = stands_seat name pass seats now stands w.walks.piece (Caller.Rank seat.own.number) (are_by (Caller.Rank seat.own.number) w.walks.piece w.walks.by) later history of w.walks.onward
+            r (ap Caller.Rank number) seat left there w.walks.number goes.sits;
+      }
+
+  -- no steps of a rank that has no call under way
+  pub none_tell : (r : ℕ) (reach : Reach) (text : List ℕ) → length pass.seen ≤ 4294967295 → ¬ IsOpen now (Caller.Rank r) → TellsSteps (StandsFor name pass seats) now r reach 0 text text
+  none_tell r reach text few closed = record {
+    piece = [];
+    count = 0;
+    told = sym (append-nil text);
+    by = tt;
+    legal = tt;
+    few = omega arith;
+    counted = inl (refl, omega arith);
+    within = λ most is. omega arith;
+    idle = λ c. refl;
+    ends = λ was c. absurd (closed was);
+    stops = λ unnamed. inl closed;
+    room = omega (arith, few, ap length stands.history);
+    stands = stands;
+  }
+
+  -- a rank that the world doesn't have is one
+  pub nobody_open : (r : ℕ) → name.limits.ranks ≤ r → ¬ IsOpen now (Caller.Rank r)
+  nobody_open r above is = absurd (cc (ap is_some (stands.beyond r above).free, is))
 
 -- the seat of a rank that the world has
 module _ (name : Name) (pass : Sight FlagAnd) (seats : List FlagSeat) (now : Traced FlagAnd) (stands : StandsFor name pass seats now) (r : ℕ) (d : FlagSeat) where

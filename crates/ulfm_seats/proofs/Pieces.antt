@@ -8,6 +8,7 @@ use Rattle.ulfm_model.proofs.LeftRuns.{left_keeps}
 use Rattle.ulfm_trace_model.specs.declared.line.Line.{Line}
 use Rattle.ulfm_trace_model.specs.{Follows.{AreOf, is_of}, Traces.{Told, Traced, Under, after, after_reply, call_by, caller_of, change_by, found_by, is_owned, record_of, said_by, same_caller, taken_in, with_event}}
 use Rattle.ulfm_trace_model.proofs.Callers.{same_is}
+use Rattle.ulfm_lines.proofs.Calls.{find_behind, find_kept, find_left_out, find_unchanged, keeps_asked}
 use Rattle.ulfm_stepping.specs.Seats.{line_by}
 
 -- lines of one caller alone, its calls with them
@@ -23,50 +24,6 @@ line_entries _ = []
 abbrev pub piece_entries : {P : Type 0} → List (Told P) → History P
 piece_entries [] = []
 piece_entries (told ∷ rest) = line_entries told.line ++ piece_entries rest
-
--- no call of this test is found behind those that fail it
-pub find_behind : {X : Type 0} (p : X → Bool) (xs : List X) (x : X) → p x ≡ false → find p (xs ++ x ∷ []) ≡ find p xs
-find_behind p [] x is = ap (λ (b : Bool). if b then Some x else None) is
-find_behind p (y ∷ ys) x is = ap (λ more. if p y then Some y else more) (find_behind p ys x is)
-
--- another caller's call is found as before a change
-pub find_unchanged : {P : Type 0} (by other : Caller) (f : Under P → Under P) → ((u : Under P) → (f u).asked ≡ u.asked) → same_caller by other ≡ false → (xs : List (Under P))
-    → find (λ v. same_caller (caller_of v) other) (change_by by f xs) ≡ find (λ v. same_caller (caller_of v) other) xs
-find_unchanged by other f keeps differ [] = refl
-find_unchanged {P} by other f keeps differ (x ∷ xs) = go (same_caller (caller_of x) by) refl (find_unchanged by other f keeps differ xs)
-  where
-    go : (b : Bool) → same_caller (caller_of x) by ≡ b → find (λ v. same_caller (caller_of v) other) (change_by by f xs) ≡ find (λ v. same_caller (caller_of v) other) xs
-        → find (λ v. same_caller (caller_of v) other) (if b then f x ∷ xs else x ∷ change_by by f xs) ≡ find (λ v. same_caller (caller_of v) other) (x ∷ xs)
-    go true here more =
-        let is : caller_of x ≡ by = same_is (caller_of x) by here in
-        let gone : same_caller (caller_of x) other ≡ false = ap (λ c. same_caller c other) is ∙ differ in
-        let gone_too : same_caller (caller_of (f x)) other ≡ false = ap (λ a. same_caller (traits_of a).by other) (keeps x) ∙ gone in
-        ap (λ (b : Bool). if b then Some (f x) else find (λ v. same_caller (caller_of v) other) xs) gone_too
-        ∙ sym (ap (λ (b : Bool). if b then Some x else find (λ v. same_caller (caller_of v) other) xs) gone)
-    go false here more = ap (λ w. if same_caller (caller_of x) other then Some x else w) more
-
--- another caller's call is found as before one is left out
-pub find_kept : {P : Type 0} (by other : Caller) → same_caller by other ≡ false → (xs : List (Under P))
-    → find (λ v. same_caller (caller_of v) other) (filter (λ v. not (same_caller (caller_of v) by)) xs) ≡ find (λ v. same_caller (caller_of v) other) xs
-find_kept by other differ [] = refl
-find_kept {P} by other differ (x ∷ xs) = go (same_caller (caller_of x) by) refl (find_kept by other differ xs)
-  where
-    go : (b : Bool) → same_caller (caller_of x) by ≡ b → find (λ v. same_caller (caller_of v) other) (filter (λ v. not (same_caller (caller_of v) by)) xs) ≡ find (λ v. same_caller (caller_of v) other) xs
-        → find (λ v. same_caller (caller_of v) other) (if not b then x ∷ (filter (λ v. not (same_caller (caller_of v) by)) xs) else (filter (λ v. not (same_caller (caller_of v) by)) xs)) ≡ find (λ v. same_caller (caller_of v) other) (x ∷ xs)
-    go true here more =
-        let is : caller_of x ≡ by = same_is (caller_of x) by here in
-        let gone : same_caller (caller_of x) other ≡ false = ap (λ c. same_caller c other) is ∙ differ in
-        more ∙ sym (ap (λ (b : Bool). if b then Some x else find (λ v. same_caller (caller_of v) other) xs) gone)
-    go false here more = ap (λ w. if same_caller (caller_of x) other then Some x else w) more
-
--- a caller's own call isn't found once it is left out
-pub find_left_out : {P : Type 0} (by : Caller) (xs : List (Under P)) → find (λ v. same_caller (caller_of v) by) (filter (λ v. not (same_caller (caller_of v) by)) xs) ≡ None
-find_left_out by [] = refl
-find_left_out {P} by (x ∷ xs) = go (same_caller (caller_of x) by) refl (find_left_out by xs)
-  where
-    go : (b : Bool) → same_caller (caller_of x) by ≡ b → find (λ v. same_caller (caller_of v) by) (filter (λ v. not (same_caller (caller_of v) by)) xs) ≡ None → find (λ v. same_caller (caller_of v) by) (if not b then x ∷ (filter (λ v. not (same_caller (caller_of v) by)) xs) else (filter (λ v. not (same_caller (caller_of v) by)) xs)) ≡ None
-    go true here none = none
-    go false here none = ap (λ (b : Bool). if b then Some x else find (λ v. same_caller (caller_of v) by) (filter (λ v. not (same_caller (caller_of v) by)) xs)) here ∙ none
 
 -- the record of another rank, after a change of one
 pub find_record : (r s : ℕ) (f : Record → Record) → ((own : Record) → (f own).number ≡ own.number) → s == r ≡ false → (records : List Record)
@@ -97,14 +54,6 @@ find_no_record r f (x ∷ xs) none = go (x.number == r) none (λ more. find_no_r
         → (if b then f x else x) ∷ map (λ own. if own.number == r then f own else own) xs ≡ x ∷ xs
     go true none more = absurd (cc none)
     go false none more = ap (λ ys. x ∷ ys) (more none)
-
--- an event changes nothing of what was asked
-pub keeps_asked : {P : Type 0} (event : Event P) (u : Under P) → (with_event event u).asked ≡ u.asked
-keeps_asked {P} event u = go (is_owned u event)
-  where
-    go : (b : Bool) → (let w : Under P = if b then record u { own = u.own ++ event ∷ [] } else u in w.asked) ≡ u.asked
-    go true = refl
-    go false = refl
 
 module _ {P : Type 0} where
   -- a reply changes no other's call

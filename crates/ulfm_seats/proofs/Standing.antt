@@ -14,7 +14,8 @@ use Rattle.ulfm_stepping.proofs.Others.{sits_lasts}
 use Rattle.ulfm_lines.specs.{LineTexts.{lines_text}, StepLines.{ScriptStep}, Stepped.{TellsStep}}
 use Rattle.ulfm_lines.specs.declared.step_machine.Taken.TheVariants.{Run}
 use Rattle.ulfm_seats.specs.{Table.{IsNobody, SitsAt, StandsFor}, Walks.{FlagSeat}}
-use Rattle.ulfm_seats.proofs.{Pieces.{AllBy, find_left_out, piece_call, piece_record}}
+use Rattle.ulfm_lines.proofs.Calls.{find_left_out}
+use Rattle.ulfm_seats.proofs.{Pieces.{AllBy, piece_call, piece_record}}
 
 -- a piece of a legal trace for one line of the script
 pub tells_step : (Stands : Traced FlagAnd → Type 0) (now : Traced FlagAnd) (step : ScriptStep) (piece : List (Told FlagAnd)) (text more : List ℕ) → AreLegalAfter flag_meld now piece → IsPiece now step piece → Stands (said_by now piece)

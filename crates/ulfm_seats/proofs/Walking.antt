@@ -1,45 +1,21 @@
 -- Steps of one rank's call, one after another.
-use Rattle.std.proofs.Common.{◌≡◌, ℕ, suc, ◌+◌, ◌≤◌, ◌<◌, Bool, IsTrue, Option, Some, None, true, false, List, [], ◌∷◌, ◌++◌, length, filter, is_some, refl, ap, sym, ◌∙◌, subst, arith, append-nil, append_assoc, length-append, if◌then◌else◌}
+use Rattle.std.proofs.Common.{◌≡◌, ◌≢◌, ℕ, suc, ◌+◌, ◌≤◌, ◌<◌, Bool, IsTrue, Option, Some, None, true, false, List, [], ◌∷◌, ◌++◌, length, filter, is_some, refl, ap, sym, ◌∙◌, subst, arith, append-nil, append_assoc, length-append, inl, inr, if◌then◌else◌}
 use Rattle.std.specs.{List.{AllByRecursion}, Prelude.{OnOk, Result, Ok, Err}}
 use Rattle.ulfm_laws.specs.{Flags.{flag_meld}, declared.flag_and.FlagAnd.{FlagAnd}}
 use Rattle.ulfm_model.specs.declared.event.Caller.{Caller}
 use Rattle.ulfm_words.specs.Steps.{Name, Sight}
 use Rattle.ulfm_trace_model.specs.{Follows.{AreOf, EndsInReply, is_event}, Traces.{Told, Traced, said_by}}
 use Rattle.ulfm_trace_model.proofs.Parts.{legal_append, said_append}
-use Rattle.ulfm_lines.specs.LineTexts.{line_text, lines_text}
+use Rattle.ulfm_lines.proofs.Joined.{all_append, ends_append, events_append, lines_append}
+use Rattle.ulfm_lines.specs.LineTexts.{lines_text}
 use Rattle.ulfm_model.specs.declared.{call.Call.{Call}, limits.Limits.{Limits}}
 use Rattle.ulfm_model.specs.{Answers.{comm_of}, History.{History}, Records.{Record}}
 use Rattle.ulfm_comm.specs.Phase.{UnderWay}
 use Rattle.ulfm_stepping.specs.declared.told.{Answer.{Answer}, StepTold.{StepTold}}
 use Rattle.ulfm_stepping.specs.Seats.{GoesOrEnds, Sits, TellsPiece, asked_in, comm_in, group_in, left_in, piece_of}
-use Rattle.ulfm_seats.specs.Walks.{FlagSeat, GoesOn, KnowsGroup, Walks, events_in}
-
--- the text of lines behind lines
-pub lines_append : (xs ys : List (Told FlagAnd)) → lines_text (xs ++ ys) ≡ lines_text xs ++ lines_text ys
-lines_append [] ys = refl
-lines_append (x ∷ xs) ys =
-    ap (λ rest. line_text x.group x.line ++ 10 ∷ rest) (lines_append xs ys)
-    ∙ sym (append_assoc (line_text x.group x.line) (10 ∷ lines_text xs) (lines_text ys))
-
--- what holds of each of both holds of each
-pub all_append : {X : Type 0} (Q : X → Type 0) (xs ys : List X) → AllByRecursion Q xs → AllByRecursion Q ys → AllByRecursion Q (xs ++ ys)
-all_append Q [] ys one other = other
-all_append Q (x ∷ xs) ys one other = (one.0, all_append Q xs ys one.1 other)
-
-filter_append : {X : Type 0} (p : X → Bool) (xs ys : List X) → filter p (xs ++ ys) ≡ filter p xs ++ filter p ys
-filter_append p [] ys = refl
-filter_append {X} p (x ∷ xs) ys = go (p x) (filter_append p xs ys)
-  where
-    go : (b : Bool) → filter p (xs ++ ys) ≡ filter p xs ++ filter p ys → (if b then x ∷ filter p (xs ++ ys) else filter p (xs ++ ys)) ≡ (if b then x ∷ filter p xs else filter p xs) ++ filter p ys
-    go true same = ap (λ zs. x ∷ zs) same
-    go false same = same
-
-pub events_append : (xs ys : List (Told FlagAnd)) → events_in (xs ++ ys) ≡ events_in xs + events_in ys
-events_append xs ys = ap length (filter_append (λ (told : Told FlagAnd). is_event told.line) xs ys) ∙ length-append (filter (λ (told : Told FlagAnd). is_event told.line) xs) (filter (λ (told : Told FlagAnd). is_event told.line) ys)
-
--- the last line of both is that of the second
-pub ends_append : (xs ys : List (Told FlagAnd)) → EndsInReply ys → EndsInReply (xs ++ ys)
-ends_append xs ys ends = (xs ++ ends.0, ends.1, ap (λ zs. xs ++ zs) ends.2 ∙ sym (append_assoc xs ends.0 (ends.1 ∷ [])), ends.3)
+use Rattle.ulfm_lines.specs.declared.step_machine.Reach.{Reach}
+use Rattle.ulfm_lines.specs.Walked.{IsCountOf, events_in}
+use Rattle.ulfm_seats.specs.Walks.{FlagSeat, GoesOn, KnowsGroup, Walks}
 
 -- how many steps a call has still to go, with its reply
 abbrev pub to_go : Limits → Record → Option (UnderWay FlagAnd) → ℕ
@@ -133,6 +109,22 @@ module _ (name : Name) (pass : Sight FlagAnd) (seat : FlagSeat) (text : List ℕ
                 legal = legal_append flag_meld now w.piece v.piece g.legal h.legal;
                 sits = subst (λ t. Sits flag_meld name t later last) (sym (said_append now w.piece v.piece)) h.sits;
               }
+
+-- one step more is counted
+pub counts_on : (count made more : ℕ) → IsCountOf count made → IsCountOf (made + 1) more → IsCountOf (count + 1) more
+counts_on count made more (inl is) (inl next) = inl (omega (arith, is.0, next.0), omega (arith, is.0, next.1))
+counts_on count made more (inl is) (inr full) = inr (full.0, omega (arith, is.0, full.1))
+counts_on count made more (inr is) (inl next) = absurd (omega (arith, is.0, next.1))
+counts_on count made more (inr is) (inr full) = inr (full.0, omega (arith, is.1))
+
+-- and is still within what may be made, where that wasn't reached
+pub still_within : (reach : Reach) (made more : ℕ) → ((most : ℕ) → reach.most ≡ Some most → made ≤ most)
+    → ((most : ℕ) → reach.most ≡ Some most → made ≢ most) → IsCountOf (made + 1) more → (most : ℕ) → reach.most ≡ Some most → more ≤ most
+still_within reach made more within fewer counted most is = go counted (within most is) (fewer most is)
+  where
+    go : IsCountOf (made + 1) more → made ≤ most → made ≢ most → more ≤ most
+    go (inl next) below other = omega (arith, next.0, below, other)
+    go (inr full) below other = omega (arith, full.0, full.1, below, other)
 
 -- a fact at Ok leads to another
 pub on_ok : {T E : Type 0} {P Q : Type 0} (r : Result T E) → (P → Q) → OnOk r P → OnOk r Q

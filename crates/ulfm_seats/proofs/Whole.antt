@@ -4,10 +4,17 @@ use Rattle.std.specs.{Prelude.{Result, Ok, Err, is_err, IfOk, OnOk, Vec}, Vec.{w
 use Rattle.std.proofs.lemmas.List.{with_items_is}
 use Rattle.ulfm_laws.specs.declared.flag_and.FlagAnd.{FlagAnd}
 use Rattle.ulfm_words.specs.Steps.{Name, Sight}
-use Rattle.ulfm_trace_model.specs.Traces.{Traced}
-use Rattle.ulfm_lines.specs.{StepLines.{ScriptStep}, Stepped.{TellsStep}}
+use Rattle.ulfm_trace_model.specs.Traces.{Traced, said_by}
+use Rattle.ulfm_lines.specs.{StepLines.{ScriptStep}, Stepped.{TellsStep}, Walked.{TellsSteps}}
+use Rattle.ulfm_lines.specs.declared.step_machine.Reach.{Reach}
 use Rattle.ulfm_lines.specs.declared.step_machine.Taken.{Taken}
 use Rattle.ulfm_seats.specs.{Table.{StandsFor}, Walks.{FlagSeat}}
+
+-- steps that were told leave it standing for what lines say
+pub stood : {E : Type 0} (Stands : Traced FlagAnd → Type 0) (now : Traced FlagAnd) (r : ℕ) (reach : Reach) (text more : List ℕ) (result : Result ℕ E)
+    → IfOk result (λ made. TellsSteps Stands now r reach made text more) → OnOk result ((next : Traced FlagAnd) × Stands next)
+stood Stands now r reach text more (Ok made) t = (said_by now t.piece, t.stands)
+stood Stands now r reach text more (Err fault) t = tt
 
 -- the elements that a line left fill the vector
 module _ {Z : Type 0} (name : Name) (after : Sight FlagAnd) (v : Vec FlagSeat Z) (new : List FlagSeat) (fills : length new ≡ v.len) where
@@ -17,6 +24,11 @@ module _ {Z : Type 0} (name : Name) (after : Sight FlagAnd) (v : Vec FlagSeat Z)
   pub ran_tells : {E : Type 0} (now : Traced FlagAnd) (step : ScriptStep) (text more : List ℕ) (result : Result Taken E) → IfOk result (λ taken. TellsStep (StandsFor name after new) now step taken text more)
       → IfOk result (λ taken. TellsStep (StandsFor name after (with_items v new).items) now step taken text more)
   ran_tells now step text more result tells = subst (λ ss. IfOk result (λ taken. TellsStep (StandsFor name after ss) now step taken text more)) (sym (with_items_is v new fills)) tells
+
+  pub ran_steps : {E : Type 0} (now : Traced FlagAnd) (r : ℕ) (reach : Reach) (text more : List ℕ) (result : Result ℕ E)
+      → IfOk result (λ made. TellsSteps (StandsFor name after new) now r reach made text more)
+      → IfOk result (λ made. TellsSteps (StandsFor name after (with_items v new).items) now r reach made text more)
+  ran_steps now r reach text more result tells = subst (λ ss. IfOk result (λ made. TellsSteps (StandsFor name after ss) now r reach made text more)) (sym (with_items_is v new fills)) tells
 
   -- it stands for what lines say, where no memory was refused
   pub ran_next : {T E : Type 0} (result : Result T E) → is_err result ≡ false → OnOk result ((next : Traced FlagAnd) × StandsFor name after new next) → (next : Traced FlagAnd) × StandsFor name after (with_items v new).items next

@@ -1,20 +1,17 @@
 -- What steps of one rank's call tell.
-use Rattle.std.specs.Prelude.{◌≡◌, ◌⊎◌, ℕ, ◌+◌, ◌≤◌, ⊤, List, ◌++◌, length, filter, take, is_some, IsTrue, Option, Some, None}
+use Rattle.std.specs.Prelude.{◌≡◌, ◌⊎◌, ℕ, ◌+◌, ◌≤◌, ⊤, List, ◌++◌, take, is_some, IsTrue, Option, Some, None}
 use Rattle.ulfm_laws.specs.{Flags.{flag_meld}, declared.flag_and.FlagAnd.{FlagAnd}}
 use Rattle.ulfm_model.specs.declared.{event.Caller.{Caller}, step_name.StepName.{StepName}}
 use Rattle.ulfm_model.specs.{History.{History}, Records.{Record}}
 use Rattle.ulfm_words.specs.Steps.{Name, Sight}
-use Rattle.ulfm_trace_model.specs.{Follows.{AreOf, EndsInReply, is_event}, Traces.{AreLegalAfter, Told, Traced, said_by}}
-use Rattle.ulfm_lines.specs.LineTexts.{lines_text}
+use Rattle.ulfm_trace_model.specs.{Follows.{AreOf, EndsInReply}, Traces.{AreLegalAfter, Told, Traced, said_by}}
+use Rattle.ulfm_lines.specs.declared.step_machine.Reach.{Reach}
+use Rattle.ulfm_lines.specs.{LineTexts.{lines_text}, Walked.{IsCountOf, events_in}}
 use Rattle.ulfm_stepping.specs.{Seats.{MayList, Seated, Sits, left_in, next_in}, declared.told.Answer.{Answer}}
 
 -- the ranks that have a seat, with flags as contributions
 abbrev pub FlagSeat : Type 0
 FlagSeat = Seated FlagAnd
-
--- how many events a piece tells
-abbrev pub events_in : List (Told FlagAnd) → ℕ
-events_in piece = length (filter (λ told. is_event told.line) piece)
 
 -- how many steps are left of the call under way, at most
 abbrev pub left_of : Name → FlagSeat → ℕ
@@ -43,10 +40,16 @@ pub record Walks (name : Name) (most : ℕ) (pass : Sight FlagAnd) (seat : FlagS
   pub onward : pass.steps ≤ after.steps
   pub goes : (now : Traced FlagAnd) → Sits flag_meld name now pass seat → GoesOn name now piece after left
 
--- so many atomic steps were made, or fewer, where the call is over
-abbrev pub MakesUpTo : ℕ → Sight FlagAnd → Sight FlagAnd → FlagSeat → Type 0
-MakesUpTo count pass after left = (after.steps ≤ pass.steps + count) × (IsTrue (is_some left.call) → after.steps ≡ pass.steps + count)
+-- a call was taken as far as is said: so many steps were made, or its next step has the name
+abbrev pub IsReached : Reach → ℕ → Option StepName → Type 0
+IsReached reach made next = (reach.most ≡ Some made) ⊎ ((name : StepName) × (reach.name ≡ Some name) × (next ≡ Some name))
 
--- the call is over, or its next step has this name
-abbrev pub StopsBefore : StepName → FlagSeat → Type 0
-StopsBefore step left = (left.call ≡ None) ⊎ (next_in left.call ≡ Some step)
+-- Steps of a rank's call were told, as far as they are taken: so many were made, and this was counted. The call is over then, or as far as is said.
+pub record WalksUntil (reach : Reach) (made : ℕ) (name : Name) (pass : Sight FlagAnd) (seat : FlagSeat) (text : List ℕ) (after : Sight FlagAnd)
+    (left : FlagSeat) (more : List ℕ) : Type 0 where
+  pub count : ℕ
+  pub counted : IsCountOf count made
+  pub within : (most : ℕ) → reach.most ≡ Some most → made ≤ most
+  pub steps : after.steps ≡ pass.steps + count
+  pub walks : Walks name count pass seat text after left more
+  pub stops : (left.call ≡ None) ⊎ IsReached reach made (next_in left.call)

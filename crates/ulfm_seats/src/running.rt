@@ -7,16 +7,15 @@ ghost use Rattle.ulfm_words.specs.{Pass.{plain_name}, Steps.{IsOf}};
 ghost use Rattle.ulfm_trace_model.specs.Traces.{Traced};
 ghost use Rattle.ulfm_trace_model.specs.declared.step_line.StepLine.TheVariants.{Called, Failed};
 ghost use Rattle.ulfm_lines.specs.declared.step_machine.Taken.TheVariants.{Run};
-ghost use Rattle.ulfm_lines.specs.{LineTexts.{lines_text}, StepLines.{IsByRank}, Stepped.{IsStep, TellsStep}};
-ghost use Rattle.ulfm_stepping.specs.Seats.{Sits};
-ghost use Rattle.ulfm_seats.specs.{Lines.{BeginsCall, IsWalkOf, WalksBy}, Table.{StandsFor}};
+ghost use Rattle.ulfm_lines.specs.{LineTexts.{lines_text}, StepLines.{IsByRank}, Stepped.{IsStep, TellsStep}, Walked.{TellsSteps}};
+ghost use Rattle.ulfm_seats.specs.{Lines.{BeginsCall}, Table.{StandsFor}};
 
 use crate::telling::{tell_begun, tell_declaration, tell_unknown};
-use crate::walks::{walk_before, walk_on, walk_some};
+use crate::walks::walk_until;
 use std::alloc::{AllocError, Allocator};
 use ulfm_comm::World;
 use ulfm_laws::FlagAnd;
-use ulfm_lines::{Taken, Teller};
+use ulfm_lines::{Reach, Taken, Teller};
 use ulfm_model::Call;
 use ulfm_model::call::rank_of;
 use ulfm_stepping::{Seat, fail_whole};
@@ -69,51 +68,39 @@ fn run_call<A: Allocator + Copy + Drop>(
     Ok(Taken::Run)
 }
 
-// The steps that a line asks for, of the rank's call.
-fn walk<A: Allocator + Copy + Drop>(
-    seat: &mut Seat<FlagAnd, A>,
-    world: &World<PlainWords<FlagAnd>, FlagAnd, A>,
-    pass: &mut PlainPass<FlagAnd, A>,
-    step: &StepLine<FlagAnd>,
-    group: &mut Vec<u16, A>,
-    teller: &mut Teller<A>,
-) -> Result<(), AllocError>
-    requires walks { (r : ℕ) × IsWalkOf r step.now }
-    requires of { IsOf flag_meld (plain_name world.now.words.limits) pass.old }
-    requires sits { (now : Traced FlagAnd) × Sits flag_meld (plain_name world.now.words.limits) now pass.old seat.old }
-    ensures of { IsOf flag_meld (plain_name world.now.words.limits) pass.new }
-    ensures walks { OnOk result (WalksBy step.now (plain_name world.now.words.limits) pass.old seat.old teller.old.text.items pass.new seat.new
-        teller.new.text.items) }
+// There are no more events than a number tells. It does nothing.
+fn has_room<A: Allocator + Copy + Drop>(pass: &PlainPass<FlagAnd, A>)
+    ensures { length pass.now.seen ≤ 4294967295 }
 {
-    match *step {
-        StepLine::Called(_) => unreachable!(),
-        StepLine::Stepped { count, .. } => walk_some(seat, world, pass, count, group, teller),
-        StepLine::Before { name, .. } => walk_before(seat, world, pass, name, group, teller),
-        StepLine::Finished { .. } => walk_on(seat, world, pass, group, teller),
-        StepLine::Failed { .. } => unreachable!(),
-    }
+    let _ = pass.count();
 }
 
-// Steps of a rank's call, where the world has the rank.
-fn run_steps<A: Allocator + Copy + Drop>(
+/// Steps of a rank's call as far as they are to be taken, where the world has the rank and it has a call under way.
+pub(crate) fn walk_rank<A: Allocator + Copy + Drop>(
     world: &World<PlainWords<FlagAnd>, FlagAnd, A>,
     pass: &mut PlainPass<FlagAnd, A>,
     seats: &mut [Seat<FlagAnd, A>],
     rank: u16,
-    step: &StepLine<FlagAnd>,
+    reach: Reach,
     group: &mut Vec<u16, A>,
     teller: &mut Teller<A>,
-) -> Result<(), AllocError>
-    requires walks { IsWalkOf rank step.now }
+) -> Result<u32, AllocError>
     requires stands { (now : Traced FlagAnd) × StandsFor (plain_name world.now.words.limits) pass.old seats.old now }
     ensures { (now : Traced FlagAnd) → StandsFor (plain_name world.now.words.limits) pass.old seats.old now
-        → OnOk result (TellsStep (StandsFor (plain_name world.now.words.limits) pass.new seats.new) now step.now Run
+        → IfOk result (λ made. TellsSteps (StandsFor (plain_name world.now.words.limits) pass.new seats.new) now rank reach made
         teller.old.text.items teller.new.text.items) }
 {
+    has_room(pass);
     if rank as usize >= seats.len() {
-        return Ok(());
+        return Ok(0);
     }
-    walk(&mut seats[rank as usize], world, pass, step, group, teller)
+    let seat = &mut seats[rank as usize];
+    if !seat.is_open() {
+        return Ok(0);
+    }
+    let made = walk_until(seat, world, pass, reach, group, teller)?;
+    has_room(pass);
+    Ok(made)
 }
 
 // The outside declares a rank, whole.
@@ -153,14 +140,26 @@ pub(crate) fn run_line<A: Allocator + Copy + Drop>(
     match *step {
         StepLine::Called(asked) => return run_call(world, pass, seats, asked, teller),
         StepLine::Failed { rank } => run_fail(world, pass, seats, rank, teller)?,
-        StepLine::Stepped { rank, .. } => {
-            run_steps(world, pass, seats, rank, step, group, teller)?;
+        StepLine::Stepped { rank, count } => {
+            let reach = Reach {
+                most: Some(count as u32),
+                name: None,
+            };
+            walk_rank(world, pass, seats, rank, reach, group, teller)?;
         }
-        StepLine::Before { rank, .. } => {
-            run_steps(world, pass, seats, rank, step, group, teller)?;
+        StepLine::Before { rank, name } => {
+            let reach = Reach {
+                most: None,
+                name: Some(name),
+            };
+            walk_rank(world, pass, seats, rank, reach, group, teller)?;
         }
         StepLine::Finished { rank } => {
-            run_steps(world, pass, seats, rank, step, group, teller)?;
+            let reach = Reach {
+                most: None,
+                name: None,
+            };
+            walk_rank(world, pass, seats, rank, reach, group, teller)?;
         }
     }
     Ok(Taken::Run)

@@ -2,12 +2,12 @@
 ghost use Rattle.std.specs.Prelude.{◌≡◌, map, IfOk};
 ghost use Rattle.ulfm_seats.specs.Table.{IsTable, idle_seat};
 
-use crate::running::run_line;
+use crate::running::{run_line, walk_rank};
 use std::alloc::{AllocError, Allocator};
 use std::marker::Model;
 use ulfm_comm::{Rank, World};
 use ulfm_laws::FlagAnd;
-use ulfm_lines::{StepMachine, Taken, Teller};
+use ulfm_lines::{Reach, StepMachine, Taken, Teller};
 use ulfm_model::Limits;
 use ulfm_stepping::Seat;
 use ulfm_trace_model::StepLine;
@@ -95,5 +95,27 @@ impl<A: Allocator + Copy + Drop> StepMachine<A> for StepTable<A> {
         );
         self.failed = taken.is_err();
         taken
+    }
+
+    fn steps(
+        &mut self,
+        rank: u16,
+        reach: Reach,
+        teller: &mut Teller<A>,
+    ) -> Result<u32, AllocError> {
+        if self.failed {
+            return Err(AllocError);
+        }
+        let made = walk_rank(
+            &self.world,
+            &mut self.pass,
+            &mut self.seats,
+            rank,
+            reach,
+            &mut self.group,
+            teller,
+        );
+        self.failed = made.is_err();
+        made
     }
 }

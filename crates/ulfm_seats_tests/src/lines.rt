@@ -275,8 +275,8 @@ fn step_makes_so_many(rt: HostRuntime) -> Result<(), Fail> {
         ),
         ("step 0 1", none),
         ("call poll 0 0", &["call poll 0 0"]),
-        // One load of the look, behind the failure that was seen, and the mark of rank 1.
-        ("step 0 2", &["look 0 1", "event 0 mark 0 0 1 known 1"]),
+        // One load of the look, behind the failure that was seen, one of the only block, and the mark of rank 1.
+        ("step 0 3", &["look 0 1", "event 0 mark 0 0 1 known 1"]),
         // One of the slots.
         ("step 0 1", none),
         (

@@ -1,1 +1,2 @@
+pub mod FailLemmas
 pub mod TraceLemmas

@@ -7,19 +7,13 @@ use Rattle.ulfm_script.specs.Ends.{HasFault, TakesItem}
 use Rattle.ulfm_trace_model.specs.declared.step_line.StepLine.{StepLine}
 use Rattle.ulfm_trace_model.specs.{Follows.{Follows, Runs}, Traces.{AreLegalAfter, Told, Traced, nothing, said_by}}
 use Rattle.ulfm_trace_model.proofs.Parts.{legal_append, said_append}
-use Rattle.ulfm_lines.specs.{LineTexts.{line_text, lines_text}, StepLines.{ScriptStep, step_line_of}, Stepped.{IsOpenCall, TellsStep, TraceState}}
+use Rattle.ulfm_lines.proofs.Joined.{lines_append}
+use Rattle.ulfm_lines.specs.{LineTexts.{lines_text}, StepLines.{ScriptStep, step_line_of}, Stepped.{IsOpenCall, TellsStep, TraceState}}
 use Rattle.ulfm_lines.specs.declared.step_machine.Taken.TheVariants as taken
 use Rattle.ulfm_step_script.specs.StepScripts.{FindsOpenCall, Traces, first_line, step_scripts, trace_text}
 
--- lines, and more lines
-lines_append : (trace piece : List (Told FlagAnd)) → lines_text (trace ++ piece) ≡ lines_text trace ++ lines_text piece
-lines_append [] piece = refl
-lines_append (told ∷ trace) piece =
-    ap (λ (t : List ℕ). line_text told.group told.line ++ 10 ∷ t) (lines_append trace piece)
-    ∙ sym (append_assoc (line_text told.group told.line) (10 ∷ lines_text trace) (lines_text piece))
-
 -- a script, and more lines of it
-follows_append : {P : Type 0} (now : Traced P) (lines more : List (StepLine P)) (trace piece : List (Told P)) → Follows now lines trace
+pub follows_append : {P : Type 0} (now : Traced P) (lines more : List (StepLine P)) (trace piece : List (Told P)) → Follows now lines trace
     → Follows (said_by now trace) more piece → Follows now (lines ++ more) (trace ++ piece)
 follows_append {P} now [] more trace piece h k =
     subst (λ (t : List (Told P)). Follows (said_by now t) more piece → Follows now more (t ++ piece)) (sym h) (λ f. f) k

@@ -1,1 +1,2 @@
+pub mod FailingScripts
 pub mod StepScripts

@@ -8,7 +8,8 @@ use std::io::{Read, Write};
 use ulfm_lines::{StepMachine, Taken, Teller, read_step_line};
 use ulfm_model::Limits;
 use ulfm_script::{
-    HeaderKind, Input, Interpreter, LineKind, RunFault, print_header, run_text, run_text_through,
+    HeaderKind, Input, Interpreter, LineKind, RunFault, end_of, print_header, run_text,
+    run_text_through,
 };
 
 /// Runs the script of single steps that the reader gives on a new machine, writes a legal trace that follows it, and flushes the
@@ -33,7 +34,7 @@ pub fn run_step_script<M: StepMachine<A>, A: Allocator + Copy, R: Read, W: Write
 ) -> Result<(), RunFault>
     ensures { RunsSteps (R.remaining reader.old) (R.remaining reader.new) (W.contents writer.old) (W.contents writer.new) result }
 {
-    run_text::<StepLines<M, A>, A, R, W>(alloc, reader, writer)
+    end_of(run_text::<StepLines<M, A>, A, R, W>(alloc, (), reader, writer))
 }
 
 /// Runs a script as [`run_step_script`] does, through a buffer of the caller's. What it holds of the reader's bytes is read first.
@@ -50,7 +51,7 @@ pub fn run_step_script_through<M: StepMachine<A>, A: Allocator + Copy, R: Read, 
     ensures { RunsStepsThrough (unread R.remaining input.old reader.old) (R.remaining reader.new) (pending input.new)
         (W.contents writer.old) (W.contents writer.new) result }
 {
-    run_text_through::<StepLines<M, A>, A, R, W>(alloc, input, reader, writer)
+    end_of(run_text_through::<StepLines<M, A>, A, R, W>(alloc, (), input, reader, writer))
 }
 
 /// A machine, and what it tells.
@@ -61,9 +62,11 @@ struct StepLines<M, A: Allocator> {
 }
 
 impl<M: StepMachine<A>, A: Allocator + Copy> Interpreter<A> for StepLines<M, A> {
+    type Plan = ();
+
     ghost lang = { step_scripts };
 
-    ghost HasRun = { λ it limits lines out. Traces (M.Stands it.machine) limits lines out };
+    ghost HasRun = { λ plan it limits lines out. Traces (M.Stands it.machine) limits lines out };
 
     ghost text = { λ it. it.teller.text.items };
 
@@ -71,7 +74,7 @@ impl<M: StepMachine<A>, A: Allocator + Copy> Interpreter<A> for StepLines<M, A> 
         HeaderKind::Steps
     }
 
-    fn open(alloc: A, limits: Limits) -> Result<Self, AllocError> {
+    fn open(alloc: A, limits: Limits, _plan: ()) -> Result<Self, AllocError> {
         let teller = tell_header(alloc, limits)?;
         let machine = M::open(alloc, limits)?;
         Ok(StepLines { machine, teller })
@@ -94,11 +97,14 @@ impl<M: StepMachine<A>, A: Allocator + Copy> Interpreter<A> for StepLines<M, A> 
         &self.teller.text
     }
 
-    ghost prints = { λ it limits lines out ran. (ran.0, ran.1, ran.2, ran.4) };
+    ghost prints = { λ plan it limits lines out ran. (ran.0, ran.1, ran.2, ran.4) };
 }
 
 /// A teller that has told the trace's first line.
-fn tell_header<A: Allocator + Copy>(alloc: A, limits: Limits) -> Result<Teller<A>, AllocError>
+pub(crate) fn tell_header<A: Allocator + Copy>(
+    alloc: A,
+    limits: Limits,
+) -> Result<Teller<A>, AllocError>
     ensures { IfOk result (λ teller. teller.text.items ≡ first_line limits) }
 {
     let mut teller = Teller::new(alloc);

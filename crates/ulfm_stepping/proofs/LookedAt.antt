@@ -11,7 +11,7 @@ use Rattle.ulfm_words.proofs.Trails.{did_none, did_prefix}
 use Rattle.ulfm_laws.specs.declared.ctx_mask.CtxMask.{CtxMask}
 use Rattle.ulfm_comm.specs.{Look.{HasLooked, Looked as HasFound}, Spawning.{IsDecided}}
 use Rattle.ulfm_comm.specs.Phase.{Stands, StandsAt, UnderWay, is_looking}
-use Rattle.ulfm_comm.specs.declared.phases.phase.{Phase.{Phase}, Phase.TheVariants.{Over, Begun, Looking, Settling, Arriving, Revoking, Asking, Marking, Reading, ReadingOn, Spawning, Waiting, Checking}}
+use Rattle.ulfm_comm.specs.declared.phases.phase.{Phase.{Phase}, Phase.TheVariants.{Over, Begun, Looking, Settling, Arriving, Revoking, Asking, Peeking, Marking, Reading, ReadingOn, Spawning, Waiting, Checking}}
 use Rattle.ulfm_comm.proofs.{Polls.{not_refused}, WholeCall.{held_before}}
 
 -- a history between two that are one
@@ -95,7 +95,9 @@ module _ {P : Type 0} (meld : P → P → P) (name : Name) (asked : Call P) (old
   found_by_phase (Arriving round) past p = looked_found p.0
   found_by_phase Revoking past p = looked_found p.0
   found_by_phase Asking past p = looked_found p.0
-  found_by_phase (Marking marks shrinks) past p =
+  found_by_phase (Peeking peek shrinks) past p =
+      let m = p.1 in polled_found (comm_of asked) m.look m.x _ refl p.0 m.looked (did_prefix false [] m.look now.seen m.waited) m.held m.open_is
+  found_by_phase (Marking marks blocks shrinks) past p =
       let m = p.1 in
       polled_found (comm_of asked) m.look m.x _ refl p.0 m.looked (prefix_trans m.look m.marked now.seen (did_prefix false (entries_by (Rank old.number) m.has_marked.own) m.look m.marked m.has_marked.did) (did_prefix false [] m.marked now.seen m.waited)) m.held m.open_is
   found_by_phase (Reading reading shrinks) past p =
@@ -129,7 +131,8 @@ begins_again {P} meld name old before doing own now looking s of begins =
     go (Arriving round) looking p = absurd (cc looking)
     go Revoking looking p = absurd (cc looking)
     go Asking looking p = absurd (cc looking)
-    go (Marking marks shrinks) looking p = absurd (cc looking)
+    go (Peeking peek shrinks) looking p = absurd (cc looking)
+    go (Marking marks blocks shrinks) looking p = absurd (cc looking)
     go (Reading reading shrinks) looking p = absurd (cc looking)
     go (ReadingOn on made) looking p = absurd (cc looking)
     go (Spawning append context reach) looking p = absurd (cc looking)

@@ -8,7 +8,7 @@ use Rattle.ulfm_model.proofs.Lists.{prefix_trans}
 use Rattle.ulfm_words.specs.Steps.{IsOf, Name, Sight}
 use Rattle.ulfm_words.proofs.Trails.{did_prefix, did_quiet}
 use Rattle.ulfm_comm.specs.{Barrier.{IsChecking}, Calls.{EndsAs, EndsReply, wants_memory}, Ends.{IsEarlyRun, IsEndRun, IsRefusedAgain}, Phase.{Answered, Stands, StandsAt, UnderWay, Waits, is_looking}, Step.{StepAdds}}
-use Rattle.ulfm_comm.specs.declared.phases.phase.{Phase.{Phase}, Phase.TheVariants.{Over, Begun, Looking, Settling, Arriving, Revoking, Asking, Marking, Reading, ReadingOn, Spawning, Waiting, Checking}}
+use Rattle.ulfm_comm.specs.declared.phases.phase.{Phase.{Phase}, Phase.TheVariants.{Over, Begun, Looking, Settling, Arriving, Revoking, Asking, Peeking, Marking, Reading, ReadingOn, Spawning, Waiting, Checking}}
 use Rattle.ulfm_comm.proofs.AmongOthers.{did_among}
 use Rattle.ulfm_trace_model.specs.declared.line.Line.TheVariants.{Looked}
 use Rattle.ulfm_trace_model.specs.Traces.{MayCome, Traced, Under, after, call_by, record_of}
@@ -25,7 +25,8 @@ no_event own asked (Settling request offer) reply old new looking adds = absurd 
 no_event own asked (Arriving round) reply old new looking adds = absurd (cc looking)
 no_event own asked Revoking reply old new looking adds = absurd (cc looking)
 no_event own asked Asking reply old new looking adds = absurd (cc looking)
-no_event own asked (Marking marks shrinks) reply old new looking adds = absurd (cc looking)
+no_event own asked (Peeking peek shrinks) reply old new looking adds = absurd (cc looking)
+no_event own asked (Marking marks blocks shrinks) reply old new looking adds = absurd (cc looking)
 no_event own asked (Reading reading shrinks) reply old new looking adds = absurd (cc looking)
 no_event own asked (ReadingOn on made) reply old new looking adds = absurd (cc looking)
 no_event own asked (Spawning append context reach) reply old new looking adds = absurd (cc looking)
@@ -41,7 +42,8 @@ same_number meld name asked old before group own now (Settling request offer) lo
 same_number meld name asked old before group own now (Arriving round) looking p = absurd (cc looking)
 same_number meld name asked old before group own now Revoking looking p = absurd (cc looking)
 same_number meld name asked old before group own now Asking looking p = absurd (cc looking)
-same_number meld name asked old before group own now (Marking marks shrinks) looking p = absurd (cc looking)
+same_number meld name asked old before group own now (Peeking peek shrinks) looking p = absurd (cc looking)
+same_number meld name asked old before group own now (Marking marks blocks shrinks) looking p = absurd (cc looking)
 same_number meld name asked old before group own now (Reading reading shrinks) looking p = absurd (cc looking)
 same_number meld name asked old before group own now (ReadingOn on made) looking p = absurd (cc looking)
 same_number meld name asked old before group own now (Spawning append context reach) looking p = absurd (cc looking)
@@ -69,7 +71,8 @@ found_now meld limits asked name old before group own now found (Settling reques
 found_now meld limits asked name old before group own now found (Arriving round) p limits_is still found_is = tt
 found_now meld limits asked name old before group own now found Revoking p limits_is still found_is = tt
 found_now meld limits asked name old before group own now found Asking p limits_is still found_is = tt
-found_now meld limits asked name old before group own now found (Marking marks shrinks) p limits_is still found_is = tt
+found_now meld limits asked name old before group own now found (Peeking peek shrinks) p limits_is still found_is = tt
+found_now meld limits asked name old before group own now found (Marking marks blocks shrinks) p limits_is still found_is = tt
 found_now meld limits asked name old before group own now found (Reading reading shrinks) p limits_is still found_is = tt
 found_now meld limits asked name old before group own now found (ReadingOn on made) p limits_is still found_is = tt
 found_now meld limits asked name old before group own now found (Spawning append context reach) p limits_is still found_is = tt

@@ -8,7 +8,7 @@ use Rattle.ulfm_model.proofs.{LeftRuns.{left_keeps}, Stable.{fits_stays}}
 use Rattle.ulfm_words.specs.Steps.{IsOf, Name, Sight}
 use Rattle.ulfm_words.proofs.Trails.{did_wait}
 use Rattle.ulfm_comm.specs.Phase.{UnderWay, Waits}
-use Rattle.ulfm_comm.specs.declared.phases.phase.{Phase.{Phase}, Phase.TheVariants.{Over, Begun, Looking, Settling, Arriving, Revoking, Asking, Marking, Reading, ReadingOn, Spawning, Waiting, Checking}}
+use Rattle.ulfm_comm.specs.declared.phases.phase.{Phase.{Phase}, Phase.TheVariants.{Over, Begun, Looking, Settling, Arriving, Revoking, Asking, Peeking, Marking, Reading, ReadingOn, Spawning, Waiting, Checking}}
 use Rattle.ulfm_comm.proofs.{Stands.{stands_lasts}, AmongOthers.{did_among}}
 use Rattle.ulfm_trace_model.specs.declared.line.{Line.{Line}, Line.TheVariants.{Called, Happened, Looked, Replied}}
 use Rattle.ulfm_trace_model.specs.Follows.{AreOf, is_of}
@@ -123,7 +123,8 @@ found_lasts meld limits c old before own now later found begins (Settling reques
 found_lasts meld limits c old before own now later found begins (Arriving round) f = tt
 found_lasts meld limits c old before own now later found begins Revoking f = tt
 found_lasts meld limits c old before own now later found begins Asking f = tt
-found_lasts meld limits c old before own now later found begins (Marking marks shrinks) f = tt
+found_lasts meld limits c old before own now later found begins (Peeking peek shrinks) f = tt
+found_lasts meld limits c old before own now later found begins (Marking marks blocks shrinks) f = tt
 found_lasts meld limits c old before own now later found begins (Reading reading shrinks) f = tt
 found_lasts meld limits c old before own now later found begins (ReadingOn on made) f = tt
 found_lasts meld limits c old before own now later found begins (Spawning append context reach) f = tt

@@ -7,7 +7,7 @@ use Rattle.ulfm_model.specs.Terms.{comm_of, request_of}
 use Rattle.ulfm_words.specs.Steps.{Name, Sight}
 use Rattle.ulfm_steps.specs.declared.{arrivals.Arrivals.{Arrivals}, arrivals.Missing.{Missing}}
 use Rattle.ulfm_comm.specs.{Exchange.{StartsWith}, Look.{Looked as HasFound}, Phase.{LeadsTo, StandsAt, is_looking, is_making, next_of}, Polls.{agreement}, Step.{StepSees}}
-use Rattle.ulfm_comm.specs.declared.phases.phase.{Phase.{Phase}, Phase.TheVariants.{Over, Begun, Looking, Settling, Arriving, Revoking, Asking, Marking, Reading, ReadingOn, Spawning, Waiting, Checking}}
+use Rattle.ulfm_comm.specs.declared.phases.phase.{Phase.{Phase}, Phase.TheVariants.{Over, Begun, Looking, Settling, Arriving, Revoking, Asking, Peeking, Marking, Reading, ReadingOn, Spawning, Waiting, Checking}}
 use Rattle.ulfm_comm.proofs.{Polls.{polls_it}, WholeCall.{held_before}}
 
 seen_same : (own old : Record) (s : List ℕ) → own ≡ record old { seen = s } → own ≡ record old { seen = own.seen }
@@ -45,7 +45,8 @@ module _ {P : Type 0} (meld : P → P → P) (alone : Bool) (name : Name) (asked
   stands_same (Arriving round) past p = seen_same own old _ p.0.looked.record_is
   stands_same Revoking past p = seen_same own old _ p.0.looked.record_is
   stands_same Asking past p = seen_same own old _ p.0.looked.record_is
-  stands_same (Marking marks shrinks) past p = seen_same own old _ p.1.looked.record_is
+  stands_same (Peeking peek shrinks) past p = seen_same own old _ p.1.looked.record_is
+  stands_same (Marking marks blocks shrinks) past p = seen_same own old _ p.1.looked.record_is
   stands_same (Reading reading shrinks) past p = seen_same own old _ p.1.marked.looked.record_is
   stands_same (ReadingOn on made) past p = p.2.own_is ∙ ap (λ (w : Record). record w { seen = own.seen }) p.2.marked.looked.record_is
   stands_same (Spawning append context reach) past p = p.1.decided.own_is ∙ ap (λ (w : Record). record w { seen = own.seen }) p.1.decided.marked.looked.record_is
@@ -66,7 +67,8 @@ module _ {P : Type 0} (meld : P → P → P) (alone : Bool) (name : Name) (asked
   making_shrinks (Arriving round) making p = absurd (cc making)
   making_shrinks Revoking making p = absurd (cc making)
   making_shrinks Asking making p = absurd (cc making)
-  making_shrinks (Marking marks shrinks) making p = absurd (cc making)
+  making_shrinks (Peeking peek shrinks) making p = absurd (cc making)
+  making_shrinks (Marking marks blocks shrinks) making p = absurd (cc making)
   making_shrinks (Reading reading shrinks) making p = absurd (cc making)
   making_shrinks (Waiting arrivals) making p = absurd (cc making)
   making_shrinks (Checking missing) making p = absurd (cc making)
@@ -87,7 +89,9 @@ module _ {P : Type 0} (meld : P → P → P) (alone : Bool) (name : Name) (asked
   barrier_phase k polls (Arriving round) past p = absurd (cc (sym polls ∙ ap (polled_by old) p.1))
   barrier_phase k polls Revoking past p = absurd (cc (sym polls ∙ ap (polled_by old) p.1))
   barrier_phase k polls Asking past p = absurd (cc (sym polls ∙ ap (polled_by old) p.1))
-  barrier_phase k polls (Marking marks shrinks) past p =
+  barrier_phase k polls (Peeking peek shrinks) past p =
+      let m = p.1 in absurd (no_barrier shrinks peek.round k (cc (sym (open_polls (comm_of asked) m.look m.x _ refl p.0 m.looked m.held m.open_is) ∙ polls)))
+  barrier_phase k polls (Marking marks blocks shrinks) past p =
       let m = p.1 in absurd (no_barrier shrinks marks.round k (cc (sym (open_polls (comm_of asked) m.look m.x _ refl p.0 m.looked m.held m.open_is) ∙ polls)))
   barrier_phase k polls (Reading reading shrinks) past p =
       let m = p.1.marked in absurd (no_barrier shrinks reading.round k (cc (sym (open_polls (comm_of asked) m.look p.1.x _ refl p.0 m.looked m.held m.open_is) ∙ polls)))
@@ -110,7 +114,8 @@ seen_stays (Settling request offer) past other old new is = is
 seen_stays (Arriving round) past other old new is = is
 seen_stays Revoking past other old new is = is
 seen_stays Asking past other old new is = is
-seen_stays (Marking marks shrinks) past other old new is = is
+seen_stays (Peeking peek shrinks) past other old new is = is
+seen_stays (Marking marks blocks shrinks) past other old new is = is
 seen_stays (Reading reading shrinks) past other old new is = is
 seen_stays (ReadingOn on made) past other old new is = absurd (cc other)
 seen_stays (Spawning append context reach) past other old new is = is
@@ -127,7 +132,8 @@ making_past (Settling request offer) making = refl
 making_past (Arriving round) making = refl
 making_past Revoking making = refl
 making_past Asking making = refl
-making_past (Marking marks shrinks) making = refl
+making_past (Peeking peek shrinks) making = refl
+making_past (Marking marks blocks shrinks) making = refl
 making_past (Reading reading shrinks) making = refl
 making_past (Waiting arrivals) making = refl
 making_past (Checking missing) making = refl
@@ -141,7 +147,8 @@ stays_past (Settling request offer) next past leads = leads
 stays_past (Arriving round) next past leads = leads
 stays_past Revoking next past leads = leads
 stays_past Asking next past leads = leads
-stays_past (Marking marks shrinks) next past leads = leads
+stays_past (Peeking peek shrinks) next past leads = leads
+stays_past (Marking marks blocks shrinks) next past leads = leads
 stays_past (Reading reading shrinks) next past leads = leads
 stays_past (ReadingOn on made) next past leads = making_past next leads
 stays_past (Spawning append context reach) next past leads = making_past next leads
@@ -159,7 +166,8 @@ stays_making (Settling request offer) next making leads = absurd (cc making)
 stays_making (Arriving round) next making leads = absurd (cc making)
 stays_making Revoking next making leads = absurd (cc making)
 stays_making Asking next making leads = absurd (cc making)
-stays_making (Marking marks shrinks) next making leads = absurd (cc making)
+stays_making (Peeking peek shrinks) next making leads = absurd (cc making)
+stays_making (Marking marks blocks shrinks) next making leads = absurd (cc making)
 stays_making (Reading reading shrinks) next making leads = absurd (cc making)
 stays_making (Waiting arrivals) next making leads = absurd (cc making)
 stays_making (Checking missing) next making leads = absurd (cc making)

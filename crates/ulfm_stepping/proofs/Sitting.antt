@@ -7,7 +7,7 @@ use Rattle.ulfm_model.proofs.Lists.{in_list}
 use Rattle.ulfm_words.specs.Steps.{IsOf, Name, Sight}
 use Rattle.ulfm_words.proofs.Ranks.{failures_le}
 use Rattle.ulfm_comm.specs.{Calls.{EndsAs, EndsReply, wants_memory}, Ends.{IsRefusedAgain}, Phase.{Answered, Stands, StandsAt, UnderWay, Waits, is_checking, is_looking, next_of}, Step.{StepAdds, Stepped}, StepsLeft.{FewerLeft, steps_left}}
-use Rattle.ulfm_comm.specs.declared.phases.phase.{Phase.{Phase}, Phase.TheVariants.{Over, Begun, Looking, Settling, Arriving, Revoking, Asking, Marking, Reading, ReadingOn, Spawning, Waiting, Checking}}
+use Rattle.ulfm_comm.specs.declared.phases.phase.{Phase.{Phase}, Phase.TheVariants.{Over, Begun, Looking, Settling, Arriving, Revoking, Asking, Peeking, Marking, Reading, ReadingOn, Spawning, Waiting, Checking}}
 use Rattle.ulfm_comm.proofs.AmongOthers.{did_among}
 use Rattle.ulfm_trace_model.specs.declared.line.Line.TheVariants.{Happened, Looked}
 use Rattle.ulfm_trace_model.specs.Follows.{AreOf, EndsInReply, is_event}
@@ -110,7 +110,8 @@ not_checking (Settling request offer) looking = refl
 not_checking (Arriving round) looking = refl
 not_checking Revoking looking = refl
 not_checking Asking looking = refl
-not_checking (Marking marks shrinks) looking = refl
+not_checking (Peeking peek shrinks) looking = refl
+not_checking (Marking marks blocks shrinks) looking = refl
 not_checking (Reading reading shrinks) looking = refl
 not_checking (ReadingOn on made) looking = refl
 not_checking (Spawning append context reach) looking = refl
@@ -295,7 +296,8 @@ begun_same meld name asked old before group own now (Settling request offer) loo
 begun_same meld name asked old before group own now (Arriving round) looking p = absurd (cc looking)
 begun_same meld name asked old before group own now Revoking looking p = absurd (cc looking)
 begun_same meld name asked old before group own now Asking looking p = absurd (cc looking)
-begun_same meld name asked old before group own now (Marking marks shrinks) looking p = absurd (cc looking)
+begun_same meld name asked old before group own now (Peeking peek shrinks) looking p = absurd (cc looking)
+begun_same meld name asked old before group own now (Marking marks blocks shrinks) looking p = absurd (cc looking)
 begun_same meld name asked old before group own now (Reading reading shrinks) looking p = absurd (cc looking)
 begun_same meld name asked old before group own now (ReadingOn on made) looking p = absurd (cc looking)
 begun_same meld name asked old before group own now (Spawning append context reach) looking p = absurd (cc looking)

@@ -12,7 +12,7 @@ use Rattle.ulfm_words.specs.Steps.{IsOf, Name, Sight}
 use Rattle.ulfm_words.proofs.Trails.{did_prefix, did_quiet}
 use Rattle.ulfm_steps.specs.declared.{arrivals.Missing.{Missing}}
 use Rattle.ulfm_comm.specs.{Barrier.{AnswersEarly, IsChecking}, Calls.{Calls, EndsAs, EndsReply, wants_memory}, Ends.{IsEarlyRun, IsEndRun, IsRefusedAgain}, Phase.{Answered, LeadsTo, Stands, StandsAt, UnderWay, Waits, is_checking, is_making, next_of, reply_in}, Step.{Adds, Makes, StepAdds, Stepped}, StepsLeft.{FewerLeft, steps_left}}
-use Rattle.ulfm_comm.specs.declared.phases.phase.{Phase.{Phase}, Phase.TheVariants.{Over, Begun, Looking, Settling, Arriving, Revoking, Asking, Marking, Reading, ReadingOn, Spawning, Waiting, Checking}}
+use Rattle.ulfm_comm.specs.declared.phases.phase.{Phase.{Phase}, Phase.TheVariants.{Over, Begun, Looking, Settling, Arriving, Revoking, Asking, Peeking, Marking, Reading, ReadingOn, Spawning, Waiting, Checking}}
 use Rattle.ulfm_comm.proofs.{StepAdds.{adds_none}, AmongOthers.{did_among}, Stands.{stands_lasts}}
 use Rattle.ulfm_trace_model.specs.declared.line.Line.TheVariants.{Happened}
 use Rattle.ulfm_trace_model.specs.Traces.{MayCome, Traced, Under, after, call_by, found_by, is_owned, record_of, same_caller, with_event}
@@ -58,7 +58,8 @@ module _ {P : Type 0} (look : List ℕ) (own : Record) (asked : Call P) (reply :
   adds_of (Arriving round) sees adds = subst (λ s. Adds true s own asked reply old new) (sees refl) adds
   adds_of Revoking sees adds = subst (λ s. Adds true s own asked reply old new) (sees refl) adds
   adds_of Asking sees did = adds_none true look own asked reply old new did
-  adds_of (Marking marks shrinks) sees adds = subst (λ s. Adds true s own asked reply old new) (sees refl) adds
+  adds_of (Peeking peek shrinks) sees did = adds_none true look own asked reply old new did
+  adds_of (Marking marks blocks shrinks) sees adds = subst (λ s. Adds true s own asked reply old new) (sees refl) adds
   adds_of (Reading reading shrinks) sees did = adds_none true look own asked reply old new did
   adds_of (ReadingOn on made) sees did = adds_none true look own asked reply old new did
   adds_of (Spawning append context reach) sees adds = adds_widened look own asked reply old new adds
@@ -79,7 +80,8 @@ checking_is (Settling request offer) is = absurd (cc is)
 checking_is (Arriving round) is = absurd (cc is)
 checking_is Revoking is = absurd (cc is)
 checking_is Asking is = absurd (cc is)
-checking_is (Marking marks shrinks) is = absurd (cc is)
+checking_is (Peeking peek shrinks) is = absurd (cc is)
+checking_is (Marking marks blocks shrinks) is = absurd (cc is)
 checking_is (Reading reading shrinks) is = absurd (cc is)
 checking_is (ReadingOn on made) is = absurd (cc is)
 checking_is (Spawning append context reach) is = absurd (cc is)
@@ -330,7 +332,8 @@ module _ {P : Type 0} (meld : P → P → P) (name : Name) (now : Traced P) (pas
         go (Arriving round) is = tt
         go Revoking is = tt
         go Asking is = tt
-        go (Marking marks shrinks) is = tt
+        go (Peeking peek shrinks) is = tt
+        go (Marking marks blocks shrinks) is = tt
         go (Reading reading shrinks) is = tt
         go (ReadingOn on made) is = tt
         go (Spawning append context reach) is = tt

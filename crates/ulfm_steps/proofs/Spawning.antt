@@ -6,7 +6,8 @@ use Rattle.ulfm_laws.specs.{declared.summary.Body.TheVariants.{Ctx}, declared.ct
 use Rattle.ulfm_model.specs.declared.limits.Limits.{Limits}
 use Rattle.ulfm_model.specs.{History.{Decision, Exists, History, IsLegal, decision, first_ranks, is_decided, is_made, round_among, slot, spawns}, Laws.{all_of}}
 use Rattle.ulfm_model.proofs.{Decisions.{decision_stays}, Histories.{members_stay}, Stable.{decision_is}}
-use Rattle.ulfm_steps.specs.{Appends.{MayAppend}, Rounds.{IsSummed}}
+use Rattle.ulfm_model.specs.Blocks.{IsSummed}
+use Rattle.ulfm_steps.specs.Appends.{MayAppend}
 use Rattle.ulfm_steps.specs.declared.item.Item.TheVariants.{Comm}
 use Rattle.ulfm_steps.proofs.Reading.{world_round}
 

@@ -1,8 +1,9 @@
 -- The steps of machines.
-use Rattle.std.proofs.Common.{◌≡◌, ℕ, ◌+◌, ◌≤◌, Bool, true, false, refl, subst, arith}
+use Rattle.std.proofs.Common.{◌≡◌, ℕ, ◌+◌, ◌≤◌, Bool, true, false, refl, ap, subst, arith}
 use Rattle.ulfm_model.specs.declared.{event.Entry.{Entry}, place.Place.{Place}}
 use Rattle.ulfm_words.specs.{Steps.{Loads, Name, Sight}, Tries.{Tries}}
-use Rattle.ulfm_steps.specs.Turns.{IsOneStep, Takes}
+use Rattle.ulfm_words.specs.declared.step.Site.{Site}
+use Rattle.ulfm_steps.specs.Turns.{IsStepAt, Takes, TakesAt}
 
 module _ {P : Type 0} (meld : P → P → P) (pack : P → ℕ) (alone : Bool) (name : Name) (place : Place) (old new : Sight P) where
   -- a load is one step, whatever it found
@@ -17,10 +18,16 @@ module _ {P : Type 0} (meld : P → P → P) (pack : P → ℕ) (alone : Bool) (
       record { one = λ _. record { steps = tries.steps; word = _; last = tries.last }; some = omega (arith, tries.steps); turns = omega (arith, tries.steps, fewer) }
 
 -- steps that a machine had made before, unless it makes one alone
-pub takes_on : {P : Type 0} (whole : Bool) (place at : Place) (load kind : Bool) (before between after : ℕ) (x y z : Sight P) → (whole ≡ false → (x.steps ≡ y.steps) × (at ≡ place) × (kind ≡ load)) → x.steps ≤ y.steps → y.steps + between ≤ x.steps + before
-    → Takes false at kind between after y z → Takes whole place load before after x z
-takes_on {P} whole place at load kind before between after x y z same onward fewer takes =
+pub takes_on_at : {P : Type 0} (whole : Bool) (site at : Site) (load kind : Bool) (before between after : ℕ) (x y z : Sight P) → (whole ≡ false → (x.steps ≡ y.steps) × (at ≡ site) × (kind ≡ load)) → x.steps ≤ y.steps → y.steps + between ≤ x.steps + before
+    → TakesAt false at kind between after y z → TakesAt whole site load before after x z
+takes_on_at {P} whole site at load kind before between after x y z same onward fewer takes =
     record { one = λ single. alone (same single) (takes.one refl); some = omega (arith, onward, takes.some); turns = omega (arith, fewer, takes.turns) }
   where
-    alone : (x.steps ≡ y.steps) × (at ≡ place) × (kind ≡ load) → IsOneStep at kind y z → IsOneStep place load x z
-    alone is one = subst (λ p. IsOneStep p load x z) is.1 (subst (λ b. IsOneStep at b x z) is.2 (record { steps = omega (arith, is.0, one.steps); word = one.word; last = one.last }))
+    alone : (x.steps ≡ y.steps) × (at ≡ site) × (kind ≡ load) → IsStepAt at kind y z → IsStepAt site load x z
+    alone is one = subst (λ p. IsStepAt p load x z) is.1 (subst (λ b. IsStepAt at b x z) is.2 (record { steps = omega (arith, is.0, one.steps); word = one.word; last = one.last }))
+
+-- .. at places
+pub takes_on : {P : Type 0} (whole : Bool) (place at : Place) (load kind : Bool) (before between after : ℕ) (x y z : Sight P) → (whole ≡ false → (x.steps ≡ y.steps) × (at ≡ place) × (kind ≡ load)) → x.steps ≤ y.steps → y.steps + between ≤ x.steps + before
+    → Takes false at kind between after y z → Takes whole place load before after x z
+takes_on whole place at load kind before between after x y z same onward fewer takes =
+    takes_on_at whole (Site.Place place) (Site.Place at) load kind before between after x y z (λ single. let is = same single in (is.0, ap (λ p. Site.Place p) is.1, is.2)) onward fewer takes

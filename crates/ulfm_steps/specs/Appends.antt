@@ -54,6 +54,7 @@ pub record Appends {P : Type 0} (meld : P → P → P) (alone : Bool) (name : Na
     (new : Sight P) : Type 0 where
   pub of : IsOf meld name new
   pub outcome : AppendIs alone name.limits item by old.seen new.seen result
+  pub cached : IsPrefix old.cached new.cached
   pub onward : old.steps ≤ new.steps
   pub steps : new.steps ≤ old.steps + most
 

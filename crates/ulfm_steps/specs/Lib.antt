@@ -2,6 +2,7 @@ pub mod Turns
 pub mod Looks
 pub mod Settles
 pub mod Rounds
+pub mod Blocks
 pub mod Arriving
 pub mod ReadsOn
 pub mod Marks

@@ -34,6 +34,7 @@ MarksOnce alone number c k r old new =
 pub record MarkSteps {P : Type 0} (meld : P → P → P) (alone : Bool) (name : Name) (number c k : ℕ) (ranks : List ℕ) (old new : Sight P) : Type 0 where
   pub of : IsOf meld name new
   pub marks : Marks alone number c k ranks old.seen new.seen
+  pub cached : IsPrefix old.cached new.cached
   pub onward : old.steps ≤ new.steps
   pub steps : new.steps ≤ old.steps + length ranks
 

@@ -1,10 +1,8 @@
 -- What reading a round asks for, and tells.
-use Rattle.std.specs.Prelude.{◌≡◌, ℕ, ◌-◌, ◌<◌, Bool, true, List, Option, Some, None, is_some, IsTrue, length, slice_index, if◌then◌else◌}
-use Rattle.std.specs.List.{list_all}
-use Rattle.ulfm_laws.specs.declared.summary.Summary.{Summary}
+use Rattle.std.specs.Prelude.{◌≡◌, ℕ, ◌-◌, ◌<◌, Bool, true, List, Option, Some, None, IsTrue, length, slice_index, if◌then◌else◌}
 use Rattle.ulfm_model.specs.declared.{limits.Limits.{Limits}, place.Place.TheVariants.{Slot as SlotAt}}
-use Rattle.ulfm_model.specs.{History.{Exists, History, has, members, round_among, slot}, Laws.{all_of}}
-use Rattle.ulfm_words.specs.{Steps.{Sight}, declared.step.Last.{Last}}
+use Rattle.ulfm_model.specs.{History.{Exists, History, has, members, slot}}
+use Rattle.ulfm_words.specs.{Steps.{Sight}, declared.{step.Last.{Last}, step.Site.{Site}}}
 use Rattle.ulfm_steps.specs.{Turns.{Takes}, declared.read_round.ReadRound.{ReadRound}}
 
 -- the communicator exists, these are its members, and it has the round
@@ -13,17 +11,12 @@ pub record IsRoundOf {P : Type 0} (limits : Limits) (h : History P) (c k : ℕ) 
   pub group_is : group ≡ members limits.ranks h c
   pub in_rounds : k < limits.rounds
 
--- each of these members is settled, and this is all that they say together
-pub record IsSummed {P : Type 0} (meld : P → P → P) (h : History P) (c k : ℕ) (group : List ℕ) (all : Summary P) : Type 0 where
-  pub each : list_all (λ r. is_some (slot h c k r)) group ≡ true
-  pub is : all ≡ all_of meld (round_among group h c k)
-
 -- one of these members isn't settled, as the last step found
 pub record IsMissing {P : Type 0} (last : Option Last) (h : History P) (c k : ℕ) (group : List ℕ) : Type 0 where
   pub rank : ℕ
   pub member : IsTrue (has group rank)
   pub empty : slot h c k rank ≡ None
-  pub found : last ≡ Some (record { place = SlotAt c k rank; word = 0; load = true })
+  pub found : last ≡ Some (record { at = Site.Place (SlotAt c k rank); word = 0; load = true })
 
 -- how many loads a reading may still make, of a round of these members
 abbrev pub reads_left : {P : Type 0} → List ℕ → ReadRound P → ℕ

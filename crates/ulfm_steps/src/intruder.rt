@@ -1,5 +1,6 @@
 // Plain words into which another's event comes, for tests.
 ghost use Rattle.std.specs.Prelude.{◌≡◌, ◌<◌, ◌+◌, [], Some, IsTrue, length, false};
+ghost use mathlib.Core.List.{IsPrefix};
 ghost use Rattle.ulfm_model.specs.Runs.{Did};
 ghost use Rattle.ulfm_words.specs.Pass.{plain_name, last_of};
 ghost use Rattle.ulfm_words.specs.Steps.{IsOf};
@@ -13,13 +14,14 @@ use http_server::Log;
 use std::alloc::{AllocError, Allocator, Global};
 use ulfm_laws::meld::Packed;
 use ulfm_laws::summary::Body;
+use ulfm_model::block::Block;
 use ulfm_model::contribution::Slot;
 use ulfm_model::event::{Caller, Entry, Event};
 use ulfm_model::limits::Limits;
 use ulfm_model::place::Place;
 use ulfm_words::{
-    Last, OpenWords, PlainPass, PlainTold, PlainWords, Step, Words, set_arrival, set_revocation,
-    set_slot,
+    Last, OpenWords, PlainPass, PlainTold, PlainWords, Site, Step, Words, set_arrival,
+    set_revocation, set_slot,
 };
 
 /// Plain words that aren't alone: just before a chosen step of a pass another's event comes, if it hasn't come before.
@@ -57,12 +59,12 @@ impl<P: Packed, A: Allocator> IntruderPass<P, A> {
     }
 
     // A step of the pass's own.
-    fn note(&mut self, place: Place, word: u64, load: bool)
+    fn note(&mut self, at: Site, word: u64, load: bool)
         ensures plain { self.new.plain ≡ self.old.plain }
         ensures count { length self.new.trail.items ≡ length self.old.trail.items + 1 }
-        ensures last { last_of self.new.trail.items ≡ Some (record { place = place; word = word; load = load }) }
+        ensures last { last_of self.new.trail.items ≡ Some (record { at = at; word = word; load = load }) }
     {
-        self.trail = self.trail.and(&Last { place, word, load }, &load);
+        self.trail = self.trail.and(&Last { at, word, load }, &load);
     }
 }
 
@@ -72,6 +74,7 @@ impl<P: Packed> Intruder<P> {
         requires of { IsOf P.meld (plain_name self.now.plain.limits) pass.old.plain }
         ensures of { IsOf P.meld (plain_name self.now.plain.limits) pass.new.plain }
         ensures did { Did false [] pass.old.plain.seen pass.new.plain.seen }
+        ensures cached { IsPrefix pass.old.plain.cached pass.new.plain.cached }
         ensures trail { pass.new.trail ≡ pass.old.trail }
     {
         match pass.left {
@@ -121,6 +124,7 @@ impl<P: Packed> Intruder<P> {
         requires round { round < self.now.plain.limits.rounds }
         ensures of { IsOf P.meld (plain_name self.now.plain.limits) pass.new.plain }
         ensures did { Did false [] pass.old.plain.seen pass.new.plain.seen }
+        ensures cached { IsPrefix pass.old.plain.cached pass.new.plain.cached }
         ensures trail { pass.new.trail ≡ pass.old.trail }
     {
         let Ok(group) = first_ranks(pass.alloc, self.plain.limits.ranks) else {
@@ -148,7 +152,7 @@ impl<P: Packed, A: Allocator + Copy + Drop> Words<P, A> for Intruder<P> {
 
     ghost alone = { false };
 
-    ghost sight = { λ p. record { name = p.plain.name; seen = p.plain.seen; steps = length p.trail.items; last = last_of p.trail.items } };
+    ghost sight = { λ p. record { name = p.plain.name; seen = p.plain.seen; cached = p.plain.cached; steps = length p.trail.items; last = last_of p.trail.items } };
 
     fn limits(&self) -> Limits {
         self.plain.limits
@@ -157,7 +161,7 @@ impl<P: Packed, A: Allocator + Copy + Drop> Words<P, A> for Intruder<P> {
     fn load(&self, pass: &mut IntruderPass<P, A>, place: Place) -> u64 {
         self.intrude(pass);
         let word = pass.plain.load(place);
-        pass.note(place, word, true);
+        pass.note(Site::Place(place), word, true);
         word
     }
 
@@ -165,12 +169,33 @@ impl<P: Packed, A: Allocator + Copy + Drop> Words<P, A> for Intruder<P> {
         self.intrude(pass);
         match pass.plain.set_once(step) {
             Ok(()) => {
-                pass.note(step.place, 0, false);
+                pass.note(Site::Place(step.place), 0, false);
                 Ok(())
             }
             Err(word) => {
-                pass.note(step.place, word, false);
+                pass.note(Site::Place(step.place), word, false);
                 Err(word)
+            }
+        }
+    }
+
+    fn load_block(&self, pass: &mut IntruderPass<P, A>, block: Block) -> u64 {
+        self.intrude(pass);
+        let word = pass.plain.load_block(block);
+        pass.note(Site::Block(block), word, true);
+        word
+    }
+
+    fn cache(&self, pass: &mut IntruderPass<P, A>, block: Block, word: u64) -> Result<(), u64> {
+        self.intrude(pass);
+        match pass.plain.cache(block, word) {
+            Ok(()) => {
+                pass.note(Site::Block(block), 0, false);
+                Ok(())
+            }
+            Err(stood) => {
+                pass.note(Site::Block(block), stood, false);
+                Err(stood)
             }
         }
     }
@@ -185,7 +210,7 @@ impl<P: Packed, A: Allocator + Copy + Drop> OpenWords<P, A> for Intruder<P> {
 
     ghost tells_all = { false };
 
-    ghost heard = { λ t. record { name = plain_name t.limits; seen = [] } };
+    ghost heard = { λ t. record { name = plain_name t.limits; seen = []; cached = [] } };
 
     fn pass(&self, alloc: A) -> Result<IntruderPass<P, A>, AllocError> {
         let plain = PlainPass::new(alloc, self.plain.limits)?;

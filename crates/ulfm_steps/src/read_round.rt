@@ -3,7 +3,8 @@
 ghost use Rattle.std.specs.Prelude.{◌≡◌, ◌+◌, ◌≤◌, ◌<◌, ◌-◌, false, true, length, take, MatchBool, MatchOption};
 ghost use Rattle.ulfm_laws.specs.Summaries.{summary_unit};
 ghost use Rattle.ulfm_words.specs.Steps.{IsOf, Goes};
-ghost use Rattle.ulfm_steps.specs.Rounds.{IsRoundOf, IsSummed, IsMissing, ReadTakes};
+ghost use Rattle.ulfm_model.specs.Blocks.{IsSummed};
+ghost use Rattle.ulfm_steps.specs.Rounds.{IsRoundOf, IsMissing, ReadTakes};
 
 use std::alloc::Allocator;
 use ulfm_laws::meld::{Meld, Packed};

@@ -1,9 +1,10 @@
-// Words of the tests' own: plain words whose pass counts the loads and exchanges that are made.
+// Words of the tests' own: plain words whose pass counts the loads and exchanges that are made, those of blocks apart.
 ghost use Rattle.std.specs.Prelude.{[], true, false};
 ghost use Rattle.ulfm_words.specs.Pass.{plain_name};
 
 use std::alloc::{AllocError, Allocator, Global};
 use ulfm_laws::meld::Packed;
+use ulfm_model::block::Block;
 use ulfm_model::limits::Limits;
 use ulfm_model::place::Place;
 use ulfm_words::{OpenWords, PlainPass, PlainTold, PlainWords, Step, Words};
@@ -18,6 +19,8 @@ pub(crate) struct CountedPass<P: Packed, A: Allocator = Global> {
     pub plain: PlainPass<P, A>,
     pub loads: u32,
     pub exchanges: u32,
+    pub block_loads: u32,
+    pub caches: u32,
 }
 
 impl<P: Packed, A: Allocator + Copy + Drop> Words<P, A> for Counted<P> {
@@ -43,6 +46,16 @@ impl<P: Packed, A: Allocator + Copy + Drop> Words<P, A> for Counted<P> {
         pass.plain.set_once(step)
     }
 
+    fn load_block(&self, pass: &mut CountedPass<P, A>, block: Block) -> u64 {
+        pass.block_loads = pass.block_loads.saturating_add(1);
+        pass.plain.load_block(block)
+    }
+
+    fn cache(&self, pass: &mut CountedPass<P, A>, block: Block, word: u64) -> Result<(), u64> {
+        pass.caches = pass.caches.saturating_add(1);
+        pass.plain.cache(block, word)
+    }
+
     fn known_legal(&self, pass: &CountedPass<P, A>) {
         pass.plain.known_legal();
     }
@@ -53,7 +66,7 @@ impl<P: Packed, A: Allocator + Copy + Drop> OpenWords<P, A> for Counted<P> {
 
     ghost tells_all = { false };
 
-    ghost heard = { λ t. record { name = plain_name t.limits; seen = [] } };
+    ghost heard = { λ t. record { name = plain_name t.limits; seen = []; cached = [] } };
 
     fn pass(&self, alloc: A) -> Result<CountedPass<P, A>, AllocError> {
         let plain = PlainPass::new(alloc, self.plain.limits)?;
@@ -61,6 +74,8 @@ impl<P: Packed, A: Allocator + Copy + Drop> OpenWords<P, A> for Counted<P> {
             plain,
             loads: 0,
             exchanges: 0,
+            block_loads: 0,
+            caches: 0,
         })
     }
 

@@ -18,7 +18,7 @@ use ulfm_steps::{Appended, Intruder, Look, MarkAll, ReadRound, Settle};
 use ulfm_words::{OpenWords, PlainWords, Words};
 
 // A rank, which knows of no failure, contributes a flag to the world's first round.
-fn give<P: Packed, A: Allocator, W: Words<P, A>>(
+pub(crate) fn give<P: Packed, A: Allocator, W: Words<P, A>>(
     words: &W,
     pass: &mut W::Pass,
     rank: u16,

@@ -4,10 +4,11 @@ use std::test::Fail;
 use ulfm_laws::counts::{Acked, Known};
 use ulfm_laws::ctx_mask::CtxMask;
 use ulfm_laws::flag_and::FlagAnd;
+use ulfm_laws::summary::{Body, Summary};
 use ulfm_model::contribution::{Contribution, MarkCount, Offer, Slot};
 use ulfm_model::limits::Limits;
 use ulfm_model::place::Place;
-use ulfm_words::{OpenWords, PlainWords, read_slot, slot_word};
+use ulfm_words::{OpenWords, PlainWords, block_word, read_block, read_slot, slot_word};
 
 fn given(offer: Offer<FlagAnd>, known: u16, acked: u16) -> Slot<FlagAnd>
     requires known { known ≤ 1024 }
@@ -34,6 +35,34 @@ fn words_of_slots(rt: HostRuntime) {
     assert!(rt; read_slot::<FlagAnd>(0x0000_0000_01ff_c009) == Some(mark));
     assert!(rt; read_slot::<FlagAnd>(0x01ff_ffff_ff00_2003) == Some(full));
     assert!(rt; read_slot::<FlagAnd>(0x0000_0000_03ff_c009).is_none());
+}
+
+// What members say together of whom one has acknowledged no failure.
+fn said(body: Body<FlagAnd>, known: u16) -> Summary<FlagAnd> {
+    Summary {
+        body,
+        known: Known { count: known },
+        acked: Acked { count: 0 },
+    }
+}
+
+#[test]
+fn words_of_blocks(rt: HostRuntime) {
+    let (front, back) = (FlagAnd { bits: 0xc }, FlagAnd { bits: 0x3c });
+    for (all, word) in [
+        (said(Body::Flag(front), 0), 0x1800_0003),
+        (said(Body::Flag(back), 0), 0x7800_0003),
+        (said(Body::Flag(front), 1), 0x1800_000b),
+        (said(Body::Flag(back), 1), 0x7800_000b),
+        (said(Body::Clash, 0), 0x7),
+    ] {
+        assert_eq!(rt; block_word(&all), word);
+        assert!(rt; read_block(word) == Some(all));
+    }
+    // An even one, marks that know of nobody, a clash with a payload, and more acknowledged than is known of.
+    for word in [0x1800_0002, 0x01ff_c001, 0x0200_0007, 0x0200_4003] {
+        assert!(rt; read_block::<FlagAnd>(word).is_none());
+    }
 }
 
 #[test]

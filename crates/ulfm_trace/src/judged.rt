@@ -27,6 +27,11 @@ impl<A: Allocator + Copy + Drop> LineJudge<A> for Judge<FlagAnd, A> {
 /// Checks the trace that the reader gives, by the judge of `ulfm_judge`: what it takes and answers is told at [`check_by`].
 ///
 /// The trace `ulfm-trace 1 1 1 2` with the line `event - fail 0` is legal; with that line twice, line 3 is illegal, for its event.
+///
+/// ```
+/// let mut trace = b"ulfm-trace 1 1 1 2\nevent - fail 0\n".as_slice();
+/// assert!(rt; check(alloc, &mut trace) == Ok(Verdict::Legal));
+/// ```
 pub fn check<A: Allocator + Copy + Drop, R: Read>(
     alloc: A,
     reader: &mut R,

@@ -4,36 +4,10 @@ use crate::tested::Tested;
 use crate::traces::{CONTRIBUTION_IN_FLIGHT, text_of};
 use linked_list_allocator::LocalHeap;
 use std::alloc::Global;
-use std::io::{self, ErrorKind, Read};
 use std::test::Fail;
+use ulfm_devices::Pieces;
 use ulfm_trace::{CheckFault, Verdict, check_by};
 use ulfm_trace_model::Why;
-
-/// Gives a text in pieces, and fails at one call.
-#[derive(Drop)]
-struct Pieces<'a> {
-    text: &'a [u8],
-    most: usize,
-    calls: u32,
-    failing: u32,
-}
-
-impl Read for Pieces<'_> {
-    fn read(&mut self, buf: &mut [u8]) -> io::Result<usize> {
-        self.calls = self.calls.wrapping_add(1);
-        if self.calls == self.failing {
-            return Err(io::Error::from(ErrorKind::Interrupted));
-        }
-        let most = self.most.min(buf.len());
-        let mut rest = self.text;
-        let count = rest.read(&mut buf[..most])?;
-        self.text = rest;
-        if count > most {
-            return Ok(0);
-        }
-        Ok(count)
-    }
-}
 
 /// What a text gives that comes in pieces of so many bytes, where a call fails, and how many calls there were.
 fn pieced(
@@ -42,12 +16,7 @@ fn pieced(
     most: usize,
     failing: u32,
 ) -> (Result<Verdict, CheckFault>, u32) {
-    let mut reader = Pieces {
-        text,
-        most,
-        calls: 0,
-        failing,
-    };
+    let mut reader = Pieces::new(text, most, failing);
     let verdict = check_by::<Tested<Global>, Global, Pieces<'_>>(rt.alloc(), &mut reader);
     (verdict, reader.calls)
 }

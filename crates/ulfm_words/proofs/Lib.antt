@@ -1,12 +1,14 @@
 pub mod SlotWords
-pub mod SummaryWords
+pub mod BlockWords
 pub mod Keys
 pub mod Trails
 pub mod Growing
 pub mod Lines
 pub mod Tied
 pub mod Telling
+pub mod Caching
 pub mod Ranks
+pub mod Standing
 pub mod Reading
 pub mod Setting
 pub mod Numbered

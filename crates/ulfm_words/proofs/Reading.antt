@@ -59,3 +59,11 @@ module _ {P : Type 0} (meld : P → P → P) (pack : P → ℕ) (limits : Limits
         go : (o : Option (Slot P)) → slot h c k r ≡ o → IsSome (slot_in unpack w)
         go None is = absurd (omega (arith, some, e ∙ ap (word_or_zero (slot_word pack)) is))
         go (Some s) is = ap is_some (slot_read c k r w e ∙ is)
+
+-- a word that isn't 0 is that of the slot that stands there
+pub slot_some_word : {P : Type 0} (pack : P → ℕ) (h : History P) (c k r w : ℕ) → w ≡ word_at pack h (SlotAt c k r) → w ≢ 0 → (s : Slot P) × (slot h c k r ≡ Some s) × (w ≡ slot_word pack s)
+slot_some_word {P} pack h c k r w e some = go (slot h c k r) refl
+  where
+    go : (o : Option (Slot P)) → slot h c k r ≡ o → (s : Slot P) × (slot h c k r ≡ Some s) × (w ≡ slot_word pack s)
+    go None is = absurd (some (e ∙ ap (word_or_zero (slot_word pack)) is))
+    go (Some s) is = (s, is, e ∙ ap (word_or_zero (slot_word pack)) is)

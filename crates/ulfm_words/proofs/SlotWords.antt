@@ -10,25 +10,25 @@ use Rattle.ulfm_words.specs.Slots.{tag_in, known_in, acked_in, payload_in, IsMar
 
 -- the parts of a word are those that it was made of
 
-tag_back : (t k a p : ℕ) → t < 4 → tag_in (packed t k a p) ≡ t
+pub tag_back : (t k a p : ℕ) → t < 4 → tag_in (packed t k a p) ≡ t
 tag_back t k a p lt = omega arith
 
-known_back : (t k a p : ℕ) → t < 4 → k < 2048 → known_in (packed t k a p) ≡ k
+pub known_back : (t k a p : ℕ) → t < 4 → k < 2048 → known_in (packed t k a p) ≡ k
 known_back t k a p t_lt k_lt = omega arith
 
-acked_back : (t k a p : ℕ) → t < 4 → k < 2048 → a < 2048 → acked_in (packed t k a p) ≡ a
+pub acked_back : (t k a p : ℕ) → t < 4 → k < 2048 → a < 2048 → acked_in (packed t k a p) ≡ a
 acked_back t k a p t_lt k_lt a_lt = omega arith
 
-payload_back : (t k a p : ℕ) → t < 4 → k < 2048 → a < 2048 → payload_in (packed t k a p) ≡ p
+pub payload_back : (t k a p : ℕ) → t < 4 → k < 2048 → a < 2048 → payload_in (packed t k a p) ≡ p
 payload_back t k a p t_lt k_lt a_lt = omega arith
 
-odd : (t k a p : ℕ) → packed t k a p % 2 ≡ 1
+pub odd : (t k a p : ℕ) → packed t k a p % 2 ≡ 1
 odd t k a p = omega arith
 
-below : (t k a p : ℕ) → t < 4 → k < 2048 → a < 2048 → p < 2 ^ 32 → packed t k a p < 2 ^ 57
+pub below : (t k a p : ℕ) → t < 4 → k < 2048 → a < 2048 → p < 2 ^ 32 → packed t k a p < 2 ^ 57
 below t k a p t_lt k_lt a_lt p_lt = omega arith
 
-parts_are : (w t k a p : ℕ) → w % 2 ≡ 1 → tag_in w ≡ t → known_in w ≡ k → acked_in w ≡ a → payload_in w ≡ p → packed t k a p ≡ w
+pub parts_are : (w t k a p : ℕ) → w % 2 ≡ 1 → tag_in w ≡ t → known_in w ≡ k → acked_in w ≡ a → payload_in w ≡ p → packed t k a p ≡ w
 parts_are w t k a p first tag known acked payload = omega arith
 
 -- values with the same counts are the same

@@ -1,11 +1,12 @@
 -- What each step tells of a plain pass.
-use Rattle.std.proofs.Common.{◌≡◌, ◌≢◌, ℕ, Bool, true, false, List, [], ◌∷◌, ◌++◌, length, Option, Some, Ok, Err, refl, ap, sym, ◌∙◌, subst, arith, length-append}
+use Rattle.std.proofs.Common.{◌≡◌, ◌≢◌, ℕ, Bool, true, false, List, [], ◌∷◌, ◌++◌, length, Option, Some, Ok, Err, refl, ap, sym, ◌∙◌, subst, arith, append-nil, length-append}
 use Rattle.std.specs.List.{slice_index}
 use Rattle.ulfm_model.specs.declared.{event.Entry.{Entry}, limits.Limits.{Limits}, place.Place.{Place}}
 use Rattle.ulfm_model.specs.{Words.{word_at}}
-use Rattle.ulfm_words.specs.declared.{plain.Setting.{Setting}, step.Last.{Last}, step.Step.{Step}}
-use Rattle.ulfm_words.specs.{Entries.{entry_of}, Pass.{entries, last_of, sight_of, IsTied}, Places.{IsWithin, key_in}, Steps.{Sight, Loads, Sets}}
-use Rattle.ulfm_words.proofs.Trails.{did_none}
+use Rattle.ulfm_words.specs.declared.{plain.Setting.{Setting}, step.Last.{Last}, step.Site.{Site}, step.Step.{Step}}
+use Rattle.ulfm_words.specs.{Entries.{entry_of}, Pass.{cached_by, entries, last_of, sight_of, IsTied}, Places.{IsWithin, key_in}, Steps.{Sight, Loads, Sets}}
+use mathlib.Core.List.{IsPrefix}
+use Rattle.ulfm_words.proofs.{Standing.{cached_place}, Trails.{did_none}}
 
 pub last_of-push : (xs : List (Last × Bool)) (x : Last × Bool) → last_of (xs ++ x ∷ []) ≡ Some x.0
 last_of-push [] x = refl
@@ -14,7 +15,10 @@ last_of-push (y ∷ z ∷ xs) x = last_of-push (z ∷ xs) x
 
 module _ {P : Type 0} (meld : P → P → P) (pack : P → ℕ) (unpack : ℕ → Option P) (limits : Limits) where
   abbrev made : Place → ℕ → Bool → Last × Bool
-  made p w load = (record { place = p; word = w; load = load }, load)
+  made p w load = (record { at = Site.Place p; word = w; load = load }, load)
+
+  cached_same : (ts ts' : List (Last × Bool)) (p : Place) (w : ℕ) (load : Bool) → ts' ≡ ts ++ made p w load ∷ [] → IsPrefix (cached_by ts) (cached_by ts')
+  cached_same ts ts' p w load is = ([], append-nil (cached_by ts) ∙ (sym (cached_place ts p w load) ∙ ap cached_by (sym is)))
 
   -- the limits that the pass shows are its own
   pub within_is : (old : Sight P) (ws : List ℕ) (ms : List Setting) (ts : List (Last × Bool)) (p : Place) → sight_of unpack limits ws ms ts ≡ old → IsWithin old.name.limits p → IsWithin limits p
@@ -29,6 +33,7 @@ module _ {P : Type 0} (meld : P → P → P) (pack : P → ℕ) (unpack : ℕ �
         subst (λ (o : Sight P). Loads meld pack true o.name p o (sight_of unpack limits ws ms ts')) e (record {
           of = record { name_is = refl; may_open = tied.may_open; legal = tied.legal };
           did = did_none true h;
+          cached = cached_same ts ts' p w true is;
           steps = ap length is ∙ length-append ts (made p w true ∷ []);
           last = ap last_of is ∙ (last_of-push ts (made p w true) ∙ ap (λ n. Some (made p n true).0) word);
         }),
@@ -42,6 +47,7 @@ module _ {P : Type 0} (meld : P → P → P) (pack : P → ℕ) (unpack : ℕ �
       subst (λ (o : Sight P). Sets meld pack unpack true o.name s o (Err w) (sight_of unpack limits ws ms ts')) e (record {
         of = record { name_is = refl; may_open = tied.may_open; legal = tied.legal };
         outcome = record { some = omega (arith, some); stands = sym (at ∙ tied.same s.place (within_is old ws ms ts s.place e within)); did = did_none true h };
+        cached = cached_same ts ts' s.place w false is;
         steps = ap length is ∙ length-append ts (made s.place w false ∷ []);
         last = ap last_of is ∙ last_of-push ts (made s.place w false);
       })
@@ -60,6 +66,7 @@ module _ {P : Type 0} (meld : P → P → P) (pack : P → ℕ) (unpack : ℕ �
           added = record { before = h; did = did_none true h; is = added };
           stands = sym (tied.same s.place (within_is old ws ms ts s.place e within)) ∙ set;
         };
+        cached = cached_same ts ts' s.place 0 false stamped;
         steps = ap length stamped ∙ length-append ts (made s.place 0 false ∷ []);
         last = ap last_of stamped ∙ last_of-push ts (made s.place 0 false);
       })

@@ -1,13 +1,14 @@
 -- What setting a word does to a journal's history.
-use Rattle.std.proofs.Common.{◌≡◌, ◌≢◌, ◌⊎◌, inl, inr, ℕ, zero, suc, ◌+◌, ◌≤◌, ◌<◌, ◌==◌, cond, Option, Some, List, [], ◌∷◌, ◌++◌, length, get_or, refl, sym, ◌∙◌, ap, ap₂, arith, get_or-set_other, get_or-set_same, length-append}
+use Rattle.std.proofs.Common.{◌≡◌, ◌≢◌, ◌⊎◌, inl, inr, ℕ, zero, suc, ◌+◌, ◌≤◌, ◌<◌, ◌==◌, cond, Option, Some, List, [], ◌∷◌, ◌++◌, length, get_or, replicate, refl, sym, ◌∙◌, ap, ap₂, arith, get_or-set_other, get_or-set_same, length-append}
 use Rattle.std.specs.Prelude.{slice_index, slice_set, count_by}
 use Rattle.std.specs.List.{slice_get, cons_option, AllByRecursion}
 use Rattle.std.proofs.Math.ListN.{length-set}
 use Rattle.std.proofs.lemmas.Grind.{common_steps}
-use Rattle.std.proofs.lemmas.List.Sums.{sum_by-set}
+use Rattle.std.proofs.lemmas.List.{length-replicate}
+use Rattle.std.proofs.lemmas.List.Sums.{count_by-le-length, sum_by-set}
 use Rattle.std.proofs.lemmas.Option.{slice_get_read}
 use Rattle.ulfm_model.specs.declared.{event.Entry.{Entry}, limits.Limits.{Limits}, place.Place.{Place}, place.Place.TheVariants.{List as ListAt, Comm as CommAt, Revoked as RevokedAt, Slot as SlotAt, Arrival as ArrivalAt}}
-use Rattle.ulfm_model.specs.{History.{History, MayFollow}, Words.{place_of, word_at, word_of}}
+use Rattle.ulfm_model.specs.{History.{History, MayFollow}, Words.{MayOpen, place_of, size_of, word_at, word_of}}
 use Rattle.ulfm_model.proofs.{Histories.{legal_push}, WordRules.{word_set, word_kept, word_some}}
 use Rattle.ulfm_words.specs.declared.{plain.Setting.{Setting}, step.Step.{Step}}
 use Rattle.ulfm_words.specs.{Entries.{entry_of}, Pass.{entry_at, entries, IsMade, is_zero, IsTied}, Places.{IsWithin, key_in}}
@@ -114,3 +115,29 @@ module _ {P : Type 0} (meld : P → P → P) (pack : P → ℕ) (unpack : ℕ �
         free = omega (arith, fewer, length-append ms (m ∷ []), tied.free);
         room = omega (arith, tied.room, more);
       })
+
+-- words that are all 0, and nothing that was set
+zeros : (n i : ℕ) → slice_index (replicate n 0) i ≡ 0
+zeros zero i = refl
+zeros (suc n) zero = refl
+zeros (suc n) (suc i) = zeros n i
+
+none_set : (n : ℕ) (xs : List ℕ) → xs ≡ replicate n 0 → (length xs ≡ n) × (count_by is_zero xs ≤ n)
+none_set n xs same =
+    let long : length xs ≡ n = ap length same ∙ length-replicate n 0 in
+    let fewer = count_by-le-length is_zero xs in
+    (long, omega (arith, long, fewer))
+
+pub tied_new : {P : Type 0} (meld : P → P → P) (pack : P → ℕ) (unpack : ℕ → Option P) (limits : Limits) (words : List ℕ) (journal : List Setting) (cap : ℕ) → MayOpen limits → words ≡ replicate (size_of limits) 0 → journal ≡ [] → size_of limits ≤ cap
+    → IsTied meld pack unpack limits words journal cap
+tied_new meld pack unpack limits words journal cap may same none room =
+    let all = none_set (size_of limits) words same in
+    rw none (record {
+      may_open = may;
+      size = omega (arith, all.0);
+      made = tt;
+      same = λ p within. ap (λ ws. slice_index ws (key_in limits p)) same ∙ (zeros (size_of limits) (key_in limits p) ∙ sym (zero_at pack p));
+      legal = tt;
+      free = omega (arith, all.1);
+      room = room;
+    })

@@ -1,9 +1,9 @@
 -- How the words and the journal of a plain pass are tied.
-use Rattle.std.specs.Prelude.{◌≡◌, ◌≢◌, ℕ, ◌+◌, ◌≤◌, ◌==◌, Bool, List, [], ◌∷◌, length, count_by, slice_get, slice_index, take, filter_map, Option, Some, None}
+use Rattle.std.specs.Prelude.{◌≡◌, ◌≢◌, ℕ, ◌+◌, ◌*◌, ◌≤◌, ◌==◌, ◌&&◌, if◌then◌else◌, Bool, true, List, [], ◌∷◌, length, count_by, slice_get, slice_index, take, filter_map, Option, Some, None}
 use Rattle.std.specs.List.{AllByRecursion}
-use Rattle.ulfm_model.specs.declared.{event.Entry.{Entry}, limits.Limits.{Limits}, place.Place.{Place}}
-use Rattle.ulfm_model.specs.{History.{History, IsLegal}, Words.{MayOpen, place_of, size_of, word_at, word_of}}
-use Rattle.ulfm_words.specs.declared.{plain.Setting.{Setting}, step.Last.{Last}, step.Step.{Step}}
+use Rattle.ulfm_model.specs.declared.{block.Block.{Block}, block.Side.{Side}, block.Side.TheVariants.{Front, Back}, event.Entry.{Entry}, limits.Limits.{Limits}, place.Place.{Place}}
+use Rattle.ulfm_model.specs.{Blocks.{IsBlockWithin, IsCached, has_block}, History.{History, IsLegal}, Words.{MayOpen, place_of, size_of, word_at, word_of}}
+use Rattle.ulfm_words.specs.declared.{plain.Setting.{Setting}, step.Last.{Last}, step.Site.{Site}, step.Step.{Step}}
 use Rattle.ulfm_words.specs.{Entries.{entry_of}, Places.{IsWithin, key_in}, Steps.{Name, Sight}}
 
 -- plain words are told apart by their limits alone
@@ -15,6 +15,30 @@ abbrev pub last_of : List (Last × Bool) → Option Last
 last_of [] = None
 last_of (step ∷ []) = Some step.0
 last_of (step ∷ next ∷ steps) = last_of (next ∷ steps)
+
+-- the block that a step found set, or set, if it is one's
+abbrev pub cached_at : Site → ℕ → Bool → Option Block
+cached_at (Site.Place place) word load = None
+cached_at (Site.Block block) word load = if load && word == 0 then None else Some block
+
+-- the blocks that a trail knows to be set
+abbrev pub cached_by : List (Last × Bool) → List Block
+cached_by trail = filter_map (λ step. cached_at step.0.at step.0.word step.0.load) trail
+
+-- where a block's word stands, in a row of two for each round of each communicator
+abbrev pub side_key : Side → ℕ
+side_key Front = 0
+side_key Back = 1
+
+abbrev pub block_key : Limits → Block → ℕ
+block_key limits b = 2 * (b.round * limits.comms + b.comm) + side_key b.side
+
+-- each block's word is 0 or that of its settled members, and it isn't 0 where the trail knows it to be set
+pub record AreStood {P : Type 0} (meld : P → P → P) (pack : P → ℕ) (limits : Limits) (seen : History P) (words : List ℕ) (trail : List (Last × Bool))
+    : Type 0 where
+  pub size : length words ≡ 2 * limits.rounds * limits.comms
+  pub word : (b : Block) → IsBlockWithin limits b → IsCached meld pack limits.ranks seen b (slice_index words (block_key limits b))
+  pub told : (b : Block) → IsBlockWithin limits b → has_block (cached_by trail) b ≡ true → slice_index words (block_key limits b) ≢ 0
 
 -- a word that was not set
 abbrev pub is_zero : ℕ → Bool
@@ -38,7 +62,7 @@ module _ {P : Type 0} (unpack : ℕ → Option P) (limits : Limits) where
 
   -- what contracts see of a plain pass
   abbrev pub sight_of : List ℕ → List Setting → List (Last × Bool) → Sight P
-  sight_of words journal trail = record { name = plain_name limits; seen = entries words journal; steps = length trail; last = last_of trail }
+  sight_of words journal trail = record { name = plain_name limits; seen = entries words journal; cached = cached_by trail; steps = length trail; last = last_of trail }
 
 -- the words are those of the journal's history, which is legal; no more are set and not set than the world has, and the journal has room
 -- for as many

@@ -1,9 +1,9 @@
 -- What a pass has seen, and what each step does to it.
-use Rattle.std.specs.Prelude.{◌≡◌, ℕ, ◌+◌, ◌≤◌, ◌<◌, Bool, true, false, IsTrue, [], ◌∷◌, ◌++◌, Option, Some, None, Result, Ok, Err, MatchResult}
+use Rattle.std.specs.Prelude.{◌≡◌, ℕ, ◌+◌, ◌≤◌, ◌<◌, Bool, true, false, IsTrue, List, [], ◌∷◌, ◌++◌, Option, Some, None, Result, Ok, Err, MatchResult}
 use mathlib.Core.List.{IsPrefix}
-use Rattle.ulfm_model.specs.declared.{event.Entry.{Entry}, limits.Limits.{Limits}, place.Place.{Place}}
+use Rattle.ulfm_model.specs.declared.{block.Block.{Block}, event.Entry.{Entry}, limits.Limits.{Limits}, place.Place.{Place}}
 use Rattle.ulfm_model.specs.{History.{History, IsLegal, MayFollow}, Runs.{Did}, Words.{MayOpen, place_of, word_at, word_of}}
-use Rattle.ulfm_words.specs.declared.{step.Last.{Last}, step.Step.{Step}}
+use Rattle.ulfm_words.specs.declared.{step.Last.{Last}, step.Site.{Site}, step.Step.{Step}}
 use Rattle.ulfm_words.specs.Entries.{entry_of}
 
 -- which words these are: numbers that tell shared words apart, and the limits that they were opened with
@@ -13,17 +13,20 @@ pub record Name : Type 0 where
   pub cells : ℕ
   pub limits : Limits
 
--- a pass: whose words it was made by, what it has seen, how many atomic steps it has made, and the last of them
+-- a pass: whose words it was made by, what it has seen, which blocks it knows to be set, how many atomic steps it has made, and the
+-- last of them
 pub record Sight (P : Type 0) : Type 0 where
   pub name : Name
   pub seen : History P
+  pub cached : List Block
   pub steps : ℕ
   pub last : Option Last
 
--- a told value: whose words' pass told it, and what that pass had seen
+-- a told value: whose words' pass told it, what that pass had seen, and which blocks it knew to be set
 pub record Heard (P : Type 0) : Type 0 where
   pub name : Name
   pub seen : History P
+  pub cached : List Block
 
 -- the pass was made by these words, which may be opened, and what it has seen is a legal history
 pub record IsOf {P : Type 0} (meld : P → P → P) (name : Name) (pass : Sight P) : Type 0 where
@@ -35,6 +38,7 @@ pub record IsOf {P : Type 0} (meld : P → P → P) (name : Name) (pass : Sight 
 pub record IsNew {P : Type 0} (meld : P → P → P) (name : Name) (pass : Sight P) : Type 0 where
   pub of : IsOf meld name pass
   pub seen : pass.seen ≡ []
+  pub cached : pass.cached ≡ []
   pub steps : pass.steps ≡ 0
   pub last : pass.last ≡ None
 
@@ -42,6 +46,7 @@ pub record IsNew {P : Type 0} (meld : P → P → P) (name : Name) (pass : Sight
 pub record Goes {P : Type 0} (meld : P → P → P) (alone : Bool) (name : Name) (most : ℕ) (old new : Sight P) : Type 0 where
   pub of : IsOf meld name new
   pub did : Did alone [] old.seen new.seen
+  pub cached : IsPrefix old.cached new.cached
   pub onward : old.steps ≤ new.steps
   pub steps : new.steps ≤ old.steps + most
 
@@ -49,8 +54,9 @@ pub record Goes {P : Type 0} (meld : P → P → P) (alone : Bool) (name : Name)
 pub record Loads {P : Type 0} (meld : P → P → P) (pack : P → ℕ) (alone : Bool) (name : Name) (place : Place) (old new : Sight P) : Type 0 where
   pub of : IsOf meld name new
   pub did : Did alone [] old.seen new.seen
+  pub cached : IsPrefix old.cached new.cached
   pub steps : new.steps ≡ old.steps + 1
-  pub last : new.last ≡ Some (record { place = place; word = word_at pack new.seen place; load = true })
+  pub last : new.last ≡ Some (record { at = Site.Place place; word = word_at pack new.seen place; load = true })
 
 -- The caller's condition of an exchange: the step is that of an event, and in each legal history that goes on from what was
 -- seen and has the word still 0, this event may come next, and its place is the step's.
@@ -90,19 +96,23 @@ pub record Sets {P : Type 0} (meld : P → P → P) (pack : P → ℕ) (unpack :
     (result : Result (Unit {0}) ℕ) (new : Sight P) : Type 0 where
   pub of : IsOf meld name new
   pub outcome : MatchResult result (λ _. Wins pack unpack alone s old.seen new.seen) (λ w. Loses pack alone s.place w old.seen new.seen)
+  pub cached : IsPrefix old.cached new.cached
   pub steps : new.steps ≡ old.steps + 1
-  pub last : new.last ≡ Some (record { place = s.place; word = found result; load = false })
+  pub last : new.last ≡ Some (record { at = Site.Place s.place; word = found result; load = false })
 
 -- what is told was seen, and is all of it where these words tell all
 pub record Tells {P : Type 0} (tells_all : Bool) (name : Name) (pass : Sight P) (told : Heard P) : Type 0 where
   pub name_is : told.name ≡ name
   pub seen : IsPrefix told.seen pass.seen
-  pub all : IsTrue tells_all → told.seen ≡ pass.seen
+  pub cached : IsPrefix told.cached pass.cached
+  pub all : IsTrue tells_all → (told.seen ≡ pass.seen) × (told.cached ≡ pass.cached)
 
 -- what was told is seen from now on, without a step
 pub record Learns {P : Type 0} (meld : P → P → P) (alone : Bool) (name : Name) (told : Heard P) (old new : Sight P) : Type 0 where
   pub of : IsOf meld name new
   pub did : Did alone [] old.seen new.seen
   pub hears : IsPrefix told.seen new.seen
+  pub cached : IsPrefix old.cached new.cached
+  pub hears_cached : IsPrefix told.cached new.cached
   pub steps : new.steps ≡ old.steps
   pub last : new.last ≡ old.last

@@ -5,6 +5,7 @@ use Rattle.ulfm_model.specs.declared.{contribution.Slot.{Slot}, event.Caller.{Ca
 use Rattle.ulfm_model.specs.declared.{event.Event.TheVariants.{Fail, Arrive, Revoke}, limits.Limits.{Limits}, place.Place.{Place}}
 use Rattle.ulfm_model.specs.{History.{History, IsLegal, MayFollow, MaySpawn, failures, has_arrived, is_revoked, slot}, Runs.{Did}, Words.{word_at}}
 use Rattle.ulfm_model.specs.Terms.{made_at}
+use Rattle.ulfm_words.specs.declared.step.Site.{Site}
 use Rattle.ulfm_words.specs.{Entries.{put_of}, Steps.{IsAdded, IsOf, Name, Sight}}
 
 -- one exchange: the event came, or others' events alone
@@ -12,8 +13,9 @@ pub record Tries {P : Type 0} (meld : P → P → P) (pack : P → ℕ) (alone :
     : Type 0 where
   pub of : IsOf meld name new
   pub outcome : MatchBool won (IsAdded alone entry old.seen new.seen) (Did alone [] old.seen new.seen)
+  pub cached : IsPrefix old.cached new.cached
   pub steps : new.steps ≡ old.steps + 1
-  pub last : new.last ≡ Some (record { place = place; word = if won then 0 else word_at pack new.seen place; load = false })
+  pub last : new.last ≡ Some (record { at = Site.Place place; word = if won then 0 else word_at pack new.seen place; load = false })
 
 abbrev pub entry : {P : Type 0} → Caller → Event P → Entry P
 entry by event = record { by = by; event = event }

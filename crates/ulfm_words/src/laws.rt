@@ -3,6 +3,7 @@ ghost use Rattle.std.specs.Prelude.{◌≡◌, Some};
 ghost use Rattle.ulfm_model.specs.Words.{slot_word};
 ghost use Rattle.ulfm_model.specs.declared.contribution.Slot.{Slot};
 ghost use Rattle.ulfm_model.specs.declared.limits.Limits.{Limits};
+ghost use Rattle.ulfm_words.specs.Blocks.{BlocksAreRead, BlocksHaveOneWord, SlotsAreOfSome};
 ghost use Rattle.ulfm_words.specs.Places.{HaveWords};
 ghost use Rattle.ulfm_words.specs.Slots.{HaveOneWord, slot_in};
 
@@ -23,4 +24,16 @@ pub fn slots_have_one_word()
 /// The word of a slot is read as that slot, whatever the flags are.
 pub fn slots_are_read<P: Packed>()
     ensures { (s : Slot P) → slot_in P.unpack (slot_word P.pack s) ≡ Some s }
+{}
+
+/// The word of what settled members say together, at least one of them, is read as that, whatever the flags are.
+pub fn blocks_are_read<P: Packed>()
+    ensures read { BlocksAreRead P.pack P.unpack }
+    ensures some { SlotsAreOfSome P.meld }
+{}
+
+/// A block's word stands for one summary. With flags of 32 bits it is the word of it, as it is for marks, masks and clashes whatever the
+/// flags are.
+pub fn blocks_have_one_word<P: Packed>()
+    ensures { BlocksHaveOneWord P.pack P.unpack }
 {}

@@ -1,6 +1,7 @@
 //! Words that are set at most once: where they stand, what they mean, and what each step on them does.
 #![tactic(auto)]
 
+pub mod blocks;
 pub mod laws;
 pub mod loads;
 pub mod plain;
@@ -10,9 +11,10 @@ pub mod slots;
 pub mod step;
 pub mod words;
 
-pub use loads::{load_arrival, load_comm, load_failure, load_revocation, load_summary};
+pub use blocks::{block_word, read_block};
+pub use loads::{load_arrival, load_comm, load_failure, load_revocation, load_said, load_summary};
 pub use plain::{PlainPass, PlainTold, PlainWords};
 pub use sets::{put_slot, set_arrival, set_comm, set_failure, set_revocation, set_slot};
 pub use slots::{read_slot, slot_word};
-pub use step::{Last, Step};
+pub use step::{Last, Site, Step};
 pub use words::{OpenWords, Words};

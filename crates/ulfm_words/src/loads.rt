@@ -1,18 +1,21 @@
 // Loads, and what they read as.
-ghost use Rattle.std.specs.Prelude.{◌≡◌, ◌<◌, None, Some, slice_get, IfSome, MatchOption};
+ghost use Rattle.std.specs.Prelude.{◌≡◌, ◌<◌, None, Some, is_some, slice_get, IfSome, MatchOption};
 ghost use Rattle.ulfm_model.specs.History.{failures, has_arrived, is_revoked, slot};
+ghost use Rattle.ulfm_model.specs.Blocks.{IsBlockWithin};
 ghost use Rattle.ulfm_model.specs.Laws.{summary_of};
 ghost use Rattle.ulfm_model.specs.declared.contribution.Slot.{Slot};
 ghost use Rattle.ulfm_model.specs.Terms.{made_at};
 ghost use Rattle.ulfm_model.specs.declared.place.Place.TheVariants.{List as ListAt, Comm as CommAt, Revoked as RevokedAt, Slot as SlotAt, Arrival as ArrivalAt};
+ghost use Rattle.ulfm_words.specs.Blocks.{Peeks, Says};
 ghost use Rattle.ulfm_words.specs.Places.{IsCell, IsWithin};
 ghost use Rattle.ulfm_words.specs.Steps.{IsOf, Loads};
 
-use crate::slots::summary_in;
+use crate::blocks::said_in;
 use crate::words::Words;
 use std::alloc::Allocator;
 use ulfm_laws::meld::Packed;
 use ulfm_laws::summary::Summary;
+use ulfm_model::block::Block;
 use ulfm_model::place::Place;
 
 /// One load of an entry of the list of failures: the rank that is declared there, if one is.
@@ -54,7 +57,7 @@ pub fn load_summary<P: Packed, A: Allocator, W: Words<P, A>>(
     if word == 0 {
         return None;
     }
-    Some(summary_in(word))
+    Some(said_in(word))
 }
 
 /// One load of an entry of the list of communicators: the parent and the round that it was made of, if it was made.
@@ -104,4 +107,23 @@ pub fn load_arrival<P: Packed, A: Allocator, W: Words<P, A>>(
     ensures arrived { result ≡ has_arrived (W.sight pass.new).seen comm round rank }
 {
     words.load(pass, Place::Arrival { comm, round, rank }) != 0
+}
+
+/// One load of a block: what its members say together, if its word is set.
+#[inline(always)]
+pub fn load_said<P: Packed, A: Allocator, W: Words<P, A>>(
+    words: &W,
+    pass: &mut W::Pass,
+    block: Block,
+) -> Option<Summary<P>>
+    requires of { IsOf P.meld (W.name words.now) (W.sight pass.old) }
+    requires within { IsBlockWithin (W.name words.now).limits block }
+    ensures peeks { Peeks P.meld W.alone (W.name words.now) block (is_some result) (W.sight pass.old) (W.sight pass.new) }
+    ensures said { IfSome result (Says P.meld (W.name words.now).limits.ranks (W.sight pass.new).seen block) }
+{
+    let word = words.load_block(pass, block);
+    if word == 0 {
+        return None;
+    }
+    Some(said_in(word))
 }

@@ -1,17 +1,20 @@
 // Words of one owner, and the passes over them: each pass is a memory of its own.
 ghost use Rattle.std.specs.Prelude.{◌≡◌, ◌≤◌, [], true, false, IfOk, MatchOption, MatchResult, length};
+ghost use Rattle.ulfm_model.specs.Blocks.{IsBlock, IsBlockWithin};
 ghost use Rattle.ulfm_model.specs.Words.{IsUnfit, MayOpen, word_at};
+ghost use Rattle.ulfm_words.specs.Blocks.{Caches, LoadsBlock};
 ghost use Rattle.ulfm_words.specs.Pass.{IsNth, plain_name};
 ghost use Rattle.ulfm_words.specs.Places.{IsWithin};
 ghost use Rattle.ulfm_words.specs.Steps.{IsOf, IsNew, Loads, MaySet, Sets};
 
 use crate::row::Row;
-use crate::step::{Last, Step};
+use crate::step::{Last, Site, Step};
 use crate::words::{OpenWords, Words};
 use http_server::Log;
 use std::alloc::{AllocError, Allocator, Global};
 use std::marker::{Model, PhantomData};
 use ulfm_laws::meld::Packed;
+use ulfm_model::block::Block;
 use ulfm_model::event::Caller;
 use ulfm_model::limits::{Limits, OpenFault};
 use ulfm_model::place::Place;
@@ -34,6 +37,11 @@ pub struct PlainTold {
 impl<P: Packed> PlainWords<P> {
     /// Words of these limits, or the first fault that the limits have. It takes no memory, so it never answers
     /// `OutOfMemory`.
+    ///
+    /// ```
+    /// let words: PlainWords<FlagAnd> = PlainWords::open(limits)?;
+    /// assert!(rt; words.limits == limits);
+    /// ```
     pub fn open(limits: Limits) -> Result<PlainWords<P>, OpenFault>
         ensures { MatchResult result (λ w. w.limits ≡ limits) (IsUnfit limits) }
     {
@@ -68,6 +76,16 @@ impl<P: Packed, A: Allocator + Copy + Drop> Words<P, A> for PlainWords<P> {
         pass.set_once(step)
     }
 
+    #[inline(always)]
+    fn load_block(&self, pass: &mut PlainPass<P, A>, block: Block) -> u64 {
+        pass.load_block(block)
+    }
+
+    #[inline(always)]
+    fn cache(&self, pass: &mut PlainPass<P, A>, block: Block, word: u64) -> Result<(), u64> {
+        pass.cache(block, word)
+    }
+
     fn known_legal(&self, pass: &PlainPass<P, A>) {
         pass.known_legal();
     }
@@ -78,7 +96,7 @@ impl<P: Packed, A: Allocator + Copy + Drop> OpenWords<P, A> for PlainWords<P> {
 
     ghost tells_all = { false };
 
-    ghost heard = { λ t. record { name = plain_name t.limits; seen = [] } };
+    ghost heard = { λ t. record { name = plain_name t.limits; seen = []; cached = [] } };
 
     fn pass(&self, alloc: A) -> Result<PlainPass<P, A>, AllocError> {
         PlainPass::new(alloc, self.limits)
@@ -106,6 +124,8 @@ pub struct PlainPass<P: Packed, A: Allocator = Global> {
     row: Row<A>,
     // In the order of setting. It has room for each word that is still 0.
     journal: Vec<Setting, A>,
+    // The words of blocks: two for each round of each communicator, the front block's first.
+    blocks: Vec<u64, A>,
     // The steps so far. It takes no memory, and only contracts read it.
     trail: Log<Last, bool>,
     flags: PhantomData<P>,
@@ -114,13 +134,14 @@ pub struct PlainPass<P: Packed, A: Allocator = Global> {
 impl<P: Packed, A: Allocator> Model for PlainPass<P, A> {
     ghost use Rattle.ulfm_words.specs.Steps.{Sight};
     ghost use Rattle.std.specs.Prelude.{vec_capacity};
-    ghost use Rattle.ulfm_words.specs.Pass.{sight_of, IsTied};
+    ghost use Rattle.ulfm_words.specs.Pass.{AreStood, IsTied, entries, sight_of};
 
     ghost Value = { Sight P };
 
     ghost view = { λ a. sight_of P.unpack a.row.limits a.row.words a.journal.items a.trail.items };
 
-    ghost invariant = { λ a. IsTied P.meld P.pack P.unpack a.row.limits a.row.words a.journal.items (vec_capacity a.journal) };
+    ghost invariant = { λ a. IsTied P.meld P.pack P.unpack a.row.limits a.row.words a.journal.items (vec_capacity a.journal)
+        × AreStood P.meld P.pack a.row.limits (entries P.unpack a.row.limits a.row.words a.journal.items) a.blocks.items a.trail.items };
 }
 
 impl<P: Packed, A: Allocator + Copy> PlainPass<P, A> {
@@ -131,9 +152,13 @@ impl<P: Packed, A: Allocator + Copy> PlainPass<P, A> {
     {
         let row = Row::new(alloc, limits)?;
         let journal = Vec::with_capacity(alloc, limits.size() as usize)?;
+        let count = 2 * limits.rounds as usize * limits.comms as usize;
+        let mut blocks = Vec::with_capacity(alloc, count)?;
+        blocks.resize(count, 0)?;
         Ok(PlainPass {
             row,
             journal,
+            blocks,
             trail: Log::new(),
             flags: PhantomData,
         })
@@ -147,6 +172,15 @@ impl<P: Packed, A: Allocator + Copy> PlainPass<P, A> {
     }
 
     /// The step that was set as the `i`-th, counted from 0; none past the last. It is no atomic step and takes no memory.
+    ///
+    /// ```
+    /// world.fail(&mut pass, 1)?;
+    /// let step = pass.nth(0);
+    /// assert!(rt;
+    ///     step.map(|step| (step.place, step.by)) == Some((Place::List { index: 0 }, Caller::Outside))
+    /// );
+    /// assert!(rt; pass.nth(1).is_none());
+    /// ```
     pub fn nth(&self, i: usize) -> Option<Step>
         ensures { MatchOption result (length self.now.seen ≤ i) (IsNth P.pack P.unpack self.now.seen i) }
     {
@@ -175,7 +209,8 @@ impl<P: Packed, A: Allocator + Copy> PlainPass<P, A> {
     {
         let word = self.row.get(place);
         let load = true;
-        self.trail = self.trail.and(&Last { place, word, load }, &load);
+        let at = Site::Place(place);
+        self.trail = self.trail.and(&Last { at, word, load }, &load);
         word
     }
 
@@ -189,11 +224,58 @@ impl<P: Packed, A: Allocator + Copy> PlainPass<P, A> {
         let place = step.place;
         let word = self.row.set_once(place, step.word);
         let load = false;
-        self.trail = self.trail.and(&Last { place, word, load }, &load);
+        let at = Site::Place(place);
+        self.trail = self.trail.and(&Last { at, word, load }, &load);
         if word != 0 {
             return Err(word);
         }
         let _ = self.journal.push(Setting { place, by: step.by });
+        Ok(())
+    }
+
+    /// The word of a block.
+    #[inline(always)]
+    pub fn load_block(&mut self, block: Block) -> u64
+        requires of { IsOf P.meld self.old.name self.old }
+        requires within { IsBlockWithin self.old.name.limits block }
+        ensures { LoadsBlock P.meld P.pack true self.old.name block result self.old self.new }
+    {
+        let stood = self.blocks[self.row.block_index(block)];
+        let at = Site::Block(block);
+        let load = true;
+        self.trail = self.trail.and(
+            &Last {
+                at,
+                word: stood,
+                load,
+            },
+            &load,
+        );
+        stood
+    }
+
+    /// Sets a block's word that is 0, or gives the word that stands. It takes no memory.
+    #[inline(always)]
+    pub fn cache(&mut self, block: Block, word: u64) -> Result<(), u64>
+        requires of { IsOf P.meld self.old.name self.old }
+        requires within { IsBlockWithin self.old.name.limits block }
+        requires may { IsBlock P.meld P.pack self.old.name.limits.ranks self.old.seen block word }
+        ensures { Caches P.meld true self.old.name block word self.old result self.new }
+    {
+        let index = self.row.block_index(block);
+        let stood = self.blocks[index];
+        let at = Site::Block(block);
+        let load = false;
+        let last = Last {
+            at,
+            word: stood,
+            load,
+        };
+        self.trail = self.trail.and(&last, &load);
+        if stood != 0 {
+            return Err(stood);
+        }
+        self.blocks[index] = word;
         Ok(())
     }
 }

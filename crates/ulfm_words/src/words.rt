@@ -1,12 +1,15 @@
 ghost use Rattle.std.specs.Prelude.{◌≡◌, Bool, IfOk};
+ghost use Rattle.ulfm_model.specs.Blocks.{IsBlock, IsBlockWithin};
 ghost use Rattle.ulfm_model.specs.Words.{MayOpen};
 ghost use Rattle.ulfm_model.specs.Words.{word_at};
+ghost use Rattle.ulfm_words.specs.Blocks.{Caches, LoadsBlock};
 ghost use Rattle.ulfm_words.specs.Places.{IsWithin};
 ghost use Rattle.ulfm_words.specs.Steps.{Name, Sight, Heard, IsOf, IsNew, Loads, MaySet, Sets, Tells, Learns};
 
 use crate::step::Step;
 use std::alloc::{AllocError, Allocator};
 use ulfm_laws::meld::Packed;
+use ulfm_model::block::Block;
 use ulfm_model::limits::Limits;
 use ulfm_model::place::Place;
 
@@ -42,6 +45,20 @@ pub trait Words<P: Packed, A: Allocator> {
         requires within { IsWithin (name self.now).limits step.place }
         requires may { MaySet P.meld P.pack P.unpack (name self.now).limits (sight pass.old).seen step }
         ensures { Sets P.meld P.pack P.unpack alone (name self.now) step (sight pass.old) result (sight pass.new) };
+
+    /// One atomic load of a block's word: 0, or the word of what its members say, each of which is settled.
+    fn load_block(&self, pass: &mut Self::Pass, block: Block) -> u64
+        requires of { IsOf P.meld (name self.now) (sight pass.old) }
+        requires within { IsBlockWithin (name self.now).limits block }
+        ensures { LoadsBlock P.meld P.pack alone (name self.now) block result (sight pass.old) (sight pass.new) };
+
+    /// One compare-exchange of a block's word from 0, to that of its settled members. No event comes of it, and whoever loses
+    /// finds the same word.
+    fn cache(&self, pass: &mut Self::Pass, block: Block, word: u64) -> Result<(), u64>
+        requires of { IsOf P.meld (name self.now) (sight pass.old) }
+        requires within { IsBlockWithin (name self.now).limits block }
+        requires may { IsBlock P.meld P.pack (name self.now).limits.ranks (sight pass.old).seen block word }
+        ensures { Caches P.meld alone (name self.now) block word (sight pass.old) result (sight pass.new) };
 
     /// What a pass of these words has seen is legal. It does nothing.
     fn known_legal(&self, pass: &Self::Pass)

@@ -1,11 +1,12 @@
 //! Races through the program.
 use crate::program::answer;
-use crate::tests::{Failing, Taken, require};
+use crate::tests::require;
 use linked_list_allocator::LocalHeap;
 use std::alloc::Global;
 use std::sync::Wait;
 use std::test::Fail;
 use std::thread::Threads;
+use ulfm_devices::{Failing, Taken};
 
 /// What a race of these words writes.
 fn run_race<T: Threads + Wait + Sync>(
@@ -165,13 +166,7 @@ fn bad_races(rt: HostRuntime) -> Result<(), Fail> {
 fn races_that_fail(rt: HostRuntime) -> Result<(), Fail> {
     let words = ["ulfm", "race", "--ranks", "2", "--rounds", "1"];
     for how in [Failing::ByNothing, Failing::AtFlush] {
-        let mut output = Taken {
-            bytes: Vec::new(rt.alloc()),
-            most: 10_000,
-            calls: 0,
-            failing: 1,
-            how,
-        };
+        let mut output = Taken::new(rt.alloc(), 10_000, 1, how);
         let mut errors = Vec::new(rt.alloc());
         let mut input = b"".as_slice();
         let status = answer(

@@ -1,10 +1,11 @@
 //! Scripts of single steps, and traces, through the program; devices that fail at each call in turn.
 use crate::program::answer;
-use crate::tests::{Failing, Failure, Pieces, Row, fail_each_write, require, run_rows};
+use crate::tests::{Failure, Row, fail_each_write, require, run_rows};
 use std::alloc::Global;
 use std::sync::Wait;
 use std::test::Fail;
 use std::thread::Threads;
+use ulfm_devices::{Failing, Pieces};
 
 pub(crate) const STEP_ROWS: [Row; 17] = [
     Row {
@@ -223,12 +224,7 @@ fn fail_each_read<T: Threads + Wait + Sync>(
 ) -> Result<(), Fail> {
     let script = row.script.as_bytes();
     for failing in 1..20_000u32 {
-        let mut input = Pieces {
-            text: script,
-            most,
-            calls: 0,
-            failing,
-        };
+        let mut input = Pieces::new(script, most, failing);
         let mut output = Vec::new(alloc);
         let mut errors = Vec::new(alloc);
         let status = answer(

@@ -42,7 +42,7 @@ impl<P: Packed, A: Allocator + Copy> Rank<P, A> {
     /// isn't, and a member that is known to have failed is missing. Both end the request.
     ///
     /// With N ranks, of which the rank has seen v declared, n members and M communicators, the poll of an agree makes
-    /// N - v + 2n steps at most, that of a shrink N - v + 2n + 2M, and that of a barrier N - v + n + 1, whatever the others do.
+    /// N - v + 3n + 2 steps at most, that of a shrink N - v + 3n + 2M + 1, and that of a barrier N - v + n + 1, whatever the others do.
     ///
     /// ```
     /// let value = FlagAnd { bits: 0b0110 };

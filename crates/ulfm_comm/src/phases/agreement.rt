@@ -1,9 +1,11 @@
-// The steps of an agreement's poll: marks, and loads of the round.
-ghost use Rattle.std.specs.Prelude.{ℕ, List, ◌≡◌, ◌+◌};
-ghost use Rattle.ulfm_model.specs.{Answers.{closed}, Terms.{comm_of}};
-ghost use Rattle.ulfm_comm.specs.{Phase.{StillStands}, Agreement.{agreed_reply}, Step.{TakesTurn}};
-ghost use Rattle.ulfm_comm.specs.declared.phases.phase.Phase.TheVariants.{Marking as AtMarking, Reading as AtReading};
-ghost use Rattle.ulfm_words.specs.Steps.{IsOf};
+// The steps of an agreement's poll: loads of the round's blocks; and, where not all are set, marks, and readings of those that aren't.
+ghost use Rattle.std.specs.Prelude.{ℕ, Bool, List, ◌≡◌, ◌+◌, ◌<◌, ◌≤◌, false, true};
+ghost use Rattle.ulfm_model.specs.{Answers.{closed}, Records.{Record}, Terms.{comm_of}};
+ghost use Rattle.ulfm_comm.specs.{Phase.{IsPast, NextBelow, NextIs, StillStands, is_looking, left}, Agreement.{HasPeeked, HasReadAll, agreed_reply}, Step.{TakesTurn}};
+ghost use Rattle.ulfm_comm.specs.StepsLeft.{FewerLeft, after_peek, after_round, steps_left};
+ghost use Rattle.ulfm_comm.specs.declared.phases.phase.Next.TheVariants.{Goes as NextGoes};
+ghost use Rattle.ulfm_comm.specs.declared.phases.phase.Phase.TheVariants.{Marking as AtMarking, Peeking as AtPeeking, Reading as AtReading};
+ghost use Rattle.ulfm_words.specs.Steps.{IsOf, Sight};
 
 use crate::phases::phase::{Next, Phase};
 use crate::rank::Rank;
@@ -14,7 +16,7 @@ use ulfm_laws::summary::{Body, Summary};
 use ulfm_model::call::{Call, comm_of};
 use ulfm_model::refusal::Refusal;
 use ulfm_model::reply::Reply;
-use ulfm_steps::{MarkAll, ReadRound};
+use ulfm_steps::{Found, MarkAll, Peek, ReadBlocks, RoundBlocks};
 use ulfm_words::Words;
 
 impl<P: Packed, A: Allocator> Rank<P, A> {
@@ -26,12 +28,14 @@ impl<P: Packed, A: Allocator> Rank<P, A> {
         pass: &mut W::Pass,
         asked: &Call<P>,
         marks: MarkAll,
+        blocks: RoundBlocks<P>,
         shrinks: bool,
         whole: bool,
     ) -> Next<P>
         requires of { IsOf P.meld (W.name world.now.words) (W.sight pass.old) }
-        requires stands { (group : List ℕ) × StillStands P.meld (W.name world.now.words) asked.now (AtMarking marks shrinks) group self.now (W.sight pass.old) }
-        ensures { (group : List ℕ) → TakesTurn P.meld W.alone whole (W.name world.now.words) asked.now (AtMarking marks shrinks) group self.now
+        requires stands { (group : List ℕ)
+            × StillStands P.meld (W.name world.now.words) asked.now (AtMarking marks blocks shrinks) group self.now (W.sight pass.old) }
+        ensures { (group : List ℕ) → TakesTurn P.meld W.alone whole (W.name world.now.words) asked.now (AtMarking marks blocks shrinks) group self.now
             (W.sight pass.old) result group self.now (W.sight pass.new) }
     {
         let x = self.held_comm(comm_of(asked));
@@ -39,24 +43,99 @@ impl<P: Packed, A: Allocator> Rank<P, A> {
         let mut marks = marks;
         marks.advance(&world.words, pass, &x.group, seen, whole);
         if marks.next < seen.len() {
-            return Next::Goes(Phase::Marking { marks, shrinks });
+            return Next::Goes(Phase::Marking {
+                marks,
+                blocks,
+                shrinks,
+            });
         }
+        let members = x.group.len() as u16;
         Next::Goes(Phase::Reading {
-            reading: ReadRound::new(marks.comm, marks.round),
+            reading: ReadBlocks::new(marks.comm, marks.round, blocks, members),
             shrinks,
         })
+    }
+
+    // What comes next where not all blocks of a round are set: the declared members are marked, if there are any, and the blocks that
+    // aren't set are read.
+    fn unread<W: Words<P, A>>(
+        &self,
+        world: &World<W, P, A>,
+        pass: &W::Pass,
+        asked: &Call<P>,
+        peek: Peek<P>,
+        shrinks: bool,
+    ) -> Phase<P>
+        requires of { IsOf P.meld (W.name world.now.words) (W.sight pass.now) }
+        requires peeked { (old : Record) × (before : Sight P)
+            × HasPeeked P.meld false (W.name world.now.words) asked.now shrinks peek old before self.now (W.sight pass.now) }
+        ensures further { left result < 7 }
+        ensures past { is_looking result ≡ false }
+        ensures nearer { steps_left (W.name world.now.words).limits self.now asked.now result
+            ≤ after_peek (W.name world.now.words).limits self.now asked.now shrinks }
+        ensures turns { (group : List ℕ) (alone : Bool) (old : Record) (before : Sight P)
+            → HasPeeked P.meld alone (W.name world.now.words) asked.now shrinks peek old before self.now (W.sight pass.now)
+            → NextIs P.meld alone (W.name world.now.words) asked.now old before (NextGoes result) group self.now (W.sight pass.now) }
+    {
+        let comm = comm_of(asked);
+        let x = self.held_comm(comm);
+        let seen = self.failures();
+        let blocks = peek.blocks;
+        let marks = MarkAll::new(self.number(), comm, peek.round, &x.group, seen);
+        if marks.next < seen.len() {
+            return Phase::Marking {
+                marks,
+                blocks,
+                shrinks,
+            };
+        }
+        let members = x.group.len() as u16;
+        Phase::Reading {
+            reading: ReadBlocks::new(comm, peek.round, blocks, members),
+            shrinks,
+        }
     }
 }
 
 impl<P: Packed, A: Allocator + Copy> Rank<P, A> {
-    // The load of a member's place, or of all that are left, up to the first who is missing. Past the last it is known what was decided.
+    // The load of a block, or of all that are left. Where all are set, they say what was decided.
+    #[inline(always)]
+    pub(crate) fn go_peeking<W: Words<P, A>>(
+        &mut self,
+        world: &World<W, P, A>,
+        pass: &mut W::Pass,
+        asked: &Call<P>,
+        peek: Peek<P>,
+        shrinks: bool,
+        whole: bool,
+        group: &mut Vec<u16, A>,
+    ) -> Next<P>
+        requires of { IsOf P.meld (W.name world.now.words) (W.sight pass.old) }
+        requires stands { StillStands P.meld (W.name world.now.words) asked.now (AtPeeking peek shrinks) group.old.items self.old (W.sight pass.old) }
+        ensures { TakesTurn P.meld W.alone whole (W.name world.now.words) asked.now (AtPeeking peek shrinks) group.old.items self.old (W.sight pass.old)
+            result group.new.items self.new (W.sight pass.new) }
+    {
+        let x = self.held_comm(comm_of(asked));
+        let mut peek = peek;
+        if !peek.advance(&world.words, pass, &x.group, whole) {
+            return Next::Goes(Phase::Peeking { peek, shrinks });
+        }
+        let members = x.group.len() as u16;
+        match peek.blocks.all(members) {
+            None => Next::Goes(self.unread(world, pass, asked, peek, shrinks)),
+            Some(all) => self.decided(world, pass, asked, peek.round, all, shrinks, group),
+        }
+    }
+
+    // The load of a member's place, or the cache of a block, or all that are left, up to the first member who is missing. Past the last
+    // block it is known what was decided.
     #[inline(always)]
     pub(crate) fn go_reading<W: Words<P, A>>(
         &mut self,
         world: &World<W, P, A>,
         pass: &mut W::Pass,
         asked: &Call<P>,
-        reading: ReadRound<P>,
+        reading: ReadBlocks<P>,
         shrinks: bool,
         whole: bool,
         group: &mut Vec<u16, A>,
@@ -66,19 +145,44 @@ impl<P: Packed, A: Allocator + Copy> Rank<P, A> {
         ensures { TakesTurn P.meld W.alone whole (W.name world.now.words) asked.now (AtReading reading shrinks) group.old.items self.old (W.sight pass.old)
             result group.new.items self.new (W.sight pass.new) }
     {
-        let comm = comm_of(asked);
-        let x = self.held_comm(comm);
+        let x = self.held_comm(comm_of(asked));
         let mut reading = reading;
-        if !reading.advance(&world.words, pass, &x.group, whole) {
-            return Next::Ends(Reply::Pending);
+        match reading.advance(&world.words, pass, &x.group, whole) {
+            None => Next::Goes(Phase::Reading { reading, shrinks }),
+            Some(Found::Missing) => Next::Ends(Reply::Pending),
+            Some(Found::All(all)) => {
+                self.decided(world, pass, asked, reading.round, all, shrinks, group)
+            }
         }
-        if reading.read < x.group.len() {
-            return Next::Goes(Phase::Reading { reading, shrinks });
-        }
+    }
+
+    // What comes next where a round's members all say this.
+    fn decided<W: Words<P, A>>(
+        &mut self,
+        world: &World<W, P, A>,
+        pass: &W::Pass,
+        asked: &Call<P>,
+        round: u16,
+        all: Summary<P>,
+        shrinks: bool,
+        group: &mut Vec<u16, A>,
+    ) -> Next<P>
+        requires of { IsOf P.meld (W.name world.now.words) (W.sight pass.now) }
+        requires read { (old : Record) × (before : Sight P)
+            × HasReadAll P.meld false (W.name world.now.words) asked.now shrinks round all old before self.old (W.sight pass.now) }
+        ensures further { NextBelow 5 result }
+        ensures sees { self.new.seen ≡ self.old.seen }
+        ensures past { IsPast result }
+        ensures nearer { FewerLeft (after_round (W.name world.now.words).limits self.old shrinks + 1) (W.name world.now.words).limits self.new asked.now
+            result }
+        ensures turns { (alone : Bool) (old : Record) (before : Sight P)
+            → HasReadAll P.meld alone (W.name world.now.words) asked.now shrinks round all old before self.old (W.sight pass.now)
+            → NextIs P.meld alone (W.name world.now.words) asked.now old before result group.new.items self.new (W.sight pass.now) }
+    {
         if shrinks {
-            return self.shrunk(world, pass, asked, reading.round, reading.all, group);
+            return self.shrunk(world, pass, asked, round, all, group);
         }
-        Next::Ends(self.agreed(comm, reading.all))
+        Next::Ends(self.agreed(comm_of(asked), all))
     }
 
     // The reply to an agree whose round says this.

@@ -18,7 +18,7 @@ use ulfm_model::contribution::Offer;
 use ulfm_model::refusal::Refusal;
 use ulfm_model::reply::Reply;
 use ulfm_steps::group::has_rank;
-use ulfm_steps::{Arrivals, MarkAll, ReadRound};
+use ulfm_steps::{Arrivals, Peek};
 use ulfm_words::Words;
 
 // As many failures as are asked for, of those that are known, but no fewer than before.
@@ -172,8 +172,7 @@ impl<P: Packed, A: Allocator> Rank<P, A> {
         }
     }
 
-    // How the poll of an open request goes on after its look: a barrier reads who has arrived; an agreement marks the declared
-    // members, if there are any, and reads its round.
+    // How the poll of an open request goes on after its look: a barrier reads who has arrived; an agreement loads its round's blocks.
     fn ready<W: Words<P, A>>(
         &self,
         world: &World<W, P, A>,
@@ -184,28 +183,21 @@ impl<P: Packed, A: Allocator> Rank<P, A> {
         requires just { HasJustLooked P.meld (W.name world.now.words) asked.now self.now (W.sight pass.now) }
         requires passes { Passes self.now asked.now }
         requires polls { (rank : ℕ) × (comm : ℕ) × (asked.now ≡ PollAsked rank comm) }
-        ensures further { left result < 7 }
+        ensures further { left result < 8 }
         ensures nearer { steps_left (W.name world.now.words).limits self.now asked.now result < with_look (W.name world.now.words).limits self.now asked.now }
         ensures turns { FollowsLook P.meld (W.name world.now.words) asked.now self.now (W.sight pass.now) (NextGoes result) self.now }
     {
         let comm = comm_of(asked);
         let x = self.held_comm(comm);
-        let seen = self.failures();
         if let Some(round) = barrier(x.request) {
-            let arrivals = Arrivals::new(comm, round, &x.group, seen);
+            let arrivals = Arrivals::new(comm, round, &x.group, self.failures());
             return Phase::Waiting { arrivals };
         }
         let Some((round, shrinks)) = agreement(x.request) else {
             // A request is open, since the record doesn't refuse the poll.
             unreachable!()
         };
-        let marks = MarkAll::new(self.number(), comm, round, &x.group, seen);
-        if marks.next < seen.len() {
-            return Phase::Marking { marks, shrinks };
-        }
-        Phase::Reading {
-            reading: ReadRound::new(comm, round),
-            shrinks,
-        }
+        let peek = Peek::new(comm, round);
+        Phase::Peeking { peek, shrinks }
     }
 }

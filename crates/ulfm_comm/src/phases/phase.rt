@@ -10,7 +10,7 @@ use ulfm_model::call::{Call, Request};
 use ulfm_model::contribution::Offer;
 use ulfm_model::reply::Reply;
 use ulfm_model::step_name::StepName;
-use ulfm_steps::{Append, Arrivals, MarkAll, Missing, ReadOn, ReadRound};
+use ulfm_steps::{Append, Arrivals, MarkAll, Missing, Peek, ReadBlocks, ReadOn, RoundBlocks};
 
 // What a decided shrink makes: a communicator of this round, with this context id.
 #[derive(Clone, Copy)]
@@ -43,14 +43,20 @@ pub(crate) enum Phase<P: Packed> {
     Revoking,
     // It asks whether the communicator is revoked.
     Asking,
-    // The declared members of a round are marked.
-    Marking {
-        marks: MarkAll,
+    // The blocks of a round are loaded.
+    Peeking {
+        peek: Peek<P>,
         shrinks: bool,
     },
-    // The round is read.
+    // Its declared members are marked. Not all of these blocks were set.
+    Marking {
+        marks: MarkAll,
+        blocks: RoundBlocks<P>,
+        shrinks: bool,
+    },
+    // The blocks that weren't set are read, and cached.
     Reading {
-        reading: ReadRound<P>,
+        reading: ReadBlocks<P>,
         shrinks: bool,
     },
     // The list of failures is read on, as far as the decision's failed group reaches.
@@ -93,8 +99,10 @@ impl<P: Packed> Phase<P> {
             Phase::Arriving { .. } => Some(StepName::Arrive),
             Phase::Revoking => Some(StepName::Revoke),
             Phase::Asking | Phase::Checking { .. } => Some(StepName::Revocation),
+            Phase::Peeking { .. } => Some(StepName::Block),
             Phase::Marking { .. } => Some(StepName::Mark),
-            Phase::Reading { .. } => Some(StepName::Slot),
+            Phase::Reading { reading, .. } if reading.read < reading.width => Some(StepName::Slot),
+            Phase::Reading { .. } => Some(StepName::Cache),
             Phase::Spawning { append, .. } if append.empty => Some(StepName::Spawn),
             Phase::Spawning { .. } => Some(StepName::Comm),
             Phase::Waiting { .. } => Some(StepName::Arrival),

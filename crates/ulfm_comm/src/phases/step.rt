@@ -96,9 +96,14 @@ impl<P: Packed, A: Allocator + Copy> Rank<P, A> {
             Phase::Arriving { round } => Next::Ends(self.go_arriving(world, pass, asked, round)),
             Phase::Revoking => Next::Ends(self.go_revoking(world, pass, asked)),
             Phase::Asking => Next::Ends(self.go_asking(world, pass, asked)),
-            Phase::Marking { marks, shrinks } => {
-                self.go_marking(world, pass, asked, marks, shrinks, whole)
+            Phase::Peeking { peek, shrinks } => {
+                self.go_peeking(world, pass, asked, peek, shrinks, whole, group)
             }
+            Phase::Marking {
+                marks,
+                blocks,
+                shrinks,
+            } => self.go_marking(world, pass, asked, marks, blocks, shrinks, whole),
             Phase::Reading { reading, shrinks } => {
                 self.go_reading(world, pass, asked, reading, shrinks, whole, group)
             }
@@ -119,6 +124,17 @@ impl<P: Packed, A: Allocator + Copy> Rank<P, A> {
 
     /// Takes the next step of a call: the reply, in the step after which none is left. Others may step in between. After its reply the
     /// call is over, and no step of it is named.
+    ///
+    /// ```
+    /// let asked = Call::IsRevoked {
+    ///     rank: rank.number(),
+    ///     comm: 0,
+    /// };
+    /// let mut doing = rank.begin(asked);
+    /// // The call looks for failures, with a load that finds none, before it loads whether the communicator is revoked.
+    /// assert!(rt; rank.step(&world, &mut pass, &mut doing).is_none());
+    /// assert!(rt; doing.next() == Some(StepName::Revocation));
+    /// ```
     pub fn step<W: Words<P, A>>(
         &mut self,
         world: &World<W, P, A>,

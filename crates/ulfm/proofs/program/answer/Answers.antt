@@ -1,3 +1,4 @@
+use Rattle.ulfm.proofs.Ends.{checked_out, ran_out, steps_ran_out}
 use Rattle.ulfm.proofs.program.answer.Goals as goal
 
 pub returns-in-Race-clause-bad : goal.returns-in-Race-clause-bad
@@ -5,3 +6,15 @@ returns-in-Race-clause-bad g c bad = absurd (bad.no_race c.in-Race.options c.in-
 
 pub returns-in-Bad-clause-race : goal.returns-in-Bad-clause-race
 returns-in-Bad-clause-race g c options asks = absurd (c.in-Bad.ensures.no_race options asks)
+
+pub returns-in-Memory-clause-run : goal.returns-in-Memory-clause-run
+returns-in-Memory-clause-run g c asks = ran_out _ _ _ c.tell_fault.ensures.status
+
+pub returns-in-Memory-clause-steps : goal.returns-in-Memory-clause-steps
+returns-in-Memory-clause-steps g c asks = steps_ran_out _ _ _ c.tell_fault.ensures.status
+
+pub returns-in-Memory-clause-check : goal.returns-in-Memory-clause-check
+returns-in-Memory-clause-check g c asks = checked_out _ _ _ c.tell_fault.ensures.status
+
+pub returns-in-Race-clause-told : goal.returns-in-Race-clause-told
+returns-in-Race-clause-told g c bad clear = absurd (bad.no_race c.in-Race.options c.in-Race.ensures)

@@ -14,7 +14,7 @@ returns-then-all g c =
     let all = sym c.found_all-all.ensures ∙ c.if-all.true in
     rw c.in-GetFailed.is
     (c.is_group_reply.ensures
-    ∙ (ap (λ n. group_test n c.args.reply.now) c.in_ok-count-in-GetFailed.ensures
+    ∙ (ap (λ n. group_test n c.args.reply.now) c.count_failed-count.ensures
     ∙ true_and (same_ranks (seen_at c.args.numbers.now c.args.point).failures c.args.look.now) (group_test (length (failed_in (seen_at c.args.numbers.now c.args.point) c.in-GetFailed.comm)) c.args.reply.now) all))
 
 pub returns-then-all-2 : goal.returns-then-all-2
@@ -22,7 +22,7 @@ returns-then-all-2 g c =
     let all = sym c.found_all-all-in-Ack.ensures ∙ c.if-all-2.true in
     let known = length (failed_in (seen_at c.args.numbers.now c.args.point) c.in-Ack.comm) in
     let own : c.x.inside.acked ≡ c.args.x.now.acked = ap (λ (y : Held). y.acked) c.x.view_is in
-    let few : c.min.result ≡ min c.in-Ack.count known = c.min.ensures ∙ ap₂ min c.from-in-Ack.ensures c.in_ok-known-in-Ack.ensures in
+    let few : c.min.result ≡ min c.in-Ack.count known = c.min.ensures ∙ ap₂ min c.from-in-Ack.ensures c.count_failed-known.ensures in
     let acked : c.max-acked.result ≡ max c.args.x.now.acked (min c.in-Ack.count known) = c.max-acked.ensures ∙ ap₂ max (c.from.ensures ∙ own) few in
     rw c.in-Ack.is
     (c.is_acked_reply.ensures
@@ -34,7 +34,7 @@ returns-in-Agree g c =
     let x = c.args.x.now in
     let stood = c.slot_at-stood.ensures ∙ ap (λ (y : Held). (seen_at c.args.numbers.now c.args.point).slots (y.comm, y.next_agreement, c.args.rank)) c.x.view_is in
     let group : c.deref.result.now ≡ x.group = c.deref.ensures.value ∙ ap (λ (y : Held). y.group) c.x.view_is in
-    let known : c.count_known-known.result ≡ length (filter (has x.group) c.args.look.now) = c.count_known-known.ensures ∙ ap (λ group. length (filter (has group) c.args.look.now)) group in
+    let known : c.count_found-known.result ≡ length (filter (has x.group) c.args.look.now) = c.count_found-known.ensures ∙ ap (λ group. length (filter (has group) c.args.look.now)) group in
     rw c.in-Agree.is
     (c.is_start_reply.ensures
     ∙ ap₂ (λ (s : Option (Slot g.row.P.Denot)) n. start_test g.P.Packed.pack c.args.events.now s n c.args.rank x (Offer.Flag c.in-Agree.value) c.args.reply.now) stood known)
@@ -44,8 +44,8 @@ returns-in-Shrink g c =
     let x = c.args.x.now in
     let stood = c.slot_at-stood-in-Shrink.ensures ∙ ap (λ (y : Held). (seen_at c.args.numbers.now c.args.point).slots (y.comm, y.next_agreement, c.args.rank)) c.x.view_is in
     let group : c.deref-in-Shrink.result.now ≡ x.group = c.deref-in-Shrink.ensures.value ∙ ap (λ (y : Held). y.group) c.x.view_is in
-    let known : c.count_known-known-in-Shrink.result ≡ length (filter (has x.group) c.args.look.now) =
-    c.count_known-known-in-Shrink.ensures ∙ ap (λ group. length (filter (has group) c.args.look.now)) group in
+    let known : c.count_found-known-in-Shrink.result ≡ length (filter (has x.group) c.args.look.now) =
+    c.count_found-known-in-Shrink.ensures ∙ ap (λ group. length (filter (has group) c.args.look.now)) group in
     rw c.in-Shrink.is
     (c.is_start_reply-in-Shrink.ensures
     ∙ (ap₂ (λ (s : Option (Slot g.row.P.Denot)) n. start_test g.P.Packed.pack c.args.events.now s n c.args.rank x (Offer.Ctx c.free_ids-free.result) c.args.reply.now) stood known

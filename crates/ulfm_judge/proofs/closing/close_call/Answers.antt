@@ -1,10 +1,9 @@
-use Rattle.std.proofs.Common.{not, rules}
-use Rattle.std.proofs.lemmas.Fn.{filter_same}
-use Rattle.ulfm_model.specs.Answers.{traits_of}
-use Rattle.ulfm_trace_model.specs.Traces.{same_caller}
-use Rattle.ulfm_judge.specs.declared.calls.OpenCall.{OpenCall}
+use Rattle.std.proofs.Common.{refl, sym, ◌∙◌}
+use Rattle.ulfm_judge.proofs.Seating.{ended_at, ended_nowhere}
 use Rattle.ulfm_judge.proofs.closing.close_call.Goals as goal
 
-pub returns : goal.returns
-returns g c =
-    filter_same _ (λ (v : OpenCall g.row.P.Denot g.row.A.Denot). not (same_caller (traits_of v.asked).by c.args.by)) _ (λ x b f k. search rules) _ _ c.retain.ensures.filtered
+pub returns-in-Some : goal.returns-in-Some
+returns-in-Some g c = λ us are. ended_at c.args.calls.now us c.args.by c.in-Some.i _ are (sym c.place_by.ensures.at ∙ c.in-Some.is) refl
+
+pub returns-in_default : goal.returns-in_default
+returns-in_default g c = λ us are. ended_nowhere c.args.calls.now us c.args.by are (sym c.place_by.ensures.at ∙ c.in_default.is)

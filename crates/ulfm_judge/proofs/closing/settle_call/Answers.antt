@@ -1,4 +1,4 @@
-use Rattle.std.proofs.Common.{◌≡◌, ◌==◌, ℕ, List, [], is_some, get_or, take, if◌then◌else◌, sym, subst, ap, ap₂, ◌∙◌}
+use Rattle.std.proofs.Common.{Vec, refl, ◌≡◌, ◌==◌, ℕ, List, [], is_some, get_or, take, if◌then◌else◌, sym, subst, ap, ap₂, ◌∙◌}
 use Rattle.std.proofs.Math.Seq.{map-set_same}
 use Rattle.std.specs.Prelude.{nat_eq, unwrap_or}
 use Rattle.std.specs.List.{IsDistinct}
@@ -36,7 +36,7 @@ returns-clause-left g c = λ h tells.
     let at = sym c.place_of_rank.ensures.at ∙ c.in-Some.is in
     let distinct = subst (IsDistinct nat_eq) (sym c.requires.numbers) (ranks_distinct limits.ranks) in
     let seen : c.in_ok-seen.seen.items ≡ (if is_some u.look then take (unwrap_or u.look 0) (failures h) else old.seen) =
-    c.in_ok-seen.ensures ∙ ap₂ (λ (known xs : List ℕ). if is_some u.look then take (unwrap_or u.look 0) known else xs) (c.deref.ensures.value ∙ tells.failures.0) c.deref-2.ensures.value in
+    c.in_ok-seen.ensures ∙ ap₂ (λ (known xs : List ℕ). if is_some u.look then take (unwrap_or u.look 0) known else xs) (c.deref.ensures.value ∙ tells.failures.0) (ap (λ (v : Vec ℕ g.row.A.Denot). v.items) c.replace-before.ensures.value) in
     let same : left_by limits.ranks (take c.args.point h) (record old { seen = c.in_ok-seen.seen.items }) u.asked c.args.reply ≡ taken_in now u c.args.point c.args.reply old =
     ap (λ (xs : List ℕ). left_by limits.ranks (take c.args.point h) (record old { seen = xs }) u.asked c.args.reply) seen in
     rw c.in-Rank.is
@@ -45,3 +45,7 @@ returns-clause-left g c = λ h tells.
     one_changed (record_of limits) (λ (x : Record). x.number) c.in-Rank.rank (taken_in now u c.args.point c.args.reply) c.args.records.now c.in-Some.j c.index-records-j.result c.leave.new.own
     distinct at (left ∙ same))
     (c.leave.ensures.left h tells))
+
+pub returns-in_err-seen-clause-numbers : goal.returns-in_err-seen-clause-numbers
+returns-in_err-seen-clause-numbers g c =
+    map-set_same (λ (own : RankRecord g.row.A.Denot). own.number) c.args.records.now c.in-Some.j _ c.index-records-j.result refl

@@ -23,5 +23,5 @@ returns g c =
     let made = c.in_ok-made.ensures ∙ ap (λ (y : Held). decision_in g.P.Meld.meld (seen_at c.args.numbers.now c.args.point) y.comm c.args.round) c.x.view_is in
     let not_said = sym c.says_pending.ensures ∙ c.if-says_pending.false in
     let same = ap₂ (λ (d : Bool) (m : Decision g.row.P.Denot). agree_test g.P.Packed.pack false d m c.args.reply.now) decided made in
-    c.is_agree_reply.ensures ∙ (same ∙ late_agree g.P.Packed.pack false late (is_decided_in (seen_at c.args.numbers.now c.args.point) x.comm c.args.round)
+    c.is_agree_reply-2.ensures ∙ (same ∙ late_agree g.P.Packed.pack false late (is_decided_in (seen_at c.args.numbers.now c.args.point) x.comm c.args.round)
     (decision_in g.P.Meld.meld (seen_at c.args.numbers.now c.args.point) x.comm c.args.round) c.args.reply.now not_said)

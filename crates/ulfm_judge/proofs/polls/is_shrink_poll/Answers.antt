@@ -23,6 +23,6 @@ returns g c =
     let made = c.in_ok-made.ensures ∙ ap (λ (y : Held). decision_in g.P.Meld.meld (seen_at c.args.numbers.now c.args.point) y.comm c.args.round) c.x.view_is in
     let not_said = sym c.says_pending.ensures ∙ c.if-says_pending.false in
     let same = ap₂ (λ (d : Bool) (m : Decision g.row.P.Denot). shrink_test c.args.limits (seen_at c.args.numbers.now c.args.point) c.args.rank c.args.x.now.comm c.args.round false d m c.args.reply.now) decided made in
-    c.is_shrink_reply.ensures
+    c.is_shrink_reply-2.ensures
     ∙ (same ∙ late_shrink c.args.limits (seen_at c.args.numbers.now c.args.point) c.args.rank c.args.x.now.comm c.args.round false late (is_decided_in (seen_at c.args.numbers.now c.args.point) x.comm c.args.round)
     (decision_in g.P.Meld.meld (seen_at c.args.numbers.now c.args.point) x.comm c.args.round) c.args.reply.now not_said)

@@ -1,7 +1,8 @@
-use Rattle.std.proofs.Common.{◌≡◌, map, sym, subst, refl}
+use Rattle.std.proofs.Common.{◌≡◌, ◌<◌, ◌∙◌, Err, IsTrue, ap, map, sym, subst, refl}
 use Rattle.ulfm_laws.specs.Flags.{flag_meld}
-use Rattle.ulfm_model.specs.{History.{IsLegal}, Records.{Fits}}
-use Rattle.ulfm_race.specs.Races.{IsAnswered}
+use Rattle.ulfm_model.specs.{History.{IsLegal, failures, has}, Records.{Fits, new_record}}
+use Rattle.ulfm_race.specs.Races.{IsAnswered, is_stopped}
+use Rattle.ulfm_race.proofs.Stopping.{new_below, some_holds}
 use Rattle.ulfm_race.proofs.Turns.{answered_lasts, ok_holds}
 use Rattle.ulfm_race.proofs.worker.work.Goals as goal
 
@@ -13,7 +14,7 @@ returns g c =
     let rank = c.take_turns-ended.new.rank in
     let said = map (λ t. t.value) c.take_turns-ended.new.tokens.items in
     let seen = c.declare.new.pass.seen in
-    let here = c.told-told.ensures.all refl in
+    let here = (c.told-told.ensures.all refl).0 in
     let legal = subst (λ l. IsLegal flag_meld l seen) c.requires.limits c.declare.ensures.own.of.legal in
     record {
       name_is = c.told-told.ensures.name_is;
@@ -21,6 +22,13 @@ returns g c =
       fits = subst (λ h. Fits flag_meld limits h rank) (sym here) c.declare.ensures.own.fits;
       shown = c.take_turns-ended.ensures.shown;
       answered = λ none.
-          let is = ok_holds (IsAnswered plan c.take_turns-ended.new.pass.seen number rank said) c.take_turns-ended.result c.take_turns-ended.ensures.answered (c.fault_in-fault.ensures none) in
+          let is = ok_holds (IsAnswered plan c.take_turns-ended.new.pass.seen number rank said) c.take_turns-ended.result c.take_turns-ended.ensures.answered (c.fault_in-fault.ensures.none none) in
           subst (λ h. IsAnswered plan h number rank said) (sym here) (answered_lasts plan c.take_turns-ended.new.pass.seen seen c.declare.ensures.seen legal number rank said is);
+      declared = λ f met.
+          let err = some_holds (λ fault. c.take_turns-ended.result ≡ Err fault) c.fault_in-fault.result f c.fault_in-fault.ensures.some met in
+          let stopped = c.is_stopped.ensures ∙ ap is_stopped err in
+          let below = new_below limits c.args.pass.seen c.args.rank number (subst (λ l. c.args.rank ≡ new_record l number) (sym c.requires.limits) c.requires.new) c.requires.own.fits in
+          let same = c.number-number.ensures in
+          let there = c.declare.ensures.declared stopped (subst (λ n. n < limits.ranks) (sym same) below) in
+          subst (λ h. IsTrue (has (failures h) number)) (sym here) (subst (λ n. IsTrue (has (failures seen) n)) same there);
     }

@@ -13,14 +13,14 @@ returns-in_err-read_line g c =
     let k = g.R.Read.remaining in
     let fault = c.in_err-read_line.field-0.0 in
     rw (handed_on c.from_residual.result fault c.from_residual.ensures.1)
-    (unopened_read g.M.Interpreter.lang g.M.Interpreter.HasRun g.M.Interpreter.text (unread k c.args.input.now c.args.reader.now) (unread k c.read_line.new.self c.read_line.new.reader) (pending c.read_line.new.self) c.read_line.new.line.items fault c.in_err-read_line.ensures)
+    (unopened_read g.M.Interpreter.lang (g.M.Interpreter.HasRun c.args.plan) g.M.Interpreter.text (unread k c.args.input.now c.args.reader.now) (unread k c.read_line.new.self c.read_line.new.reader) (pending c.read_line.new.self) c.read_line.new.line.items fault c.in_err-read_line.ensures)
 
 pub returns-in_err-open-in-Ok : goal.returns-in_err-open-in-Ok
 returns-in_err-open-in-Ok g c =
     let k = g.R.Read.remaining in
     let e = rw c.in-Newline.is at c.in_ok-read_line.ensures in
     rw (handed_on c.from_residual-in_err-open-in-Ok.result Memory c.from_residual-in_err-open-in-Ok.ensures.1)
-    (unopened_machine g.M.Interpreter.lang g.M.Interpreter.HasRun g.M.Interpreter.text (unread k c.args.input.now c.args.reader.now) (unread k c.read_line.new.self c.read_line.new.reader)
+    (unopened_machine g.M.Interpreter.lang (g.M.Interpreter.HasRun c.args.plan) g.M.Interpreter.text (unread k c.args.input.now c.args.reader.now) (unread k c.read_line.new.self c.read_line.new.reader)
     (pending c.read_line.new.self) e.0 e.1 e.3)
 
 pub returns-in-Ok : goal.returns-in-Ok

@@ -9,4 +9,4 @@ invariant-lines g l =
     let w = g.W.Write.contents in
     let m = g.M.Interpreter in
     (l.number ≤ 100001)
-    × Going m.lang (m.HasRun l.machine) (unread k l.fn.input l.fn.reader) (unread k l.input l.reader) (w l.fn.writer) (w l.writer) (waiting l.output) l.number
+    × Going m.lang (m.HasRun l.fn.plan l.machine) (unread k l.fn.input l.fn.reader) (unread k l.input l.reader) (w l.fn.writer) (w l.writer) (waiting l.output) l.number

@@ -1,3 +1,9 @@
+use Rattle.std.proofs.Common.{None, Some, arith, refl}
+use Rattle.ulfm_words.specs.Pass.{plain_name}
+use Rattle.ulfm_trace_model.specs.declared.step_line.StepLine.TheVariants.{Before, Finished, Stepped}
+use Rattle.ulfm_lines.specs.declared.step_machine.Reach.{Reach}
+use Rattle.ulfm_lines.proofs.Taking.{steps_tell, taken_steps}
+use Rattle.ulfm_seats.specs.Table.{StandsFor}
 use Rattle.ulfm_seats.proofs.running.run_line.Goals as goal
 
 pub returns-in_ok-run_fail-in-Failed-clause-tells : goal.returns-in_ok-run_fail-in-Failed-clause-tells
@@ -5,3 +11,40 @@ returns-in_ok-run_fail-in-Failed-clause-tells g c = λ now stands. rw c.in-Faile
 
 pub returns-in_ok-run_fail-in-Failed-clause-stands : goal.returns-in_ok-run_fail-in-Failed-clause-stands
 returns-in_ok-run_fail-in-Failed-clause-stands g c = let t = c.in_ok-run_fail-in-Failed.ensures c.requires.stands.0 c.requires.stands.1 in (t.1, t.3)
+
+pub returns-in_ok-walk_rank-in-Stepped-clause-tells : goal.returns-in_ok-walk_rank-in-Stepped-clause-tells
+returns-in_ok-walk_rank-in-Stepped-clause-tells g c = λ now stands.
+    let left = StandsFor (plain_name c.args.world.now.words.limits) c.walk_rank.new.pass c.walk_rank.new.seats in
+    let reach : Reach = record { most = Some c.in-Stepped.count; name = None } in
+    let t = c.in_ok-walk_rank-in-Stepped.ensures now stands in
+    let k = taken_steps left now c.in-Stepped.rank reach c.in_ok-walk_rank-in-Stepped.field-0 c.args.teller.now.text.items c.walk_rank.new.teller.text.items t in
+    let asked = rw c.in-Stepped.is at c.requires.step in
+    rw c.in-Stepped.is
+    (steps_tell left now (Stepped c.in-Stepped.rank c.in-Stepped.count) c.in-Stepped.rank reach c.in_ok-walk_rank-in-Stepped.field-0 c.args.teller.now.text.items c.walk_rank.new.teller.text.items t (k.by, k.few c.in-Stepped.count refl (omega (arith, asked.1.2))))
+
+pub returns-in_ok-walk_rank-in-Stepped-clause-stands : goal.returns-in_ok-walk_rank-in-Stepped-clause-stands
+returns-in_ok-walk_rank-in-Stepped-clause-stands g c = let t = c.in_ok-walk_rank-in-Stepped.ensures c.requires.stands.0 c.requires.stands.1 in (_, t.stands)
+
+pub returns-in_ok-walk_rank-in-Before-clause-tells : goal.returns-in_ok-walk_rank-in-Before-clause-tells
+returns-in_ok-walk_rank-in-Before-clause-tells g c = λ now stands.
+    let left = StandsFor (plain_name c.args.world.now.words.limits) c.walk_rank-in-Before.new.pass c.walk_rank-in-Before.new.seats in
+    let reach : Reach = record { most = None; name = Some c.in-Before.name } in
+    let t = c.in_ok-walk_rank-in-Before.ensures now stands in
+    let k = taken_steps left now c.in-Before.rank reach c.in_ok-walk_rank-in-Before.field-0 c.args.teller.now.text.items c.walk_rank-in-Before.new.teller.text.items t in
+    rw c.in-Before.is
+    (steps_tell left now (Before c.in-Before.rank c.in-Before.name) c.in-Before.rank reach c.in_ok-walk_rank-in-Before.field-0 c.args.teller.now.text.items c.walk_rank-in-Before.new.teller.text.items t k.by)
+
+pub returns-in_ok-walk_rank-in-Before-clause-stands : goal.returns-in_ok-walk_rank-in-Before-clause-stands
+returns-in_ok-walk_rank-in-Before-clause-stands g c = let t = c.in_ok-walk_rank-in-Before.ensures c.requires.stands.0 c.requires.stands.1 in (_, t.stands)
+
+pub returns-in_ok-walk_rank-in-Finished-clause-tells : goal.returns-in_ok-walk_rank-in-Finished-clause-tells
+returns-in_ok-walk_rank-in-Finished-clause-tells g c = λ now stands.
+    let left = StandsFor (plain_name c.args.world.now.words.limits) c.walk_rank-in-Finished.new.pass c.walk_rank-in-Finished.new.seats in
+    let reach : Reach = record { most = None; name = None } in
+    let t = c.in_ok-walk_rank-in-Finished.ensures now stands in
+    let k = taken_steps left now c.in-Finished.rank reach c.in_ok-walk_rank-in-Finished.field-0 c.args.teller.now.text.items c.walk_rank-in-Finished.new.teller.text.items t in
+    rw c.in-Finished.is
+    (steps_tell left now (Finished c.in-Finished.rank) c.in-Finished.rank reach c.in_ok-walk_rank-in-Finished.field-0 c.args.teller.now.text.items c.walk_rank-in-Finished.new.teller.text.items t (k.by, k.ends refl))
+
+pub returns-in_ok-walk_rank-in-Finished-clause-stands : goal.returns-in_ok-walk_rank-in-Finished-clause-stands
+returns-in_ok-walk_rank-in-Finished-clause-stands g c = let t = c.in_ok-walk_rank-in-Finished.ensures c.requires.stands.0 c.requires.stands.1 in (_, t.stands)

@@ -1,6 +1,7 @@
 use Rattle.std.proofs.Common.{◌≡◌, ◌<◌, true, [], length, slice_index_or, subst, ap, sym, ◌∙◌, arith}
 use Rattle.std.specs.List.{slice_index}
 use Rattle.ulfm_model.specs.History.{has_arrived}
+use Rattle.ulfm_model.proofs.Lists.{prefix_trans}
 use Rattle.ulfm_words.proofs.Trails.{did_prefix, did_wait}
 use Rattle.ulfm_steps.specs.Arriving.{IsAsked, asked_before, asks, rank_at, ranks_of}
 use Rattle.ulfm_steps.proofs.{Arriving.{arrivals_stay, arrived_on, asked_at, asked_end, asked_fewer, asked_member, asked_missing, count_on, rank_is, within_ranks}, Groups.{round_rises}, Reading.{member_within, round_stays}}
@@ -50,6 +51,7 @@ returns-then-not-is_there-clause-goes g c =
     record {
       of = goes.of;
       did = did_wait g.W.Words.alone [] (g.W.Words.sight c.args.pass.now).seen (g.W.Words.sight c.loop-at.pass).seen (g.W.Words.sight c.is_there.new.pass).seen i.did goes.did;
+      cached = prefix_trans _ _ _ i.cached goes.cached;
       onward = omega (arith, i.onward, goes.onward);
       steps = omega (arith, i.steps, goes.steps, fewer);
     }
@@ -79,6 +81,7 @@ loop-at-preserved g c =
       of = e.goes.of;
       did = did_wait g.W.Words.alone [] (g.W.Words.sight c.args.pass.now).seen h later i.did e.goes.did;
       round_of = round_stays (g.W.Words.name c.args.words.now).limits h later c.args.comm c.args.round group begins i.round_of;
+      cached = prefix_trans _ _ _ i.cached e.goes.cached;
       onward = omega (arith, i.onward, e.goes.onward);
       steps = omega (arith, i.steps, e.steps, counted);
       arrived = arrived_on group declared others at (below g before) (has_arrived later c.args.comm c.args.round) asked (asks_it g before) (arrivals_stay h later c.args.comm c.args.round (asked_before group declared others at) begins i.arrived)

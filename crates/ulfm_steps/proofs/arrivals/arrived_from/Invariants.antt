@@ -1,5 +1,6 @@
 use Rattle.std.proofs.Common.{◌≡◌, ◌+◌, ◌≤◌, true, [], length}
 use Rattle.std.specs.List.{list_all}
+use mathlib.Core.List.{IsPrefix}
 use Rattle.ulfm_model.specs.{History.{has_arrived}, Runs.{Did}}
 use Rattle.ulfm_words.specs.Steps.{IsOf}
 use Rattle.ulfm_steps.specs.{Arriving.{asked_before}, Rounds.{IsRoundOf}}
@@ -9,6 +10,7 @@ abbrev pub invariant-loop-at : goal.invariant-loop-at
 invariant-loop-at g l = record {
   of : IsOf g.P.Meld.meld (g.W.Words.name l.words) (g.W.Words.sight l.pass);
   did : Did g.W.Words.alone [] (g.W.Words.sight l.initial.pass).seen (g.W.Words.sight l.pass).seen;
+  cached : IsPrefix (g.W.Words.sight l.initial.pass).cached (g.W.Words.sight l.pass).cached;
   round_of : IsRoundOf (g.W.Words.name l.words).limits (g.W.Words.sight l.pass).seen l.comm l.round l.group;
   onward : (g.W.Words.sight l.initial.pass).steps ≤ (g.W.Words.sight l.pass).steps;
   steps : (g.W.Words.sight l.pass).steps + length (asked_before l.group l.declared l.others l.start) ≡ (g.W.Words.sight l.initial.pass).steps + length (asked_before l.group l.declared l.others l.at);

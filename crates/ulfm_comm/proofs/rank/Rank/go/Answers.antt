@@ -39,6 +39,9 @@ returns-in-Revoking-clause-turn g c = rw c.in-Revoking.is (c.go_revoking.ensures
 pub returns-in-Asking-clause-turn : goal.returns-in-Asking-clause-turn
 returns-in-Asking-clause-turn g c = rw c.in-Asking.is (c.go_asking.ensures c.args.group.now.items c.args.whole)
 
+pub returns-in-Peeking-clause-turn : goal.returns-in-Peeking-clause-turn
+returns-in-Peeking-clause-turn g c = rw c.in-Peeking.is (c.go_peeking.ensures)
+
 pub returns-in-Marking-clause-turn : goal.returns-in-Marking-clause-turn
 returns-in-Marking-clause-turn g c = rw c.in-Marking.is (c.go_marking.ensures c.args.group.now.items)
 

@@ -1,17 +1,30 @@
-use Rattle.std.proofs.Common.{◌∷◌, [], arith, length-append}
-use Rattle.ulfm_judge.specs.Telling.{seen_at}
-use Rattle.ulfm_judge.proofs.Seeing.{groups_noted, seen_now}
+use Rattle.std.proofs.Common.{◌∷◌, ◌++◌, [], map, arith, length-append}
+use Rattle.std.specs.List.{cons_option}
+use Rattle.ulfm_model.specs.History.{says}
+use Rattle.ulfm_judge.specs.{Failed.{members_of}, Groups.{items_of}, Telling.{seen_at}}
+use Rattle.ulfm_judge.proofs.{Lasting.{are_done_later, ok_anyway}, Seeing.{groups_noted, seen_now}}
 use Rattle.ulfm_judge.proofs.numbers.Numbers.note.Goals as goal
 
-pub returns : goal.returns
-returns g c = λ ranks h tells. record {
-  slots = c.in_ok-note_slot.ensures h tells.slots tells.count;
-  arrivals = c.in_ok-note_arrival.ensures h tells.arrivals tells.count;
-  revocations = c.in_ok-note_revocation.ensures h tells.revocations tells.count;
-  declared = c.in_ok-note_declaration.ensures h tells.declared tells.count;
-  failures = c.in_ok-note_failure.ensures h tells.failures tells.count;
-  spawns = c.in_ok-note_spawn.ensures h tells.spawns tells.count;
-  groups = groups_noted ranks c.args.self.now.groups.items c.note_group.new.groups.items h c.args.entry.now (seen_at c.args.self.now c.args.self.now.count) c.in_ok-group.group tells.groups
-      (seen_now ranks c.args.self.now h tells) c.in_ok-group.ensures c.in_ok-note_group.ensures;
-  count = omega (arith, tells.count, length-append h (c.args.entry.now ∷ []));
-}
+pub invariant_of-self-clause-rounds_done : goal.invariant_of-self-clause-rounds_done
+invariant_of-self-clause-rounds_done g c =
+    let old = c.args.self.now in
+    let noted = c.note_all-noted.ensures in
+    let new = c.note_all-noted.new in
+    are_done_later g.P.Meld.meld old.rounds old.slots new.slots old.failures.items (cons_option (says c.args.entry.now.event).declares []) new.failures.items (map members_of old.groups.items)
+    (cons_option (items_of c.in_ok-made.made) []) (map members_of new.groups.items) (rw c.in-Ok.is at noted.kept) (rw c.in-Ok.is at noted.longer) (rw c.in-Ok.is at noted.members) old.rounds_done
+
+pub returns-in-Ok : goal.returns-in-Ok
+returns-in-Ok g c = λ ranks h tells.
+    let old = c.args.self.now in
+    let noted = c.note_all-noted.ensures in
+    ok_anyway c.note_settled.result (c.note_settled.ensures ranks (h ++ c.args.entry.now ∷ []) (record {
+      slots = rw c.in-Ok.is at (noted.slots h tells.slots tells.count);
+      arrivals = rw c.in-Ok.is at (noted.arrivals h tells.arrivals tells.count);
+      revocations = rw c.in-Ok.is at (noted.revocations h tells.revocations tells.count);
+      declared = rw c.in-Ok.is at (noted.declared h tells.declared tells.count);
+      failures = rw c.in-Ok.is at (noted.failures h tells.failures tells.count);
+      spawns = rw c.in-Ok.is at (noted.spawns h tells.spawns tells.count);
+      groups = groups_noted ranks (map members_of old.groups.items) (map members_of c.note_all-noted.new.groups.items) h c.args.entry.now (seen_at old old.count) c.in_ok-made.made tells.groups
+          (seen_now ranks old h tells) c.in_ok-made.ensures (rw c.in-Ok.is at noted.members);
+      count = omega (arith, tells.count, length-append h (c.args.entry.now ∷ []));
+    }))

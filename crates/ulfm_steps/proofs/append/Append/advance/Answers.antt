@@ -1,5 +1,5 @@
 use Rattle.std.proofs.Common.{◌≡◌, ◌*◌, not, false, None, [], subst, ap, sym, ◌∙◌, arith}
-use Rattle.ulfm_model.proofs.Lists.{none_of}
+use Rattle.ulfm_model.proofs.Lists.{none_of, prefix_trans}
 use Rattle.ulfm_words.specs.Steps.{Goes}
 use Rattle.ulfm_words.proofs.Trails.{did_prefix, did_wait}
 use Rattle.ulfm_steps.specs.{Appends.{place_at, room, turns_left}, Turns.{Takes, left_without}, declared.append.Append.{Append}}
@@ -15,7 +15,7 @@ returns-then-not-whole-clause-goes g c =
     let some = turns_some (room c.loop-end.self.item name.limits) c.loop-end.self inv.within in
     let few = turns_most places c.args.self.now in
     appends_next g.P.Meld.meld g.W.Words.alone name c.args.self.now.item c.args.self.now.by (2 * places) c.step-end.result (g.W.Words.sight c.args.pass.now) (g.W.Words.sight c.loop-end.pass) (g.W.Words.sight c.step-end.new.pass)
-    inv.did inv.onward (omega (arith, some, few, inv.steps)) (rw (← inv.item, ← inv.by) c.step-end.ensures.goes)
+    inv.did inv.cached inv.onward (omega (arith, some, few, inv.steps)) (rw (← inv.item, ← inv.by) c.step-end.ensures.goes)
 
 pub returns-then-not-whole-clause-passed : goal.returns-then-not-whole-clause-passed
 returns-then-not-whole-clause-passed g c = rw (← c.loop-end.invariant.item) c.step-end.ensures.passed
@@ -39,6 +39,7 @@ loop-end-preserved g c =
       by = same.1 ∙ inv.by;
       of = went.of;
       did = did_wait g.W.Words.alone [] first now after inv.did went.did;
+      cached = prefix_trans _ _ _ inv.cached went.cached;
       may = rw same.0 (append_stays g.P.Meld.meld name.limits now after c.loop-end.self.item (did_prefix g.W.Words.alone _ now after went.did) inv.may);
       passed = rw same.0 passed;
       within = rw same.0 within;

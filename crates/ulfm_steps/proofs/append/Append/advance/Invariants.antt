@@ -1,4 +1,5 @@
 use Rattle.std.proofs.Common.{◌≡◌, ◌+◌, ◌<◌, ◌≤◌, [], false}
+use mathlib.Core.List.{IsPrefix}
 use Rattle.ulfm_model.specs.Runs.{Did}
 use Rattle.ulfm_words.specs.Steps.{IsOf}
 use Rattle.ulfm_steps.specs.Appends.{MayAppend, Passed, room, turns_left}
@@ -10,6 +11,7 @@ invariant-loop-end g l = record {
   by : l.self.by ≡ l.initial.self.by;
   of : IsOf g.P.Meld.meld (g.W.Words.name l.words) (g.W.Words.sight l.pass);
   did : Did g.W.Words.alone [] (g.W.Words.sight l.initial.pass).seen (g.W.Words.sight l.pass).seen;
+  cached : IsPrefix (g.W.Words.sight l.initial.pass).cached (g.W.Words.sight l.pass).cached;
   may : MayAppend g.P.Meld.meld (g.W.Words.name l.words).limits (g.W.Words.sight l.pass).seen l.self.item;
   passed : Passed (g.W.Words.sight l.pass).seen l.self.item l.self.index;
   within : l.self.index < room l.self.item (g.W.Words.name l.words).limits;

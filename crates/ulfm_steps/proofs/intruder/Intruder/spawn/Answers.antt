@@ -1,5 +1,5 @@
 use Rattle.std.proofs.Common.{◌∙◌, ap, subst, arith}
-use Rattle.ulfm_steps.specs.Rounds.{IsSummed}
+use Rattle.ulfm_model.specs.Blocks.{IsSummed}
 use Rattle.ulfm_steps.proofs.{Reading.{world_round}, Spawning.{world_spawns}}
 use Rattle.ulfm_steps.proofs.intruder.Intruder.spawn.Goals as goal
 

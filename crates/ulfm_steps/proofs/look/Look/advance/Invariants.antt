@@ -1,4 +1,5 @@
 use Rattle.std.proofs.Common.{◌≡◌, ◌+◌, ◌-◌, ◌<◌, ◌≤◌, [], false, true, vec_len, vec_capacity, if◌then◌else◌}
+use mathlib.Core.List.{IsPrefix}
 use Rattle.ulfm_model.specs.Runs.{Did}
 use Rattle.ulfm_words.specs.Steps.{IsOf}
 use Rattle.ulfm_steps.specs.Looks.{LookIs}
@@ -8,6 +9,7 @@ abbrev pub invariant-loop-self : goal.invariant-loop-self
 invariant-loop-self g l = record {
   of : IsOf g.P.Meld.meld (g.W.Words.name l.words) (g.W.Words.sight l.pass);
   did : Did g.W.Words.alone [] (g.W.Words.sight l.initial.pass).seen (g.W.Words.sight l.pass).seen;
+  cached : IsPrefix (g.W.Words.sight l.initial.pass).cached (g.W.Words.sight l.pass).cached;
   room : (g.W.Words.name l.words).limits.ranks ≤ vec_capacity l.found;
   kept : vec_capacity l.initial.found ≤ vec_capacity l.found;
   look : LookIs (g.W.Words.name l.words).limits l.self.done l.found.items (g.W.Words.sight l.pass).seen;

@@ -23,6 +23,7 @@ returns-then-not-whole-clause-goes g c =
     record {
       of = e.goes.of;
       did = did_wait g.W.Words.alone [] (g.W.Words.sight c.args.pass.now).seen (g.W.Words.sight c.loop-self.pass).seen (g.W.Words.sight c.step.new.pass).seen i.did e.goes.did;
+      cached = prefix_trans _ _ _ i.cached e.goes.cached;
       onward = omega (arith, i.onward, e.goes.onward);
       steps = omega (arith, i.steps, (e.takes.one refl).steps, e.further, all);
     }
@@ -45,6 +46,7 @@ loop-self-preserved g c =
       more = fewer_found c.is_done.result c.step.new.self.found c.args.count c.is_done.ensures c.if-is_done.false e.at.few;
       goes_on = prefix_trans c.args.seen.now.items c.loop-self.seen.items c.step.new.seen.items i.goes_on e.goes_on;
       steps = omega (arith, i.steps, (e.takes.one refl).steps, e.further);
+      cached = prefix_trans _ _ _ i.cached e.goes.cached;
       onward = omega (arith, i.onward, e.goes.onward);
       first = λ single. let whole = c.if-not-whole.false in absurd (cc (whole, single));
       room = omega (arith, i.room, e.room);

@@ -1,5 +1,6 @@
 use Rattle.std.proofs.Common.{◌≡◌, ◌+◌, [], refl, subst, ◌∙◌, arith}
 use Rattle.std.specs.Prelude.{MatchBool}
+use Rattle.ulfm_model.proofs.Lists.{prefix_trans}
 use Rattle.ulfm_words.proofs.Trails.{did_prefix, did_wait}
 use Rattle.ulfm_steps.proofs.Reading.{round_stays}
 use Rattle.ulfm_steps.proofs.read_round.ReadRound.advance.Goals as goal
@@ -16,6 +17,7 @@ loop-reading-preserved g c =
     record {
       of = e.goes.of;
       did = did_wait g.W.Words.alone [] first now after inv.did e.goes.did;
+      cached = prefix_trans _ _ _ inv.cached e.goes.cached;
       comm = e.comm ∙ inv.comm;
       round = e.round ∙ inv.round;
       round_of = rw (e.comm, e.round) (round_stays (g.W.Words.name c.args.words.now).limits now after c.loop-reading.reading.comm c.loop-reading.reading.round c.args.group.now (did_prefix g.W.Words.alone [] now after e.goes.did) inv.round_of);

@@ -2,7 +2,8 @@ use Rattle.std.proofs.Common.{◌≡◌, take, slice_index_or, ap, ◌∙◌}
 use Rattle.ulfm_laws.specs.Summaries.{summary_meld}
 use Rattle.ulfm_model.specs.Laws.{summary_of}
 use Rattle.ulfm_words.proofs.Trails.{did_prefix}
-use Rattle.ulfm_steps.proofs.Reading.{has_at, member_within, summed_later, summed_push, take_one_more}
+use Rattle.ulfm_model.proofs.Summed.{summed_later, summed_push}
+use Rattle.ulfm_steps.proofs.Reading.{has_at, member_within, take_one_more}
 use Rattle.ulfm_steps.proofs.read_round.ReadRound.step.Goals as goal
 
 pub load_summary-requires-clause-within : goal.load_summary-requires-clause-within

@@ -5,5 +5,5 @@ use Rattle.ulfm_words.proofs.plain.PlainPass.count.Goals as goal
 
 pub returns : goal.returns
 returns g c =
-    let whole = entries-length g.P.Packed.unpack c.self.inside.row.limits c.self.inside.row.words c.self.inside.journal.items c.self.invariant.made in
+    let whole = entries-length g.P.Packed.unpack c.self.inside.row.limits c.self.inside.row.words c.self.inside.journal.items c.self.invariant.0.made in
     omega (arith, c.len.ensures, c.self.inside.journal.ok.0, whole, ap (λ (o : Sight g.row.P.Denot). length o.seen) c.self.view_is)

@@ -7,7 +7,7 @@ use Rattle.ulfm_words.proofs.plain.PlainPass.nth.Goals as goal
 pub returns-in_err-setting : goal.returns-in_err-setting
 returns-in_err-setting g c =
     let past : length c.deref.result.now ≤ c.args.i = c.in_err-setting.ensures.lookup.3 in
-    let len = entries-length g.P.Packed.unpack c.self.inside.row.limits c.self.inside.row.words c.self.inside.journal.items c.self.invariant.made in
+    let len = entries-length g.P.Packed.unpack c.self.inside.row.limits c.self.inside.row.words c.self.inside.journal.items c.self.invariant.0.made in
     let items : length c.deref.result.now ≡ length c.self.inside.journal.items = ap length c.deref.ensures.value in
     rw (c.from_residual.ensures, ← c.self.view_is) (omega arith)
 
@@ -17,7 +17,7 @@ get-word-requires g c =
     let m = c.in_ok-setting.field-0.now in
     let e = c.in_ok-setting.ensures.lookup in
     let found = setting_found c.deref.result.now js c.args.i m c.deref.ensures.value e.3.0 e.1 in
-    (made-get g.P.Packed.unpack c.self.inside.row.limits c.self.inside.row.words js c.args.i m c.self.invariant.made found).within
+    (made-get g.P.Packed.unpack c.self.inside.row.limits c.self.inside.row.words js c.args.i m c.self.invariant.0.made found).within
 
 pub returns : goal.returns
 returns g c =
@@ -27,7 +27,7 @@ returns g c =
     let js = c.self.inside.journal.items in
     let m = c.in_ok-setting.field-0.now in
     let e = c.in_ok-setting.ensures.lookup in
-    let inv = c.self.invariant in
+    let inv = c.self.invariant.0 in
     let found = setting_found c.deref.result.now js c.args.i m c.deref.ensures.value e.3.0 e.1 in
     let made = made-get unpack limits ws js c.args.i m inv.made found in
     let word : c.get-word.result ≡ slice_index ws (key_in limits m.place) = c.get-word.ensures in

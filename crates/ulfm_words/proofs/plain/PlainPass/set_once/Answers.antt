@@ -1,10 +1,10 @@
-use Rattle.std.proofs.Common.{arith, ◌≡◌, ◌≢◌, ◌<◌, ◌∙◌, ap, ap₂, refl, sym, subst, true, Err, Ok, [], ◌∷◌, ◌++◌, length, vec_len, vec_capacity, get_or-set_same}
+use Rattle.std.proofs.Common.{arith, ◌≡◌, ◌≢◌, ◌<◌, ◌∙◌, ap, ap₂, refl, sym, subst, true, false, Err, Ok, [], ◌∷◌, ◌++◌, length, vec_len, vec_capacity, get_or-set_same}
 use Rattle.std.specs.List.{slice_index, slice_set}
 use Rattle.std.proofs.lemmas.Grind.{common_steps}
 use Rattle.ulfm_model.specs.Words.{word_at}
 use Rattle.ulfm_model.proofs.WordRules.{word_some}
-use Rattle.ulfm_words.specs.{Pass.{IsTied, entries, sight_of}, Places.{IsWithin, key_in}, Rows.{Filled}, Steps.{MaySet, Sets}}
-use Rattle.ulfm_words.proofs.{Growing.{prefix_self}, Keys.{key_lt}, Telling.{sets_lost, sets_won, within_is}, Tied.{tied_set, entries-set, count-set}}
+use Rattle.ulfm_words.specs.{Pass.{AreStood, IsTied, cached_by, entries, sight_of}, Places.{IsWithin, key_in}, Rows.{Filled}, Steps.{MaySet, Sets}}
+use Rattle.ulfm_words.proofs.{Growing.{prefix_self}, Keys.{key_lt}, Standing.{cached_place, stood_later}, Telling.{sets_lost, sets_won, within_is}, Tied.{tied_set, entries-set, count-set}}
 use Rattle.ulfm_words.proofs.plain.PlainPass.set_once.Goals as goal
 use Rattle.ulfm_words.proofs.plain.PlainPass.set_once.Goals.{After-push}
 
@@ -16,13 +16,21 @@ returns-then-word-ne0 g c =
     let row_is : c.set_once-word.new.self ≡ row = ap₂ (λ limits words. let r : Filled = record { limits = limits; words = words } in r) c.set_once-word.ensures.limits (c.set_once-word.ensures.kept c.if-word-ne0.true) in
     subst (λ (r : Filled). Sets g.P.Meld.meld g.P.Packed.pack unpack true c.args.self.now.name c.args.step c.args.self.now (Err c.set_once-word.result) (sight_of unpack r.limits r.words js c.and-self-inside.result.items)) (sym row_is)
     (sets_lost g.P.Meld.meld g.P.Packed.pack unpack row.limits c.args.self.now row.words js (vec_capacity c.self.inside.journal) c.self.inside.trail.items c.and-self-inside.result.items c.args.step c.set_once-word.result
-    c.self.view_is c.self.invariant c.requires.within c.set_once-word.ensures.stood c.if-word-ne0.true c.and-self-inside.ensures)
+    c.self.view_is c.self.invariant.0 c.requires.within c.set_once-word.ensures.stood c.if-word-ne0.true c.and-self-inside.ensures)
+
+pub invariant_of-self : goal.invariant_of-self
+invariant_of-self g c =
+    rw (c.set_once-word.ensures.limits, c.set_once-word.ensures.kept c.if-word-ne0.true) (
+      c.self.invariant.0,
+      stood_later g.P.Meld.meld g.P.Packed.pack c.self.inside.row.limits (entries g.P.Packed.unpack c.self.inside.row.limits c.self.inside.row.words c.self.inside.journal.items) (entries g.P.Packed.unpack c.self.inside.row.limits c.self.inside.row.words c.self.inside.journal.items)
+          c.self.inside.blocks.items c.self.inside.trail.items c.and-self-inside.result.items (prefix_self _) (ap cached_by c.and-self-inside.ensures ∙ cached_place c.self.inside.trail.items c.args.step.place c.set_once-word.result false) c.self.invariant.1,
+    )
 
 within_of : (g : _) (c : After-push g) → IsWithin c.self.inside.row.limits c.args.step.place
 within_of g c = within_is g.P.Meld.meld g.P.Packed.pack g.P.Packed.unpack c.self.inside.row.limits c.args.self.now c.self.inside.row.words c.self.inside.journal.items c.self.inside.trail.items c.args.step.place c.self.view_is c.requires.within
 
 below : (g : _) (c : After-push g) → key_in c.self.inside.row.limits c.args.step.place < length c.self.inside.row.words
-below g c = omega (arith, key_lt c.self.inside.row.limits c.args.step.place (within_of g c), c.self.invariant.size)
+below g c = omega (arith, key_lt c.self.inside.row.limits c.args.step.place (within_of g c), c.self.invariant.0.size)
 
 may_in : (g : _) (c : After-push g) → MaySet g.P.Meld.meld g.P.Packed.pack g.P.Packed.unpack c.self.inside.row.limits (entries g.P.Packed.unpack c.self.inside.row.limits c.self.inside.row.words c.self.inside.journal.items) c.args.step
 may_in g c = subst (λ o. MaySet g.P.Meld.meld g.P.Packed.pack g.P.Packed.unpack o.name.limits o.seen c.args.step) (sym c.self.view_is) c.requires.may
@@ -31,14 +39,14 @@ was_zero : (g : _) (c : After-push g) → slice_index c.self.inside.row.words (k
 was_zero g c = sym c.set_once-word.ensures.stood ∙ c.if-word-ne0.false
 
 none : (g : _) (c : After-push g) → word_at g.P.Packed.pack (entries g.P.Packed.unpack c.self.inside.row.limits c.self.inside.row.words c.self.inside.journal.items) c.args.step.place ≡ 0
-none g c = sym (c.self.invariant.same c.args.step.place (within_of g c)) ∙ was_zero g c
+none g c = sym (c.self.invariant.0.same c.args.step.place (within_of g c)) ∙ was_zero g c
 
 room : (g : _) (c : After-push g) → vec_len c.self.inside.journal < vec_capacity c.self.inside.journal
 room g c =
     let may = may_in g c in
     let some = word_some g.P.Packed.pack may.entry.event in
     let set : c.args.step.word ≢ 0 = omega (arith, may.word, some) in
-    omega (arith, count-set c.self.inside.row.words (key_in c.self.inside.row.limits c.args.step.place) c.args.step.word (was_zero g c) (below g c) set, c.self.invariant.free, c.self.invariant.room, c.self.inside.journal.ok.0)
+    omega (arith, count-set c.self.inside.row.words (key_in c.self.inside.row.limits c.args.step.place) c.args.step.word (was_zero g c) (below g c) set, c.self.invariant.0.free, c.self.invariant.0.room, c.self.inside.journal.ok.0)
 
 pushed : (g : _) (c : After-push g) → c.push.new.self.items ≡ c.self.inside.journal.items ++ record { place = c.args.step.place; by = c.args.step.by } ∷ []
 pushed g c = let fits = room g c in grind (arith, common_steps)
@@ -50,16 +58,38 @@ tied g c =
     let may = may_in g c in
     let row = c.self.inside.row in
     let js = c.self.inside.journal.items in
-    let ok = may.legal (entries g.P.Packed.unpack row.limits row.words js) (prefix_self _) c.self.invariant.legal (none g c) in
+    let ok = may.legal (entries g.P.Packed.unpack row.limits row.words js) (prefix_self _) c.self.invariant.0.legal (none g c) in
     tied_set g.P.Meld.meld g.P.Packed.pack g.P.Packed.unpack row.limits row.words js c.push.new.self.items (vec_capacity c.self.inside.journal) (vec_capacity c.push.new.self) c.args.step (key_in row.limits c.args.step.place) may.entry
-    c.self.invariant (within_of g c) refl (was_zero g c) may.is_entry may.word ok.0 ok.1 (pushed g c) c.push.ensures.capacity
+    c.self.invariant.0 (within_of g c) refl (was_zero g c) may.is_entry may.word ok.0 ok.1 (pushed g c) c.push.ensures.capacity
+
+-- .. and its history is longer by one
+added : (g : _) (c : After-push g)
+    → entries g.P.Packed.unpack c.self.inside.row.limits (slice_set c.self.inside.row.words (key_in c.self.inside.row.limits c.args.step.place) c.args.step.word) c.push.new.self.items
+    ≡ entries g.P.Packed.unpack c.self.inside.row.limits c.self.inside.row.words c.self.inside.journal.items ++ (may_in g c).entry ∷ []
+added g c =
+    let unpack = g.P.Packed.unpack in
+    let limits = c.self.inside.row.limits in
+    let ws = c.self.inside.row.words in
+    let key = key_in limits c.args.step.place in
+    ap (λ ms. entries unpack limits (slice_set ws key c.args.step.word) ms) (pushed g c)
+    ∙ entries-set unpack limits ws key c.args.step.word (record { place = c.args.step.place; by = c.args.step.by }) (may_in g c).entry (was_zero g c) (below g c) refl (may_in g c).is_entry c.self.inside.journal.items c.self.invariant.0.made
+
+-- .. so that the blocks stand as they stood
+standing : (g : _) (c : After-push g)
+    → AreStood g.P.Meld.meld g.P.Packed.pack c.self.inside.row.limits (entries g.P.Packed.unpack c.self.inside.row.limits (slice_set c.self.inside.row.words (key_in c.self.inside.row.limits c.args.step.place) c.args.step.word) c.push.new.self.items)
+    c.self.inside.blocks.items c.and-self-inside.result.items
+standing g c =
+    stood_later g.P.Meld.meld g.P.Packed.pack c.self.inside.row.limits (entries g.P.Packed.unpack c.self.inside.row.limits c.self.inside.row.words c.self.inside.journal.items) _ c.self.inside.blocks.items c.self.inside.trail.items c.and-self-inside.result.items
+    ((may_in g c).entry ∷ [], sym (added g c)) (ap cached_by c.and-self-inside.ensures ∙ cached_place c.self.inside.trail.items c.args.step.place c.set_once-word.result false) c.self.invariant.1
 
 -- the row after the word was set
 row_is : (g : _) (c : After-push g) → c.set_once-word.new.self ≡ record { limits = c.self.inside.row.limits; words = slice_set c.self.inside.row.words (key_in c.self.inside.row.limits c.args.step.place) c.args.step.word }
 row_is g c = ap₂ (λ limits words. let r : Filled = record { limits = limits; words = words } in r) c.set_once-word.ensures.limits (c.set_once-word.ensures.set c.if-word-ne0.false)
 
 pub invariant_of-self-2 : goal.invariant_of-self-2
-invariant_of-self-2 g c = rw (c.set_once-word.ensures.limits, c.set_once-word.ensures.set c.if-word-ne0.false) (tied g (goal.at.invariant_of-self-2 g c).After-push)
+invariant_of-self-2 g c =
+    let at = (goal.at.invariant_of-self-2 g c).After-push in
+    rw (c.set_once-word.ensures.limits, c.set_once-word.ensures.set c.if-word-ne0.false) (tied g at, standing g at)
 
 pub returns : goal.returns
 returns g c =
@@ -70,10 +100,7 @@ returns g c =
     let js = c.self.inside.journal.items in
     let key = key_in limits c.args.step.place in
     let may = may_in g at in
-    let added : entries unpack limits (slice_set ws key c.args.step.word) c.push.new.self.items ≡ entries unpack limits ws js ++ may.entry ∷ [] =
-    ap (λ ms. entries unpack limits (slice_set ws key c.args.step.word) ms) (pushed g at)
-    ∙ entries-set unpack limits ws key c.args.step.word (record { place = c.args.step.place; by = c.args.step.by }) may.entry (was_zero g at) (below g at) refl may.is_entry js c.self.invariant.made in
     let set : slice_index (slice_set ws key c.args.step.word) key ≡ c.args.step.word = get_or-set_same ws key c.args.step.word 0 (below g at) in
     subst (λ (r : Filled). Sets g.P.Meld.meld g.P.Packed.pack unpack true c.args.self.now.name c.args.step c.args.self.now (Ok tt) (sight_of unpack r.limits r.words c.push.new.self.items c.and-self-inside.result.items)) (sym (row_is g at))
     (sets_won g.P.Meld.meld g.P.Packed.pack unpack limits c.args.self.now ws (slice_set ws key c.args.step.word) js c.push.new.self.items (vec_capacity c.push.new.self) c.self.inside.trail.items c.and-self-inside.result.items c.args.step c.set_once-word.result
-    c.self.view_is (tied g at) c.requires.within may.entry may.is_entry added set c.if-word-ne0.false c.and-self-inside.ensures)
+    c.self.view_is (tied g at) c.requires.within may.entry may.is_entry (added g at) set c.if-word-ne0.false c.and-self-inside.ensures)

@@ -1,0 +1,24 @@
+use Rattle.std.proofs.Common.{◌≡◌, sym, ap, subst}
+use Rattle.ulfm_model.specs.Blocks.{IsBlockWithin}
+use Rattle.ulfm_book.specs.{Logs.{limits_in}, Rules.{book_of, word_named}, Seats.{block_seat}}
+use Rattle.ulfm_book.proofs.{Caching.{look_block_moves}, Telling.{load_block_tells}}
+use Rattle.ulfm_book.proofs.pass.BookPass.load_block.Goals as goal
+
+pub load-found-requires : goal.load-found-requires
+load-found-requires g c =
+    let seen = c.self.inside.seen in
+    let word : c.args.word.now ≡ word_named seen.book (block_seat (limits_in seen.log) c.args.block) =
+    subst (λ s. c.args.word.now ≡ word_named (book_of s.name) (block_seat s.name.limits c.args.block)) (sym c.self.view_is) c.requires.word in
+    let within : IsBlockWithin (limits_in seen.log) c.args.block = subst (λ s. IsBlockWithin s.name.limits c.args.block) (sym c.self.view_is) c.requires.within in (
+      ap (λ w. w.tracked) word,
+      sym (ap (λ w. w.book) word),
+      c.plain-offer.ensures.0,
+      rw c.plain-offer.ensures.3 (look_block_moves g.P.Meld.meld g.P.Packed.pack c.args.block seen.log c.plain-offer.result.ask c.args.word.now.key c.self.invariant within (ap (λ w. w.key) word)),
+    )
+
+pub returns : goal.returns
+returns g c =
+    let seen = c.self.inside.seen in
+    let now = c.load-found.new.seen in
+    load_block_tells g.P.Meld.meld g.P.Packed.pack seen.book now.book seen.log now.log c.self.inside.trail.items c.and-self-inside.result.items c.args.block c.args.word.now.key c.load-found.result c.args.self.now
+    c.self.view_is c.requires.of c.requires.within (ap (λ w. w.key) c.requires.word) c.load-found.ensures.0 c.load-found.ensures.6.1 c.and-self-inside.ensures

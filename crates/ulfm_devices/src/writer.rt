@@ -1,0 +1,73 @@
+ghost use Rattle.std.specs.Prelude.{◌≡◌, []};
+
+use std::alloc::Global;
+use std::io::{self, ErrorKind, Write};
+
+/// How a writer fails.
+#[derive(Clone, Copy, Debug, PartialEq, Eq)]
+pub enum Failing {
+    /// One call says `BrokenPipe`.
+    ByError,
+    /// One call says `Interrupted`, which some writers' users try again.
+    ByInterruption,
+    /// One call takes nothing.
+    ByNothing,
+    /// Each flush fails.
+    AtFlush,
+}
+
+/// Takes at most so many bytes a call, and fails at one call, or at each flush.
+#[derive(Drop)]
+pub struct Taken {
+    /// What was taken.
+    pub bytes: Vec<u8>,
+    pub most: usize,
+    /// How often it was written to.
+    pub calls: u32,
+    /// The call that fails, counted from 1; none for 0.
+    pub failing: u32,
+    pub how: Failing,
+}
+
+impl Taken {
+    /// Nothing was taken yet.
+    pub fn new(alloc: Global, most: usize, failing: u32, how: Failing) -> Taken
+        ensures bytes { result.bytes.items ≡ [] }
+        ensures most { result.most ≡ most }
+        ensures calls { result.calls ≡ 0 }
+        ensures failing { result.failing ≡ failing }
+        ensures how { result.how ≡ how }
+    {
+        Taken {
+            bytes: Vec::new(alloc),
+            most,
+            calls: 0,
+            failing,
+            how,
+        }
+    }
+}
+
+impl Write for Taken {
+    fn write(&mut self, buf: &[u8]) -> io::Result<usize> {
+        self.calls = self.calls.wrapping_add(1);
+        if self.calls == self.failing {
+            match self.how {
+                Failing::ByError => return Err(io::Error::from(ErrorKind::BrokenPipe)),
+                Failing::ByInterruption => return Err(io::Error::from(ErrorKind::Interrupted)),
+                Failing::ByNothing => return Ok(0),
+                Failing::AtFlush => {}
+            }
+        }
+        let count = self.most.min(buf.len());
+        self.bytes.extend_from_slice(&buf[..count])?;
+        Ok(count)
+    }
+
+    fn flush(&mut self) -> io::Result<()> {
+        if self.how == Failing::AtFlush {
+            return Err(io::Error::from(ErrorKind::Interrupted));
+        }
+        Ok(())
+    }
+}

@@ -1,0 +1,32 @@
+-- What is said on standard error. Whoever listens may fail, so a note or a beginning of it is written, and nothing else.
+use Rattle.std.specs.Prelude.{ℕ, List, [], ◌∷◌, ◌++◌, codes, ⊤}
+use Rattle.ulfm_filters.specs.declared.command_line.Unread.{Unread}
+use Rattle.ulfm_filters.specs.declared.command_line.Unread.TheVariants.{Memory as OfMemory, NoText}
+use Rattle.ulfm_script.specs.declared.fault.RunFault.{RunFault}
+use Rattle.ulfm_script.specs.declared.fault.RunFault.TheVariants.{Line, Memory, Read, Write}
+use Rattle.ulfm_script.specs.Ends.{Known}
+use Rattle.ulfm_script.specs.Written.{WritesPart}
+
+-- a text as one line
+abbrev pub line : List ℕ → List ℕ
+line text = text ++ 10 ∷ []
+
+-- what is said of want of memory
+abbrev pub no_memory : List ℕ
+no_memory = line (codes "ulfm: out of memory")
+
+-- what is said of a bad command line
+abbrev pub bad_line : List ℕ
+bad_line = line (codes "ulfm: bad command line")
+
+-- what is said of a fault that no line of a script has
+abbrev pub TellsFault : RunFault → Known → Known → Type 0
+TellsFault (Line number kind) old new = ⊤
+TellsFault Memory old new = WritesPart old new no_memory
+TellsFault Read old new = WritesPart old new (line (codes "ulfm: read failed"))
+TellsFault Write old new = WritesPart old new (line (codes "ulfm: write failed"))
+
+-- what is said of words that couldn't be read
+abbrev pub TellsUnread : Unread → Known → Known → Type 0
+TellsUnread OfMemory old new = WritesPart old new no_memory
+TellsUnread NoText old new = WritesPart old new bad_line

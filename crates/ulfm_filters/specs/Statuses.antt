@@ -1,0 +1,61 @@
+-- How a filter did its work, behind an exit status.
+use Rattle.std.specs.Prelude.{◌≡◌, ◌⊎◌, ℕ, List, Result, Ok, Err}
+use Rattle.std.specs.Io.KnownBytes.{Appends, Keeps}
+use Rattle.ulfm_filters.specs.declared.filter.Filter.{Filter}
+use Rattle.ulfm_filters.specs.declared.filter.Filter.TheVariants.{Calls, Steps, Check}
+use Rattle.ulfm_script.specs.declared.fault.RunFault.{RunFault}
+use Rattle.ulfm_script.specs.declared.fault.RunFault.TheVariants.{Line, Memory, Read, Write}
+use Rattle.ulfm_script.specs.Ends.{Known}
+use Rattle.ulfm_script.specs.Runs.{Runs}
+use Rattle.ulfm_script.specs.Written.{WritesPart}
+use Rattle.ulfm_step_script.specs.StepScripts.{RunsSteps}
+use Rattle.ulfm_trace.specs.declared.verdict.{Verdict.{Verdict}, Verdict.TheVariants.{Legal, Illegal}}
+use Rattle.ulfm_trace.specs.{Checks.{CheckEnd, Checks}, Verdicts.{verdict_text}}
+
+-- the exit status of a run that ended so
+abbrev pub status_of : Result (Unit {0}) RunFault → ℕ
+status_of (Ok done) = 0
+status_of (Err (Line number kind)) = 1
+status_of (Err Memory) = 3
+status_of (Err Read) = 3
+status_of (Err Write) = 3
+
+-- a script was run, and the status says how it ended: what the input had and has left, what the output had and has
+abbrev pub RanWith : Known → Known → Known → Known → ℕ → Type 0
+RanWith known left old new status = (result : Result (Unit {0}) RunFault) × (status ≡ status_of result) × Runs known left old new result
+
+-- a script of single steps was run, and the status says how it ended
+abbrev pub StepsRanWith : Known → Known → Known → Known → ℕ → Type 0
+StepsRanWith known left old new status = (result : Result (Unit {0}) RunFault) × (status ≡ status_of result) × RunsSteps known left old new result
+
+-- a text was printed at this status, or at 3 a beginning of it, or all that couldn't be flushed
+abbrev pub PrintsAt : ℕ → List ℕ → Known → Known → ℕ → Type 0
+PrintsAt wanted text old new status = ((status ≡ wanted) × Appends old new text) ⊎ ((status ≡ 3) × WritesPart old new text)
+
+-- the same at 0
+abbrev pub Prints : List ℕ → Known → Known → ℕ → Type 0
+Prints text old new status = PrintsAt 0 text old new status
+
+-- the exit status of a verdict
+abbrev pub verdict_status : Verdict → ℕ
+verdict_status Legal = 0
+verdict_status (Illegal line why) = 1
+
+-- a verdict's line was printed at the verdict's status, or at 3 a beginning of it
+abbrev pub PrintsVerdict : Verdict → Known → Known → ℕ → Type 0
+PrintsVerdict verdict old new status = PrintsAt (verdict_status verdict) (verdict_text verdict) old new status
+
+-- what a check's end prints, and the status: where there is no verdict, nothing at 3
+abbrev pub PrintsEnd : CheckEnd → Known → Known → ℕ → Type 0
+PrintsEnd (Ok verdict) old new status = PrintsVerdict verdict old new status
+PrintsEnd (Err fault) old new status = (status ≡ 3) × Keeps old new
+
+-- a trace was judged, and the end was printed: what the input had and has left, what the output had and has
+abbrev pub CheckedWith : Known → Known → Known → Known → ℕ → Type 0
+CheckedWith known left old new status = (end : CheckEnd) × Checks known left end × PrintsEnd end old new status
+
+-- a filter did what it is for, and the status says how that ended
+abbrev pub Filtered : Filter → Known → Known → Known → Known → ℕ → Type 0
+Filtered Calls known left old new status = RanWith known left old new status
+Filtered Steps known left old new status = StepsRanWith known left old new status
+Filtered Check known left old new status = CheckedWith known left old new status

@@ -1,0 +1,33 @@
+-- What steps tell is what a line of a script asks for.
+use Rattle.std.proofs.Common.{◌≡◌, ℕ, ◌<◌, ◌≤◌, List, [], ◌++◌, Option, Some, None, refl, ap, sym, ◌∙◌, arith, append-nil, inl, inr}
+use Rattle.std.specs.Prelude.{◌⊎◌}
+use Rattle.ulfm_laws.specs.{Flags.{flag_meld}, declared.flag_and.FlagAnd.{FlagAnd}}
+use Rattle.ulfm_model.specs.declared.event.Caller.{Caller}
+use Rattle.ulfm_trace_model.specs.{Follows.{IsPiece}, Traces.{IsOpen, Told, said_by}}
+use Rattle.ulfm_lines.specs.declared.step_machine.{Reach.{Reach}, Taken.TheVariants.{Run}}
+use Rattle.ulfm_lines.specs.{LineTexts.{lines_text}, StepLines.{ScriptStep}, Stepped.{TellsStep, TraceState}, Walked.{IsCountOf, IsTaken, TellsSteps, events_in, to_the_end}}
+
+-- no more events than steps that may be made
+pub few_events : (piece : List (Told FlagAnd)) (count made most : ℕ) → events_in piece ≤ count → IsCountOf count made → made ≤ most → most < 4294967295
+    → events_in piece ≤ most
+few_events piece count made most few (inl is) within below = omega (arith, few, is.0, within)
+few_events piece count made most few (inr full) within below = absurd (omega (arith, full.0, within, below))
+
+-- what steps told, as a line asks for it
+pub taken_steps : (Stands : TraceState → Type 0) (now : TraceState) (r : ℕ) (reach : Reach) (made : ℕ) (old new : List ℕ)
+    (t : TellsSteps Stands now r reach made old new) → IsTaken now r reach t.piece
+taken_steps Stands now r reach made old new t = record {
+  by = t.by;
+  few = λ most is below. few_events t.piece t.count made most t.few t.counted (t.within most is) below;
+  ends = λ is was. t.ends was (over is (t.stops (ap (λ (x : Reach). x.name) is)));
+}
+  where
+    over : reach ≡ to_the_end → (¬ IsOpen (said_by now t.piece) (Caller.Rank r)) ⊎ (reach.most ≡ Some made) → ¬ IsOpen (said_by now t.piece) (Caller.Rank r)
+    over is (inl closed) = closed
+    over is (inr reached) = absurd (cc (ap (λ (x : Reach). x.most) is, reached))
+
+-- a line whose piece this is was run
+pub steps_tell : (Stands : TraceState → Type 0) (now : TraceState) (step : ScriptStep) (r : ℕ) (reach : Reach) (made : ℕ) (old new : List ℕ)
+    (t : TellsSteps Stands now r reach made old new) → IsPiece now step t.piece → TellsStep Stands now step Run old new
+steps_tell Stands now step r reach made old new t is =
+    (t.piece, said_by now t.piece, record { legal = t.legal; follows = (t.piece, [], sym (append-nil t.piece), is, refl); new_is = refl }, t.stands, t.told)

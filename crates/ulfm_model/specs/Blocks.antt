@@ -1,0 +1,82 @@
+-- The blocks of a round: which members they have, and what their words say.
+use Rattle.std.specs.Prelude.{◌≡◌, ◌⊎◌, ℕ, zero, suc, ◌-◌, ◌*◌, ◌<◌, ◌==◌, ◌&&◌, ◌||◌, Bool, true, false, if◌then◌else◌, nat_le, is_some}
+use Rattle.std.specs.Prelude.{List, [], ◌∷◌, length, take, drop}
+use Rattle.std.specs.List.{list_all}
+use Rattle.ulfm_laws.specs.declared.{summary.Body.{Body}, summary.Body.TheVariants.{Unit as Nothing, Flag as OfFlags, Ctx as OfIds, Clash}, summary.Summary.{Summary}}
+use Rattle.ulfm_model.specs.declared.{block.Block.{Block}, block.Side.{Side}, block.Side.TheVariants.{Front, Back}, limits.Limits.{Limits}}
+use Rattle.ulfm_model.specs.{History.{Exists, History, members, round_among, slot}, Laws.{all_of}, Words.{packed}}
+
+-- each of these members is settled, and this is all that they say together
+pub record IsSummed {P : Type 0} (meld : P → P → P) (h : History P) (c k : ℕ) (group : List ℕ) (all : Summary P) : Type 0 where
+  pub each : list_all (λ r. is_some (slot h c k r)) group ≡ true
+  pub is : all ≡ all_of meld (round_among group h c k)
+
+-- the next width, where there is one more member: twice as wide, if so many are there
+abbrev pub wider : ℕ → ℕ → ℕ
+wider n zero = 1
+wider n (suc w) = if nat_le (2 * suc w) n then 2 * suc w else suc w
+
+-- how many members a block of n has: the greatest power of two that is at most n
+abbrev pub width : ℕ → ℕ
+width zero = 0
+width (suc n) = wider (suc n) (width n)
+
+-- the members of a block: as many as the width, the first or the last
+abbrev pub block_of : Side → List ℕ → List ℕ
+block_of Front group = take (width (length group)) group
+block_of Back group = drop (length group - width (length group)) group
+
+-- a round of these members has this block: the front one if it has members, the back one if the front hasn't all
+abbrev pub IsSide : Side → List ℕ → Type 0
+IsSide Front group = 0 < length group
+IsSide Back group = width (length group) < length group
+
+-- a world of these limits has this block
+pub record IsBlockWithin (limits : Limits) (b : Block) : Type 0 where
+  pub comm : b.comm < limits.comms
+  pub round : b.round < limits.rounds
+
+-- what tells a body's kind in its word
+abbrev pub tag_of : {P : Type 0} → Body P → ℕ
+tag_of Nothing = 0
+tag_of (OfFlags flag) = 1
+tag_of (OfIds mask) = 2
+tag_of Clash = 3
+
+-- what a body has in its word beside
+abbrev pub payload_of : {P : Type 0} → (P → ℕ) → Body P → ℕ
+payload_of pack Nothing = 0
+payload_of pack (OfFlags flag) = pack flag
+payload_of pack (OfIds mask) = mask.bits
+payload_of pack Clash = 0
+
+-- the word of a summary, laid out as a slot's
+abbrev pub block_word : {P : Type 0} → (P → ℕ) → Summary P → ℕ
+block_word pack all = packed (tag_of all.body) all.known.count all.acked.count (payload_of pack all.body)
+
+-- the round has the block, each member of it is settled, and this is the word of what they say together
+pub record IsBlock {P : Type 0} (meld : P → P → P) (pack : P → ℕ) (ranks : ℕ) (h : History P) (b : Block) (word : ℕ) : Type 0 where
+  pub exists : Exists h b.comm
+  pub side : IsSide b.side (members ranks h b.comm)
+  pub all : Summary P
+  pub summed : IsSummed meld h b.comm b.round (block_of b.side (members ranks h b.comm)) all
+  pub word_is : word ≡ block_word pack all
+
+-- what may stand at a block: nothing, or the word of its settled members
+abbrev pub IsCached : {P : Type 0} → (P → P → P) → (P → ℕ) → ℕ → History P → Block → ℕ → Type 0
+IsCached meld pack ranks h b word = (word ≡ 0) ⊎ IsBlock meld pack ranks h b word
+
+abbrev pub same_side : Side → Side → Bool
+same_side Front Front = true
+same_side Back Back = true
+same_side Front Back = false
+same_side Back Front = false
+
+-- the two are one block
+abbrev pub same_block : Block → Block → Bool
+same_block a b = (a.comm == b.comm) && (a.round == b.round) && same_side a.side b.side
+
+-- a block is among these
+abbrev pub has_block : List Block → Block → Bool
+has_block [] b = false
+has_block (x ∷ xs) b = same_block x b || has_block xs b

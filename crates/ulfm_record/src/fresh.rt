@@ -1,0 +1,50 @@
+//! Records of ranks to which nothing has happened.
+ghost use Rattle.std.specs.Prelude.{◌≡◌, IfOk, map};
+ghost use Rattle.ulfm_model.specs.History.{first_ranks};
+ghost use Rattle.ulfm_model.specs.Records.{new_record};
+ghost use Rattle.ulfm_record.specs.Kept.{record_of};
+
+use crate::held::HeldComm;
+use crate::record::RankRecord;
+use std::alloc::{AllocError, Allocator};
+use ulfm_history::groups::first_ranks;
+use ulfm_model::limits::Limits;
+
+/// A new rank's record: it holds the world's communicator alone. Only memory can be refused.
+///
+/// In a world of three ranks rank 2 holds communicator 0, whose members are 0, 1 and 2, and has seen no failure.
+pub fn new_record<A: Allocator + Copy + Drop>(
+    alloc: A,
+    limits: Limits,
+    number: u16,
+) -> Result<RankRecord<A>, AllocError>
+    ensures { IfOk result (λ own. record_of limits own ≡ new_record limits number) }
+{
+    let group = first_ranks(alloc, limits.ranks)?;
+    let mut held = Vec::new(alloc);
+    held.push(HeldComm::new(0, 0, group))?;
+    let seen = Vec::new(alloc);
+    Ok(RankRecord {
+        number,
+        held,
+        seen,
+        refused: false,
+    })
+}
+
+/// A new record of each rank of a world, rank after rank. Only memory can be refused.
+///
+/// A world of three ranks has three, of the numbers 0, 1 and 2.
+pub fn new_records<A: Allocator + Copy + Drop>(
+    alloc: A,
+    limits: Limits,
+) -> Result<Vec<RankRecord<A>, A>, AllocError>
+    ensures { IfOk result (λ records. map (record_of limits) records.items ≡ map (new_record limits) (first_ranks limits.ranks)) }
+{
+    let mut records = Vec::new(alloc);
+    for number in 0..limits.ranks {
+        let record = new_record(alloc, limits, number)?;
+        records.push(record)?;
+    }
+    Ok(records)
+}

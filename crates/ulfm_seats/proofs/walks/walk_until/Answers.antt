@@ -1,0 +1,33 @@
+use Rattle.std.proofs.Common.{◌+◌, ◌∙◌, arith, inl, refl, sym}
+use Rattle.ulfm_words.specs.Pass.{plain_name}
+use Rattle.ulfm_seats.proofs.Walking.{counts_on, goes_nearer, still_within, walks_none, walks_then}
+use Rattle.ulfm_seats.proofs.walks.walk_until.Goals as goal
+
+pub steps-init : goal.steps-init
+steps-init g c = (
+  c.requires.of,
+  0,
+  inl (refl, omega arith),
+  λ most is. omega arith,
+  omega arith,
+  walks_none (plain_name c.args.world.now.words.limits) c.args.pass.now c.args.seat.now c.args.teller.now.text.items,
+)
+
+pub walk_one-requires-clause-sits : goal.walk_one-requires-clause-sits
+walk_one-requires-clause-sits g c = let w = c.steps.invariant.5 in (_, (w.goes c.requires.sits.0 c.requires.sits.1).sits)
+
+pub steps-preserved : goal.steps-preserved
+steps-preserved g c =
+    let was = c.steps.invariant in (
+      c.walk_one.ensures.of,
+      was.1 + 1,
+      counts_on was.1 c.steps.made c.count_up-made.result was.2 c.count_up-made.ensures,
+      still_within c.args.reach c.steps.made c.count_up-made.result was.3 (λ most. c.is_reached.ensures.fewer most c.if-is_reached.false) c.count_up-made.ensures,
+      omega (arith, c.in_ok-walk_one.ensures.step, was.4),
+      walks_then (plain_name c.args.world.now.words.limits) c.args.pass.now c.args.seat.now c.args.teller.now.text.items c.steps.pass c.steps.seat c.steps.teller.text.items c.walk_one.new.pass c.walk_one.new.seat
+          c.walk_one.new.teller.text.items was.1 1 was.5 (sym c.is_open.ensures ∙ c.steps-test.true) c.in_ok-walk_one.ensures.walks,
+    )
+
+pub steps-smaller : goal.steps-smaller
+steps-smaller g c =
+    goes_nearer c.args.world.now.words.limits c.steps.seat.own c.steps.seat.call c.walk_one.new.seat.own c.walk_one.new.seat.call (sym c.is_open.ensures ∙ c.steps-test.true) c.in_ok-walk_one.ensures.nearer

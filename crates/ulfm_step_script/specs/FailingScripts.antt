@@ -1,0 +1,142 @@
+-- What running a script of single steps writes where a rank is declared failed in between: the text of a legal trace that follows the script
+-- but for that declaration.
+use Rattle.std.specs.Prelude.{◌≡◌, ◌⊎◌, ℕ, ◌+◌, ◌-◌, ◌≤◌, ◌<◌, Bool, true, false, List, [], ◌∷◌, ◌++◌, length, min, option_map, Option, Some, None, Result, Ok, Err}
+use Rattle.ulfm_laws.specs.{Flags.{flag_meld}, declared.flag_and.FlagAnd.{FlagAnd}}
+use Rattle.ulfm_model.specs.declared.{call.Call.{Call}, event.Caller.{Caller}, limits.Limits.{Limits}}
+use Rattle.ulfm_model.specs.Answers.{traits_of}
+use Rattle.ulfm_script.specs.declared.header_kind.HeaderKind.TheVariants.{Steps}
+use Rattle.ulfm_script.specs.declared.line_kind.LineKind.{LineKind}
+use Rattle.ulfm_script.specs.declared.line_kind.LineKind.TheVariants.{Open}
+use Rattle.ulfm_script.specs.{Ends.{HasRunAll, Known, Stage}, Scripts.{Language}, Written.{Begins}}
+use Rattle.std.specs.Io.KnownBytes.{Appends}
+use Rattle.ulfm_trace_model.specs.declared.{line.Line.{Line}, step_line.StepLine.TheVariants.{Called, Failed}}
+use Rattle.ulfm_trace_model.specs.{Follows.{Follows, IsPiece}, Traces.{IsLegalTrace, IsOpen, Told, nothing, said_by}}
+use Rattle.ulfm_lines.specs.{LineTexts.{lines_text}, StepLines.{ScriptStep, step_line_of}, Stepped.{IsOpenCall, TraceState}, Walked.{IsTaken}}
+use Rattle.ulfm_lines.specs.declared.step_machine.{Reach.{Reach}, Taken.{Taken}, Taken.TheVariants.{Open as IsOpenStill, Run}}
+use Rattle.ulfm_step_script.specs.StepScripts.{trace_text}
+use Rattle.ulfm_step_script.specs.declared.plan.Failing.{Failing}
+
+-- lines of a trace
+abbrev pub Lines : Type 0
+Lines = List (Told FlagAnd)
+
+-- how many events of ranks a line tells
+abbrev pub ranks_event : Line FlagAnd → ℕ
+ranks_event (Line.Happened (Caller.Rank r) (Some event)) = 1
+ranks_event _ = 0
+
+-- how many events of ranks lines tell
+abbrev pub ranks_events : Lines → ℕ
+ranks_events [] = 0
+ranks_events (told ∷ rest) = ranks_event told.line + ranks_events rest
+
+-- the lines of a whole declaration of rank r, as a line of a script gives them, or none
+abbrev pub IsDeclaration : Limits → ℕ → Lines → Type 0
+IsDeclaration limits r lines = (lines ≡ []) ⊎ IsPiece (nothing limits) (Failed r) lines
+
+-- a trace, and what is left of it without a declaration of rank r, if there is one
+pub record LeavesOut (limits : Limits) (r : ℕ) (trace rest : Lines) : Type 0 where
+  pub before : Lines
+  pub declaration : Lines
+  pub behind : Lines
+  pub trace_is : trace ≡ before ++ (declaration ++ behind)
+  pub rest_is : rest ≡ before ++ behind
+  pub declares : IsDeclaration limits r declaration
+
+-- The text of a legal trace that follows these lines of a script, but for one declaration of rank r somewhere in it, or none. It has no more
+-- events of ranks than this number.
+pub record FailsAfter (r number : ℕ) (limits : Limits) (lines : List ScriptStep) (out : List ℕ) : Type 0 where
+  pub trace : Lines
+  pub rest : Lines
+  pub legal : IsLegalTrace flag_meld limits trace
+  pub left_out : LeavesOut limits r trace rest
+  pub follows : Follows (nothing limits) lines rest
+  pub counted : ranks_events trace ≤ number
+  pub out_is : out ≡ trace_text limits trace
+
+-- the same for some rank
+abbrev pub FailsSomewhere : Limits → List ScriptStep → List ℕ → Type 0
+FailsSomewhere limits lines out = (r number : ℕ) × FailsAfter r number limits lines out
+
+-- the line of this number begins a call of a rank that has one under way in the trace of the lines before it, whose text this is
+pub record FindsOpenBehind (limits : Limits) (lines : List ScriptStep) (number : ℕ) (kind : LineKind) (out : List ℕ) : Type 0 where
+  pub first : List ScriptStep
+  pub asked : Call FlagAnd
+  pub behind : List ScriptStep
+  pub kind_is : kind ≡ Open
+  pub lines_are : lines ≡ first ++ Called asked ∷ behind
+  pub number_is : number ≡ length first + 2
+  pub r : ℕ
+  pub made : ℕ
+  pub fails : FailsAfter r made limits first out
+  pub is_open : IsOpen (said_by (nothing limits) fails.trace) (traits_of asked).by
+
+-- scripts of single steps, with a rank that is declared in between
+abbrev pub failing_scripts : Language
+failing_scripts = record { Item = ScriptStep; kind = Steps; read = step_line_of; Prints = FailsSomewhere; Finds = FindsOpenBehind }
+
+-- The script of the reader's whole text was run, which has no fault, and rank r was declared in between, or the script was too short: what the
+-- reader had, what the writer had and has, and a number that is no less than that of the events of ranks.
+abbrev pub RunsFailing : ℕ → ℕ → Known → Known → Known → Type 0
+RunsFailing r number known old new = HasRunAll failing_scripts (FailsAfter r number) known (Appends old new)
+
+-- Lines that the machine stands for, and what is left of them without the declaration of rank r, if it isn't still to come. The steps that were
+-- counted are no fewer than the events of ranks.
+pub record StandsAt (Says : TraceState → Type 0) (limits : Limits) (r : ℕ) (waits : Bool) (made : ℕ) (trace rest : Lines) : Type 0 where
+  pub legal : IsLegalTrace flag_meld limits trace
+  pub left_out : LeavesOut limits r trace rest
+  pub same : waits ≡ true → trace ≡ rest
+  pub counted : ranks_events trace ≤ made
+  pub says : Says (said_by (nothing limits) trace)
+
+-- the lines of a script were run, and this was told
+pub record HasFailed (plan : Failing) (own : Failing) (Says : TraceState → Type 0) (waits : Bool) (made : ℕ) (limits : Limits) (lines : List ScriptStep)
+    (out : List ℕ) : Type 0 where
+  pub plan_is : own ≡ plan
+  pub trace : Lines
+  pub rest : Lines
+  pub stands : StandsAt Says limits own.rank waits made trace rest
+  pub follows : Follows (nothing limits) lines rest
+  pub out_is : out ≡ trace_text limits trace
+
+-- at most so many steps, and no more than before
+abbrev pub fewer : ℕ → Option ℕ → ℕ
+fewer left None = left
+fewer left (Some most) = min most left
+
+abbrev pub up_to : ℕ → Reach → Reach
+up_to left reach = record { most = Some (fewer left reach.most); name = reach.name }
+
+-- what is left of a reach behind so many steps
+abbrev pub behind_of : ℕ → Reach → Reach
+behind_of made reach = record { most = option_map (λ most. most - made) reach.most; name = reach.name }
+
+-- the declaration of rank r was due, and was made and told; or it wasn't due
+abbrev pub Declares : (TraceState → Type 0) → Limits → ℕ → Bool → ℕ → Lines → Lines → Bool → List ℕ → List ℕ → Type 0
+Declares Says limits r waits made trace rest true old new =
+    (declaration : Lines) × IsDeclaration limits r declaration × StandsAt Says limits r waits made (trace ++ declaration) rest
+    × (new ≡ old ++ lines_text declaration)
+Declares Says limits r waits made trace rest false old new = StandsAt Says limits r waits made trace rest × (new ≡ old)
+
+-- Steps of rank q's call were told as far as they are taken, with the declaration, if it was due in between.
+pub record TellsWalk (Says : TraceState → Type 0) (limits : Limits) (r : ℕ) (waits : Bool) (made : ℕ) (trace rest : Lines) (q : ℕ) (reach : Reach)
+    (old new : List ℕ) : Type 0 where
+  pub whole : Lines
+  pub piece : Lines
+  pub stands : StandsAt Says limits r waits made (trace ++ whole) (rest ++ piece)
+  pub taken : IsTaken (said_by (nothing limits) trace) q reach piece
+  pub told : new ≡ old ++ lines_text whole
+
+-- a line of a script was run and told, with the declaration, if it was due in between
+pub record RunsStep (Says : TraceState → Type 0) (limits : Limits) (r : ℕ) (waits : Bool) (made : ℕ) (trace rest : Lines) (step : ScriptStep)
+    (old new : List ℕ) : Type 0 where
+  pub whole : Lines
+  pub piece : Lines
+  pub stands : StandsAt Says limits r waits made (trace ++ whole) (rest ++ piece)
+  pub is_piece : IsPiece (said_by (nothing limits) trace) step piece
+  pub told : new ≡ old ++ lines_text whole
+
+-- a line was run; or its call is of a rank that has one under way, and nothing was told
+abbrev pub TakesStep : (TraceState → Type 0) → Limits → ℕ → Bool → ℕ → Lines → Lines → ScriptStep → Taken → List ℕ → List ℕ → Type 0
+TakesStep Says limits r waits made trace rest step Run old new = RunsStep Says limits r waits made trace rest step old new
+TakesStep Says limits r waits made trace rest step IsOpenStill old new = IsOpenCall (said_by (nothing limits) trace) step × (new ≡ old)

@@ -1,0 +1,118 @@
+-- What is known of a round's blocks, and what the machines that load and read them ask for and tell.
+use Rattle.std.specs.Prelude.{◌≡◌, ℕ, ◌+◌, ◌-◌, ◌≤◌, Bool, true, false, List, Option, Some, None, is_some, length, slice_index, take, if◌then◌else◌, nat_lt}
+use Rattle.ulfm_laws.specs.{declared.summary.Summary.{Summary}, Summaries.{summary_unit}}
+use Rattle.ulfm_model.specs.declared.{block.Block.{Block}, block.Side.{Side}, block.Side.TheVariants.{Front, Back}, place.Place.TheVariants.{Slot as SlotAt}}
+use Rattle.ulfm_model.specs.{Blocks.{IsSide, IsSummed, block_of, has_block, width}, History.{History}}
+use Rattle.ulfm_words.specs.{Steps.{Sight}, declared.{step.Site.{Site}}}
+use Rattle.ulfm_steps.specs.{Rounds.{IsMissing}, Turns.{TakesAt, left_without}}
+use Rattle.ulfm_steps.specs.declared.{peek.Peek.{Peek}, read_blocks.ReadBlocks.{ReadBlocks}, read_blocks.Found.{Found}, read_blocks.Found.TheVariants.{Missing, All}}
+use Rattle.ulfm_steps.specs.declared.round_blocks.RoundBlocks.{RoundBlocks}
+
+-- a block of a round
+abbrev pub block_at : ℕ → ℕ → Side → Block
+block_at c k side = record { comm = c; round = k; side = side }
+
+-- nothing is known of these members, or what they say, each of whom is settled
+abbrev pub Tells : {P : Type 0} → (P → P → P) → History P → ℕ → ℕ → List ℕ → Option (Summary P) → Type 0
+Tells meld h c k group None = Unit {0}
+Tells meld h c k group (Some all) = IsSummed meld h c k group all
+
+-- .. of the members of both blocks of a round
+pub record AreOf {P : Type 0} (meld : P → P → P) (h : History P) (c k : ℕ) (group : List ℕ) (blocks : RoundBlocks P) : Type 0 where
+  pub front : Tells meld h c k (block_of Front group) blocks.front
+  pub back : Tells meld h c k (block_of Back group) blocks.back
+
+-- what is known of a block
+abbrev pub said_at : {P : Type 0} → RoundBlocks P → Side → Option (Summary P)
+said_at blocks Front = blocks.front
+said_at blocks Back = blocks.back
+
+-- the front block doesn't have all of so many members, so that there is a back one
+abbrev pub has_back : ℕ → Bool
+has_back n = nat_lt (width n) n
+
+-- all blocks of a round of so many members are known
+abbrev pub is_whole : {P : Type 0} → RoundBlocks P → ℕ → Bool
+is_whole blocks n = if has_back n then (if is_some blocks.front then is_some blocks.back else false) else is_some blocks.front
+
+-- how many loads a peek may still make, from this block on
+abbrev pub peeks_left : ℕ → Side → ℕ
+peeks_left n Front = if has_back n then 2 else 1
+peeks_left n Back = 1
+
+-- .. none at its end
+abbrev pub peeks_after : Bool → ℕ → Side → ℕ
+peeks_after true n side = 0
+peeks_after false n side = peeks_left n side
+
+-- the loads of a peek, the first of them of the next block
+abbrev pub PeekTakes : {P : Type 0} → Bool → ℕ → Peek P → Bool → Peek P → Sight P → Sight P → Type 0
+PeekTakes whole n old done new = TakesAt whole (Site.Block (block_at old.comm old.round old.side)) true (peeks_left n old.side) (peeks_after done n new.side)
+
+-- a block that was set already was found set
+abbrev pub FindsSet : {P : Type 0} → List Block → Peek P → Side → Type 0
+FindsSet cached peek side = has_block cached (block_at peek.comm peek.round side) ≡ true → is_some (said_at peek.blocks side) ≡ true
+
+-- where a block's members begin among those of its round
+abbrev pub first_of : Side → ℕ → ℕ
+first_of Front n = 0
+first_of Back n = n - width n
+
+-- the next member of a block
+abbrev pub next_of : {P : Type 0} → List ℕ → ReadBlocks P → ℕ
+next_of group reading = slice_index group (first_of reading.side (length group) + reading.read)
+
+-- how many steps it costs to read a block that isn't known: a load for each member, and its cache
+abbrev pub cost_of : {P : Type 0} → Option (Summary P) → ℕ → ℕ
+cost_of None n = width n + 1
+cost_of (Some all) n = 0
+
+-- .. and those that come behind this one
+abbrev pub cost_behind : {P : Type 0} → RoundBlocks P → Side → ℕ → ℕ
+cost_behind blocks Front n = if has_back n then cost_of blocks.back n else 0
+cost_behind blocks Back n = 0
+
+-- how many it costs to read those blocks that aren't known
+abbrev pub unread_cost : {P : Type 0} → RoundBlocks P → ℕ → ℕ
+unread_cost blocks n = cost_of blocks.front n + (if has_back n then cost_of blocks.back n else 0)
+
+-- .. where none is
+abbrev pub blocks_cost : ℕ → ℕ
+blocks_cost n = width n + 1 + (if has_back n then width n + 1 else 0)
+
+-- how many steps a reading of blocks may still make
+abbrev pub blocks_left : {P : Type 0} → ℕ → ReadBlocks P → ℕ
+blocks_left n reading = width n - reading.read + 1 + cost_behind reading.blocks reading.side n
+
+-- A reading stands at a block that isn't known, behind the members of it that were read. At a back block the front one is known.
+pub record AtBlock {P : Type 0} (meld : P → P → P) (h : History P) (group : List ℕ) (reading : ReadBlocks P) : Type 0 where
+  pub are : AreOf meld h reading.comm reading.round group reading.blocks
+  pub unknown : said_at reading.blocks reading.side ≡ None
+  pub side : IsSide reading.side group
+  pub front : reading.side ≡ Back → is_some reading.blocks.front ≡ true
+  pub wide : reading.width ≡ width (length group)
+  pub within : reading.read ≤ width (length group)
+  pub read : IsSummed meld h reading.comm reading.round (take reading.read (block_of reading.side group)) reading.all
+
+-- it stands at a block; or a member isn't settled, as the last step found; or this is what all members say, each of whom is settled
+abbrev pub BlocksTell : {P : Type 0} → (P → P → P) → Sight P → List ℕ → ReadBlocks P → Option (Found P) → Type 0
+BlocksTell meld sight group reading None = AtBlock meld sight.seen group reading
+BlocksTell meld sight group reading (Some Missing) = IsMissing sight.last sight.seen reading.comm reading.round group
+BlocksTell meld sight group reading (Some (All all)) = IsSummed meld sight.seen reading.comm reading.round group all
+
+-- where a reading's next step is: at the next member's place, or, once all of the block's are read, at the block
+abbrev pub site_of : {P : Type 0} → List ℕ → ReadBlocks P → Site
+site_of group reading =
+    if nat_lt reading.read reading.width then Site.Place (SlotAt reading.comm reading.round (next_of group reading))
+    else Site.Block (block_at reading.comm reading.round reading.side)
+
+-- its steps, the first of them a load there, or the block's cache
+abbrev pub BlocksTake : {P : Type 0} → Bool → List ℕ → ReadBlocks P → Option (Found P) → ReadBlocks P → Sight P → Sight P → Type 0
+BlocksTake whole group old found new =
+    TakesAt whole (site_of group old) (nat_lt old.read old.width) (blocks_left (length group) old)
+    (left_without found (blocks_left (length group) new))
+
+-- a reading that has read nothing yet: at the front block, or, where that is known, at the back one
+abbrev pub starts_at : {P : Type 0} → ℕ → ℕ → RoundBlocks P → ℕ → ReadBlocks P
+starts_at c k blocks n =
+    record { comm = c; round = k; side = if is_some blocks.front then Back else Front; width = width n; read = 0; all = summary_unit; blocks = blocks }
