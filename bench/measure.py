@@ -1,7 +1,7 @@
 #!/usr/bin/env python3
 """Times the built program on call scripts of 25,000, 50,000 and 100,000 lines, and as ratios to other programs.
 
-    bench/measure.py [--native FILE.rs [--cfg NAME] | --program PATH] [--kinds KIND,..] [--sizes LINES,..] [--repeats N] [--instructions]
+    bench/measure.py [--native FILE.rs [--cfg NAME].. | --program PATH] [--kinds KIND,..] [--sizes LINES,..] [--repeats N] [--instructions]
 
 Each kind of script is made here. A native program, if one is given as a Rust source that does the same work, is built in a
 temporary folder and runs in turn with ours, so that the ratio is of one run; its output must be the same bytes. With --program
@@ -142,11 +142,11 @@ def measure(kind, size, commands, repeats, folder, cost):
     return [statistics.median(each) for each in costs], statistics.median(map(lambda a, b: a / b, costs[0], costs[-1]))
 
 
-def build(source, cfg, folder):
+def build(source, settings, folder):
     if not shutil.which("rustc"):
         sys.exit("the native program is built by rustc, which isn't on the PATH")
     program = os.path.join(folder, "native")
-    chosen = ["--cfg", cfg] if cfg else []
+    chosen = [word for name in settings for word in ("--cfg", name)]
     subprocess.run(["rustc", "-O", "--edition", "2021", *chosen, source, "-o", program], check=True, stderr=subprocess.DEVNULL)
     return program
 
@@ -154,7 +154,7 @@ def build(source, cfg, folder):
 def main():
     words = argparse.ArgumentParser(description=__doc__, formatter_class=argparse.RawDescriptionHelpFormatter)
     words.add_argument("--native", metavar="FILE.rs", help="a native program of the same work")
-    words.add_argument("--cfg", metavar="NAME", help="what the native program is built with")
+    words.add_argument("--cfg", metavar="NAME", action="append", default=[], help="a setting that the native program is built with; may be given again")
     words.add_argument("--program", metavar="PATH", help="another program of the same work, built already")
     words.add_argument("--instructions", action="store_true", help="count instructions by valgrind, once, in place of times")
     words.add_argument("--kinds", default=",".join(KINDS))

@@ -56,6 +56,8 @@ BODY = re.compile(r"^[ \t]*(?:\{|(?:pub|fn|const|unsafe|\)).*\{)$", re.M)
 USES = re.compile(r"(?:use [^;]*;\s*)+")
 IMPL = re.compile(r"^impl\b(.*)$", re.M)
 TOLD = re.compile(r"^fn (\S+): (.*)$", re.M)
+COMMENT = re.compile(r"^[ \t]*//.*$", re.M)
+CALL = re.compile(r"(?:\b(\w+)(?:<[^()]*>)?(\.|::))?\b(\w+)(?:::<[^()]*>)?\(")
 LOST = re.compile(r"no proof\b|not proved\b")
 BLAMED = re.compile(r"\bit (?:calls|waits for)\b|\bwhich (?:is|are) not proved\b")
 
@@ -126,6 +128,57 @@ def type_of(head):
     return "".join(reversed(names))
 
 
+class Calls:
+    """Which functions of a crate come to which others by their calls, as the text names them. A method of `self`, or of a type or a module that is named,
+    is that one's; one of another value stands for each method of this name, and a name alone for each function of this name outside types."""
+
+    def __init__(self, crate):
+        self.called, self.named, bodies = {}, {}, {}
+        for folder, _, files in os.walk(f"{crate.folder}/src"):
+            for file in [it for it in files if it.endswith(".rt")]:
+                with open(f"{folder}/{file}", encoding="utf-8") as it:
+                    self.read(it.read(), os.path.relpath(f"{folder}/{file}", crate.folder), crate.name, bodies)
+        for function in bodies:
+            self.named.setdefault(function.rsplit("::", 1)[1], set()).add(function)
+        for function, body in bodies.items():
+            owner = function.rsplit("::", 1)[0]
+            self.called[function] = {it for call in CALL.findall(body) for it in self.meant(owner, *call)}
+
+    @staticmethod
+    def read(text, path, crate, bodies):
+        """Adds the functions of a file, each with its body. Those of one name, as of two traits of one type, count as one."""
+        text = COMMENT.sub("", text)
+        heads = list(FUNCTION.finditer(text))
+        for head, after in zip(heads, [*heads[1:], None]):
+            body = BODY.search(text, head.start(), after.start() if after else len(text))
+            for function in code_at(text, body.end(), path, crate) - {None} if body else ():
+                bodies[function] = bodies.get(function, "") + text[body.end() : after.start() if after else len(text)]
+
+    def meant(self, owner, of, mark, name):
+        """The functions that a call may mean."""
+        named, of = self.named.get(name, set()), owner.rsplit("::", 1)[1] if of in ("self", "Self") else of
+        is_value = of and of == of.lower() and mark == "."
+        return {it for it in named if (is_method(it) if is_value else it.split("::")[-2] == of if of else not is_method(it))}
+
+    def from_here(self, function):
+        """All functions that its calls come to."""
+        found, left = set(), [function]
+        while left:
+            for it in self.called.get(left.pop(), set()) - found:
+                found.add(it)
+                left.append(it)
+        return found
+
+    def are_apart(self, one, other):
+        """Whether neither comes to the other."""
+        return other not in self.from_here(one) and one not in self.from_here(other)
+
+
+def is_method(function):
+    """Whether a function is a type's."""
+    return function.split("::")[-2][:1].isupper()
+
+
 def said_of(function, told):
     """What the prover says of a function and of the closures in it, or nothing where it tells of none or of two such functions. It names a
     method by the module of its type, wherever the method stands."""
@@ -146,14 +199,16 @@ def judged(group, output):
     return refused, passed
 
 
-def chosen(edits, crate):
-    """Edits of different functions that can be applied together, as many as there are, and the texts that they make."""
-    group, functions, made = [], set(), {}
+def chosen(edits, crate, calls):
+    """Edits of different functions that can be applied together, as many as there are, and the texts that they make. No function of them comes to
+    another by its calls, so that none is blamed on another."""
+    group, made = [], {}
     for edit in edits:
+        if any(edit.function == it.function or not calls.are_apart(edit.function, it.function) for it in group):
+            continue
         texts, why = rt.edited("\n".join(it.text for it in [*group, edit]), crate.folder)
-        if edit.function not in functions and not why:
+        if not why:
             group.append(edit)
-            functions.add(edit.function)
             made = texts
     return group, made
 
@@ -168,11 +223,12 @@ def checked(crate, texts, flags, kept):
 
 def in_groups(crate, edits, flags, kept):
     """The edits that are refused in some group, each with what was said, and how many runs of the prover that took."""
-    pools, refused, runs = [[it for it in edits if it.function]], {}, 0
+    pools, refused, runs, calls = [[it for it in edits if it.function]], {}, 0, Calls(crate)
     while pools:
         left = pools.pop()
-        group, texts = chosen(left, crate)
+        group, texts = chosen(left, crate, calls)
         if len(group) < 2:
+            pools += [left[1:]] if left[1:] else []
             continue
         now, passed = judged(group, checked(crate, texts, flags, kept))
         runs += 1

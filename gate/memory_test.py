@@ -117,13 +117,14 @@ def refused(library, words, name):
             text, output = it.read(), of.read()
     whole = (output, b"", 0)
     for number in range(1, 10000):
-        (alone, _), (all_behind, was_asked) = (ran(library, words, text, number, last) for last in (number, 1 << 60))
-        if not was_asked:
-            return None if alone == all_behind == whole and number > 1 else f"ends with none refused as {alone} and {all_behind}"
-        if alone != whole and not is_refused(alone, words, output):
-            return f"ends with allocation {number} refused as {alone}"
-        if not is_refused(all_behind, words, output):
-            return f"ends with allocation {number} and all behind it refused as {all_behind}"
+        # this one alone, and it with all behind it; how many a race asks for hangs on its schedule, so each run tells for itself
+        runs = [(what, *ran(library, words, text, number, last)) for what, last in (("", number), (" and all behind it", 1 << 60))]
+        for what, said, was_asked in runs:
+            is_right = said == whole and not (what and was_asked) or was_asked and is_refused(said, words, output)
+            if not is_right:
+                return f"ends with allocation {number}{what} {'refused' if was_asked else 'not asked for'} as {said}"
+        if not any(was_asked for _, _, was_asked in runs):
+            return None if number > 1 else "asks for no memory"
     return "is refused memory each time"
 
 

@@ -2,6 +2,7 @@
 use crate::program::answer;
 use linked_list_allocator::LocalHeap;
 use std::alloc::Global;
+use std::io::{Read, Write};
 use std::sync::Wait;
 use std::test::Fail;
 use std::thread::Threads;
@@ -186,6 +187,46 @@ const SCRIPT: &str =
 const OUTPUT: &str =
     "failed none\ndeclared\nstarted\nstarted\nfailed 2\nacked 1\nagreed 0000000c failed 1 raised\nagreed 0000000c failed 1 raised\nrefused 1 self-failed\nstarted\npending\nstarted\nshrunk 1 context 1 members 0 1\nshrunk 1 context 1 members 0 1\nfreed\n";
 
+/// What the program tells on standard error by these words, over this input and this output, and its status.
+fn told<T: Threads + Wait + Sync, R: Read, W: Write>(
+    rt: &T,
+    alloc: Global,
+    words: &[&str],
+    input: &mut R,
+    output: &mut W,
+) -> (Vec<u8>, u8) {
+    let mut errors = Vec::new(alloc);
+    let status = answer(rt, alloc, alloc, words, input, output, &mut errors, false);
+    (errors, status)
+}
+
+/// What the program gives for a text by these words: its output, what it tells on standard error, and its status.
+fn answered<T: Threads + Wait + Sync>(
+    rt: &T,
+    alloc: Global,
+    words: &[&str],
+    text: &[u8],
+) -> (Vec<u8>, Vec<u8>, u8) {
+    let mut input = text;
+    let mut output = Vec::new(alloc);
+    let (errors, status) = told(rt, alloc, words, &mut input, &mut output);
+    (output, errors, status)
+}
+
+/// The program gives this for a text by these words.
+fn require_answer<T: Threads + Wait + Sync>(
+    rt: &T,
+    alloc: Global,
+    words: &[&str],
+    text: &[u8],
+    wanted: (&[u8], &[u8], u8),
+) -> Result<(), Fail> {
+    let (output, errors, status) = answered(rt, alloc, words, text);
+    require(output.as_slice() == wanted.0)?;
+    require(errors.as_slice() == wanted.1)?;
+    require(status == wanted.2)
+}
+
 /// Each row through the program, by these words.
 fn run_rows<T: Threads + Wait + Sync>(
     rt: &T,
@@ -194,19 +235,7 @@ fn run_rows<T: Threads + Wait + Sync>(
     rows: &[Row],
 ) -> Result<(), Fail> {
     for row in rows {
-        let mut input = row.script.as_bytes();
-        let mut output = Vec::new(alloc);
-        let mut errors = Vec::new(alloc);
-        let status = answer(
-            rt,
-            alloc,
-            alloc,
-            words,
-            &mut input,
-            &mut output,
-            &mut errors,
-            false,
-        );
+        let (output, errors, status) = answered(rt, alloc, words, row.script.as_bytes());
         let is_wanted = output.as_slice() == row.output.as_bytes()
             && errors.as_slice() == row.errors.as_bytes()
             && status == row.status;
@@ -243,25 +272,15 @@ fn command_lines(rt: HostRuntime) -> Result<(), Fail> {
     for (words, wanted) in rows {
         let mut input = SCRIPT.as_bytes();
         let mut output = Vec::new(rt.alloc());
-        let mut errors = Vec::new(rt.alloc());
-        let status = answer(
-            &rt,
-            rt.alloc(),
-            rt.alloc(),
-            words,
-            &mut input,
-            &mut output,
-            &mut errors,
-            false,
-        );
+        let (errors, status) = told(&rt, rt.alloc(), words, &mut input, &mut output);
         assert_eq!(rt; status, wanted);
         assert_eq!(rt; input.len(), SCRIPT.len());
-        let told: &[u8] = if wanted == 2 {
+        let line: &[u8] = if wanted == 2 {
             b"ulfm: bad command line\n"
         } else {
             b""
         };
-        assert_eq!(rt; errors.as_slice(), told);
+        assert_eq!(rt; errors.as_slice(), line);
         assert_eq!(rt; output.is_empty(), wanted == 2);
         let text = str::from_utf8(&output).unwrap_or("");
         assert_eq!(rt; text.contains("ulfm: bad command line"), wanted == 0);
@@ -274,22 +293,8 @@ fn command_lines(rt: HostRuntime) -> Result<(), Fail> {
 #[test]
 fn version_is_told(rt: HostRuntime) -> Result<(), Fail> {
     for word in ["--version", "-V"] {
-        let mut input = SCRIPT.as_bytes();
-        let mut output = Vec::new(rt.alloc());
-        let mut errors = Vec::new(rt.alloc());
-        let status = answer(
-            &rt,
-            rt.alloc(),
-            rt.alloc(),
-            &["ulfm", word],
-            &mut input,
-            &mut output,
-            &mut errors,
-            false,
-        );
-        assert_eq!(rt; output.as_slice(), b"ulfm 0.1.0\n".as_slice());
-        assert_eq!(rt; errors.as_slice(), b"".as_slice());
-        assert_eq!(rt; status, 0);
+        let wanted = (b"ulfm 0.1.0\n".as_slice(), b"".as_slice(), 0);
+        require_answer(&rt, rt.alloc(), &["ulfm", word], SCRIPT.as_bytes(), wanted)?;
     }
     Ok(())
 }
@@ -334,10 +339,10 @@ fn unread_words(rt: HostRuntime) -> Result<(), Fail> {
         (Unread::Memory, b"ulfm: out of memory\n", 3),
         (Unread::NoText, b"ulfm: bad command line\n", 2),
     ];
-    for (fault, told, ends) in rows {
+    for (fault, line, ends) in rows {
         let mut errors = Vec::new(rt.alloc());
         assert_eq!(rt; tell_unread(fault, &mut errors), ends);
-        assert_eq!(rt; errors.as_slice(), told);
+        assert_eq!(rt; errors.as_slice(), line);
     }
     Ok(())
 }
@@ -397,17 +402,7 @@ fn fail_reads_from<T: Threads + Wait + Sync>(
     for failing in first..20_000u32 {
         let mut input = Pieces::new(script, most, failing);
         let mut written = Vec::new(alloc);
-        let mut errors = Vec::new(alloc);
-        let status = answer(
-            rt,
-            alloc,
-            alloc,
-            &RUN,
-            &mut input,
-            &mut written,
-            &mut errors,
-            false,
-        );
+        let (errors, status) = told(rt, alloc, &RUN, &mut input, &mut written);
         if input.calls < failing {
             require(written.as_slice() == output)?;
             require(status == 0)?;
@@ -454,17 +449,7 @@ fn fail_write<T: Threads + Wait + Sync>(
     let (script, output) = texts;
     let mut input = script;
     let mut taken = Taken::new(alloc, failure.most, failing, failure.how);
-    let mut errors = Vec::new(alloc);
-    let status = answer(
-        rt,
-        alloc,
-        alloc,
-        words,
-        &mut input,
-        &mut taken,
-        &mut errors,
-        false,
-    );
+    let (errors, status) = told(rt, alloc, words, &mut input, &mut taken);
     if taken.calls < failing {
         require(taken.bytes.as_slice() == output)?;
         require(status < 2)?;
@@ -534,17 +519,7 @@ fn flush_fails(rt: HostRuntime) -> Result<(), Fail> {
     for (word, script) in rows {
         let mut input = script.as_bytes();
         let mut output = Taken::new(rt.alloc(), 10_000, 0, Failing::AtFlush);
-        let mut errors = Vec::new(rt.alloc());
-        let status = answer(
-            &rt,
-            rt.alloc(),
-            rt.alloc(),
-            &["ulfm", word],
-            &mut input,
-            &mut output,
-            &mut errors,
-            false,
-        );
+        let (errors, status) = told(&rt, rt.alloc(), &["ulfm", word], &mut input, &mut output);
         assert_eq!(rt; errors.as_slice(), b"ulfm: write failed\n".as_slice());
         assert_eq!(rt; status, 3);
     }
@@ -596,12 +571,12 @@ fn run_in<T: Threads + Wait + Sync>(
         &mut errors,
         false,
     );
-    let told: &[u8] = if status == 3 {
+    let line: &[u8] = if status == 3 {
         b"ulfm: out of memory\n"
     } else {
         b""
     };
-    require(errors.as_slice() == told)?;
+    require(errors.as_slice() == line)?;
     Ok((output, status))
 }
 
@@ -653,19 +628,7 @@ fn each_kind_is_told(rt: HostRuntime) -> Result<(), Fail> {
         (b"ulfm 1 1 1 1\nagree 0 0 1\n", b"ulfm: line 2: flag\n"),
     ];
     for (script, wanted) in rows {
-        let mut input = script;
-        let mut output = Vec::new(rt.alloc());
-        let mut errors = Vec::new(rt.alloc());
-        let status = answer(
-            &rt,
-            rt.alloc(),
-            rt.alloc(),
-            &["ulfm", "run"],
-            &mut input,
-            &mut output,
-            &mut errors,
-            false,
-        );
+        let (_, errors, status) = answered(&rt, rt.alloc(), &RUN, script);
         assert_eq!(rt; errors.as_slice(), wanted);
         assert_eq!(rt; status, 1);
     }
@@ -686,24 +649,9 @@ fn last_line(rt: HostRuntime) -> Result<(), Fail> {
         (b"", b"", 0),
         (b"fail 9\n", b"ulfm: line 100001: lines\n", 1),
     ];
-    for (more, told, ends) in rows {
+    for (more, fault, ends) in rows {
         script.extend_from_slice(more)?;
-        let mut input = script.as_slice();
-        let mut output = Vec::new(alloc);
-        let mut errors = Vec::new(alloc);
-        let status = answer(
-            &rt,
-            alloc,
-            alloc,
-            &RUN,
-            &mut input,
-            &mut output,
-            &mut errors,
-            false,
-        );
-        assert_eq!(rt; errors.as_slice(), told);
-        assert_eq!(rt; status, ends);
-        assert!(rt; output == wanted);
+        require_answer(&rt, alloc, &RUN, &script, (&wanted, fault, ends))?;
     }
     Ok(())
 }

@@ -1,4 +1,4 @@
-ghost use Rattle.std.specs.Prelude.{◌≡◌, [], false};
+ghost use Rattle.std.specs.Prelude.{◌≡◌, ◌%◌, ◌^◌, [], false};
 ghost use Rattle.ulfm_model.specs.Blocks.{IsBlock, IsBlockWithin};
 ghost use Rattle.ulfm_model.specs.History.{IsLegal};
 ghost use Rattle.ulfm_model.specs.Words.{word_at};
@@ -11,21 +11,20 @@ ghost use Rattle.ulfm_book.specs.Seats.{block_seat, seat_in};
 
 use crate::line::Line;
 use crate::rule::{Add, AddBlock, Law, Look, LookBlock, Nothing};
-use http_server::Log;
 use logbook::{Offer, Seen, Word};
 use std::marker::Model;
 use ulfm_laws::meld::Packed;
 use ulfm_model::block::Block;
 use ulfm_model::event::Caller;
 use ulfm_model::place::Place;
-use ulfm_words::{Last, Site, Step};
+use ulfm_words::{Last, Site, Step, Trail};
 
 /// What one caller has seen of shared words. It has no bytes, and may go to another thread. Contracts see it as a `Sight`.
 #[derive(Drop)]
 pub struct BookPass<P: Packed> {
     seen: Seen<Line<P>, u64, Law<P>>,
     // The steps so far.
-    trail: Log<Last, bool>,
+    trail: Trail,
 }
 
 impl<P: Packed> Model for BookPass<P> {
@@ -35,7 +34,7 @@ impl<P: Packed> Model for BookPass<P> {
 
     ghost Value = { Sight P };
 
-    ghost view = { λ p. sight_of p.seen.book p.seen.log p.trail.items };
+    ghost view = { λ p. sight_of p.seen.book p.seen.log p.trail.log.items };
 
     ghost invariant = { λ p. IsLog P.meld p.seen.log };
 }
@@ -66,7 +65,7 @@ impl<P: Packed> BookPass<P> {
     {
         BookPass {
             seen: start.again(),
-            trail: Log::new(),
+            trail: Trail::new(),
         }
     }
 
@@ -203,6 +202,13 @@ impl<P: Packed> BookPass<P> {
         ensures { Learns P.meld false self.old.name told.now self.old self.new }
     {
         self.seen.learn(&told.seen);
+    }
+
+    // How many atomic steps it has made, modulo 2^64.
+    pub(crate) fn steps_made(&self) -> u64
+        ensures { result ≡ self.now.steps % 2 ^ 64 }
+    {
+        self.trail.made()
     }
 
     // What was seen is legal. It does nothing.

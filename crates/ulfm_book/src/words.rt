@@ -134,6 +134,10 @@ impl<P: Packed, A: Allocator + Copy + Drop> Words<P, A> for BookWords<P, A> {
         pass.cache(self.block_word(block), block, word)
     }
 
+    fn steps_made(&self, pass: &BookPass<P>) -> u64 {
+        pass.steps_made()
+    }
+
     fn known_legal(&self, pass: &BookPass<P>) {
         let _ = &self.start;
         pass.known_legal();

@@ -1,5 +1,5 @@
 -- The poll of an agreement, step by step.
-use Rattle.std.proofs.Common.{◌≡◌, ℕ, ◌<◌, ◌≤◌, ◌++◌, Bool, true, false, List, [], ◌∷◌, length, filter, take, Some, nat_lt, refl, ap, ap₂, sym, ◌∙◌, subst, arith, inr, IsTrue, if◌then◌else◌}
+use Rattle.std.proofs.Common.{◌≡◌, ℕ, ◌<◌, ◌≤◌, ◌++◌, Bool, true, false, List, [], ◌∷◌, length, filter, Some, nat_lt, refl, ap, ap₂, sym, ◌∙◌, subst, arith, inr, IsTrue, if◌then◌else◌}
 use Rattle.ulfm_laws.specs.declared.{summary.Body.{Body}, summary.Body.TheVariants.{Unit as NoBody, Flag as OfFlags, Ctx as OfIds, Clash}, summary.Summary.{Summary}}
 use Rattle.ulfm_model.specs.declared.call.Call.TheVariants as call
 use Rattle.ulfm_model.specs.declared.{call.Call.{Call}, event.Caller.TheVariants.{Rank}, limits.Limits.{Limits}, refusal.Refusal.TheVariants.{Mismatch}}
@@ -11,10 +11,10 @@ use Rattle.ulfm_words.specs.{Steps.{IsOf, Name, Sight}, declared.step.Site.{Site
 use Rattle.ulfm_model.specs.declared.place.Place.TheVariants.{Slot as SlotAt}
 use Rattle.ulfm_model.specs.declared.step_name.StepName.TheVariants as step
 use Rattle.ulfm_words.proofs.Trails.{did_none, did_prefix, did_wait}
-use Rattle.ulfm_steps.specs.declared.{mark_all.MarkAll.{MarkAll}, read_blocks.ReadBlocks.{ReadBlocks}, round_blocks.RoundBlocks.{RoundBlocks}}
+use Rattle.ulfm_steps.specs.declared.{mark_all.MarkAll.{MarkAll}, blocks.ReadBlocks.{ReadBlocks}, blocks.RoundBlocks.{RoundBlocks}}
 use Rattle.ulfm_steps.specs.{Blocks.{AreOf, AtBlock, block_at, is_whole, next_of, site_of, starts_at}, Marks.{HasMarked as MarkedOn, IsAt, Marks, MayMarkAll, members_in}, Rounds.{IsMissing, IsRoundOf}, Turns.{IsStepAt}}
 use Rattle.ulfm_model.specs.Blocks.{IsSummed}
-use Rattle.ulfm_steps.proofs.{Blocks.{are_later, few_members, starts}, Marking.{marks_join, marks_wait, new_members, take_all}}
+use Rattle.ulfm_steps.proofs.{InBlocks.{are_later, few_members, starts}, Marking.{marks_join, marks_wait, new_members, take_all}}
 use Rattle.ulfm_comm.specs.{Polls.{HasMarked, agreement}, Phase.{Answered, Stands, next_step}, StepsLeft.{MakesStep}, Agreement.{HasReadAll, IsMarking, IsReading, agreed_reply}}
 use Rattle.ulfm_comm.specs.declared.phases.phase.Phase.TheVariants.{Marking, Reading}
 use Rattle.ulfm_comm.proofs.{CallRuns.{calls_is}, Holding.{exists_is, group_is, holds, same_held}, AmongOthers.{did_loosely, marks_loosely}}

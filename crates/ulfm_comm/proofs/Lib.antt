@@ -3,7 +3,9 @@ pub mod Acks
 pub mod Barrier
 pub mod BarrierPolls
 pub mod StepsLeft
+pub mod AlsoLeft
 pub mod CallRuns
+pub mod Counts
 pub mod Spawning
 pub mod BarrierStart
 pub mod Exchange

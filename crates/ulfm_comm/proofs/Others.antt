@@ -8,8 +8,8 @@ use Rattle.ulfm_model.specs.declared.refusal.Refusal.TheVariants.{SelfFailed, No
 use Rattle.ulfm_model.specs.{Answers.{rank_of, traits_of}, Records.{Held, Record, held_at, is_shrink}, Runs.{IsCall, State}}
 use Rattle.ulfm_model.specs.Terms.{view_of}
 use Rattle.ulfm_words.specs.Steps.{Name, Sight}
-use Rattle.ulfm_comm.specs.{Calls.{Calls, EndsAs, EndsReply, wants_memory}, Jobs.{IsAbout, IsJob, IsOther, StepsBy, state_of}}
-use Rattle.ulfm_comm.proofs.{CallRuns.{called_run}, ShrinkHolds.{has_members}, InOrder.{number_at}, Jobs.{calls_step, out_begins, out_job}}
+use Rattle.ulfm_comm.specs.{Calls.{Calls, EndsAs, EndsReply, wants_memory}, Counts.{Ranked, records_of}, Jobs.{IsAbout, IsJob, IsOther, StepsBy, state_of}}
+use Rattle.ulfm_comm.proofs.{CallRuns.{called_run}, ShrinkHolds.{has_members}, Jobs.{ranked_begins, ranked_job, ranked_number, ranked_step}}
 use Rattle.ulfm_comm.proofs.ReplyKinds.{IsKind, answered_on, replies_kind}
 
 -- a reply that doesn't say that memory ran out
@@ -131,28 +131,31 @@ polls_of : (polls : Bool) (request : Option Request) → IsTrue (is_shrink (if p
 polls_of true request is = refl
 polls_of false request is = absurd (cc is)
 
-module _ {P : Type 0} (meld : P → P → P) (alone : Bool) (name : Name) (before : Sight P) (ranks : List Record) (job : IsJob meld name before ranks) (asked : Call P) (other : IsOther asked) (i : ℕ) (d : Record) (is_rank : i ≡ rank_of asked) (below : i < length ranks) where
+module _ {P : Type 0} (meld : P → P → P) (alone : Bool) (name : Name) (before : Sight P) (ranks : List Ranked) (job : IsJob meld name before (records_of ranks)) (asked : Call P) (other : IsOther asked) (i : ℕ) (d : Ranked) (is_rank : i ≡ rank_of asked) (below : i < length ranks) where
   abbrev own : Record
-  own = get_or ranks i d
+  own = (get_or ranks i d).own
 
   by_it : (traits_of asked).by ≡ Rank i
   by_it = by_rank asked other ∙ ap Rank (sym is_rank)
 
   -- the rank that stands at its number makes it
   pub mine : (traits_of asked).by ≡ Rank own.number
-  mine = by_it ∙ ap Rank (sym (number_at name.limits.ranks ranks job.sound.numbers i d below))
+  mine = by_it ∙ ap Rank (sym (ranked_number meld alone name before ranks job i d below))
 
-  module _ (new : Record) (after : Sight P) (reply : Reply P) (ends : EndsReply meld alone name asked own before reply new after) where
+  module _ (left : Ranked) (after : Sight P) (reply : Reply P) (ends : EndsReply meld alone name asked own before reply left.own after) where
+    abbrev new : Record
+    new = left.own
+
     -- it ran out of memory
     module _ (out : reply ≡ Refused OutOfMemory) where
       ended : EndsReply meld alone name asked own before (Refused OutOfMemory) new after
       ended = subst (λ r. EndsReply meld alone name asked own before r new after) out ends
 
       pub other_begins : IsPrefix before.seen after.seen
-      other_begins = out_begins meld alone name before ranks job i d below new after asked ended.0
+      other_begins = ranked_begins meld alone name before ranks job i d below left after asked ended.0
 
-      pub other_job : IsJob meld name after (set ranks i new)
-      other_job = out_job meld alone name before ranks job i d below new after asked ended.0
+      pub other_job : IsJob meld name after (records_of (set ranks i left))
+      other_job = ranked_job meld alone name before ranks job i d below left after asked ended.0
 
       pub out_polls : IsTrue (traits_of asked).polls
       out_polls = polls_of (traits_of asked).polls _ ended.1
@@ -162,8 +165,8 @@ module _ {P : Type 0} (meld : P → P → P) (alone : Bool) (name : Name) (befor
       pub other_calls : Calls meld alone name asked own before reply new after
       other_calls = subst (λ b. EndsAs meld alone name asked own before reply b new after) (kept_memory reply kept) ends
 
-      pub other_step : StepsBy meld alone name asked before ranks reply after (set ranks i new)
-      other_step = calls_step meld alone name before ranks job i d below new after (λ _. asked) reply by_it other_calls
+      pub other_step : StepsBy meld alone name asked before (records_of ranks) reply after (records_of (set ranks i left))
+      other_step = ranked_step meld alone name before ranks job i d below left after (λ _. asked) reply by_it other_calls
 
       -- and its reply is of its kind
       other_kind : ((refusal : Refusal) → reply ≡ Refused refusal → ⊥) → IsKind asked reply
@@ -183,12 +186,12 @@ module _ {P : Type 0} (meld : P → P → P) (alone : Bool) (name : Name) (befor
         other_polls = subst (λ a. IsTrue (traits_of a).polls) (sym polled.2) refl
 
         -- what the rank holds of the new communicator are its members
-        pub other_made : (c : ℕ) (group : List ℕ) → ((x : Held) → held_at new j ≡ Some x → group ≡ x.group) → IsAbout (state_of name after (set ranks i new)) c group reply
+        pub other_made : (c : ℕ) (group : List ℕ) → ((x : Held) → held_at new j ≡ Some x → group ≡ x.group) → IsAbout (state_of name after (records_of (set ranks i left))) c group reply
         other_made c group has =
             let number : polled.0 ≡ own.number = cc (subst (λ a. (traits_of a).by ≡ Rank own.number) polled.2 mine) in
             let poll : asked ≡ call.Poll own.number polled.1 = polled.2 ∙ ap (λ r. call.Poll r polled.1) number in
             let calls = subst (λ r. Calls meld alone name (call.Poll own.number polled.1) own before r new after) is (subst (λ a. Calls meld alone name a own before reply new after) poll other_calls) in
-            subst (IsAbout (state_of name after (set ranks i new)) c group) (sym is) (has_members meld alone name polled.1 own before j context size new after calls group has)
+            subst (IsAbout (state_of name after (records_of (set ranks i left))) c group) (sym is) (has_members meld alone name polled.1 own before j context size new after calls group has)
 
-      pub other_about : (c : ℕ) (group : List ℕ) → ((j context size : ℕ) → reply ≡ Shrunk j context size → ⊥) → ((refusal : Refusal) → reply ≡ Refused refusal → ⊥) → IsAbout (state_of name after (set ranks i new)) c group reply
-      other_about c group made answers = about_none (state_of name after (set ranks i new)) c group reply made (λ count is. counts_none asked count other (subst (IsKind asked) is (other_kind answers)))
+      pub other_about : (c : ℕ) (group : List ℕ) → ((j context size : ℕ) → reply ≡ Shrunk j context size → ⊥) → ((refusal : Refusal) → reply ≡ Refused refusal → ⊥) → IsAbout (state_of name after (records_of (set ranks i left))) c group reply
+      other_about c group made answers = about_none (state_of name after (records_of (set ranks i left))) c group reply made (λ count is. counts_none asked count other (subst (IsKind asked) is (other_kind answers)))

@@ -3,11 +3,11 @@ use Rattle.std.proofs.Common.{◌≡◌, ℕ, ◌<◌, Bool, false, List, [], le
 use Rattle.ulfm_laws.specs.declared.summary.Summary.{Summary}
 use Rattle.ulfm_model.specs.declared.call.Call.TheVariants as call
 use Rattle.ulfm_model.specs.declared.{call.Call.{Call}, call.Request.TheVariants.{Barrier}}
-use Rattle.ulfm_model.specs.declared.{block.Side.{Side}, block.Side.TheVariants.{Front, Back}}
+use Rattle.ulfm_model.specs.declared.{block.Side.TheVariants.{Front, Back}}
 use Rattle.ulfm_model.specs.{Blocks.{IsSide, block_of}, History.{History, failures}, Records.{Fits, Held, Record, held_at}, Terms.{comm_of}}
 use Rattle.ulfm_words.specs.Steps.{IsOf, Name, Sight}
 use Rattle.ulfm_words.proofs.Trails.{did_none}
-use Rattle.ulfm_steps.specs.declared.{arrivals.Arrivals.{Arrivals}, peek.Peek.{Peek}}
+use Rattle.ulfm_steps.specs.declared.{arrivals.Arrivals.{Arrivals}, blocks.Peek.{Peek}}
 use Rattle.ulfm_steps.specs.{Arriving.{AtArrival, IsAsked, asked_before}, Blocks.{Tells}}
 use Rattle.ulfm_steps.proofs.Arriving.{at_arrival_new}
 use Rattle.ulfm_comm.specs.{Polls.{agreement}, Agreement.{IsPeeking}, Barrier.{IsWaiting}, Look.{JustLooked}, Phase.{Stands}}

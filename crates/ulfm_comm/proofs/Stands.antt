@@ -8,8 +8,8 @@ use Rattle.ulfm_model.proofs.{Histories.{failures_begin}, Lists.{prefix_trans}}
 use Rattle.ulfm_model.specs.Terms.{comm_of}
 use Rattle.ulfm_words.specs.Steps.{IsOf, Name, Sight}
 use Rattle.ulfm_words.proofs.Trails.{did_prefix, did_wait}
-use Rattle.ulfm_steps.specs.declared.{append.Append.{Append}, mark_all.MarkAll.{MarkAll}, peek.Peek.{Peek}, read_blocks.ReadBlocks.{ReadBlocks}, round_blocks.RoundBlocks.{RoundBlocks}}
-use Rattle.ulfm_steps.proofs.{Blocks.{are_later, at_block_later}, Appending.{passed_stays}, Arriving.{at_arrival_stays}}
+use Rattle.ulfm_steps.specs.declared.{append.Append.{Append}, mark_all.MarkAll.{MarkAll}, blocks.Peek.{Peek}, blocks.ReadBlocks.{ReadBlocks}, blocks.RoundBlocks.{RoundBlocks}}
+use Rattle.ulfm_steps.proofs.{InBlocks.{are_later, at_block_later}, Appending.{passed_stays}, Arriving.{at_arrival_stays}}
 use Rattle.ulfm_comm.specs.Polls.{HasMarked}
 use Rattle.ulfm_comm.specs.{Look.{HasLooked}, Spawning.{IsDecided, IsSpawning}, Agreement.{IsMarking, IsPeeking, IsReading}, Barrier.{IsWaiting}}
 use Rattle.ulfm_comm.specs.Phase.{Stands, StandsAt, UnderWay, Waits}

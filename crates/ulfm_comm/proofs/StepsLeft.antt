@@ -1,5 +1,5 @@
 -- How many steps a call makes at most.
-use Rattle.std.proofs.Common.{◌≡◌, ℕ, ◌+◌, ◌-◌, ◌*◌, ◌<◌, ◌≤◌, Bool, true, false, List, [], length, filter, take, max, min, Option, Some, None, is_some, if◌then◌else◌, refl, ap, ap₂, sym, ◌∙◌, subst, length-append, arith}
+use Rattle.std.proofs.Common.{◌≡◌, ℕ, ◌+◌, ◌-◌, ◌*◌, ◌<◌, ◌≤◌, Bool, true, false, List, length, filter, take, max, min, Option, Some, None, is_some, if◌then◌else◌, refl, ap, ap₂, sym, ◌∙◌, subst, length-append, arith}
 use Rattle.std.proofs.lemmas.List.{length-take}
 use mathlib.Core.List.{IsPrefix}
 use Rattle.ulfm_model.specs.declared.call.Call.TheVariants as call
@@ -7,9 +7,9 @@ use Rattle.ulfm_model.specs.declared.{call.Call.{Call}, call.Request.{Request}, 
 use Rattle.ulfm_model.specs.{Answers.{first_refusal, refusal_of, refusal_on}, History.{History, IsLegal, failures, has, without}, Records.{Held, Record, held_at}}
 use Rattle.ulfm_model.specs.Terms.{comm_of, request_of}
 use Rattle.ulfm_steps.specs.{Arriving.{arrivals_left, in_order}, Blocks.{blocks_cost, blocks_left, is_whole, peeks_left, starts_at, unread_cost}, Marks.{marks_left}}
-use Rattle.ulfm_steps.specs.declared.{arrivals.{Arrivals.{Arrivals}}, mark_all.MarkAll.{MarkAll}, peek.Peek.{Peek}, read_blocks.ReadBlocks.{ReadBlocks}}
-use Rattle.ulfm_steps.specs.declared.round_blocks.RoundBlocks.{RoundBlocks}
-use Rattle.ulfm_steps.proofs.{Arriving.{in_order_few}, Blocks.{peek_most, peek_some, starts_left, unread_most}}
+use Rattle.ulfm_steps.specs.declared.{arrivals.{Arrivals.{Arrivals}}, mark_all.MarkAll.{MarkAll}, blocks.Peek.{Peek}, blocks.ReadBlocks.{ReadBlocks}}
+use Rattle.ulfm_steps.specs.declared.blocks.RoundBlocks.{RoundBlocks}
+use Rattle.ulfm_steps.proofs.{Arriving.{in_order_few}, InBlocks.{peek_most, peek_some, starts_left, unread_most}}
 use Rattle.ulfm_comm.proofs.Look.{tests_same}
 use Rattle.ulfm_words.specs.Steps.{Sight}
 use Rattle.ulfm_comm.specs.{Bound.{call_bound, poll_bound, step_bound}, Look.{Passes}, Phase.{NextBelow}, Polls.{agreement}, StepsLeft.{FewerLeft, Spends, after_look, after_peek, after_round, behind_look, group_of, polling, steps_left, with_look}}
@@ -30,7 +30,7 @@ behind_look_same limits own seen (call.IsRevoked rank c) = refl
 behind_look_same limits own seen (call.Free rank c) = refl
 
 -- nor to what the record refuses
-refusal_same : {P : Type 0} (own : Record) (seen : List ℕ) (asked : Call P) → refusal_of (record own { seen = seen }) asked ≡ refusal_of own asked
+pub refusal_same : {P : Type 0} (own : Record) (seen : List ℕ) (asked : Call P) → refusal_of (record own { seen = seen }) asked ≡ refusal_of own asked
 refusal_same own seen asked = go (held_at own (comm_of asked))
   where
     go : (held : Option Held) → refusal_on (record own { seen = seen }) held asked ≡ refusal_on own held asked

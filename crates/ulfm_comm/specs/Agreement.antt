@@ -6,8 +6,8 @@ use Rattle.ulfm_model.specs.declared.{call.Call.{Call}, limits.Limits.{Limits}, 
 use Rattle.ulfm_model.specs.declared.reply.Reply.TheVariants.{Agreed, Refused}
 use Rattle.ulfm_model.specs.{History.{History, IsLegal, failures}, Records.{Fits, Held, Record, held_at}, Runs.{Did}, Terms.{comm_of}}
 use Rattle.ulfm_words.specs.Steps.{Name, Sight}
-use Rattle.ulfm_steps.specs.declared.{mark_all.MarkAll.{MarkAll}, peek.Peek.{Peek}, read_blocks.ReadBlocks.{ReadBlocks}}
-use Rattle.ulfm_steps.specs.declared.round_blocks.RoundBlocks.{RoundBlocks}
+use Rattle.ulfm_steps.specs.declared.{mark_all.MarkAll.{MarkAll}, blocks.Peek.{Peek}, blocks.ReadBlocks.{ReadBlocks}}
+use Rattle.ulfm_steps.specs.declared.blocks.RoundBlocks.{RoundBlocks}
 use Rattle.ulfm_model.specs.Blocks.{IsSummed}
 use Rattle.ulfm_steps.specs.{Blocks.{AreOf, AtBlock, is_whole}, Marks.{IsAt, Marks, members_in}}
 use Rattle.ulfm_comm.specs.{Look.{Looked}, Polls.{HasMarked, agreement}}

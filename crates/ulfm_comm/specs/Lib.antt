@@ -13,6 +13,8 @@ pub mod Jobs
 pub mod Replies
 pub mod StepsLeft
 pub mod Bound
+pub mod AlsoLeft
 pub mod Agreement
 pub mod Phase
 pub mod Step
+pub mod Counts

@@ -7,6 +7,7 @@ use Rattle.ulfm_model.specs.{Answers.{CallAdds, traits_of}, History.{History, en
 use Rattle.ulfm_words.specs.Steps.{IsOf, Name, Sight}
 use Rattle.ulfm_steps.specs.declared.{arrivals.Arrivals.{Arrivals}, arrivals.Missing.{Missing}}
 use Rattle.ulfm_comm.specs.{Look.{JustLooked}, StepsLeft.{FewerLeft, MakesStep, Spends, steps_left}, Barrier.{IsChecking, AnswersEarly}}
+use Rattle.ulfm_comm.specs.AlsoLeft.{AlsoSpends, FindsSetIn, also_left}
 use Rattle.ulfm_comm.specs.Phase.{UnderWay, next_step, IsFurther, LeadsTo, NextIs, reply_in, Stands, Turns}
 use Rattle.ulfm_comm.specs.declared.{phases.phase.Next.{Next}, phases.phase.Next.TheVariants.{Goes, Ends}, phases.phase.Phase.{Phase}}
 use Rattle.ulfm_comm.specs.declared.phases.phase.Phase.TheVariants.{Over, Begun, Looking, Settling, Arriving, Revoking, Marking, ReadingOn}
@@ -61,14 +62,16 @@ StepSees _ old new = new ≡ old
 
 -- One step of a call that stood so: the one that was named. Of a rank that was refused for good before there is none, and it is
 -- refused again. Any other has added one event at most, and has seen more only by a load of the list of failures. If the call goes
--- on, fewer steps are left, and it does what its phase leads to. The poll of a barrier that found somebody missing is answered, after
--- its last load, as it was when that was found.
+-- on, fewer steps are left, also beside the failures that it has seen more, and it does what its phase leads to. The poll of a barrier
+-- that found somebody missing is answered, after its last load, as it was when that was found.
 pub record Stepped {P : Type 0} (meld : P → P → P) (quiet : Bool) (name : Name) (was : UnderWay P) (own : Record) (now : Sight P)
     (next : Next P) (new : Record) (after : Sight P) : Type 0 where
   pub of : IsOf meld name after
   pub onward : now.steps ≤ after.steps
   pub named : MakesStep (next_step was.phase) own.number (comm_of was.asked) now after
   pub nearer : FewerLeft (steps_left name.limits own was.asked was.phase) name.limits new was.asked next
+  pub also : FindsSetIn own was.asked now.cached was.phase
+      → AlsoSpends (also_left name.limits own was.asked was.phase) name.limits was.asked own now next new after
   pub over : was.phase ≡ Over → (next ≡ Ends (Refused SelfFailed)) × (new ≡ own)
   pub adds : StepAdds quiet own was.asked was.phase (reply_in next) now.seen after.seen
   pub sees : StepSees was.phase own.seen new.seen
@@ -83,13 +86,15 @@ pub record Stepped {P : Type 0} (meld : P → P → P) (quiet : Bool) (name : Na
       → AnswersEarly meld name.limits alone was.asked missing earlier old before.seen reply new
 
 -- A call takes its turn in a phase, by one step or by all of them: it walks on, by the step that is named, comes nearer to its reply, spends
--- no more steps than it may, adds and sees what the phase may, does what the phase leads to, and stands where it goes on, or is answered.
+-- no more steps than it may, also by what it sees more, adds and sees what the phase may, does what the phase leads to, and stands where it
+-- goes on, or is answered.
 pub record TakesTurn {P : Type 0} (meld : P → P → P) (quiet whole : Bool) (name : Name) (asked : Call P) (phase : Phase P) (group : List ℕ) (own : Record)
     (now : Sight P) (next : Next P) (left : List ℕ) (new : Record) (after : Sight P) : Type 0 where
   pub walks : Walks meld quiet name own.number now after
   pub named : whole ≡ false → MakesStep (next_step phase) own.number (comm_of asked) now after
   pub nearer : whole ≡ false → FewerLeft (steps_left name.limits own asked phase) name.limits new asked next
   pub spends : Spends (steps_left name.limits own asked phase) name.limits new asked next now after
+  pub also : FindsSetIn own asked now.cached phase → AlsoSpends (also_left name.limits own asked phase) name.limits asked own now next new after
   pub further : whole ≡ true → IsFurther phase next
   pub adds : whole ≡ false → StepAdds quiet own asked phase (reply_in next) now.seen after.seen
   pub sees : StepSees phase own.seen new.seen

@@ -6,6 +6,7 @@ ghost use Rattle.ulfm_model.specs.Runs.{IsStep, new_state};
 ghost use Rattle.ulfm_model.specs.declared.call.Call.TheVariants.{Fail as FailAsked, GetFailed as GetAsked, Poll as PollAsked};
 ghost use Rattle.ulfm_model.specs.declared.limits.OpenFault.TheVariants.{OutOfMemory};
 ghost use Rattle.ulfm_model.specs.Terms.{comm_of};
+ghost use Rattle.ulfm_comm.specs.Counts.{records_of};
 ghost use Rattle.ulfm_comm.specs.Jobs.{IsAbout, IsJob, IsOther, StepsBy, state_of};
 ghost use Rattle.ulfm_words.specs.Steps.{IsOf};
 
@@ -40,13 +41,14 @@ where
     W: Words<P, A>,
 {
     ghost use Rattle.ulfm_model.specs.Runs.{State};
+    ghost use Rattle.ulfm_comm.specs.Counts.{records_of};
     ghost use Rattle.ulfm_comm.specs.Jobs.{IsJob, state_of};
 
     ghost Value = { State P };
 
-    ghost view = { λ a. state_of (W.name a.world.words) (W.sight a.pass) a.ranks.items };
+    ghost view = { λ a. state_of (W.name a.world.words) (W.sight a.pass) (records_of a.ranks.items) };
 
-    ghost invariant = { λ a. IsJob P.meld (W.name a.world.words) (W.sight a.pass) a.ranks.items };
+    ghost invariant = { λ a. IsJob P.meld (W.name a.world.words) (W.sight a.pass) (records_of a.ranks.items) };
 }
 
 impl<W, P: Packed, A: Allocator + Copy> Job<W, P, A>
@@ -91,7 +93,7 @@ where
     /// assert!(rt; job.rank(2).is_none());
     /// ```
     pub fn rank(&self, number: u16) -> Option<&Rank<P, A>>
-        ensures { MatchOption result (self.now.limits.ranks ≤ number) (λ own. find (λ x. x.number == number) self.now.records ≡ Some own.now) }
+        ensures { MatchOption result (self.now.limits.ranks ≤ number) (λ own. find (λ x. x.number == number) self.now.records ≡ Some own.now.own) }
     {
         let ranks = self.ranks.as_slice();
         if number as usize >= ranks.len() {
@@ -147,9 +149,10 @@ fn fail_by<P: Packed, A: Allocator + Copy, W: Words<P, A>>(
     ranks: &[Rank<P, A>],
     rank: u16,
 ) -> Reply<P>
-    requires { IsJob P.meld (W.name world.now.words) (W.sight pass.old) ranks.now }
-    ensures about { (group : List ℕ) → IsAbout (state_of (W.name world.now.words) (W.sight pass.new) ranks.now) 0 group result }
-    ensures step { StepsBy P.meld W.alone (W.name world.now.words) (FailAsked rank) (W.sight pass.old) ranks.now result (W.sight pass.new) ranks.now }
+    requires { IsJob P.meld (W.name world.now.words) (W.sight pass.old) (records_of ranks.now) }
+    ensures about { (group : List ℕ) → IsAbout (state_of (W.name world.now.words) (W.sight pass.new) (records_of ranks.now)) 0 group result }
+    ensures step { StepsBy P.meld W.alone (W.name world.now.words) (FailAsked rank) (W.sight pass.old) (records_of ranks.now) result
+        (W.sight pass.new) (records_of ranks.now) }
 {
     let _ = ranks;
     match world.fail(pass, rank) {
@@ -168,12 +171,12 @@ fn get_by<P: Packed, A: Allocator + Copy, W: Words<P, A>>(
     comm: u16,
     found: &mut Vec<u16, A>,
 ) -> Result<Reply<P>, AllocError>
-    requires { IsJob P.meld (W.name world.now.words) (W.sight pass.old) ranks.old }
-    ensures step { IfOk result (λ reply. StepsBy P.meld W.alone (W.name world.now.words) (GetAsked rank comm) (W.sight pass.old) ranks.old reply
-        (W.sight pass.new) ranks.new) }
-    ensures job { IsJob P.meld (W.name world.now.words) (W.sight pass.new) ranks.new }
+    requires { IsJob P.meld (W.name world.now.words) (W.sight pass.old) (records_of ranks.old) }
+    ensures step { IfOk result (λ reply. StepsBy P.meld W.alone (W.name world.now.words) (GetAsked rank comm) (W.sight pass.old) (records_of ranks.old) reply
+        (W.sight pass.new) (records_of ranks.new)) }
+    ensures job { IsJob P.meld (W.name world.now.words) (W.sight pass.new) (records_of ranks.new) }
     ensures begins { IsPrefix (W.sight pass.old).seen (W.sight pass.new).seen }
-    ensures about { IfOk result (IsAbout (state_of (W.name world.now.words) (W.sight pass.new) ranks.new) comm found.new.items) }
+    ensures about { IfOk result (IsAbout (state_of (W.name world.now.words) (W.sight pass.new) (records_of ranks.new)) comm found.new.items) }
 {
     if rank as usize >= ranks.len() {
         return Ok(Reply::Refused(Refusal::NoSuchRank));
@@ -196,7 +199,7 @@ fn put_members<P: Packed, A: Allocator>(
     comm: u16,
     found: &mut Vec<u16, A>,
 ) -> Result<(), AllocError>
-    ensures { OnOk result ((x : Held) → held_at own.now comm ≡ Some x → found.new.items ≡ x.group) }
+    ensures { OnOk result ((x : Held) → held_at own.now.own comm ≡ Some x → found.new.items ≡ x.group) }
 {
     found.clear();
     match own.members(comm) {
@@ -213,13 +216,13 @@ fn make_room_for<P: Packed, A: Allocator>(
 ) -> Result<(), AllocError>
     ensures kept { found.new.items ≡ found.old.items }
     ensures memory { OnErr result (IsTrue (traits_of asked.now).polls) }
-    ensures room { OnOk result (IsTrue (traits_of asked.now).polls → (x : Held) → held_at own.now (traits_of asked.now).comm ≡ Some x
+    ensures room { OnOk result (IsTrue (traits_of asked.now).polls → (x : Held) → held_at own.now.own (traits_of asked.now).comm ≡ Some x
         → IsTrue (is_shrink x.request) → length x.group ≤ vec_capacity found.new) }
 {
     let Call::Poll { comm, .. } = *asked else {
         return Ok(());
     };
-    match own.held(comm) {
+    match own.own.held(comm) {
         Some(x) if is_shrink(x.request) => {
             found.reserve(x.group.len().saturating_sub(found.len()))
         }
@@ -236,13 +239,13 @@ fn call_by<P: Packed, A: Allocator + Copy, W: Words<P, A>>(
     asked: Call<P>,
     found: &mut Vec<u16, A>,
 ) -> Result<Reply<P>, AllocError>
-    requires job { IsJob P.meld (W.name world.now.words) (W.sight pass.old) ranks.old }
+    requires job { IsJob P.meld (W.name world.now.words) (W.sight pass.old) (records_of ranks.old) }
     requires other { IsOther asked }
-    ensures step { IfOk result (λ reply. StepsBy P.meld W.alone (W.name world.now.words) asked (W.sight pass.old) ranks.old reply
-        (W.sight pass.new) ranks.new) }
-    ensures job { IsJob P.meld (W.name world.now.words) (W.sight pass.new) ranks.new }
+    ensures step { IfOk result (λ reply. StepsBy P.meld W.alone (W.name world.now.words) asked (W.sight pass.old) (records_of ranks.old) reply
+        (W.sight pass.new) (records_of ranks.new)) }
+    ensures job { IsJob P.meld (W.name world.now.words) (W.sight pass.new) (records_of ranks.new) }
     ensures begins { IsPrefix (W.sight pass.old).seen (W.sight pass.new).seen }
-    ensures about { IfOk result (IsAbout (state_of (W.name world.now.words) (W.sight pass.new) ranks.new) (traits_of asked).comm found.new.items) }
+    ensures about { IfOk result (IsAbout (state_of (W.name world.now.words) (W.sight pass.new) (records_of ranks.new)) (traits_of asked).comm found.new.items) }
     ensures memory { OnErr result (IsTrue (traits_of asked).polls) }
 {
     let rank = rank_of(&asked) as usize;

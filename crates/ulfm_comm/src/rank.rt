@@ -7,6 +7,7 @@ ghost use Rattle.ulfm_words.specs.Steps.{IsOf, Goes};
 ghost use Rattle.ulfm_steps.specs.{Looks.{LookIs, LookTakes}, ReadsOn.{AtFailure, MayReadOn, ReadOnTakes}};
 ghost use Rattle.ulfm_steps.specs.declared.item.Item.TheVariants.{Comm as OfComm};
 ghost use Rattle.ulfm_record.specs.Kept.{HasNext};
+ghost use Rattle.ulfm_comm.specs.Counts.{new_rank};
 ghost use Rattle.ulfm_comm.specs.Spawning.{MayHold, MaySpawn, SpawnIs, SpawnTakes};
 ghost use Rattle.ulfm_comm.specs.declared.phases.spawning.Spawned.TheVariants.{Unknown};
 
@@ -29,14 +30,9 @@ use ulfm_words::Words;
 // never takes memory to hold one more.
 const ROOM: usize = 32;
 
-/// A rank of a world. Contracts see it as its record.
-///
-/// Each of its calls begins with a look: loads of the list of failures, from behind those that it has seen to the first empty
-/// place. So with N ranks, of which it has seen v declared, a look makes N - v steps at most. A communicator is any number: one that the rank doesn't hold is
-/// refused as `NoSuchComm`. A refusal leaves the rank as it was, but for what the look has seen, and where a call says more; a
-/// rank that was refused as `SelfFailed` is refused so for good, without a step. Examples are of rank 0 in a world of two.
+// What a rank keeps of its calls. Contracts see it as its record.
 #[derive(Drop)]
-pub struct Rank<P: Packed, A: Allocator> {
+pub(crate) struct RankRecord<P: Packed, A: Allocator> {
     number: u16,
     limits: Limits,
     held: Vec<HeldComm<A>, A>,
@@ -46,7 +42,7 @@ pub struct Rank<P: Packed, A: Allocator> {
     flags: PhantomData<P>,
 }
 
-impl<P: Packed, A: Allocator> Model for Rank<P, A> {
+impl<P: Packed, A: Allocator> Model for RankRecord<P, A> {
     ghost use Rattle.ulfm_model.specs.Records.{Record};
     ghost use Rattle.std.specs.Prelude.{vec_capacity};
     ghost use Rattle.ulfm_comm.specs.Ranks.{IsKept};
@@ -58,14 +54,14 @@ impl<P: Packed, A: Allocator> Model for Rank<P, A> {
     ghost invariant = { λ a. IsKept a.number a.limits (vec_capacity a.seen) (vec_capacity a.held) a.held.items };
 }
 
-impl<P: Packed, A: Allocator + Copy> Rank<P, A> {
+impl<P: Packed, A: Allocator + Copy> RankRecord<P, A> {
     // A new rank of a world, whose ranks these are.
     pub(crate) fn new(
         alloc: A,
         limits: Limits,
         number: u16,
         ranks: &[u16],
-    ) -> Result<Rank<P, A>, AllocError>
+    ) -> Result<RankRecord<P, A>, AllocError>
         requires may_open { MayOpen limits }
         requires below { number < limits.ranks }
         requires ranks { ranks.now ≡ first_ranks limits.ranks }
@@ -75,7 +71,7 @@ impl<P: Packed, A: Allocator + Copy> Rank<P, A> {
         let seen = Vec::with_capacity(alloc, limits.ranks as usize)?;
         let mut held = Vec::with_capacity(alloc, ROOM)?;
         held.push(HeldComm::new(0, 0, group))?;
-        Ok(Rank {
+        Ok(RankRecord {
             number,
             limits,
             held,
@@ -86,27 +82,16 @@ impl<P: Packed, A: Allocator + Copy> Rank<P, A> {
     }
 }
 
-impl<P: Packed, A: Allocator> Rank<P, A> {
-    /// Its number, 0 to 1023. It is no step.
-    ///
-    /// ```
-    /// assert!(rt; rank.number() == 0);
-    /// ```
-    pub fn number(&self) -> u16
+impl<P: Packed, A: Allocator> RankRecord<P, A> {
+    // Its number.
+    pub(crate) fn number(&self) -> u16
         ensures { result ≡ self.now.number }
     {
         self.number
     }
 
-    /// All failures that it has seen, in order. A call's look begins behind them. It is no step.
-    ///
-    /// ```
-    /// // Rank 1 was declared failed before.
-    /// // A call looks, and then the rank has seen it.
-    /// rank.is_revoked(&world, &mut pass, 0)?;
-    /// assert_eq!(rt; rank.failures(), [1].as_slice());
-    /// ```
-    pub fn failures(&self) -> &[u16]
+    // All failures that it has seen, in order.
+    pub(crate) fn failures(&self) -> &[u16]
         ensures { result.now ≡ self.now.seen }
     {
         &self.seen
@@ -135,27 +120,16 @@ impl<P: Packed, A: Allocator> Rank<P, A> {
         }
     }
 
-    /// The members of a communicator that it holds, in order; none where it doesn't hold it. It is no step.
-    ///
-    /// ```
-    /// assert!(rt; rank.members(0) == Some([0, 1].as_slice()));
-    /// assert!(rt; rank.members(1).is_none());
-    /// ```
-    pub fn members(&self, comm: u16) -> Option<&[u16]>
+    // The members of a communicator that it holds, in order.
+    pub(crate) fn members(&self, comm: u16) -> Option<&[u16]>
         ensures { MatchOption result (held_at self.now comm ≡ None) (λ group. (x : Held) × (held_at self.now comm ≡ Some x) × (group.now ≡ x.group)) }
     {
         let x = self.held(comm)?;
         Some(&x.group)
     }
 
-    /// The context id of a communicator that it holds, 0 to 31; none where it doesn't hold it. No two that it holds have the same.
-    /// It is no step.
-    ///
-    /// ```
-    /// assert!(rt; rank.context(0) == Some(0));
-    /// assert!(rt; rank.context(1).is_none());
-    /// ```
-    pub fn context(&self, comm: u16) -> Option<u8>
+    // The context id of a communicator that it holds.
+    pub(crate) fn context(&self, comm: u16) -> Option<u8>
         ensures distinct { IsDistinct nat_eq (map (λ x. x.context) self.now.held) }
         ensures id { MatchOption result (held_at self.now comm ≡ None) (λ id. (x : Held) × (held_at self.now comm ≡ Some x) × (id ≡ x.context)) }
     {
@@ -276,6 +250,7 @@ impl<P: Packed, A: Allocator> Rank<P, A> {
         requires more { on.old.found < count }
         ensures goes { Goes P.meld W.alone (W.name words.now) (W.name words.now).limits.ranks (W.sight pass.old) (W.sight pass.new) }
         ensures takes { ReadOnTakes whole (W.name words.now).limits self.old.seen self.new.seen (W.sight pass.old) (W.sight pass.new) }
+        ensures further { (W.sight pass.new).steps + length self.old.seen ≡ (W.sight pass.old).steps + length self.new.seen }
         ensures kept { self.new ≡ record self.old { seen = self.new.seen } }
         ensures goes_on { IsPrefix self.old.seen self.new.seen }
         ensures begins { IsPrefix self.new.seen (failures (W.sight pass.new).seen) }
@@ -297,7 +272,7 @@ impl<P: Packed, A: Allocator> Rank<P, A> {
     }
 }
 
-impl<P: Packed, A: Allocator + Copy> Rank<P, A> {
+impl<P: Packed, A: Allocator + Copy> RankRecord<P, A> {
     // Its memory.
     pub(crate) fn allocator(&self) -> A {
         *self.seen.allocator()
@@ -355,5 +330,115 @@ impl<P: Packed, A: Allocator + Copy> Rank<P, A> {
         let made = HeldComm::new(number, context, members);
         take_in(&mut self.held, comm, made);
         Spawned::Made { comm: number, size }
+    }
+}
+
+/// A rank of a world. Contracts see it as its record, and how many steps its last call made.
+///
+/// Each of its calls begins with a look: loads of the list of failures, from behind those that it has seen to the first empty
+/// place. So with N ranks, of which it has seen v declared, a look makes N - v steps at most. A communicator is any number: one that the rank doesn't hold is
+/// refused as `NoSuchComm`. A refusal leaves the rank as it was, but for what the look has seen, and where a call says more; a
+/// rank that was refused as `SelfFailed` is refused so for good, without a step. Examples are of rank 0 in a world of two.
+#[derive(Drop)]
+pub struct Rank<P: Packed, A: Allocator> {
+    pub(crate) own: RankRecord<P, A>,
+    // The steps of its last call.
+    pub(crate) last: u32,
+}
+
+impl<P: Packed, A: Allocator> Model for Rank<P, A> {
+    ghost use Rattle.ulfm_comm.specs.Counts.{Ranked};
+
+    ghost Value = { Ranked };
+
+    ghost view = { λ a. record { own = a.own; last = a.last } };
+}
+
+impl<P: Packed, A: Allocator + Copy> Rank<P, A> {
+    // A new rank of a world, whose ranks these are. It has made no call.
+    pub(crate) fn new(
+        alloc: A,
+        limits: Limits,
+        number: u16,
+        ranks: &[u16],
+    ) -> Result<Rank<P, A>, AllocError>
+        requires may_open { MayOpen limits }
+        requires below { number < limits.ranks }
+        requires ranks { ranks.now ≡ first_ranks limits.ranks }
+        ensures { IfOk result (λ r. r ≡ new_rank limits number) }
+    {
+        let own = RankRecord::new(alloc, limits, number, ranks)?;
+        Ok(Rank { own, last: 0 })
+    }
+}
+
+impl<P: Packed, A: Allocator> Rank<P, A> {
+    /// Its number, 0 to 1023. It is no step.
+    ///
+    /// ```
+    /// assert!(rt; rank.number() == 0);
+    /// ```
+    pub fn number(&self) -> u16
+        ensures { result ≡ self.now.own.number }
+    {
+        self.own.number()
+    }
+
+    /// All failures that it has seen, in order. A call's look begins behind them. It is no step.
+    ///
+    /// ```
+    /// // Rank 1 was declared failed before.
+    /// // A call looks, and then the rank has seen it.
+    /// rank.is_revoked(&world, &mut pass, 0)?;
+    /// assert_eq!(rt; rank.failures(), [1].as_slice());
+    /// ```
+    pub fn failures(&self) -> &[u16]
+        ensures { result.now ≡ self.now.own.seen }
+    {
+        self.own.failures()
+    }
+
+    /// The members of a communicator that it holds, in order; none where it doesn't hold it. It is no step.
+    ///
+    /// ```
+    /// assert!(rt; rank.members(0) == Some([0, 1].as_slice()));
+    /// assert!(rt; rank.members(1).is_none());
+    /// ```
+    pub fn members(&self, comm: u16) -> Option<&[u16]>
+        ensures { MatchOption result (held_at self.now.own comm ≡ None)
+            (λ group. (x : Held) × (held_at self.now.own comm ≡ Some x) × (group.now ≡ x.group)) }
+    {
+        self.own.members(comm)
+    }
+
+    /// The context id of a communicator that it holds, 0 to 31; none where it doesn't hold it. No two that it holds have the same.
+    /// It is no step.
+    ///
+    /// ```
+    /// assert!(rt; rank.context(0) == Some(0));
+    /// assert!(rt; rank.context(1).is_none());
+    /// ```
+    pub fn context(&self, comm: u16) -> Option<u8>
+        ensures distinct { IsDistinct nat_eq (map (λ x. x.context) self.now.own.held) }
+        ensures id { MatchOption result (held_at self.now.own comm ≡ None)
+            (λ id. (x : Held) × (held_at self.now.own comm ≡ Some x) × (id ≡ x.context)) }
+    {
+        self.own.context(comm)
+    }
+
+    /// How many atomic steps its last call made, 0 before any. A call that is taken step by step counts when it is answered. It is no
+    /// step.
+    ///
+    /// ```
+    /// // Rank 1 was declared failed before.
+    /// // A call looks: one load finds that failure, and the next finds no other.
+    /// assert!(rt; rank.last_steps() == 0);
+    /// rank.ack_failed(&world, &mut pass, 0, 1)?;
+    /// assert!(rt; rank.last_steps() == 2);
+    /// ```
+    pub fn last_steps(&self) -> u32
+        ensures { result ≡ self.now.last }
+    {
+        self.last
     }
 }

@@ -2,9 +2,10 @@ ghost use Rattle.std.specs.Prelude.{◌≡◌, [], map, MatchResult, IfOk};
 ghost use Rattle.std.specs.List.{AllByRecursion};
 ghost use Rattle.ulfm_model.specs.History.{first_ranks as all_below};
 ghost use Rattle.ulfm_model.specs.Words.{MayOpen};
-ghost use Rattle.ulfm_model.specs.Records.{Fits, new_record};
+ghost use Rattle.ulfm_model.specs.Records.{Fits};
 ghost use Rattle.ulfm_model.specs.declared.limits.OpenFault.TheVariants.{OutOfMemory};
 ghost use Rattle.ulfm_words.specs.Steps.{IsOf, IsNew, Tells, Learns};
+ghost use Rattle.ulfm_comm.specs.Counts.{new_rank, records_of};
 
 use crate::rank::Rank;
 use std::alloc::{AllocError, Allocator};
@@ -38,9 +39,9 @@ where
     where
         W: Drop,
         ensures world { IfOk result (λ o. o.0.words ≡ words) }
-        ensures ranks { MatchResult result (λ o. o.1.items ≡ map (new_record (W.name words).limits) (all_below (W.name words).limits.ranks))
+        ensures ranks { MatchResult result (λ o. o.1.items ≡ map (new_rank (W.name words).limits) (all_below (W.name words).limits.ranks))
             (λ fault. fault ≡ OutOfMemory) }
-        ensures fits { IfOk result (λ o. AllByRecursion (Fits P.meld (W.name words).limits []) o.1.items) }
+        ensures fits { IfOk result (λ o. AllByRecursion (Fits P.meld (W.name words).limits []) (records_of o.1.items)) }
     {
         let limits = words.limits();
         match ranks_of(alloc, limits) {
@@ -123,7 +124,7 @@ fn ranks_of<P: Packed, A: Allocator + Copy>(
     limits: Limits,
 ) -> Result<Vec<Rank<P, A>, A>, AllocError>
     requires { MayOpen limits }
-    ensures { IfOk result (λ ranks. ranks.items ≡ map (new_record limits) (all_below limits.ranks)) }
+    ensures { IfOk result (λ ranks. ranks.items ≡ map (new_rank limits) (all_below limits.ranks)) }
 {
     let group = first_ranks(alloc, limits.ranks)?;
     let mut ranks = Vec::with_capacity(alloc, limits.ranks as usize)?;

@@ -7,7 +7,7 @@ use Rattle.ulfm_model.proofs.{LeftRuns.{call_legal, fail_legal}, Lists.{each_fro
 use Rattle.ulfm_words.specs.Steps.{IsOf, Name, Sight}
 use Rattle.ulfm_words.proofs.Trails.{did_prefix, did_wait}
 use Rattle.ulfm_comm.specs.{Calls.{Calls, EndsAs, EndsReply, wants_memory}, Fails.{Fails}, Ends.{IsRefusedAgain}}
-use Rattle.ulfm_comm.specs.{Phase.{Answered, Stands, UnderWay, Waits, next_of, reply_in}, Step.{Stepped}}
+use Rattle.ulfm_comm.specs.{Counts.{Counted}, Phase.{Answered, Stands, UnderWay, Waits, next_of, reply_in}, Step.{Stepped}}
 use Rattle.ulfm_comm.proofs.{StepAdds.{step_did}, CallRuns.{called_run}, InOrder.{each_set}, AmongOthers.{did_among}}
 use Rattle.ulfm_comm_tests.specs.Seats.{HasStood, IsPlay, Seated, Sits}
 use mathlib.Core.List.{IsPrefix}
@@ -44,10 +44,10 @@ module _ {P : Type 0} (meld : P → P → P) (name : Name) where
       record { did = did_among now.seen after.seen (call_legal meld name.limits quiet now.seen after.seen own asked reply new legal run).0; onward = called.onward }
 
   -- a call that has just begun
-  pub stood_first : (own : Record) (now : Sight P) (doing : UnderWay P) → Stands meld false name own now doing own now → HasStood meld name own now doing
+  pub stood_first : (own : Record) (now : Sight P) (doing : Counted P) → Stands meld false name own now doing.way own now → HasStood meld name own now doing
   stood_first own now doing stands = record { old = own; before = now; stood = now; stands = stands; waits = waits_none now; begins = ([], append-nil now.seen) }
 
-  module _ (own : Record) (now : Sight P) (doing : UnderWay P) (was : HasStood meld name own now doing) (after : Sight P) (waits : Waits false now after) where
+  module _ (own : Record) (now : Sight P) (doing : Counted P) (was : HasStood meld name own now doing) (after : Sight P) (waits : Waits false now after) where
     still_begins : IsPrefix was.before.seen after.seen
     still_begins = prefix_trans was.before.seen now.seen after.seen was.begins (waits_begin now after waits)
 
@@ -56,7 +56,7 @@ module _ {P : Type 0} (meld : P → P → P) (name : Name) where
     stood_on = record { old = was.old; before = was.before; stood = was.stood; stands = was.stands; waits = waits_on was.stood now after was.waits waits; begins = still_begins }
 
     -- its own step leads on
-    pub stood_next : (own' : Record) (doing' : UnderWay P) → ((old : Record) (before stood : Sight P) → Stands meld false name old before doing own stood → Waits false stood now → Stands meld false name old before doing' own' after) → HasStood meld name own' after doing'
+    pub stood_next : (own' : Record) (doing' : Counted P) → ((old : Record) (before stood : Sight P) → Stands meld false name old before doing.way own stood → Waits false stood now → Stands meld false name old before doing'.way own' after) → HasStood meld name own' after doing'
     stood_next own' doing' turns =
         record { old = was.old; before = was.before; stood = after; stands = turns was.old was.before was.stood was.stands was.waits; waits = waits_none after; begins = still_begins }
 
@@ -66,7 +66,7 @@ module _ {P : Type 0} (meld : P → P → P) (name : Name) where
 
     -- it is the last one
     pub answered_fits : (own' : Record) (asked : Call P) (reply : Reply P) → IsLegal meld name.limits after.seen
-        → ((old : Record) (before stood : Sight P) → Stands meld false name old before doing own stood → Waits false stood now → Answered meld false name asked old before reply own' after) → Fits meld name.limits after.seen own'
+        → ((old : Record) (before stood : Sight P) → Stands meld false name old before doing.way own stood → Waits false stood now → Answered meld false name asked old before reply own' after) → Fits meld name.limits after.seen own'
     answered_fits own' asked reply legal turns = go (turns was.old was.before was.stood was.stands was.waits).ends
       where
         go : (IsRefusedAgain was.old reply own' × Waits false was.before after) ⊎ EndsReply meld false name asked was.old was.before reply own' after → Fits meld name.limits after.seen own'
@@ -77,7 +77,7 @@ module _ {P : Type 0} (meld : P → P → P) (name : Name) where
   pub sits_on : (now after : Sight P) → IsLegal meld name.limits after.seen → Waits false now after → (seat : Seated P) → Sits meld name now seat → Sits meld name after seat
   sits_on now after legal waits seat sits = go seat.own seat.doing sits
     where
-      go : (own : Record) (doing : Option (UnderWay P)) → MatchOption doing (Fits meld name.limits now.seen own) (HasStood meld name own now) → MatchOption doing (Fits meld name.limits after.seen own) (HasStood meld name own after)
+      go : (own : Record) (doing : Option (Counted P)) → MatchOption doing (Fits meld name.limits now.seen own) (HasStood meld name own now) → MatchOption doing (Fits meld name.limits after.seen own) (HasStood meld name own after)
       go own None fits = fits_stays meld name.limits now.seen after.seen own (waits_begin now after waits) legal fits
       go own (Some doing) stood = stood_on own now doing stood after waits
 

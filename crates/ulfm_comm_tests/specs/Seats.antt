@@ -4,19 +4,19 @@ use Rattle.std.specs.List.{AllByRecursion}
 use mathlib.Core.List.{IsPrefix}
 use Rattle.ulfm_model.specs.Records.{Fits, Record}
 use Rattle.ulfm_words.specs.Steps.{IsOf, Name, Sight}
-use Rattle.ulfm_comm.specs.Phase.{Stands, UnderWay, Waits}
+use Rattle.ulfm_comm.specs.{Counts.{Counted}, Phase.{Stands, Waits}}
 
 -- a rank's record, and its call under way, if there is one
 pub record Seated (P : Type 0) : Type 0 where
   pub own : Record
-  pub doing : Option (UnderWay P)
+  pub doing : Option (Counted P)
 
 -- a call under way stood here, and since then there were others' events alone
-pub record HasStood {P : Type 0} (meld : P → P → P) (name : Name) (own : Record) (pass : Sight P) (doing : UnderWay P) : Type 0 where
+pub record HasStood {P : Type 0} (meld : P → P → P) (name : Name) (own : Record) (pass : Sight P) (doing : Counted P) : Type 0 where
   pub old : Record
   pub before : Sight P
   pub stood : Sight P
-  pub stands : Stands meld false name old before doing own stood
+  pub stands : Stands meld false name old before doing.way own stood
   pub waits : Waits false stood pass
   pub begins : IsPrefix before.seen pass.seen
 

@@ -6,6 +6,8 @@ mod calls;
 #[cfg(test)]
 mod jobs;
 #[cfg(test)]
+mod last_steps;
+#[cfg(test)]
 mod member;
 #[cfg(test)]
 mod play;

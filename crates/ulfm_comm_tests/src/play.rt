@@ -6,7 +6,7 @@ ghost use Rattle.ulfm_model.specs.Records.{Fits};
 ghost use Rattle.ulfm_model.specs.declared.event.Caller.TheVariants.{Rank as OfRank};
 ghost use Rattle.ulfm_words.specs.Steps.{IsNew, IsOf};
 ghost use Rattle.ulfm_comm_tests.specs.Seats.{IsPlay, Sits};
-ghost use Rattle.ulfm_comm.specs.Phase.{Waits};
+ghost use Rattle.ulfm_comm.specs.{Counts.{records_of}, Phase.{Waits}};
 
 use std::alloc::{AllocError, Allocator, Global};
 use std::marker::Model;
@@ -64,7 +64,7 @@ impl<P: Packed, A: Allocator> Model for Seat<P, A> {
 
     ghost Value = { Seated P };
 
-    ghost view = { λ a. record { own = a.own; doing = a.doing } };
+    ghost view = { λ a. record { own = a.own.own; doing = a.doing } };
 }
 
 impl<P: Packed, A: Allocator + Copy> Seat<P, A> {
@@ -146,7 +146,7 @@ fn seats_of<P: Packed, A: Allocator + Copy, W: Words<P, A>>(
     ranks: Vec<Rank<P, A>, A>,
 ) -> Result<Vec<Seat<P, A>, A>, AllocError>
     requires new { IsNew P.meld (W.name world.now.words) (W.sight pass.now) }
-    requires fits { AllByRecursion (Fits P.meld (W.name world.now.words).limits []) ranks.items }
+    requires fits { AllByRecursion (Fits P.meld (W.name world.now.words).limits []) (records_of ranks.items) }
     ensures { IfOk result (λ seats. IsPlay P.meld (W.name world.now.words) (W.sight pass.now) seats.items) }
 {
     let _ = world;
@@ -236,6 +236,11 @@ where
     /// A rank, if there is one of this number.
     pub(crate) fn rank(&self, rank: u16) -> Option<&Rank<P, A>> {
         Some(&self.seats.get(rank as usize)?.own)
+    }
+
+    /// How many steps a rank's last call made.
+    pub(crate) fn last_steps(&self, rank: u16) -> Option<u32> {
+        Some(self.seats.get(rank as usize)?.own.last_steps())
     }
 
     /// The steps of a rank's call up to its next one of this name, which isn't made: how many.

@@ -111,6 +111,18 @@ fn member_context(rt: HostRuntime) -> Result<(), Fail> {
 }
 
 #[test]
+fn member_last_steps(rt: HostRuntime) -> Result<(), Fail> {
+    let (_, mut member) = two(&rt, rt.alloc())?;
+
+    assert!(rt; member.last_steps() == 0);
+    // A look finds no failure by one load, and whether the communicator is revoked is another.
+    member.is_revoked(0)?;
+    assert!(rt; member.last_steps() == 2);
+
+    Ok(())
+}
+
+#[test]
 fn member_iagree(rt: HostRuntime) -> Result<(), Fail> {
     let (_, mut member) = two(&rt, rt.alloc())?;
 

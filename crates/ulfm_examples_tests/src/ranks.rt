@@ -53,6 +53,21 @@ fn rank_context(rt: HostRuntime) -> Result<(), Fail> {
 }
 
 #[test]
+fn rank_last_steps(rt: HostRuntime) -> Result<(), Fail> {
+    let (_, mut member) = two(&rt, rt.alloc())?;
+    member.fail(1)?;
+    let (world, mut rank, mut pass) = member.into_parts();
+
+    // Rank 1 was declared failed before.
+    // A call looks: one load finds that failure, and the next finds no other.
+    assert!(rt; rank.last_steps() == 0);
+    rank.ack_failed(&world, &mut pass, 0, 1)?;
+    assert!(rt; rank.last_steps() == 2);
+
+    Ok(())
+}
+
+#[test]
 fn rank_iagree(rt: HostRuntime) -> Result<(), Fail> {
     let (_, member) = two(&rt, rt.alloc())?;
     let (world, mut rank, mut pass) = member.into_parts();

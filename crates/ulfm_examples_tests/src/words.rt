@@ -39,7 +39,7 @@ fn plain_pass_nth(rt: HostRuntime) -> Result<(), Fail> {
 }
 
 #[test]
-fn slots_slot_word(rt: HostRuntime) -> Result<(), Fail> {
+fn summaries_slot_word(rt: HostRuntime) -> Result<(), Fail> {
     let offer = Offer::Flag(FlagAnd { bits: 0x0f });
     let known = Known { count: 2 };
     let acked = Acked { count: 1 };
@@ -56,7 +56,7 @@ fn slots_slot_word(rt: HostRuntime) -> Result<(), Fail> {
 }
 
 #[test]
-fn slots_read_slot(rt: HostRuntime) -> Result<(), Fail> {
+fn summaries_read_slot(rt: HostRuntime) -> Result<(), Fail> {
     let known = Known { count: 2 };
     let acked = Acked { count: 1 };
 

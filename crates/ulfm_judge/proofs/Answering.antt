@@ -1,15 +1,15 @@
 -- That a reply may come is decided by tests that compute; and a reply that starts something has a round whose next number fits.
-use Rattle.std.proofs.Common.{◌≡◌, ◌⊎◌, ◌≤◌, ◌<◌, ◌+◌, ◌^◌, ℕ, Bool, true, false, not, List, [], ◌∷◌, length, filter, max, min, take, nat_le, Option, Some, None, is_some, if◌then◌else◌, refl, sym, ap, ◌∙◌, subst, IsTrue, IsFalse, inl, inr, arith}
+use Rattle.std.proofs.Common.{◌≡◌, ◌⊎◌, ◌≤◌, ℕ, Bool, true, false, not, List, [], length, filter, max, min, take, Option, Some, None, is_some, if◌then◌else◌, refl, sym, ap, ◌∙◌, subst, IsTrue, IsFalse, inl, inr}
 use Rattle.std.specs.Bool.{Decides}
-use Rattle.std.specs.List.{list_all, list_any}
+use Rattle.std.specs.List.{list_all}
 use Rattle.std.proofs.lemmas.Bool.{and_parts}
-use Rattle.std.proofs.lemmas.Bool.Decides.{Decides-and, Decides-like, Decides-or, nat_tests}
+use Rattle.std.proofs.lemmas.Bool.Decides.{Decides-and, Decides-like, Decides-or}
 use Rattle.ulfm_model.specs.declared.{call.Call.{Call}, call.Request.{Request}, contribution.Offer.{Offer}, event.Caller.{Caller}, event.Event.{Event}, limits.Limits.{Limits}, refusal.Refusal.{Refusal}, reply.Reply.{Reply}}
-use Rattle.ulfm_model.specs.Answers.{IsPending, IsReply, IsSelfFailed, PollReplies, Replies, RepliesBy, View, comm_of, first_refusal, rank_of, refusal_of, refusal_on, traits_of}
+use Rattle.ulfm_model.specs.Answers.{IsPending, IsReply, IsSelfFailed, PollReplies, Replies, RepliesBy, View, comm_of, rank_of, refusal_of, refusal_on, traits_of}
 use Rattle.ulfm_model.specs.History.{History, decision, failed, failures, has, has_arrived, is_decided, is_revoked, members}
-use Rattle.ulfm_model.specs.Records.{Held, Record, free_ids, held_at, is_shrink}
-use Rattle.ulfm_model.specs.Terms.{tests_of}
+use Rattle.ulfm_model.specs.Records.{Held, Record, free_ids, held_at}
 use Rattle.ulfm_record.specs.Kept.{FitsNext}
+use Rattle.ulfm_record.proofs.Allowed.{allowed_fits}
 use Rattle.ulfm_trace_model.specs.Traces.{AnswersCall, AnswersRank, MayReply, Traced, Under, call_by, listed, record_of, view_at}
 use Rattle.ulfm_judge.specs.Seen.{Seen, seen_of}
 use Rattle.ulfm_judge.specs.ReplyTests.{by_record_test, call_test, listed_in, looked_test, pending_test, polled_test, rank_test, replied_test, reply_test, same_ranks}
@@ -100,38 +100,6 @@ module _ {P : Type 0} (meld : P → P → P) (pack : P → ℕ) (tells : (x y : 
           (Decides-and _ _ (le_decides u.begun point)
           (Decides-and _ _ (le_decides point (length now.history))
           (Decides-and _ _ (call_decides now by u point reply) (lists_decide now.limits.ranks (take point now.history) (comm_of u.asked) group reply))))
-
--- where no test of several refuses, the first doesn't, and none of the others does
-none_first_test : (test : Bool × Refusal) (tests : List (Bool × Refusal)) → first_refusal (test ∷ tests) ≡ None → (test.0 ≡ false) × (first_refusal tests ≡ None)
-none_first_test test tests none = go test.0 refl none
-  where
-    go : (b : Bool) → test.0 ≡ b → (if b then Some test.1 else first_refusal tests) ≡ None → (test.0 ≡ false) × (first_refusal tests ≡ None)
-    go true is none = absurd (cc none)
-    go false is none = (is, none)
-
-round_left : (rounds next : ℕ) → rounds ≤ 4096 → nat_le rounds next ≡ false → next + 1 < 2 ^ 16
-round_left rounds next small left = grind (arith, nat_tests)
-
-round_before : (rounds next : ℕ) → rounds ≤ 4096 → nat_le rounds (next + 1) ≡ false → next + 1 < 2 ^ 16
-round_before rounds next small left = grind (arith, nat_tests)
-
--- a request that the record's tests allow has a round whose next number fits
-allowed_fits : {P : Type 0} (own : Record) (x : Held) (asked : Call P) → own.limits.rounds ≤ 4096 → first_refusal (tests_of own x asked) ≡ None → FitsNext ((traits_of asked).starts x)
-allowed_fits own x (Call.Agree rank c value) small none =
-    let used : Bool × Refusal = (nat_le own.limits.rounds (x.next_agreement + 1), Refusal.RoundsUsedUp) in
-    let rest = none_first_test (is_some x.request, Refusal.Busy) (used ∷ []) none in
-    round_before own.limits.rounds x.next_agreement small (none_first_test used [] rest.1).0
-allowed_fits own x (Call.Shrink rank c) small none =
-    let used : Bool × Refusal = (nat_le own.limits.rounds x.next_agreement, Refusal.RoundsUsedUp) in
-    let other : Bool × Refusal = (list_any (λ y. is_shrink y.request) own.held, Refusal.ShrinkOpen) in
-    let rest = none_first_test (is_some x.request, Refusal.Busy) (other ∷ used ∷ []) none in
-    let last = none_first_test other (used ∷ []) rest.1 in
-    round_left own.limits.rounds x.next_agreement small (none_first_test used [] last.1).0
-allowed_fits own x (Call.Barrier rank c) small none =
-    let used : Bool × Refusal = (nat_le own.limits.rounds x.next_barrier, Refusal.RoundsUsedUp) in
-    let rest = none_first_test (is_some x.request, Refusal.Busy) (used ∷ []) none in
-    round_left own.limits.rounds x.next_barrier small (none_first_test used [] rest.1).0
-allowed_fits own x _ small none = tt
 
 -- an answer that says that something has started, as tests have it
 pub started_fits : {P : Type 0} (meld : P → P → P) (pack : P → ℕ) (limits : Limits) (look : List ℕ) (seen : Seen P) (own : List (Event P)) (old : Record) (asked : Call P) (reply : Reply P) → old.limits.rounds ≤ 4096

@@ -7,8 +7,8 @@ use Rattle.std.proofs.lemmas.Bool.{eq-eqb, eqb-true, ne_eqb}
 use Rattle.std.proofs.lemmas.List.Quantifiers.{position-Some}
 use Rattle.std.proofs.lemmas.Map.Keys.{IsDistinct-head, IsDistinct-tail}
 use Rattle.ulfm_model.specs.declared.{call.Call.{Call}, event.Caller.{Caller}, limits.Limits.{Limits}, reply.Reply.{Reply}}
-use Rattle.ulfm_model.specs.{Answers.{Effect, comm_of, left_by, left_with, printed, traits_of}, History.{History, first_ranks}, Records.{Held, Record, held_at}}
-use Rattle.ulfm_model.proofs.Lists.{any_none, distinct_push, each_from, each_push, none_distinct}
+use Rattle.ulfm_model.specs.{Answers.{Effect, comm_of, left_by, left_with, printed, traits_of}, History.{History}, Records.{Held, Record, held_at}}
+use Rattle.ulfm_model.proofs.Lists.{each_from}
 use Rattle.ulfm_record.specs.{declared.record.RankRecord.{RankRecord}, Kept.{FitsNext, record_of}}
 use Rattle.ulfm_trace_model.specs.declared.line.{Line.{Line}, Why.{Why}}
 use Rattle.ulfm_trace_model.specs.Traces.{MayReply, Takes, Traced, Under, after_reply, call_by, caller_of, record_of as record_at, records_after, same_caller}
@@ -25,18 +25,6 @@ by_effect now c Effect.ForGood = refl
 pub left_number : {P : Type 0} (ranks : ℕ) (h : History P) (now : Record) (asked : Call P) (reply : Reply P) → (left_by ranks h now asked reply).number ≡ now.number
 left_number ranks h now asked (Reply.Refused refusal) = by_effect now (comm_of asked) (printed refusal).2
 left_number ranks h now asked _ = refl
-
-all_below : (n : ℕ) → AllByRecursion (λ r. r < n) (first_ranks n)
-all_below zero = tt
-all_below (suc n) =
-    each_push (λ r. r < suc n) (first_ranks n) n (each_from (λ r. r < n) (λ r. r < suc n) (λ r less. omega (arith, less)) (first_ranks n) (all_below n)) (omega arith)
-
--- all ranks differ
-pub ranks_distinct : (n : ℕ) → IsDistinct nat_eq (first_ranks n)
-ranks_distinct zero = none_distinct nat_eq
-ranks_distinct (suc n) =
-    distinct_push nat_eq (first_ranks n) n (ranks_distinct n)
-    (any_none (λ r. nat_eq r n) (first_ranks n) (each_from (λ r. r < n) (λ r. nat_eq r n ≡ false) (λ r less. ne_eqb r n (λ same. omega (arith, less, same))) (first_ranks n) (all_below n)))
 
 module _ {X Y : Type 0} (v : X → Y) (number : Y → ℕ) (r : ℕ) (f : Y → Y) where
   -- the elements with those of number r changed

@@ -5,7 +5,7 @@ use Rattle.std.specs.List.{cons_option, list_any}
 use Rattle.std.proofs.lemmas.Bool.{and_parts, eqb-true, le-ltb, lt-ltb}
 use Rattle.ulfm_model.specs.History.{same_place}
 use Rattle.ulfm_judge.specs.Numbers.{count_by, numbers_from}
-use Rattle.ulfm_judge.specs.Numbers.{before_then, by_then, first_from, first_or, number_of, passing}
+use Rattle.ulfm_judge.specs.Numbers.{before_then, by_then, first_from, first_noted, first_or, number_of, passing}
 
 -- what came first, or else what an event of this number gives
 abbrev pub first_else : {Y : Type 0} → Option (ℕ × Y) → Option Y → ℕ → Option (ℕ × Y)
@@ -131,6 +131,27 @@ module _ {K X Y V : Type 0} (eq : K → K → Bool) (one : (k q : K) → eq k q 
         go : (b : Bool) → eq k q ≡ b → new q ≡ w (more q)
         go true same = puts q ∙ (ap (λ (c : Bool). if c then Some (v (length h, y)) else old q) same ∙ fresh q y (ap old (sym (one k q same)) ∙ is) (at_key q true same))
         go false apart = puts q ∙ (ap (λ (c : Bool). if c then Some (v (length h, y)) else old q) apart ∙ kept q (at_key q false apart))
+
+-- a table of numbers by key, where one more event gives a key or none
+pub noted : {K X : Type 0} (eq : K → K → Bool) (one : (k q : K) → eq k q ≡ true → k ≡ q) (g : X → Option K) (h : List X) (x : X) (old new : K → Option ℕ) (n : ℕ) (given : Option K)
+    → given ≡ g x → ((q : K) → new q ≡ first_noted eq old n given q)
+    → ((q : K) → old q ≡ number_of (first_from (λ e. passing (λ k. eq k q) (g e)) 0 h)) → n ≡ length h
+    → (q : K) → new q ≡ number_of (first_from (λ e. passing (λ k. eq k q) (g e)) 0 (h ++ x ∷ []))
+noted {K} eq one g h x old new n None is puts tells count q =
+    puts q ∙ kept eq one (λ q e. passing (λ k. eq k q) (g e)) number_of (λ at. at.0) refl (λ at. refl) h x old tells q (ap (passing (λ k. eq k q)) (sym is))
+noted {K} eq one g h x old new n (Some k) is puts tells count q = by_old (old k) refl
+  where
+    gives : (p : K) → passing (λ j. eq j p) (g x) ≡ (if eq k p then Some k else None)
+    gives p = ap (passing (λ j. eq j p)) (sym is)
+
+    by_old : (o : Option ℕ) → old k ≡ o → new q ≡ number_of (first_from (λ e. passing (λ j. eq j q) (g e)) 0 (h ++ x ∷ []))
+    by_old (Some z) has_one =
+        puts q
+        ∙ (ap (λ (o : Option ℕ). if is_some o then old q else (if eq k q then Some n else old q)) has_one
+        ∙ stays eq one (λ p e. passing (λ j. eq j p) (g e)) number_of (λ at. at.0) refl (λ at. refl) h x old tells k k gives z has_one q)
+    by_old None none =
+        grows eq one (λ p e. passing (λ j. eq j p) (g e)) number_of (λ at. at.0) refl (λ at. refl) h x old tells k k gives none new
+        (λ p. puts p ∙ (ap (λ (o : Option ℕ). if is_some o then old p else (if eq k p then Some n else old p)) none ∙ ap (λ m. if eq k p then Some m else old p) count)) q
 
 -- places that are found to be one are
 pub place_is : (k q : ℕ × ℕ × ℕ) → same_place k q ≡ true → k ≡ q

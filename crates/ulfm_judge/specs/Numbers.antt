@@ -1,8 +1,8 @@
 -- Tables of when things happened: by the numbers of events, each counted from 0.
 use Rattle.std.specs.Prelude.{◌≡◌, ℕ, ◌+◌, ◌==◌, nat_lt, nat_eq, Bool, false, if◌then◌else◌}
-use Rattle.std.specs.Prelude.{List, [], ◌∷◌, length, filter, Option, Some, None}
+use Rattle.std.specs.Prelude.{List, [], ◌∷◌, ◌++◌, length, filter, Option, Some, None, is_some, OnOk, Result}
 use Rattle.std.specs.{HashMap.{HashMap, get}, List.{cons_option}, Option.{option_and_then, option_map}}
-use Rattle.ulfm_model.specs.declared.{contribution.Slot.{Slot}}
+use Rattle.ulfm_model.specs.declared.{contribution.Slot.{Slot}, event.Entry.{Entry}}
 use Rattle.ulfm_model.specs.{History.{History, failures, same_place, says, spawns}, Terms.{put_at}}
 
 -- an event's number and what it gives, or what later events give
@@ -46,6 +46,15 @@ passing test o = option_and_then (λ y. if test y then Some y else None) o
 abbrev pub number_of : {Y : Type 0} → Option (ℕ × Y) → Option ℕ
 number_of None = None
 number_of (Some at) = Some at.0
+
+-- the numbers by key, with one more at a key that is given and had none
+abbrev pub first_noted : {K : Type 0} → (K → K → Bool) → (K → Option ℕ) → ℕ → Option K → K → Option ℕ
+first_noted eq old n None q = old q
+first_noted eq old n (Some k) q = if is_some (old k) then old q else (if eq k q then Some n else old q)
+
+-- where a call that notes an event of this number goes well, what told a history tells the one that has this event too
+abbrev pub Notes : {P T X E : Type 0} → (T → History P → Type 0) → T → T → ℕ → Entry P → Result X E → Type 0
+Notes {P} TellsIt old new n entry result = (h : History P) → TellsIt old h → n ≡ length h → OnOk result (TellsIt new (h ++ entry ∷ []))
 
 -- the map has, for each place, when it was settled first, and what settled it
 abbrev pub TellsSlots : {P S : Type 0} → HashMap (ℕ × ℕ × ℕ) (ℕ × Slot P) S → History P → Type 0

@@ -1,12 +1,13 @@
 -- The tables of numbers tell a history.
-use Rattle.std.specs.Prelude.{◌≡◌, ℕ, ◌+◌, ◌≤◌, nat_le, nat_eq, if◌then◌else◌, List, [], length, map, take}
+use Rattle.std.specs.Prelude.{◌≡◌, ℕ, ◌+◌, ◌≤◌, nat_le, nat_eq, Bool, IfOk, IsTrue, if◌then◌else◌, List, [], length, map, Result, take}
 use Rattle.std.specs.HashMap.{get}
 use Rattle.ulfm_model.specs.History.{History, members, same_place, spawns}
-use Rattle.ulfm_model.specs.declared.limits.Limits.{Limits}
+use Rattle.ulfm_model.specs.declared.{event.Caller.{Caller}, limits.Limits.{Limits}, reply.Reply.{Reply}}
+use Rattle.ulfm_model.specs.Words.{MayOpen}
 use Rattle.ulfm_record.specs.declared.record.RankRecord.{RankRecord}
 use Rattle.ulfm_trace_model.specs.Traces.{Traced, Under}
 use Rattle.ulfm_judge.specs.declared.calls.OpenCall.{OpenCall}
-use Rattle.ulfm_judge.specs.{Failed.{members_of}, Groups.{group_at}, Kept.{AreCalls, traced_of}, Seen.{Seen}}
+use Rattle.ulfm_judge.specs.{Failed.{members_of}, Groups.{group_at}, Kept.{AreCalls, MayLeave, traced_of}, Seen.{Seen}}
 use Rattle.ulfm_judge.specs.declared.numbers.Numbers.{Numbers}
 use Rattle.ulfm_judge.specs.Numbers.{TellsArrivals, TellsDeclared, TellsFailures, TellsRevocations, TellsSlots, TellsSpawns}
 use Rattle.ulfm_judge.specs.Numbers.{before_then, by_then, count_by}
@@ -43,3 +44,11 @@ seen_at numbers point = record {
 abbrev pub Goes : {P A W : Type 0} {g : _} → Limits → Numbers P A g → List (RankRecord A) → List (OpenCall P A) → (Traced P → W → Type 0) → W → Type 0
 Goes {P} limits numbers records calls Taken why =
     (h : History P) × (us : List (Under P)) × Tells limits.ranks numbers h × AreCalls calls us × Taken (traced_of limits h records us) why
+
+-- an answer, if it comes, is what a test says of what lines said, for each history that the tables tell
+abbrev pub AnswersBy : {P A E : Type 0} {g : _} → Limits → Numbers P A g → List (RankRecord A) → Result Bool E → (Traced P → Bool) → Type 0
+AnswersBy {P} limits numbers records result test = (h : History P) → Tells limits.ranks numbers h → IfOk result (λ b. b ≡ test (traced_of limits h records []))
+
+-- where the answer is yes, a request that the reply says has started has a round whose next number fits
+abbrev pub Leaves : {P A E : Type 0} → Limits → List (RankRecord A) → Caller → Under P → Reply P → Result Bool E → Type 0
+Leaves limits records by u reply result = MayOpen limits → IfOk result (λ b. IsTrue b → MayLeave (traced_of limits [] records []) by u reply)

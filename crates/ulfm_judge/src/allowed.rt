@@ -6,7 +6,7 @@ ghost use Rattle.ulfm_judge.specs.Telling.{seen_at};
 ghost use Rattle.ulfm_judge.specs.Tests.{at_test, follow_test, ids_test, place_test, spawn_test};
 
 use crate::groups::has_member;
-use crate::numbers::Numbers;
+use crate::numbers::{Numbers, Place};
 use std::alloc::{AllocError, Allocator};
 use ulfm_history::decide::{Decided, decided_by};
 use ulfm_laws::meld::Meld;
@@ -30,12 +30,11 @@ fn is_place<P: Meld, A: Allocator + Copy + Drop>(
     limits: Limits,
     numbers: &Numbers<P, A>,
     point: u64,
-    comm: u16,
-    round: u16,
-    rank: u16,
+    place: Place,
 ) -> bool
-    ensures { result ≡ place_test limits (seen_at numbers.now point) comm round rank }
+    ensures { result ≡ place_test limits (seen_at numbers.now point) (place.0) (place.1) (place.2) }
 {
+    let (comm, round, rank) = place;
     exists(numbers, point, comm)
         && (has_member(numbers.members_at(comm, point), rank) && round < limits.rounds)
 }
@@ -45,18 +44,16 @@ fn may_settle<P: Meld, A: Allocator + Copy + Drop>(
     limits: Limits,
     numbers: &Numbers<P, A>,
     point: u64,
-    comm: u16,
-    round: u16,
-    rank: u16,
+    place: Place,
     known: u16,
 ) -> bool
     ensures { let seen = seen_at numbers.now point in
-        let open_yet = not (is_some (seen.slots (comm, round, rank))) in let few = nat_le known (length (failed_in seen comm)) in
-        result ≡ (place_test limits seen comm round rank && (open_yet && few)) }
+        let open_yet = not (is_some (seen.slots place)) in let few = nat_le known (length (failed_in seen (place.0))) in
+        result ≡ (place_test limits seen (place.0) (place.1) (place.2) && (open_yet && few)) }
 {
-    let is_place = is_place(limits, numbers, point, comm, round, rank);
-    let is_open = numbers.slot_at((comm, round, rank), point).is_none();
-    let group = numbers.failed_at_point(comm, point);
+    let is_place = is_place(limits, numbers, point, place);
+    let is_open = numbers.slot_at(place, point).is_none();
+    let group = numbers.failed_at_point(place.0, point);
     is_place && (is_open && usize::from(known) <= group.len())
 }
 
@@ -76,20 +73,18 @@ fn may_mark<P: Meld, A: Allocator + Copy + Drop>(
     limits: Limits,
     numbers: &Numbers<P, A>,
     point: u64,
-    comm: u16,
-    round: u16,
-    rank: u16,
+    place: Place,
     known: u16,
 ) -> bool
     requires { 0 < known }
     ensures { let seen = seen_at numbers.now point in
-        let open_yet = not (is_some (seen.slots (comm, round, rank))) in let at_place = at_test (slice_get (failed_in seen comm) (known - 1)) rank in
-        result ≡ (place_test limits seen comm round rank && (open_yet && at_place)) }
+        let open_yet = not (is_some (seen.slots place)) in let at_place = at_test (slice_get (failed_in seen (place.0)) (known - 1)) (place.2) in
+        result ≡ (place_test limits seen (place.0) (place.1) (place.2) && (open_yet && at_place)) }
 {
-    let is_place = is_place(limits, numbers, point, comm, round, rank);
-    let is_open = numbers.slot_at((comm, round, rank), point).is_none();
-    let group = numbers.failed_at_point(comm, point);
-    is_place && (is_open && is_at(group, known, rank))
+    let is_place = is_place(limits, numbers, point, place);
+    let is_open = numbers.slot_at(place, point).is_none();
+    let group = numbers.failed_at_point(place.0, point);
+    is_place && (is_open && is_at(group, known, place.2))
 }
 
 /// Whether a body is a set of context ids that isn't empty.
@@ -219,16 +214,29 @@ pub(crate) fn may_follow<P: Meld, A: Allocator + Copy + Drop>(
             round,
             rank,
             given,
-        } => Ok(may_settle(limits, numbers, point, comm, round, rank, given.known.count)),
+        } => Ok(may_settle(
+            limits,
+            numbers,
+            point,
+            (comm, round, rank),
+            given.known.count,
+        )),
         Event::Mark {
             comm,
             round,
             rank,
             known,
-        } => Ok(may_mark(limits, numbers, point, comm, round, rank, known.known.count)),
+        } => Ok(may_mark(
+            limits,
+            numbers,
+            point,
+            (comm, round, rank),
+            known.known.count,
+        )),
         Event::Arrive { comm, round, rank } => {
-            let is_place = is_place(limits, numbers, point, comm, round, rank);
-            Ok(is_place && !numbers.has_arrived_at((comm, round, rank), point))
+            let place = (comm, round, rank);
+            let is_place = is_place(limits, numbers, point, place);
+            Ok(is_place && !numbers.has_arrived_at(place, point))
         }
         Event::Revoke { comm } => {
             Ok(exists(numbers, point, comm) && !numbers.is_revoked_at(comm, point))

@@ -9,7 +9,7 @@ ghost use Rattle.ulfm_judge.specs.Seen.{failed_in};
 ghost use Rattle.ulfm_judge.specs.Telling.{seen_at};
 
 use crate::numbers::Numbers;
-use crate::polls::is_poll_reply;
+use crate::polls::{View, is_poll_reply};
 use crate::replies::{
     count_known, is_acked_reply, is_barrier_start_reply, is_freed, is_group_reply, is_refused,
     is_revoke_reply, is_standing_reply, is_start_reply, same_ranks,
@@ -63,14 +63,10 @@ fn count_failed<P: Meld, A: Allocator + Copy + Drop>(
 }
 
 /// Whether a look found all that were declared at a point.
-fn found_all<P: Meld, A: Allocator + Copy + Drop>(
-    look: &[u16],
-    numbers: &Numbers<P, A>,
-    point: u64,
-) -> bool
-    ensures { result ≡ same_ranks (seen_at numbers.now point).failures look.now }
+fn found_all<P: Meld, A: Allocator + Copy + Drop>(view: &View<P, A>) -> bool
+    ensures { result ≡ same_ranks (seen_at view.now.numbers.now view.now.point).failures view.now.look.now }
 {
-    same_ranks(numbers.failures_at(point), look)
+    same_ranks(view.numbers.failures_at(view.point), view.look)
 }
 
 /// How many of a communicator's members a look found declared, where these are the members that a rank knows.
@@ -92,9 +88,7 @@ fn count_found<P: Meld, A: Allocator + Copy + Drop>(
 fn is_reply_on<P: Packed, A: Allocator + Copy + Drop>(
     alloc: A,
     limits: Limits,
-    look: &[u16],
-    numbers: &Numbers<P, A>,
-    point: u64,
+    view: &View<P, A>,
     events: &[Event<P>],
     rank: u16,
     held: &[HeldComm<A>],
@@ -102,47 +96,50 @@ fn is_reply_on<P: Packed, A: Allocator + Copy + Drop>(
     asked: &Call<P>,
     reply: &Reply<P>,
 ) -> Result<bool, AllocError>
-    ensures { IfOk result (λ b. b ≡ replied_test P.meld P.pack limits look.now (seen_at numbers.now point) events.now rank held.now x.now asked.now reply.now) }
+    ensures { let seen = seen_at view.now.numbers.now view.now.point in
+        IfOk result (λ b. b ≡ replied_test P.meld P.pack limits view.now.look.now seen events.now rank held.now x.now asked.now reply.now) }
 {
     match *asked {
         Call::Fail { .. } => Ok(false),
         Call::GetFailed { comm, .. } => {
-            let all = found_all(look, numbers, point);
-            let count = count_failed(numbers, point, comm);
+            let all = found_all(view);
+            let count = count_failed(view.numbers, view.point, comm);
             Ok(all && is_group_reply(count, reply))
         }
         Call::Ack { comm, count, .. } => {
-            let all = found_all(look, numbers, point);
-            let known = count_failed(numbers, point, comm);
+            let all = found_all(view);
+            let known = count_failed(view.numbers, view.point, comm);
             let acked = usize::from(x.acked).max(usize::from(count).min(known));
             Ok(all && is_acked_reply(acked, reply))
         }
         Call::Agree { value, .. } => {
-            let stood = numbers.slot_at((x.comm, x.next_agreement, rank), point);
-            let known = count_found(numbers, look, x.comm, &x.group);
+            let stood = view
+                .numbers
+                .slot_at((x.comm, x.next_agreement, rank), view.point);
+            let known = count_found(view.numbers, view.look, x.comm, &x.group);
             Ok(is_start_reply(events, stood, known, rank, x, Offer::Flag(value), reply))
         }
         Call::Shrink { .. } => {
-            let stood = numbers.slot_at((x.comm, x.next_agreement, rank), point);
-            let known = count_found(numbers, look, x.comm, &x.group);
+            let stood = view
+                .numbers
+                .slot_at((x.comm, x.next_agreement, rank), view.point);
+            let known = count_found(view.numbers, view.look, x.comm, &x.group);
             let free = free_ids(held);
             Ok(is_start_reply(events, stood, known, rank, x, Offer::Ctx(free), reply))
         }
         Call::Barrier { .. } => {
-            let arrived = numbers.has_arrived_at((x.comm, x.next_barrier, rank), point);
+            let arrived = view
+                .numbers
+                .has_arrived_at((x.comm, x.next_barrier, rank), view.point);
             Ok(is_barrier_start_reply(arrived, events, rank, x, reply))
         }
-        Call::Poll { .. } => {
-            is_poll_reply(
-                alloc, limits, look, numbers, point, rank, x, x.request, reply,
-            )
-        },
+        Call::Poll { .. } => { is_poll_reply(alloc, limits, view, rank, x, x.request, reply) },
         Call::Revoke { comm, .. } => {
-            let revoked = numbers.is_revoked_at(comm, point);
+            let revoked = view.numbers.is_revoked_at(comm, view.point);
             Ok(is_revoke_reply(revoked, events, comm, reply))
         }
         Call::IsRevoked { comm, .. } => {
-            Ok(is_standing_reply(numbers.is_revoked_at(comm, point), reply))
+            Ok(is_standing_reply(view.numbers.is_revoked_at(comm, view.point), reply))
         }
         Call::Free { .. } => Ok(is_freed(reply)),
     }
@@ -152,16 +149,15 @@ fn is_reply_on<P: Packed, A: Allocator + Copy + Drop>(
 fn is_reply_by_record<P: Packed, A: Allocator + Copy + Drop>(
     alloc: A,
     limits: Limits,
-    look: &[u16],
-    numbers: &Numbers<P, A>,
-    point: u64,
+    view: &View<P, A>,
     events: &[Event<P>],
     own: &RankRecord<A>,
     asked: &Call<P>,
     reply: &Reply<P>,
 ) -> Result<bool, AllocError>
-    ensures { let old = record_of limits own.now in
-        IfOk result (λ b. b ≡ by_record_test P.meld P.pack limits look.now (seen_at numbers.now point) events.now old (held_at old (comm_of asked.now)) asked.now reply.now (refusal_of old asked.now)) }
+    ensures { let old = record_of limits own.now in let seen = seen_at view.now.numbers.now view.now.point in
+        let test = by_record_test P.meld P.pack limits view.now.look.now seen events.now old (held_at old (comm_of asked.now)) asked.now reply.now in
+        IfOk result (λ b. b ≡ test (refusal_of old asked.now)) }
 {
     if let Some(refusal) = refusal_of(limits, own, asked) {
         return Ok(is_refused(reply, refusal));
@@ -171,7 +167,7 @@ fn is_reply_by_record<P: Packed, A: Allocator + Copy + Drop>(
     };
     let x = &own.held[i];
     is_reply_on(
-        alloc, limits, look, numbers, point, events, own.number, &own.held, x, asked, reply,
+        alloc, limits, view, events, own.number, &own.held, x, asked, reply,
     )
 }
 
@@ -179,21 +175,21 @@ fn is_reply_by_record<P: Packed, A: Allocator + Copy + Drop>(
 pub(crate) fn is_answer<P: Packed, A: Allocator + Copy + Drop>(
     alloc: A,
     limits: Limits,
-    look: &[u16],
-    numbers: &Numbers<P, A>,
-    point: u64,
+    view: &View<P, A>,
     events: &[Event<P>],
     own: &RankRecord<A>,
     asked: &Call<P>,
     reply: &Reply<P>,
 ) -> Result<bool, AllocError>
-    ensures { IfOk result (λ b. b ≡ looked_test P.meld P.pack limits look.now (seen_at numbers.now point) events.now (record_of limits own.now) asked.now reply.now) }
+    ensures { let seen = seen_at view.now.numbers.now view.now.point in
+        IfOk result (λ b. b ≡ looked_test P.meld P.pack limits view.now.look.now seen events.now (record_of limits own.now) asked.now reply.now) }
 {
-    let by_record = is_reply_by_record(
-        alloc, limits, look, numbers, point, events, own, asked, reply,
-    )?;
-    let declared = numbers.is_declared_at(own.number, point);
-    Ok(is_self_failed(declared, events, asked, reply) || (!has_rank(look, own.number) && by_record))
+    let by_record = is_reply_by_record(alloc, limits, view, events, own, asked, reply)?;
+    let declared = view.numbers.is_declared_at(own.number, view.point);
+    Ok(
+        is_self_failed(declared, events, asked, reply)
+            || (!has_rank(view.look, own.number) && by_record),
+    )
 }
 
 /// Whether a reply lists this group.

@@ -1,8 +1,8 @@
 //! Replies: whether one may come, and what the judge keeps of it.
-ghost use Rattle.std.specs.Prelude.{◌≡◌, ◌∷◌, ◌++◌, [], IfOk, IsTrue, List, OnOk, Some, filter, if◌then◌else◌, is_some, map, not, take, unwrap_or};
+ghost use Rattle.std.specs.Prelude.{◌≡◌, ◌∷◌, ◌++◌, [], IfOk, List, OnOk, Some, filter, if◌then◌else◌, is_some, map, not, take, unwrap_or};
 ghost use Rattle.ulfm_judge.specs.Kept.{AreCalls, GoesWith, MayLeave, traced_of, under_of};
 ghost use Rattle.ulfm_judge.specs.ReplyTests.{call_test, rank_test, reply_test};
-ghost use Rattle.ulfm_judge.specs.Telling.{Tells};
+ghost use Rattle.ulfm_judge.specs.Telling.{AnswersBy, Leaves, Tells};
 ghost use Rattle.ulfm_model.specs.Answers.{closed, comm_of, left_by, traits_of};
 ghost use Rattle.ulfm_model.specs.History.{History, first_ranks};
 ghost use Rattle.ulfm_model.specs.Records.{Held, Record, held_at, new_held};
@@ -16,6 +16,7 @@ ghost use Rattle.ulfm_trace_model.specs.declared.line.Line.{Line};
 use crate::answers::{is_answer, lists};
 use crate::calls::{OpenCall, first_of, place_by, place_of_rank};
 use crate::numbers::Numbers;
+use crate::polls::View;
 use crate::replies::{is_fail_reply, is_refused};
 use std::alloc::{AllocError, Allocator};
 use std::mem;
@@ -42,10 +43,8 @@ fn answers_rank<P: Packed, A: Allocator + Copy + Drop>(
     reply: &Reply<P>,
 ) -> Result<bool, AllocError>
     requires { map (λ own. own.number) records.now ≡ first_ranks limits.ranks }
-    ensures told { (h : History P) → Tells limits.ranks numbers.now h → let now = traced_of limits h records.now [] in
-        IfOk result (λ b. b ≡ rank_test P.meld P.pack now (under_of u.now) point reply.now (record_at now rank)) }
-    ensures fits { let now = traced_of limits [] records.now [] in
-        MayOpen limits → IfOk result (λ b. IsTrue b → MayLeave now (Caller.Rank rank) (under_of u.now) reply.now) }
+    ensures told { AnswersBy limits numbers.now records.now result (λ now. rank_test P.meld P.pack now (under_of u.now) point reply.now (record_at now rank)) }
+    ensures fits { Leaves limits records.now (Caller.Rank rank) (under_of u.now) reply.now result }
 {
     let Some(j) = place_of_rank(limits.ranks, records, rank) else {
         return Ok(is_refused(reply, Refusal::NoSuchRank));
@@ -57,10 +56,13 @@ fn answers_rank<P: Packed, A: Allocator + Copy + Drop>(
     let Some(count) = u.look else {
         return Ok(false);
     };
-    let found = first_of(&numbers.failures, count);
-    is_answer(
-        alloc, limits, found, numbers, point, &u.own, own, &u.asked, reply,
-    )
+    let look = first_of(&numbers.failures, count);
+    let view = View {
+        look,
+        numbers,
+        point,
+    };
+    is_answer(alloc, limits, &view, &u.own, own, &u.asked, reply)
 }
 
 /// Whether a caller's call is answered so, at a point.
@@ -75,10 +77,8 @@ fn answers_call<P: Packed, A: Allocator + Copy + Drop>(
     reply: &Reply<P>,
 ) -> Result<bool, AllocError>
     requires { map (λ own. own.number) records.now ≡ first_ranks limits.ranks }
-    ensures told { (h : History P) → Tells limits.ranks numbers.now h → let now = traced_of limits h records.now [] in
-        IfOk result (λ b. b ≡ call_test P.meld P.pack now by (under_of u.now) point reply.now) }
-    ensures fits { let now = traced_of limits [] records.now [] in
-        MayOpen limits → IfOk result (λ b. IsTrue b → MayLeave now by (under_of u.now) reply.now) }
+    ensures told { AnswersBy limits numbers.now records.now result (λ now. call_test P.meld P.pack now by (under_of u.now) point reply.now) }
+    ensures fits { Leaves limits records.now by (under_of u.now) reply.now result }
 {
     match by {
         Caller::Outside => {
@@ -105,10 +105,8 @@ fn may_reply<P: Packed, A: Allocator + Copy + Drop>(
     reply: &Reply<P>,
 ) -> Result<bool, AllocError>
     requires { map (λ own. own.number) records.now ≡ first_ranks limits.ranks }
-    ensures told { (h : History P) → Tells limits.ranks numbers.now h → let now = traced_of limits h records.now [] in
-        IfOk result (λ b. b ≡ reply_test P.meld P.pack now by point group.now reply.now (Some (under_of u.now))) }
-    ensures fits { let now = traced_of limits [] records.now [] in
-        MayOpen limits → IfOk result (λ b. IsTrue b → MayLeave now by (under_of u.now) reply.now) }
+    ensures told { AnswersBy limits numbers.now records.now result (λ now. reply_test P.meld P.pack now by point group.now reply.now (Some (under_of u.now))) }
+    ensures fits { Leaves limits records.now by (under_of u.now) reply.now result }
 {
     if point < u.begun {
         return Ok(false);

@@ -2,12 +2,13 @@
 //! number of events; the tables tell it for every point so far, at no cost by the length of the history. Who the members of a
 //! communicator are is kept when it is made.
 ghost use Rattle.std.specs.Prelude.{◌≡◌, ◌+◌, ◌++◌, ◌∷◌, [], ℕ, IfOk, IfSome, OnOk, filter, filter_map, is_some, length, map, take, true};
+ghost use Rattle.std.specs.HashMap.{get};
 ghost use Rattle.std.specs.List.{cons_option, list_all};
 ghost use Rattle.ulfm_history.specs.Walked.{decision_of};
 ghost use Rattle.std.specs.Option.{option_map};
 ghost use Rattle.ulfm_judge.specs.Failed.{AreFailed, members_of};
 ghost use Rattle.ulfm_judge.specs.Numbers.{TellsArrivals, TellsDeclared, TellsFailures, TellsRevocations, TellsSlots, TellsSpawns};
-ghost use Rattle.ulfm_judge.specs.Numbers.{AreBefore, before_then, by_then, count_by};
+ghost use Rattle.ulfm_judge.specs.Numbers.{AreBefore, Notes, before_then, by_then, count_by, first_noted};
 ghost use Rattle.ulfm_judge.specs.Seen.{decision_in, failed_in, is_decided_in, made_in, settled_in};
 ghost use Rattle.ulfm_judge.specs.Groups.{group_at, items_of};
 ghost use Rattle.ulfm_judge.specs.Rounds.{AreDone, IsDone, KeepsSlots};
@@ -18,7 +19,7 @@ use crate::replies::same_ranks;
 use crate::rounds::{Done, have_common, know_few};
 use std::alloc::{AllocError, Allocator};
 use std::collections::HashMap;
-use std::hash::{BuildHasherDefault, FoldHasher};
+use std::hash::{BuildHasherDefault, FoldHasher, Hash};
 use ulfm_history::decide::{Decided, decided_by};
 use ulfm_history::groups::{first_ranks, union_of, without};
 use ulfm_laws::meld::Meld;
@@ -141,7 +142,7 @@ fn note_slot<P: Copy, A: Allocator + Copy>(
     number: u64,
     entry: &Entry<P>,
 ) -> Result<(), AllocError>
-    ensures told { (h : History P) → TellsSlots slots.old h → number ≡ length h → OnOk result (TellsSlots slots.new (h ++ entry.now ∷ [])) }
+    ensures told { Notes TellsSlots slots.old slots.new number entry.now result }
     ensures kept { OnOk result (KeepsSlots slots.old slots.new) }
 {
     let Some((place, slot)) = settled_by(entry) else {
@@ -154,57 +155,21 @@ fn note_slot<P: Copy, A: Allocator + Copy>(
     Ok(())
 }
 
-/// Notes what one more event arrives, with its number.
-fn note_arrival<P: Copy, A: Allocator + Copy>(
-    arrivals: &mut Table<Place, u64, A>,
+/// Notes a number at a key, if a key is given that has none.
+fn note_first<K: Eq + Hash + Copy + Drop, A: Allocator + Copy>(
+    table: &mut Table<K, u64, A>,
     number: u64,
-    entry: &Entry<P>,
+    given: Option<K>,
 ) -> Result<(), AllocError>
-    ensures { (h : History P) → TellsArrivals arrivals.old h → number ≡ length h → OnOk result (TellsArrivals arrivals.new (h ++ entry.now ∷ [])) }
+    ensures { OnOk result ((q : K) → get K.eq table.new q ≡ first_noted K.eq (get K.eq table.old) number given q) }
 {
-    let Some(place) = arrival_by(entry) else {
+    let Some(key) = given else {
         return Ok(());
     };
-    if arrivals.get(&place).is_some() {
+    if table.get(&key).is_some() {
         return Ok(());
     }
-    arrivals.insert(place, number)?;
-    Ok(())
-}
-
-/// Notes what one more event revokes, with its number.
-fn note_revocation<P: Copy, A: Allocator + Copy>(
-    revocations: &mut Table<u16, u64, A>,
-    number: u64,
-    entry: &Entry<P>,
-) -> Result<(), AllocError>
-    ensures { (h : History P) → TellsRevocations revocations.old h → number ≡ length h → OnOk result (TellsRevocations revocations.new (h ++ entry.now ∷ [])) }
-{
-    let Some(comm) = revoked_by(entry) else {
-        return Ok(());
-    };
-    if revocations.get(&comm).is_some() {
-        return Ok(());
-    }
-    revocations.insert(comm, number)?;
-    Ok(())
-}
-
-/// Notes what one more event declares, with its number.
-fn note_declaration<P: Copy, A: Allocator + Copy>(
-    declared: &mut Table<u16, u64, A>,
-    number: u64,
-    entry: &Entry<P>,
-) -> Result<(), AllocError>
-    ensures { (h : History P) → TellsDeclared declared.old h → number ≡ length h → OnOk result (TellsDeclared declared.new (h ++ entry.now ∷ [])) }
-{
-    let Some(rank) = declared_by(entry) else {
-        return Ok(());
-    };
-    if declared.get(&rank).is_some() {
-        return Ok(());
-    }
-    declared.insert(rank, number)?;
+    table.insert(key, number)?;
     Ok(())
 }
 
@@ -219,6 +184,7 @@ fn made_by<P: Copy>(entry: &Entry<P>) -> Option<(u16, u16)>
 }
 
 /// Notes a further failure, if one more event declares it.
+#[tactic(auto, using(crate::proofs::Counting::before_later, crate::proofs::Counting::before_push))]
 fn note_failure<P: Copy, A: Allocator + Copy>(
     ranks: &mut Vec<u16, A>,
     numbers: &mut Vec<u64, A>,
@@ -243,6 +209,7 @@ fn note_failure<P: Copy, A: Allocator + Copy>(
 }
 
 /// Notes a further communicator, if one more event makes it.
+#[tactic(auto, using(crate::proofs::Counting::before_later, crate::proofs::Counting::before_push))]
 fn note_spawn<P: Copy, A: Allocator + Copy>(
     made: &mut Vec<(u16, u16), A>,
     numbers: &mut Vec<u64, A>,
@@ -304,11 +271,10 @@ fn note_all<P: Copy, A: Allocator + Copy + Drop>(
     entry: &Entry<P>,
     made: Option<Vec<u16, A>>,
 ) -> Result<(), AllocError>
-    ensures slots { (h : History P) → TellsSlots slots.old h → number ≡ length h → OnOk result (TellsSlots slots.new (h ++ entry.now ∷ [])) }
-    ensures arrivals { (h : History P) → TellsArrivals arrivals.old h → number ≡ length h → OnOk result (TellsArrivals arrivals.new (h ++ entry.now ∷ [])) }
-    ensures revocations { (h : History P) → TellsRevocations revocations.old h → number ≡ length h
-        → OnOk result (TellsRevocations revocations.new (h ++ entry.now ∷ [])) }
-    ensures declared { (h : History P) → TellsDeclared declared.old h → number ≡ length h → OnOk result (TellsDeclared declared.new (h ++ entry.now ∷ [])) }
+    ensures slots { Notes TellsSlots slots.old slots.new number entry.now result }
+    ensures arrivals { Notes TellsArrivals arrivals.old arrivals.new number entry.now result }
+    ensures revocations { Notes TellsRevocations revocations.old revocations.new number entry.now result }
+    ensures declared { Notes TellsDeclared declared.old declared.new number entry.now result }
     ensures failures { (h : History P) → TellsFailures failures.old.items failed_at.old.items h → number ≡ length h
         → OnOk result (TellsFailures failures.new.items failed_at.new.items (h ++ entry.now ∷ [])) }
     ensures spawns { (h : History P) → TellsSpawns spawns.old.items spawned_at.old.items h → number ≡ length h
@@ -321,9 +287,9 @@ fn note_all<P: Copy, A: Allocator + Copy + Drop>(
     ensures spawned_before { AreBefore number spawned_at.old.items → OnOk result (AreBefore (number + 1) spawned_at.new.items) }
 {
     note_slot(slots, number, entry)?;
-    note_arrival(arrivals, number, entry)?;
-    note_revocation(revocations, number, entry)?;
-    note_declaration(declared, number, entry)?;
+    note_first(arrivals, number, arrival_by(entry))?;
+    note_first(revocations, number, revoked_by(entry))?;
+    note_first(declared, number, declared_by(entry))?;
     note_failure(failures, failed_at, groups, number, entry)?;
     note_spawn(spawns, spawned_at, number, entry)?;
     note_group(alloc, groups, failures, made)

@@ -10,7 +10,7 @@ ghost use Rattle.ulfm_judge.specs.Telling.{seen_at};
 
 use crate::allowed::{decision, has_ids, is_decided, is_made};
 use crate::groups::has_member;
-use crate::numbers::{Numbers, among};
+use crate::numbers::{Numbers, Place, among};
 use crate::replies::{same_answer, same_refusal};
 use std::alloc::{AllocError, Allocator};
 use ulfm_history::decide::Decided;
@@ -24,57 +24,61 @@ use ulfm_model::reply::Reply;
 use ulfm_record::held::HeldComm;
 use ulfm_record::ids::lowest_id;
 
+/// What a reply is judged by: whom its call's look found declared, and the tables at a point.
+#[derive(Drop)]
+pub(crate) struct View<'a, P: Meld, A: Allocator> {
+    pub(crate) look: &'a [u16],
+    pub(crate) numbers: &'a Numbers<P, A>,
+    pub(crate) point: u64,
+}
+
 /// Whether a rank that the look didn't find declared is unsettled.
 fn is_late<P: Meld, A: Allocator + Copy + Drop>(
-    look: &[u16],
-    numbers: &Numbers<P, A>,
-    point: u64,
+    view: &View<P, A>,
     comm: u16,
     round: u16,
     rank: u16,
 ) -> bool
-    ensures { result ≡ late_test look.now (seen_at numbers.now point) comm round rank }
+    ensures { result ≡ late_test view.now.look.now (seen_at view.now.numbers.now view.now.point) comm round rank }
 {
-    !has_rank(look, rank) && numbers.slot_at((comm, round, rank), point).is_none()
+    let slot = view.numbers.slot_at((comm, round, rank), view.point);
+    !has_rank(view.look, rank) && slot.is_none()
 }
 
 /// Whether the member at a place, if there is one, is such a rank.
 fn is_late_at<P: Meld, A: Allocator + Copy + Drop>(
-    look: &[u16],
-    numbers: &Numbers<P, A>,
-    point: u64,
+    view: &View<P, A>,
     x: &HeldComm<A>,
     round: u16,
     place: usize,
 ) -> bool
-    ensures { result ≡ option_map_or (late_test look.now (seen_at numbers.now point) x.now.comm round) (slice_get x.now.group place) false }
+    ensures { let seen = seen_at view.now.numbers.now view.now.point in
+        result ≡ option_map_or (late_test view.now.look.now seen x.now.comm round) (slice_get x.now.group place) false }
 {
     match x.group.get(place) {
-        Some(rank) => is_late(look, numbers, point, x.comm, round, *rank),
+        Some(rank) => is_late(view, x.comm, round, *rank),
         None => false,
     }
 }
 
 /// Whether a member that the look didn't find declared is unsettled. It is looked for first where the hint says that it may be.
 fn is_pending<P: Meld, A: Allocator + Copy + Drop>(
-    look: &[u16],
-    numbers: &Numbers<P, A>,
-    point: u64,
+    view: &View<P, A>,
     x: &HeldComm<A>,
     round: u16,
 ) -> bool
-    ensures { result ≡ pending_test look.now (seen_at numbers.now point) x.now round }
+    ensures { result ≡ pending_test view.now.look.now (seen_at view.now.numbers.now view.now.point) x.now round }
 {
-    let (open, last) = numbers.hint_of(x.comm, round);
-    if is_late_at(look, numbers, point, x, round, open) {
+    let (open, last) = view.numbers.hint_of(x.comm, round);
+    if is_late_at(view, x, round, open) {
         return true;
     }
-    if has_member(&x.group, last) && is_late(look, numbers, point, x.comm, round, last) {
+    if has_member(&x.group, last) && is_late(view, x.comm, round, last) {
         return true;
     }
     x.group
         .iter()
-        .any(|rank| is_late(look, numbers, point, x.comm, round, *rank))
+        .any(|rank| is_late(view, x.comm, round, *rank))
 }
 
 /// Whether a body is this flag.
@@ -174,13 +178,12 @@ fn is_full<P: Packed, A: Allocator + Copy + Drop>(
     limits: Limits,
     numbers: &Numbers<P, A>,
     point: u64,
-    rank: u16,
-    comm: u16,
-    round: u16,
+    place: Place,
     made: &Decided<P, A>,
 ) -> bool
-    ensures { result ≡ full_test limits (seen_at numbers.now point) rank comm round (decision_of made.now) }
+    ensures { result ≡ full_test limits (seen_at numbers.now point) (place.2) (place.0) (place.1) (decision_of made.now) }
 {
+    let (comm, round, rank) = place;
     has_ids(&made.body)
         && (!has_rank(&made.failed, rank)
             && (is_last(limits, numbers, point) && !is_made(numbers, point, comm, round)))
@@ -202,17 +205,14 @@ fn is_unmade<P: Packed, A: Allocator + Copy + Drop>(
     limits: Limits,
     numbers: &Numbers<P, A>,
     point: u64,
-    rank: u16,
-    comm: u16,
-    round: u16,
+    place: Place,
     made: &Decided<P, A>,
     refusal: Refusal,
 ) -> bool
-    ensures { result ≡ unmade_test limits (seen_at numbers.now point) rank comm round (decision_of made.now) refusal }
+    ensures { result ≡ unmade_test limits (seen_at numbers.now point) (place.2) (place.0) (place.1) (decision_of made.now) refusal }
 {
     (same_refusal(refusal, Refusal::NoContext) && has_no_ids(&made.body))
-        || ((same_refusal(refusal, Refusal::NoRoom)
-            && is_full(limits, numbers, point, rank, comm, round, made))
+        || ((same_refusal(refusal, Refusal::NoRoom) && is_full(limits, numbers, point, place, made))
             || (same_refusal(refusal, Refusal::Mismatch) && is_clash(&made.body)))
 }
 
@@ -228,15 +228,14 @@ struct Named {
 fn is_shrunk<P: Packed, A: Allocator + Copy + Drop>(
     numbers: &Numbers<P, A>,
     point: u64,
-    rank: u16,
-    comm: u16,
-    round: u16,
+    place: Place,
     made: &Decided<P, A>,
     named: &Named,
 ) -> bool
     ensures { let seen = seen_at numbers.now point in
-        result ≡ shrunk_test seen rank comm round (decision_of made.now) named.now.comm named.now.context named.now.size }
+        result ≡ shrunk_test seen (place.2) (place.0) (place.1) (decision_of made.now) named.now.comm named.now.context named.now.size }
 {
+    let (comm, round, rank) = place;
     let was_made = was_made(numbers, point, named.comm, comm, round);
     let group = numbers.members_at(named.comm, point);
     has_least(&made.body, named.context)
@@ -246,8 +245,7 @@ fn is_shrunk<P: Packed, A: Allocator + Copy + Drop>(
 /// Whether a shrink's poll is answered so.
 fn is_shrink_reply<P: Packed, A: Allocator + Copy + Drop>(
     limits: Limits,
-    numbers: &Numbers<P, A>,
-    point: u64,
+    view: &View<P, A>,
     rank: u16,
     x: &HeldComm<A>,
     round: u16,
@@ -256,7 +254,7 @@ fn is_shrink_reply<P: Packed, A: Allocator + Copy + Drop>(
     made: &Decided<P, A>,
     reply: &Reply<P>,
 ) -> bool
-    ensures { result ≡ shrink_test limits (seen_at numbers.now point) rank x.now.comm round late decided (decision_of made.now) reply.now }
+    ensures { result ≡ shrink_test limits (seen_at view.now.numbers.now view.now.point) rank x.now.comm round late decided (decision_of made.now) reply.now }
 {
     match *reply {
         Reply::Pending => late,
@@ -270,10 +268,25 @@ fn is_shrink_reply<P: Packed, A: Allocator + Copy + Drop>(
                 context,
                 size,
             };
-            decided && is_shrunk(numbers, point, rank, x.comm, round, made, &named)
+            decided
+                && is_shrunk(
+                    view.numbers,
+                    view.point,
+                    (x.comm, round, rank),
+                    made,
+                    &named,
+                )
         }
         Reply::Refused(refusal) => {
-            decided && is_unmade(limits, numbers, point, rank, x.comm, round, made, refusal)
+            decided
+                && is_unmade(
+                    limits,
+                    view.numbers,
+                    view.point,
+                    (x.comm, round, rank),
+                    made,
+                    refusal,
+                )
         }
         _ => false,
     }
@@ -326,25 +339,23 @@ fn says_pending<P: Copy>(reply: &Reply<P>) -> bool
 /// Whether the poll of an agree is answered so; what the round decides is looked up only where the reply says that it did.
 fn is_agree_poll<P: Packed, A: Allocator + Copy + Drop>(
     alloc: A,
-    look: &[u16],
-    numbers: &Numbers<P, A>,
-    point: u64,
+    view: &View<P, A>,
     x: &HeldComm<A>,
     round: u16,
     reply: &Reply<P>,
 ) -> Result<bool, AllocError>
-    ensures { let seen = seen_at numbers.now point in
-        let late = pending_test look.now seen x.now round in let decided = is_decided_in seen x.now.comm round in
+    ensures { let seen = seen_at view.now.numbers.now view.now.point in
+        let late = pending_test view.now.look.now seen x.now round in let decided = is_decided_in seen x.now.comm round in
         IfOk result (λ b. b ≡ agree_test P.pack late decided (decision_in P.meld seen x.now.comm round) reply.now) }
 {
     if says_pending(reply) {
-        return Ok(is_pending(look, numbers, point, x, round));
+        return Ok(is_pending(view, x, round));
     }
-    if let Some(made) = numbers.decided_at(x.comm, round, point) {
+    if let Some(made) = view.numbers.decided_at(x.comm, round, view.point) {
         return Ok(is_agree_reply(false, true, made, reply));
     }
-    let decided = is_decided(numbers, point, x.comm, round);
-    let made = decision(alloc, numbers, point, x.comm, round)?;
+    let decided = is_decided(view.numbers, view.point, x.comm, round);
+    let made = decision(alloc, view.numbers, view.point, x.comm, round)?;
     Ok(is_agree_reply(false, decided, &made, reply))
 }
 
@@ -352,31 +363,25 @@ fn is_agree_poll<P: Packed, A: Allocator + Copy + Drop>(
 fn is_shrink_poll<P: Packed, A: Allocator + Copy + Drop>(
     alloc: A,
     limits: Limits,
-    look: &[u16],
-    numbers: &Numbers<P, A>,
-    point: u64,
+    view: &View<P, A>,
     rank: u16,
     x: &HeldComm<A>,
     round: u16,
     reply: &Reply<P>,
 ) -> Result<bool, AllocError>
-    ensures { let seen = seen_at numbers.now point in
-        let late = pending_test look.now seen x.now round in let decided = is_decided_in seen x.now.comm round in
+    ensures { let seen = seen_at view.now.numbers.now view.now.point in
+        let late = pending_test view.now.look.now seen x.now round in let decided = is_decided_in seen x.now.comm round in
         IfOk result (λ b. b ≡ shrink_test limits seen rank x.now.comm round late decided (decision_in P.meld seen x.now.comm round) reply.now) }
 {
     if says_pending(reply) {
-        return Ok(is_pending(look, numbers, point, x, round));
+        return Ok(is_pending(view, x, round));
     }
-    if let Some(made) = numbers.decided_at(x.comm, round, point) {
-        return Ok(is_shrink_reply(
-            limits, numbers, point, rank, x, round, false, true, made, reply,
-        ));
+    if let Some(made) = view.numbers.decided_at(x.comm, round, view.point) {
+        return Ok(is_shrink_reply(limits, view, rank, x, round, false, true, made, reply));
     }
-    let decided = is_decided(numbers, point, x.comm, round);
-    let made = decision(alloc, numbers, point, x.comm, round)?;
-    Ok(is_shrink_reply(
-        limits, numbers, point, rank, x, round, false, decided, &made, reply,
-    ))
+    let decided = is_decided(view.numbers, view.point, x.comm, round);
+    let made = decision(alloc, view.numbers, view.point, x.comm, round)?;
+    Ok(is_shrink_reply(limits, view, rank, x, round, false, decided, &made, reply))
 }
 
 /// Whom of a communicator's members a look found declared, where these are the members that a rank knows.
@@ -398,21 +403,19 @@ fn found_among<P: Meld, A: Allocator + Copy + Drop>(
 /// Whether the poll of a barrier is answered so.
 fn is_barrier_poll<P: Packed, A: Allocator + Copy + Drop>(
     alloc: A,
-    look: &[u16],
-    numbers: &Numbers<P, A>,
-    point: u64,
+    view: &View<P, A>,
     x: &HeldComm<A>,
     round: u16,
     reply: &Reply<P>,
 ) -> Result<bool, AllocError>
-    ensures { let seen = seen_at numbers.now point in let has_come = λ (r : ℕ). seen.arrived (x.now.comm, round, r) in
-        let all = list_all has_come x.now.group in let known = list_all has_come (filter (has x.now.group) look.now) in
+    ensures { let seen = seen_at view.now.numbers.now view.now.point in let has_come = λ (r : ℕ). seen.arrived (x.now.comm, round, r) in
+        let all = list_all has_come x.now.group in let known = list_all has_come (filter (has x.now.group) view.now.look.now) in
         IfOk result (λ b. b ≡ barrier_test (seen.revoked x.now.comm) all known reply.now) }
 {
-    let revoked = numbers.is_revoked_at(x.comm, point);
-    let all = have_arrived(&x.group, numbers, point, x.comm, round);
-    let found = found_among(alloc, numbers, look, x.comm, &x.group)?;
-    let known = have_arrived(&found, numbers, point, x.comm, round);
+    let revoked = view.numbers.is_revoked_at(x.comm, view.point);
+    let all = have_arrived(&x.group, view.numbers, view.point, x.comm, round);
+    let found = found_among(alloc, view.numbers, view.look, x.comm, &x.group)?;
+    let known = have_arrived(&found, view.numbers, view.point, x.comm, round);
     Ok(is_barrier_reply(revoked, all, known, reply))
 }
 
@@ -420,26 +423,21 @@ fn is_barrier_poll<P: Packed, A: Allocator + Copy + Drop>(
 pub(crate) fn is_poll_reply<P: Packed, A: Allocator + Copy + Drop>(
     alloc: A,
     limits: Limits,
-    look: &[u16],
-    numbers: &Numbers<P, A>,
-    point: u64,
+    view: &View<P, A>,
     rank: u16,
     x: &HeldComm<A>,
     request: Option<Request>,
     reply: &Reply<P>,
 ) -> Result<bool, AllocError>
-    ensures { IfOk result (λ b. b ≡ polled_test P.meld P.pack limits look.now (seen_at numbers.now point) rank x.now request reply.now) }
+    ensures { let seen = seen_at view.now.numbers.now view.now.point in
+        IfOk result (λ b. b ≡ polled_test P.meld P.pack limits view.now.look.now seen rank x.now request reply.now) }
 {
     match request {
         None => Ok(false),
-        Some(Request::Agree { round }) => {
-            is_agree_poll(alloc, look, numbers, point, x, round, reply)
-        }
+        Some(Request::Agree { round }) => { is_agree_poll(alloc, view, x, round, reply) }
         Some(Request::Shrink { round }) => {
-            is_shrink_poll(alloc, limits, look, numbers, point, rank, x, round, reply)
+            is_shrink_poll(alloc, limits, view, rank, x, round, reply)
         }
-        Some(Request::Barrier { round }) => {
-            is_barrier_poll(alloc, look, numbers, point, x, round, reply)
-        }
+        Some(Request::Barrier { round }) => { is_barrier_poll(alloc, view, x, round, reply) }
     }
 }

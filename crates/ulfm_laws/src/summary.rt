@@ -29,12 +29,14 @@ impl<P: Meld> Meld for Body<P> {
         Body::Unit
     }
 
+    // What is melded into a reading most often says nothing, or is of the reading's own kind: these cases come first.
+    #[inline(always)]
     fn meld(&self, other: &Body<P>) -> Body<P> {
-        match (self, other) {
-            (Body::Unit, _) => *other,
-            (_, Body::Unit) => *self,
-            (Body::Flag(mine), Body::Flag(theirs)) => Body::Flag(mine.meld(theirs)),
-            (Body::Ctx(mine), Body::Ctx(theirs)) => Body::Ctx(mine.meld(theirs)),
+        match (other, self) {
+            (Body::Unit, _) => *self,
+            (Body::Flag(theirs), Body::Flag(mine)) => Body::Flag(mine.meld(theirs)),
+            (Body::Ctx(theirs), Body::Ctx(mine)) => Body::Ctx(mine.meld(theirs)),
+            (_, Body::Unit) => *other,
             (Body::Flag(_), Body::Ctx(_)) | (Body::Ctx(_), Body::Flag(_)) => Body::Clash,
             (Body::Clash, _) | (_, Body::Clash) => Body::Clash,
         }
@@ -71,6 +73,7 @@ impl<P: Meld> Meld for Summary<P> {
         }
     }
 
+    #[inline(always)]
     fn meld(&self, other: &Summary<P>) -> Summary<P> {
         Summary {
             body: self.body.meld(&other.body),

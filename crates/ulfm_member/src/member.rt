@@ -47,9 +47,10 @@ where
 
     ghost Value = { Membership P };
 
-    ghost view = { λ m. record { name = W.name (arc_value m.world).words; own = m.rank; pass = W.sight m.pass } };
+    ghost view = { λ m. record { name = W.name (arc_value m.world).words; own = m.rank.own; last = m.rank.last; pass = W.sight m.pass } };
 
-    ghost invariant = { λ m. IsMember P.meld (record { name = W.name (arc_value m.world).words; own = m.rank; pass = W.sight m.pass }) };
+    ghost invariant = { λ m. IsMember P.meld
+        (record { name = W.name (arc_value m.world).words; own = m.rank.own; last = m.rank.last; pass = W.sight m.pass }) };
 }
 
 impl<W, P: Packed, A: Allocator> Member<W, P, A>
@@ -64,8 +65,8 @@ where
     /// member.iagree(0, FlagAnd { bits: 0b0110 })?;
     /// ```
     pub fn new(world: Arc<World<W, P, A>, A>, rank: Rank<P, A>, pass: W::Pass) -> Member<W, P, A>
-        requires { IsMember P.meld (record { name = W.name (arc_value world).words; own = rank; pass = W.sight pass }) }
-        ensures { result ≡ record { name = W.name (arc_value world).words; own = rank; pass = W.sight pass } }
+        requires { IsMember P.meld (record { name = W.name (arc_value world).words; own = rank.own; last = rank.last; pass = W.sight pass }) }
+        ensures { result ≡ record { name = W.name (arc_value world).words; own = rank.own; last = rank.last; pass = W.sight pass } }
     {
         Member { world, rank, pass }
     }
@@ -78,7 +79,7 @@ where
     /// ```
     pub fn into_parts(self) -> (Arc<World<W, P, A>, A>, Rank<P, A>, W::Pass)
         ensures of { IsMember P.meld self }
-        ensures parts { self ≡ record { name = W.name (arc_value result.0).words; own = result.1; pass = W.sight result.2 } }
+        ensures parts { self ≡ record { name = W.name (arc_value result.0).words; own = result.1.own; last = result.1.last; pass = W.sight result.2 } }
     {
         (self.world, self.rank, self.pass)
     }
@@ -147,6 +148,21 @@ where
             (λ id. (x : Held) × (held_at self.now.own comm ≡ Some x) × (id ≡ x.context)) }
     {
         self.rank.context(comm)
+    }
+
+    /// How many atomic steps its last call made, 0 before any, as `Rank::last_steps`. A declaration isn't one of its calls.
+    /// It is no step.
+    ///
+    /// ```
+    /// assert!(rt; member.last_steps() == 0);
+    /// // A look finds no failure by one load, and whether the communicator is revoked is another.
+    /// member.is_revoked(0)?;
+    /// assert!(rt; member.last_steps() == 2);
+    /// ```
+    pub fn last_steps(&self) -> u32
+        ensures { result ≡ self.now.last }
+    {
+        self.rank.last_steps()
     }
 }
 

@@ -6,6 +6,7 @@ ghost use Rattle.ulfm_model.specs.History.{first_ranks};
 ghost use Rattle.ulfm_model.specs.Records.{Fits, new_record};
 ghost use Rattle.ulfm_model.specs.declared.limits.OpenFault.TheVariants.{OutOfMemory};
 ghost use Rattle.ulfm_words.specs.Steps.{IsNew};
+ghost use Rattle.ulfm_comm.specs.Counts.{records_of};
 ghost use Rattle.ulfm_member.specs.Members.{IsNewMember};
 
 use crate::member::Member;
@@ -54,10 +55,11 @@ fn shared<W, P: Packed, A: Allocator + Copy>(
 ) -> Result<(Outside<W, P, A>, Vec<Member<W, P, A>, A>), AllocError>
 where
     W: OpenWords<P, A> + Drop,
-    requires { AllByRecursion (Fits P.meld (W.name world.words).limits []) ranks.items }
+    requires fits { AllByRecursion (Fits P.meld (W.name world.words).limits []) (records_of ranks.items) }
+    requires last { AllByRecursion (λ r. r.last ≡ 0) ranks.items }
     ensures outside { IfOk result (λ o. IsNew P.meld (W.name world.words) o.0) }
     ensures members { IfOk result (λ o. AllByRecursion (IsNewMember P.meld (W.name world.words)) o.1.items) }
-    ensures ranks { IfOk result (λ o. map (λ m. m.own) o.1.items ≡ ranks.items) }
+    ensures ranks { IfOk result (λ o. map (λ m. m.own) o.1.items ≡ records_of ranks.items) }
 {
     let world = Arc::new(alloc, world)?;
     let members = members_of(alloc, &world, ranks)?;
@@ -72,9 +74,10 @@ fn members_of<W, P: Packed, A: Allocator + Copy>(
 ) -> Result<Vec<Member<W, P, A>, A>, AllocError>
 where
     W: OpenWords<P, A> + Drop,
-    requires { AllByRecursion (Fits P.meld (W.name (arc_value world.now).words).limits []) ranks.items }
+    requires fits { AllByRecursion (Fits P.meld (W.name (arc_value world.now).words).limits []) (records_of ranks.items) }
+    requires last { AllByRecursion (λ r. r.last ≡ 0) ranks.items }
     ensures members { IfOk result (λ all. AllByRecursion (IsNewMember P.meld (W.name (arc_value world.now).words)) all.items) }
-    ensures ranks { IfOk result (λ all. map (λ m. m.own) all.items ≡ ranks.items) }
+    ensures ranks { IfOk result (λ all. map (λ m. m.own) all.items ≡ records_of ranks.items) }
 {
     let mut all = Vec::with_capacity(alloc, ranks.len())?;
     for rank in ranks {

@@ -6,6 +6,8 @@ use Rattle.ulfm_laws.specs.{declared.flag_and.FlagAnd.{FlagAnd}, Flags.{flag_mel
 use Rattle.ulfm_model.specs.declared.{limits.Limits.{Limits}, reply.Reply.{Reply}}
 use Rattle.ulfm_model.specs.{History.{Exists, History, IsLegal, first_ranks, members}, Records.{Fits, Held, Record, held_at, new_record}}
 use Rattle.ulfm_model.proofs.{Histories.{members_stay}, LeftFits.{held_fits}}
+use Rattle.ulfm_comm.specs.Counts.{Ranked, new_rank, records_of}
+use Rattle.ulfm_comm.proofs.Opening.{records_are}
 use Rattle.ulfm_rounds.proofs.Staying.{replies_last}
 use Rattle.ulfm_race.specs.Races.{AreAnswered, IsAnswered, IsGathered, IsGroup, IsHeard, IsNewRank, Numbered, WasAnswered, flag_of, is_shrunk, limits_of}
 use Rattle.ulfm_race.specs.declared.{gather.Heard.{Heard}, plan.Plan.{Plan}, plan.RaceFault.{RaceFault}}
@@ -39,12 +41,13 @@ both_new plan n [] are fit = tt
 both_new plan n (own ∷ ranks) are fit = (record { record_is = are.0; fits = fit.0 }, both_new plan (n + 1) ranks are.1 fit.1)
 
 -- the ranks of a new world
-pub new_ranks : (plan : Plan) (limits : Limits) → limits ≡ limits_of plan → (ranks : List Record) → ranks ≡ map (new_record limits) (first_ranks limits.ranks) → AllByRecursion (Fits flag_meld limits []) ranks
-    → Numbered (IsNewRank plan) 0 ranks × (length ranks ≡ plan.ranks)
+pub new_ranks : (plan : Plan) (limits : Limits) → limits ≡ limits_of plan → (ranks : List Ranked) → ranks ≡ map (new_rank limits) (first_ranks limits.ranks) → AllByRecursion (Fits flag_meld limits []) (records_of ranks)
+    → Numbered (IsNewRank plan) 0 (records_of ranks) × (length ranks ≡ plan.ranks)
 new_ranks plan limits same ranks are fit =
-    let mine : ranks ≡ map (new_record (limits_of plan)) (first_ranks plan.ranks) = subst (λ l. ranks ≡ map (new_record l) (first_ranks l.ranks)) same are in (
-      both_new plan 0 ranks (subst (Numbered (λ i own. own ≡ new_record (limits_of plan) i) 0) (sym mine) (number_first (new_record (limits_of plan)) plan.ranks)) (subst (λ l. AllByRecursion (Fits flag_meld l []) ranks) same fit),
-      ap length mine ∙ (count_map (new_record (limits_of plan)) (first_ranks plan.ranks) ∙ count_first plan.ranks),
+    let mine : ranks ≡ map (new_rank (limits_of plan)) (first_ranks plan.ranks) = subst (λ l. ranks ≡ map (new_rank l) (first_ranks l.ranks)) same are in
+    let records : records_of ranks ≡ map (new_record (limits_of plan)) (first_ranks plan.ranks) = ap records_of mine ∙ records_are (limits_of plan) (first_ranks plan.ranks) in (
+      both_new plan 0 (records_of ranks) (subst (Numbered (λ i own. own ≡ new_record (limits_of plan) i) 0) (sym records) (number_first (new_record (limits_of plan)) plan.ranks)) (subst (λ l. AllByRecursion (Fits flag_meld l []) (records_of ranks)) same fit),
+      ap length mine ∙ (count_map (new_rank (limits_of plan)) (first_ranks plan.ranks) ∙ count_first plan.ranks),
     )
 
 module _ (plan : Plan) (h longer : History FlagAnd) (begins : IsPrefix h longer) (legal : IsLegal flag_meld (limits_of plan) longer) where

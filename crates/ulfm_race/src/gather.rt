@@ -156,7 +156,7 @@ fn finish<'a, R: Threads>(
     ensures of { IsOf flag_meld world.now.words outside.new }
     ensures seen { IsPrefix outside.old.seen outside.new.seen }
     ensures learned { IsPrefix result.told.seen outside.new.seen }
-    ensures kept { IsReported world.now.words handle.entry.promise.said.now handle.entry.promise.plan handle.entry.promise.number result.rank result.told
+    ensures kept { IsReported world.now.words handle.entry.promise.said.now handle.entry.promise.plan handle.entry.promise.number result.rank.own result.told
         result.tokens.items result.fault }
 {
     let report = handle.join(rt);
@@ -199,7 +199,7 @@ fn read_report(alloc: Global, said: &Replies, report: &Report) -> Result<Heard, 
     requires { AllByRecursion (Shows said.now) report.now.tokens.items }
     ensures replies { IfOk result (λ x. x.replies.items ≡ map (λ t. t.value) report.now.tokens.items) }
     ensures made { IfOk result (λ x. x.made ≡ list_any is_shrunk x.replies.items) }
-    ensures group { IfOk result (λ x. x.made ≡ true → (y : Held) → held_at report.now.rank 1 ≡ Some y → x.group.items ≡ y.group) }
+    ensures group { IfOk result (λ x. x.made ≡ true → (y : Held) → held_at report.now.rank.own 1 ≡ Some y → x.group.items ≡ y.group) }
     ensures nobody { IfOk result (λ x. x.made ≡ false → x.group.items ≡ []) }
 {
     let replies = read(alloc, said, &report.tokens)?;
@@ -214,7 +214,7 @@ fn read_report(alloc: Global, said: &Replies, report: &Report) -> Result<Heard, 
 
 // The members of communicator 1, where the rank holds it.
 fn members_made(rank: &Own, made: bool) -> &[u16]
-    ensures group { made ≡ true → (y : Held) → held_at rank.now 1 ≡ Some y → result.now ≡ y.group }
+    ensures group { made ≡ true → (y : Held) → held_at rank.now.own 1 ≡ Some y → result.now ≡ y.group }
     ensures nobody { made ≡ false → result.now ≡ [] }
 {
     if !made {

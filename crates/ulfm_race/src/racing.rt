@@ -2,6 +2,7 @@ ghost use Rattle.std.specs.Prelude.{◌≡◌, [], IfErr, IfOk, IsTrue, map, len
 ghost use Rattle.ulfm_laws.specs.Flags.{flag_meld};
 ghost use Rattle.ulfm_model.specs.History.{failures, has};
 ghost use Rattle.ulfm_words.specs.Steps.{IsOf};
+ghost use Rattle.ulfm_comm.specs.Counts.{records_of};
 ghost use Rattle.ulfm_race.specs.Races.{IsNewRank, IsOutcome, IsPlan, IsReported, IsStarted, Numbered, limits_of};
 
 use crate::gather::{Gathered, hear_all};
@@ -25,7 +26,7 @@ pub(crate) struct Promised<'a> {
 }
 
 impl<'a> Promise<Report> for Promised<'a> {
-    ghost kept_by = { λ p r. IsReported p.world.now.words p.said.now p.plan p.number r.rank r.told r.tokens.items r.fault };
+    ghost kept_by = { λ p r. IsReported p.world.now.words p.said.now p.plan p.number r.rank.own r.told r.tokens.items r.fault };
 }
 
 /// A worker's thread.
@@ -80,7 +81,7 @@ pub fn race<R: Threads + Wait + Sync, G: Gate + Sync>(
         |scope|
             requires plan { IsPlan plan }
             requires limits { world.now.words.limits ≡ limits_of plan }
-            requires ranks { Numbered (IsNewRank plan) 0 ranks.items }
+            requires ranks { Numbered (IsNewRank plan) 0 (records_of ranks.items) }
             requires all { length ranks.items ≡ plan.ranks }
         { race_in(scope, rt, gate, alloc, world, said, plan, ranks) },
     )
@@ -91,7 +92,7 @@ pub fn race<R: Threads + Wait + Sync, G: Gate + Sync>(
 fn open_world(alloc: Global, plan: Plan) -> Result<(Shared, Vec<Own>), RaceFault>
     requires { IsPlan plan }
     ensures limits { IfOk result (λ o. o.0.words.limits ≡ limits_of plan) }
-    ensures ranks { IfOk result (λ o. Numbered (IsNewRank plan) 0 o.1.items) }
+    ensures ranks { IfOk result (λ o. Numbered (IsNewRank plan) 0 (records_of o.1.items)) }
     ensures all { IfOk result (λ o. length o.1.items ≡ plan.ranks) }
 {
     let limits = Limits {
@@ -122,7 +123,7 @@ fn race_in<'s, E, R: Threads + Wait + Sync, G: Gate + Sync>(
 ) -> Result<Outcome, RaceFault>
     requires plan { IsPlan plan }
     requires limits { world.now.words.limits ≡ limits_of plan }
-    requires ranks { Numbered (IsNewRank plan) 0 ranks.items }
+    requires ranks { Numbered (IsNewRank plan) 0 (records_of ranks.items) }
     requires all { length ranks.items ≡ plan.ranks }
     ensures { IfOk result (λ o. IsOutcome plan o.seen.seen (map (λ v. v.items) o.replies.items) o.group.items) }
 {
@@ -171,7 +172,7 @@ fn start_all<'s, E, G: Gate + Sync, R: Wait + Sync>(
     requires plan { IsPlan plan }
     requires limits { world.now.words.limits ≡ limits_of plan }
     requires of { IsOf flag_meld world.now.words outside.old }
-    requires ranks { Numbered (IsNewRank plan) 0 ranks.items }
+    requires ranks { Numbered (IsNewRank plan) 0 (records_of ranks.items) }
     requires nobody { handles.old.items ≡ [] }
     ensures of { IsOf flag_meld world.now.words outside.new }
     ensures started { result ≡ None → Numbered (λ r h. IsStarted world.now.words said.now plan r h.promise) 0 handles.new.items }
@@ -205,11 +206,11 @@ fn start<'s, E, G: Gate + Sync, R: Wait + Sync>(
 ) -> Result<Handle<'s>, RaceFault>
     requires plan { IsPlan plan }
     requires limits { world.now.words.limits ≡ limits_of plan }
-    requires new { IsNewRank plan rank.number rank }
+    requires new { IsNewRank plan rank.own.number rank.own }
     requires of { IsOf flag_meld world.now.words outside.old }
     ensures of { IsOf flag_meld world.now.words outside.new }
-    ensures started { IfOk result (λ h. IsStarted world.now.words said.now plan rank.number h.promise) }
-    ensures declared { IfErr result (λ _. IsTrue (has (failures outside.new.seen) rank.number)) }
+    ensures started { IfOk result (λ h. IsStarted world.now.words said.now plan rank.own.number h.promise) }
+    ensures declared { IfErr result (λ _. IsTrue (has (failures outside.new.seen) rank.own.number)) }
 {
     let number = rank.number();
     let promised = Promised {

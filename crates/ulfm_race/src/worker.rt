@@ -51,9 +51,9 @@ pub(crate) fn work<G: Gate, R: Wait>(
 ) -> Report
     requires plan { IsPlan plan }
     requires limits { world.now.words.limits ≡ limits_of plan }
-    requires new { rank ≡ new_record (limits_of plan) rank.number }
-    requires own { AreOf world.now.words rank pass }
-    ensures { IsReported world.now.words said.now plan rank.number result.rank result.told result.tokens.items result.fault }
+    requires new { rank.own ≡ new_record (limits_of plan) rank.own.number }
+    requires own { AreOf world.now.words rank.own pass }
+    ensures { IsReported world.now.words said.now plan rank.own.number result.rank.own result.told result.tokens.items result.fault }
 {
     let number = rank.number();
     let mut rank = rank;
@@ -100,8 +100,8 @@ fn fault_in(ended: &Result<bool, RaceFault>) -> Option<RaceFault>
 
 // The rank of a worker that stopped, of this number, is declared.
 fn declare(world: &Shared, rank: &Own, number: u16, pass: &mut BookPass<FlagAnd>, stopped: bool)
-    requires own { AreOf world.now.words rank.now pass.old }
-    ensures own { AreOf world.now.words rank.now pass.new }
+    requires own { AreOf world.now.words rank.now.own pass.old }
+    ensures own { AreOf world.now.words rank.now.own pass.new }
     ensures seen { IsPrefix pass.old.seen pass.new.seen }
     ensures declared { IsTrue stopped → number < world.now.words.limits.ranks → IsTrue (has (failures pass.new.seen) number) }
 {
@@ -122,12 +122,12 @@ fn take_turns<G: Gate, R: Wait>(
     tokens: &mut Vec<Token>,
 ) -> Result<bool, RaceFault>
     requires limits { world.now.words.limits ≡ limits_of plan }
-    requires own { AreOf world.now.words rank.old pass.old }
+    requires own { AreOf world.now.words rank.old.own pass.old }
     requires shown { AllByRecursion (Shows said.now) tokens.old.items }
-    requires ready { IsReady plan rank.old.number 0 rank.old pass.old.seen (map (λ t. t.value) tokens.old.items) }
-    ensures own { AreOf world.now.words rank.new pass.new }
+    requires ready { IsReady plan rank.old.own.number 0 rank.old.own pass.old.seen (map (λ t. t.value) tokens.old.items) }
+    ensures own { AreOf world.now.words rank.new.own pass.new }
     ensures shown { AllByRecursion (Shows said.now) tokens.new.items }
-    ensures answered { IfOk result (λ _. IsAnswered plan pass.new.seen rank.old.number rank.new (map (λ t. t.value) tokens.new.items)) }
+    ensures answered { IfOk result (λ _. IsAnswered plan pass.new.seen rank.old.own.number rank.new.own (map (λ t. t.value) tokens.new.items)) }
 {
     match agree_all(rt, gate, world, said, plan, rank, pass, tokens) {
         Ok(true) => {}
@@ -183,9 +183,9 @@ fn polled<G: Gate, R: Wait>(
     rank: &mut Own,
     pass: &mut BookPass<FlagAnd>,
 ) -> Result<Result<Polled<FlagAnd>, Refusal>, RaceFault>
-    requires own { AreOf world.now.words rank.old pass.old }
-    ensures own { AreOf world.now.words rank.new pass.new }
-    ensures polls { IfOk result (λ answer. IsPolledOn flag_meld false world.now.words 0 rank.old pass.old answer rank.new pass.new) }
+    requires own { AreOf world.now.words rank.old.own pass.old }
+    ensures own { AreOf world.now.words rank.new.own pass.new }
+    ensures polls { IfOk result (λ answer. IsPolledOn flag_meld false world.now.words 0 rank.old.own pass.old answer rank.new.own pass.new) }
 {
     for _ in rt.forever() {
         if !gate.go(rank.number(), Turn::Poll) {
@@ -245,11 +245,11 @@ fn agree<G: Gate, R: Wait>(
     pass: &mut BookPass<FlagAnd>,
     round: u16,
 ) -> Result<Reply<FlagAnd>, RaceFault>
-    requires own { AreOf world.now.words rank.old pass.old }
-    ensures own { AreOf world.now.words rank.new pass.new }
+    requires own { AreOf world.now.words rank.old.own pass.old }
+    ensures own { AreOf world.now.words rank.new.own pass.new }
     ensures says { IfOk result (λ reply. (plan : PlanOf) → (said : List (ReplyOf _))
-        → world.now.words.limits ≡ limits_of plan → round < plan.rounds → IsReady plan rank.old.number round rank.old pass.old.seen said
-        → SaysAgree plan rank.old.number round said rank.new pass.new.seen reply) }
+        → world.now.words.limits ≡ limits_of plan → round < plan.rounds → IsReady plan rank.old.own.number round rank.old.own pass.old.seen said
+        → SaysAgree plan rank.old.own.number round said rank.new.own pass.new.seen reply) }
 {
     let number = rank.number();
     if !gate.go(number, Turn::Contribute) {
@@ -272,10 +272,11 @@ fn shrink<G: Gate, R: Wait>(
     rank: &mut Own,
     pass: &mut BookPass<FlagAnd>,
 ) -> Result<Reply<FlagAnd>, RaceFault>
-    requires own { AreOf world.now.words rank.old pass.old }
-    ensures own { AreOf world.now.words rank.new pass.new }
+    requires own { AreOf world.now.words rank.old.own pass.old }
+    ensures own { AreOf world.now.words rank.new.own pass.new }
     ensures says { IfOk result (λ reply. (plan : PlanOf) → (said : List (ReplyOf _)) → world.now.words.limits ≡ limits_of plan
-        → IsReady plan rank.old.number plan.rounds rank.old pass.old.seen said → IsAnswered plan pass.new.seen rank.old.number rank.new (said ++ reply ∷ [])) }
+        → IsReady plan rank.old.own.number plan.rounds rank.old.own pass.old.seen said
+        → IsAnswered plan pass.new.seen rank.old.own.number rank.new.own (said ++ reply ∷ [])) }
 {
     if !gate.go(rank.number(), Turn::Contribute) {
         return Err(RaceFault::Held);
@@ -311,14 +312,14 @@ pub(crate) fn agree_all<G: Gate, R: Wait>(
     tokens: &mut Vec<Token>,
 ) -> Result<bool, RaceFault>
     requires limits { world.now.words.limits ≡ limits_of plan }
-    requires own { AreOf world.now.words rank.old pass.old }
+    requires own { AreOf world.now.words rank.old.own pass.old }
     requires shown { AllByRecursion (Shows said.now) tokens.old.items }
-    requires ready { IsReady plan rank.old.number 0 rank.old pass.old.seen (map (λ t. t.value) tokens.old.items) }
-    ensures own { AreOf world.now.words rank.new pass.new }
+    requires ready { IsReady plan rank.old.own.number 0 rank.old.own pass.old.seen (map (λ t. t.value) tokens.old.items) }
+    ensures own { AreOf world.now.words rank.new.own pass.new }
     ensures shown { AllByRecursion (Shows said.now) tokens.new.items }
     ensures says { IfOk result (λ goes. MatchBool goes
-        (IsReady plan rank.old.number plan.rounds rank.new pass.new.seen (map (λ t. t.value) tokens.new.items))
-        (IsAnswered plan pass.new.seen rank.old.number rank.new (map (λ t. t.value) tokens.new.items))) }
+        (IsReady plan rank.old.own.number plan.rounds rank.new.own pass.new.seen (map (λ t. t.value) tokens.new.items))
+        (IsAnswered plan pass.new.seen rank.old.own.number rank.new.own (map (λ t. t.value) tokens.new.items))) }
 {
     for round in 0..plan.rounds {
         match agree(rt, gate, world, rank, pass, round) {

@@ -318,10 +318,37 @@ fn worked_rows(rt: HostRuntime) -> Result<(), Fail> {
     Ok(())
 }
 
+/// What stands behind the header, and the fault of line 2 that it has.
+const FAULTS: [(&[u8], LineKind); 14] = [
+    (b"\n", LineKind::Verb),
+    (b" fail 0\n", LineKind::Verb),
+    (b"\xff\n", LineKind::Verb),
+    (
+        b"xxxxxxxxxxxxxxxxxxxxxxxxxxxxxxxxxxxxxxxxxxxxxxxxxxxxxxxxxxxxxxxx\n",
+        LineKind::Verb,
+    ),
+    (
+        b"xxxxxxxxxxxxxxxxxxxxxxxxxxxxxxxxxxxxxxxxxxxxxxxxxxxxxxxxxxxxxxxxx\n",
+        LineKind::Long,
+    ),
+    (
+        b"xxxxxxxxxxxxxxxxxxxxxxxxxxxxxxxxxxxxxxxxxxxxxxxxxxxxxxxxxxxxxxxxxxxxxx",
+        LineKind::Cut,
+    ),
+    (b"fail 0 \n", LineKind::Words),
+    (b"fail\n", LineKind::Words),
+    (b"fail 00\n", LineKind::Number),
+    (b"fail 0\r\n", LineKind::Number),
+    (b"ack 0 0 10000\n", LineKind::Number),
+    (b"agree 0 256 0\n", LineKind::Number),
+    (b"agree 0 0 0000000F\n", LineKind::Flag),
+    (b"split 0 0\n", LineKind::Verb),
+];
+
 /// The first fault of a line, and what the lines before it print.
 #[test]
 fn line_faults(rt: HostRuntime) -> Result<(), Fail> {
-    let rows: [(&[u8], &[u8], Result<(), RunFault>); 31] = [
+    let rows: [(&[u8], &[u8], Result<(), RunFault>); 17] = [
         (
             b"ulfm 1 2 1 4\nagree 0 0 0000000f\npoll 0",
             b"started\n",
@@ -345,44 +372,6 @@ fn line_faults(rt: HostRuntime) -> Result<(), Fail> {
         (b"ulfm 1 2 256 4096\n", b"", line(1, LineKind::Limits)),
         (b"ulfm 1 1 256 4096\n", b"", Ok(())),
         (b"ulfm 1 1023 1 2048\n", b"", Ok(())),
-        (b"ulfm 1 3 1 4\n\n", b"", line(2, LineKind::Verb)),
-        (b"ulfm 1 3 1 4\n fail 0\n", b"", line(2, LineKind::Verb)),
-        (b"ulfm 1 3 1 4\n\xff\n", b"", line(2, LineKind::Verb)),
-        (
-            b"ulfm 1 3 1 4\nxxxxxxxxxxxxxxxxxxxxxxxxxxxxxxxxxxxxxxxxxxxxxxxxxxxxxxxxxxxxxxxx\n",
-            b"",
-            line(2, LineKind::Verb),
-        ),
-        (
-            b"ulfm 1 3 1 4\nxxxxxxxxxxxxxxxxxxxxxxxxxxxxxxxxxxxxxxxxxxxxxxxxxxxxxxxxxxxxxxxxx\n",
-            b"",
-            line(2, LineKind::Long),
-        ),
-        (
-            b"ulfm 1 3 1 4\nxxxxxxxxxxxxxxxxxxxxxxxxxxxxxxxxxxxxxxxxxxxxxxxxxxxxxxxxxxxxxxxxxxxxxx",
-            b"",
-            line(2, LineKind::Cut),
-        ),
-        (b"ulfm 1 3 1 4\nfail 0 \n", b"", line(2, LineKind::Words)),
-        (b"ulfm 1 3 1 4\nfail\n", b"", line(2, LineKind::Words)),
-        (b"ulfm 1 3 1 4\nfail 00\n", b"", line(2, LineKind::Number)),
-        (b"ulfm 1 3 1 4\nfail 0\r\n", b"", line(2, LineKind::Number)),
-        (
-            b"ulfm 1 3 1 4\nack 0 0 10000\n",
-            b"",
-            line(2, LineKind::Number),
-        ),
-        (
-            b"ulfm 1 3 1 4\nagree 0 256 0\n",
-            b"",
-            line(2, LineKind::Number),
-        ),
-        (
-            b"ulfm 1 3 1 4\nagree 0 0 0000000F\n",
-            b"",
-            line(2, LineKind::Flag),
-        ),
-        (b"ulfm 1 3 1 4\nsplit 0 0\n", b"", line(2, LineKind::Verb)),
         (
             b"ulfm 1 3 1 4\nfail 1023\n",
             b"refused 13 no-such-rank\n",
@@ -399,6 +388,14 @@ fn line_faults(rt: HostRuntime) -> Result<(), Fail> {
         let text = std::str::from_utf8(script).unwrap_or("no text");
         assert_eq!(rt; end, ends, "{text}");
         assert_eq!(rt; out.as_slice(), wanted, "{text}");
+    }
+    for (text, kind) in FAULTS {
+        let mut script = Vec::from_slice(rt.alloc(), b"ulfm 1 3 1 4\n")?;
+        script.extend_from_slice(text)?;
+        let (out, end) = run(&rt, &script)?;
+        let name = std::str::from_utf8(text).unwrap_or("no text");
+        assert_eq!(rt; end, line(2, kind), "{name}");
+        assert!(rt; out.is_empty(), "{name}");
     }
     Ok(())
 }

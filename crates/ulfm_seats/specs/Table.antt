@@ -2,8 +2,8 @@
 use Rattle.std.specs.Prelude.{◌≡◌, ℕ, ◌≤◌, List, length, slice_get, Some, None}
 use Rattle.ulfm_laws.specs.{Flags.{flag_meld}, declared.flag_and.FlagAnd.{FlagAnd}}
 use Rattle.ulfm_model.specs.declared.event.Caller.{Caller}
-use Rattle.ulfm_model.specs.Records.{Record}
 use Rattle.ulfm_words.specs.Steps.{IsOf, Name, Sight}
+use Rattle.ulfm_comm.specs.Counts.{Ranked}
 use Rattle.ulfm_trace_model.specs.Traces.{Traced, call_by, record_of}
 use Rattle.ulfm_stepping.specs.Seats.{Sits}
 use Rattle.ulfm_seats.specs.Walks.{FlagSeat}
@@ -15,8 +15,8 @@ pub record Table : Type 0 where
   pub seats : List FlagSeat
 
 -- a rank without a call
-abbrev pub idle_seat : Record → FlagSeat
-idle_seat own = record { own = own; call = None; found = 0 }
+abbrev pub idle_seat : Ranked → FlagSeat
+idle_seat rank = record { own = rank.own; call = None; found = 0 }
 
 -- the world doesn't have this rank: it has no record, and no call under way
 pub record IsNobody (now : Traced FlagAnd) (r : ℕ) : Type 0 where

@@ -5,7 +5,7 @@ use Rattle.ulfm_model.specs.declared.{call.Call.{Call}, event.Caller.{Caller}, e
 use Rattle.ulfm_model.specs.declared.{reply.Reply.{Reply}, reply.Reply.TheVariants.{FailedGroup, Shrunk}, step_name.StepName.{StepName}}
 use Rattle.ulfm_model.specs.{Answers.{comm_of, polled_by, traits_of}, History.{History, failures, members}, Records.{Fits, Held, Record, held_at, is_shrink, new_record}}
 use Rattle.ulfm_words.specs.Steps.{IsOf, Name, Sight}
-use Rattle.ulfm_comm.specs.{Calls.{wants_memory}, Phase.{UnderWay, is_looking, next_step}, StepsLeft.{MakesStep, steps_left}}
+use Rattle.ulfm_comm.specs.{Calls.{wants_memory}, Counts.{Counted}, Phase.{UnderWay, is_looking, next_step}, StepsLeft.{MakesStep, steps_left}}
 use Rattle.ulfm_comm.specs.declared.phases.phase.Phase.{Phase}
 use Rattle.ulfm_trace_model.specs.declared.line.{Line.{Line}, Line.TheVariants.{Called, Happened, Looked, Replied}}
 use Rattle.ulfm_trace_model.specs.Follows.{AreOf, EndsInReply, IsAtOnce, called, is_event}
@@ -18,6 +18,11 @@ pub record Seated (P : Type 0) : Type 0 where
   pub own : Record
   pub call : Option (UnderWay P)
   pub found : ℕ
+
+-- where a call stands that is under way, if one is
+abbrev pub way_in : {P : Type 0} → Option (Counted P) → Option (UnderWay P)
+way_in None = None
+way_in (Some doing) = Some doing.way
 
 -- the communicator of a call that is under way; 0 where none is
 abbrev pub comm_in : {P : Type 0} → Option (UnderWay P) → ℕ

@@ -30,11 +30,11 @@ pub struct Seat<P: Packed, A: Allocator> {
 }
 
 impl<P: Packed, A: Allocator> Model for Seat<P, A> {
-    ghost use Rattle.ulfm_stepping.specs.Seats.{Seated};
+    ghost use Rattle.ulfm_stepping.specs.Seats.{Seated, way_in};
 
     ghost Value = { Seated P };
 
-    ghost view = { λ a. record { own = a.rank; call = a.call; found = a.found } };
+    ghost view = { λ a. record { own = a.rank.own; call = way_in a.call; found = a.found } };
 }
 
 // A reply that the poll of a barrier gives where somebody is missing.
@@ -82,7 +82,7 @@ fn put_among<A: Allocator>(
 impl<P: Packed, A: Allocator + Copy + Drop> Seat<P, A> {
     /// A rank without a call.
     pub fn new(rank: Rank<P, A>) -> Seat<P, A>
-        ensures { result ≡ record { own = rank; call = None; found = 0 } }
+        ensures { result ≡ record { own = rank.own; call = None; found = 0 } }
     {
         Seat {
             rank,
@@ -152,8 +152,8 @@ impl<P: Packed, A: Allocator + Copy + Drop> Seat<P, A> {
 
     // The failures that the look found, where a step was its end.
     fn look_end(&self, looking: bool, reply: &Option<Reply<P>>, doing: &Doing<P, A>) -> Option<u16>
-        requires { IsTrue (has_looked looking reply.now doing.now.phase) → length self.now.own.seen < 2 ^ 16 }
-        ensures { result ≡ (if has_looked looking reply.now doing.now.phase then Some (length self.now.own.seen) else None) }
+        requires { IsTrue (has_looked looking reply.now doing.now.way.phase) → length self.now.own.seen < 2 ^ 16 }
+        ensures { result ≡ (if has_looked looking reply.now doing.now.way.phase then Some (length self.now.own.seen) else None) }
     {
         if looking && (reply.is_some() || !doing.is_looking()) {
             return Some(self.rank.failures().len() as u16);

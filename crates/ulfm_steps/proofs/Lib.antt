@@ -3,7 +3,7 @@ pub mod Looking
 pub mod Settling
 pub mod Groups
 pub mod Reading
-pub mod Blocks
+pub mod InBlocks
 pub mod Arriving
 pub mod ReadingOn
 pub mod Marking

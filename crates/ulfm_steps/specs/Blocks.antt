@@ -5,8 +5,8 @@ use Rattle.ulfm_model.specs.declared.{block.Block.{Block}, block.Side.{Side}, bl
 use Rattle.ulfm_model.specs.{Blocks.{IsSide, IsSummed, block_of, has_block, width}, History.{History}}
 use Rattle.ulfm_words.specs.{Steps.{Sight}, declared.{step.Site.{Site}}}
 use Rattle.ulfm_steps.specs.{Rounds.{IsMissing}, Turns.{TakesAt, left_without}}
-use Rattle.ulfm_steps.specs.declared.{peek.Peek.{Peek}, read_blocks.ReadBlocks.{ReadBlocks}, read_blocks.Found.{Found}, read_blocks.Found.TheVariants.{Missing, All}}
-use Rattle.ulfm_steps.specs.declared.round_blocks.RoundBlocks.{RoundBlocks}
+use Rattle.ulfm_steps.specs.declared.{blocks.Peek.{Peek}, blocks.ReadBlocks.{ReadBlocks}, blocks.Found.{Found}, blocks.Found.TheVariants.{Missing, All}}
+use Rattle.ulfm_steps.specs.declared.blocks.RoundBlocks.{RoundBlocks}
 
 -- a block of a round
 abbrev pub block_at : ℕ → ℕ → Side → Block
@@ -91,6 +91,7 @@ pub record AtBlock {P : Type 0} (meld : P → P → P) (h : History P) (group : 
   pub side : IsSide reading.side group
   pub front : reading.side ≡ Back → is_some reading.blocks.front ≡ true
   pub wide : reading.width ≡ width (length group)
+  pub begins : reading.first ≡ first_of reading.side (length group)
   pub within : reading.read ≤ width (length group)
   pub read : IsSummed meld h reading.comm reading.round (take reading.read (block_of reading.side group)) reading.all
 
@@ -112,7 +113,11 @@ BlocksTake whole group old found new =
     TakesAt whole (site_of group old) (nat_lt old.read old.width) (blocks_left (length group) old)
     (left_without found (blocks_left (length group) new))
 
+-- a reading that has read nothing of a block yet
+abbrev pub begins_at : {P : Type 0} → ℕ → ℕ → RoundBlocks P → ℕ → Side → ReadBlocks P
+begins_at c k blocks n side =
+    record { comm = c; round = k; side = side; width = width n; first = first_of side n; read = 0; all = summary_unit; blocks = blocks }
+
 -- a reading that has read nothing yet: at the front block, or, where that is known, at the back one
 abbrev pub starts_at : {P : Type 0} → ℕ → ℕ → RoundBlocks P → ℕ → ReadBlocks P
-starts_at c k blocks n =
-    record { comm = c; round = k; side = if is_some blocks.front then Back else Front; width = width n; read = 0; all = summary_unit; blocks = blocks }
+starts_at c k blocks n = begins_at c k blocks n (if is_some blocks.front then Back else Front)

@@ -10,7 +10,6 @@ use crate::append::Append;
 use crate::group::first_ranks;
 use crate::item::Item;
 use crate::read_round::ReadRound;
-use http_server::Log;
 use std::alloc::{AllocError, Allocator, Global};
 use ulfm_laws::meld::Packed;
 use ulfm_laws::summary::Body;
@@ -20,7 +19,7 @@ use ulfm_model::event::{Caller, Entry, Event};
 use ulfm_model::limits::Limits;
 use ulfm_model::place::Place;
 use ulfm_words::{
-    Last, OpenWords, PlainPass, PlainTold, PlainWords, Site, Step, Words, set_arrival,
+    Last, OpenWords, PlainPass, PlainTold, PlainWords, Site, Step, Trail, Words, set_arrival,
     set_revocation, set_slot,
 };
 
@@ -43,7 +42,7 @@ pub struct IntruderPass<P: Packed, A: Allocator = Global> {
     pub plain: PlainPass<P, A>,
     /// How many steps are made before the intrusion, if one is to come.
     pub left: Option<u32>,
-    pub trail: Log<Last, bool>,
+    pub trail: Trail,
     /// For the list of ranks whose places a communicator's intrusion reads first.
     pub alloc: A,
 }
@@ -61,8 +60,8 @@ impl<P: Packed, A: Allocator> IntruderPass<P, A> {
     // A step of the pass's own.
     fn note(&mut self, at: Site, word: u64, load: bool)
         ensures plain { self.new.plain ≡ self.old.plain }
-        ensures count { length self.new.trail.items ≡ length self.old.trail.items + 1 }
-        ensures last { last_of self.new.trail.items ≡ Some (record { at = at; word = word; load = load }) }
+        ensures count { length self.new.trail.log.items ≡ length self.old.trail.log.items + 1 }
+        ensures last { last_of self.new.trail.log.items ≡ Some (record { at = at; word = word; load = load }) }
     {
         self.trail = self.trail.and(&Last { at, word, load }, &load);
     }
@@ -152,7 +151,7 @@ impl<P: Packed, A: Allocator + Copy + Drop> Words<P, A> for Intruder<P> {
 
     ghost alone = { false };
 
-    ghost sight = { λ p. record { name = p.plain.name; seen = p.plain.seen; cached = p.plain.cached; steps = length p.trail.items; last = last_of p.trail.items } };
+    ghost sight = { λ p. record { name = p.plain.name; seen = p.plain.seen; cached = p.plain.cached; steps = length p.trail.log.items; last = last_of p.trail.log.items } };
 
     fn limits(&self) -> Limits {
         self.plain.limits
@@ -200,6 +199,10 @@ impl<P: Packed, A: Allocator + Copy + Drop> Words<P, A> for Intruder<P> {
         }
     }
 
+    fn steps_made(&self, pass: &IntruderPass<P, A>) -> u64 {
+        pass.trail.made()
+    }
+
     fn known_legal(&self, pass: &IntruderPass<P, A>) {
         pass.plain.known_legal();
     }
@@ -217,7 +220,7 @@ impl<P: Packed, A: Allocator + Copy + Drop> OpenWords<P, A> for Intruder<P> {
         Ok(IntruderPass {
             plain,
             left: self.wait,
-            trail: Log::new(),
+            trail: Trail::new(),
             alloc,
         })
     }

@@ -3,28 +3,24 @@
 
 pub mod append;
 pub mod arrivals;
+pub mod blocks;
 pub mod group;
 pub mod intruder;
 pub mod item;
 mod items;
 pub mod look;
 pub mod mark_all;
-pub mod peek;
-pub mod read_blocks;
 pub mod read_on;
 pub mod read_round;
-pub mod round_blocks;
 pub mod settle;
 
 pub use append::{Append, Appended};
 pub use arrivals::{Arrivals, Missing};
+pub use blocks::{Found, Peek, ReadBlocks, RoundBlocks};
 pub use intruder::{Intruder, IntruderPass};
 pub use item::Item;
 pub use look::Look;
 pub use mark_all::MarkAll;
-pub use peek::Peek;
-pub use read_blocks::{Found, ReadBlocks};
 pub use read_on::ReadOn;
 pub use read_round::ReadRound;
-pub use round_blocks::RoundBlocks;
 pub use settle::Settle;

@@ -56,6 +56,10 @@ impl<P: Packed, A: Allocator + Copy + Drop> Words<P, A> for Counted<P> {
         pass.plain.cache(block, word)
     }
 
+    fn steps_made(&self, pass: &CountedPass<P, A>) -> u64 {
+        pass.plain.steps_made()
+    }
+
     fn known_legal(&self, pass: &CountedPass<P, A>) {
         pass.plain.known_legal();
     }

@@ -53,12 +53,12 @@ impl<'a, W: Words<P, A>, P: Packed, A: Allocator + Copy> AgreeFuture<'a, W, P, A
         value: P,
     ) -> AgreeFuture<'a, W, P, A>
         requires of { IsOf P.meld (W.name world.now.words) (W.sight pass) }
-        requires fits { Fits P.meld (W.name world.now.words).limits (W.sight pass).seen rank }
+        requires fits { Fits P.meld (W.name world.now.words).limits (W.sight pass).seen rank.own }
         ensures may { ⟦<AgreeFuture<'a, W, P, A> as Future>⟧.can_poll result }
         ensures gives { (out : _) → ⟦<AgreeFuture<'a, W, P, A> as Future>⟧.gives result out
-            → Waits P.meld W.alone (W.name world.now.words) comm (Agree rank.number comm value) rank (W.sight pass) out.2 out.1 (W.sight out.0) }
+            → Waits P.meld W.alone (W.name world.now.words) comm (Agree rank.own.number comm value) rank.own (W.sight pass) out.2 out.1.own (W.sight out.0) }
         ensures tells { (out : _) → ⟦<AgreeFuture<'a, W, P, A> as Future>⟧.gives result out
-            → IfOk out.2 (TellsAgree P.meld (W.name world.now.words).limits (W.sight out.0).seen comm value rank) }
+            → IfOk out.2 (TellsAgree P.meld (W.name world.now.words).limits (W.sight out.0).seen comm value rank.own) }
     {
         AgreeFuture {
             world,
@@ -74,10 +74,10 @@ impl<'a, W: Words<P, A>, P: Packed, A: Allocator + Copy> Future for AgreeFuture<
     type Output = (W::Pass, Rank<P, A>, Result<Polled<P>, Refusal>);
 
     ghost can_poll = { λ f. IfSome f.held (λ s. IsOf P.meld (W.name f.world.now.words) (W.sight s.0)
-        × Fits P.meld (W.name f.world.now.words).limits (W.sight s.0).seen s.1) };
+        × Fits P.meld (W.name f.world.now.words).limits (W.sight s.0).seen s.1.own) };
 
-    ghost gives = { λ f out. IsSomeAnd f.held (λ s. FutureGives P.meld W.alone (W.name f.world.now.words) f.comm f.value f.started s.1 (W.sight s.0)
-        out.2 out.1 (W.sight out.0)) };
+    ghost gives = { λ f out. IsSomeAnd f.held (λ s. FutureGives P.meld W.alone (W.name f.world.now.words) f.comm f.value f.started s.1.own (W.sight s.0)
+        out.2 out.1.own (W.sight out.0)) };
 
     fn poll(
         &mut self,
@@ -127,8 +127,8 @@ fn step<W: Words<P, A>, P: Packed, A: Allocator + Copy>(
     started: bool,
 ) -> Result<Polled<P>, Refusal>
     requires of { IsOf P.meld (W.name world.now.words) (W.sight pass.old) }
-    requires fits { Fits P.meld (W.name world.now.words).limits (W.sight pass.old).seen rank.old }
-    ensures { StepIs P.meld W.alone (W.name world.now.words) comm value started rank.old (W.sight pass.old) result rank.new
+    requires fits { Fits P.meld (W.name world.now.words).limits (W.sight pass.old).seen rank.old.own }
+    ensures { StepIs P.meld W.alone (W.name world.now.words) comm value started rank.old.own (W.sight pass.old) result rank.new.own
         (W.sight pass.new) }
 {
     if started {

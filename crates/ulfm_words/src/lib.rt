@@ -1,20 +1,18 @@
 //! Words that are set at most once: where they stand, what they mean, and what each step on them does.
 #![tactic(auto)]
 
-pub mod blocks;
 pub mod laws;
 pub mod loads;
 pub mod plain;
 mod row;
 pub mod sets;
-pub mod slots;
 pub mod step;
+pub mod summaries;
 pub mod words;
 
-pub use blocks::{block_word, read_block};
 pub use loads::{load_arrival, load_comm, load_failure, load_revocation, load_said, load_summary};
-pub use plain::{PlainPass, PlainTold, PlainWords};
+pub use plain::{PlainPass, PlainTold, PlainWords, Trail};
 pub use sets::{put_slot, set_arrival, set_comm, set_failure, set_revocation, set_slot};
-pub use slots::{read_slot, slot_word};
 pub use step::{Last, Site, Step};
+pub use summaries::{block_word, read_block, read_slot, slot_word};
 pub use words::{OpenWords, Words};

@@ -10,7 +10,7 @@ ghost use Rattle.ulfm_words.specs.Blocks.{Peeks, Says};
 ghost use Rattle.ulfm_words.specs.Places.{IsCell, IsWithin};
 ghost use Rattle.ulfm_words.specs.Steps.{IsOf, Loads};
 
-use crate::blocks::said_in;
+use crate::summaries::said_in;
 use crate::words::Words;
 use std::alloc::Allocator;
 use ulfm_laws::meld::Packed;

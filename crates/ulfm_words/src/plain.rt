@@ -1,5 +1,5 @@
 // Words of one owner, and the passes over them: each pass is a memory of its own.
-ghost use Rattle.std.specs.Prelude.{◌≡◌, ◌≤◌, [], true, false, IfOk, MatchOption, MatchResult, length};
+ghost use Rattle.std.specs.Prelude.{◌≡◌, ◌≤◌, ◌%◌, ◌^◌, ◌++◌, ◌∷◌, [], true, false, IfOk, MatchOption, MatchResult, length};
 ghost use Rattle.ulfm_model.specs.Blocks.{IsBlock, IsBlockWithin};
 ghost use Rattle.ulfm_model.specs.Words.{IsUnfit, MayOpen, word_at};
 ghost use Rattle.ulfm_words.specs.Blocks.{Caches, LoadsBlock};
@@ -86,6 +86,11 @@ impl<P: Packed, A: Allocator + Copy + Drop> Words<P, A> for PlainWords<P> {
         pass.cache(block, word)
     }
 
+    #[inline(always)]
+    fn steps_made(&self, pass: &PlainPass<P, A>) -> u64 {
+        pass.steps_made()
+    }
+
     fn known_legal(&self, pass: &PlainPass<P, A>) {
         pass.known_legal();
     }
@@ -118,6 +123,45 @@ pub(crate) struct Setting {
     pub by: Caller,
 }
 
+/// The atomic steps that a pass has made. Contracts see all of them; their number alone is kept, modulo 2^64.
+#[derive(Drop)]
+pub struct Trail {
+    count: u64,
+    pub log: Log<Last, bool>,
+    ghost counted: { count ≡ length log.items % 2 ^ 64 },
+}
+
+impl Trail {
+    /// No step was made.
+    pub fn new() -> Trail
+        ensures { result.log.items ≡ [] }
+    {
+        Trail {
+            count: 0,
+            log: Log::new(),
+        }
+    }
+
+    /// One step more.
+    #[inline(always)]
+    pub fn and(&self, last: &Last, load: &bool) -> Trail
+        ensures { result.log.items ≡ self.now.log.items ++ (last.now, load.now) ∷ [] }
+    {
+        Trail {
+            count: self.count.wrapping_add(1),
+            log: self.log.and(last, load),
+        }
+    }
+
+    /// How many steps were made, modulo 2^64.
+    #[inline(always)]
+    pub fn made(&self) -> u64
+        ensures { result ≡ length self.now.log.items % 2 ^ 64 }
+    {
+        self.count
+    }
+}
+
 /// The words of one owner, and the journal of what was set. Contracts see it as a `Sight`.
 #[derive(Drop)]
 pub struct PlainPass<P: Packed, A: Allocator = Global> {
@@ -127,7 +171,7 @@ pub struct PlainPass<P: Packed, A: Allocator = Global> {
     // The words of blocks: two for each round of each communicator, the front block's first.
     blocks: Vec<u64, A>,
     // The steps so far. It takes no memory, and only contracts read it.
-    trail: Log<Last, bool>,
+    trail: Trail,
     flags: PhantomData<P>,
 }
 
@@ -138,10 +182,10 @@ impl<P: Packed, A: Allocator> Model for PlainPass<P, A> {
 
     ghost Value = { Sight P };
 
-    ghost view = { λ a. sight_of P.unpack a.row.limits a.row.words a.journal.items a.trail.items };
+    ghost view = { λ a. sight_of P.unpack a.row.limits a.row.words a.journal.items a.trail.log.items };
 
     ghost invariant = { λ a. IsTied P.meld P.pack P.unpack a.row.limits a.row.words a.journal.items (vec_capacity a.journal)
-        × AreStood P.meld P.pack a.row.limits (entries P.unpack a.row.limits a.row.words a.journal.items) a.blocks.items a.trail.items };
+        × AreStood P.meld P.pack a.row.limits (entries P.unpack a.row.limits a.row.words a.journal.items) a.blocks.items a.trail.log.items };
 }
 
 impl<P: Packed, A: Allocator + Copy> PlainPass<P, A> {
@@ -159,7 +203,7 @@ impl<P: Packed, A: Allocator + Copy> PlainPass<P, A> {
             row,
             journal,
             blocks,
-            trail: Log::new(),
+            trail: Trail::new(),
             flags: PhantomData,
         })
     }
@@ -191,6 +235,14 @@ impl<P: Packed, A: Allocator + Copy> PlainPass<P, A> {
             word,
             by: setting.by,
         })
+    }
+
+    /// How many atomic steps it has made, modulo 2^64. It is no step.
+    #[inline(always)]
+    pub fn steps_made(&self) -> u64
+        ensures { result ≡ self.now.steps % 2 ^ 64 }
+    {
+        self.trail.made()
     }
 
     /// What was seen is legal. It does nothing.

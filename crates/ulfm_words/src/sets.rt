@@ -11,8 +11,8 @@ ghost use Rattle.ulfm_words.specs.Slots.{slot_in};
 ghost use Rattle.ulfm_words.specs.Steps.{IsOf};
 ghost use Rattle.ulfm_words.specs.Tries.{Tries, entry, MayDeclare, MayPut, MayMake, MayCome, MayEnd};
 
-use crate::slots::{read_slot, slot_word};
 use crate::step::Step;
+use crate::summaries::{read_slot, slot_word};
 use crate::words::Words;
 use std::alloc::Allocator;
 use ulfm_laws::meld::Packed;

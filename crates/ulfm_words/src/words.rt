@@ -1,4 +1,4 @@
-ghost use Rattle.std.specs.Prelude.{◌≡◌, Bool, IfOk};
+ghost use Rattle.std.specs.Prelude.{◌≡◌, ◌%◌, ◌^◌, Bool, IfOk};
 ghost use Rattle.ulfm_model.specs.Blocks.{IsBlock, IsBlockWithin};
 ghost use Rattle.ulfm_model.specs.Words.{MayOpen};
 ghost use Rattle.ulfm_model.specs.Words.{word_at};
@@ -59,6 +59,10 @@ pub trait Words<P: Packed, A: Allocator> {
         requires within { IsBlockWithin (name self.now).limits block }
         requires may { IsBlock P.meld P.pack (name self.now).limits.ranks (sight pass.old).seen block word }
         ensures { Caches P.meld alone (name self.now) block word (sight pass.old) result (sight pass.new) };
+
+    /// How many atomic steps a pass has made, modulo 2^64. It is no step.
+    fn steps_made(&self, pass: &Self::Pass) -> u64
+        ensures { result ≡ (sight pass.now).steps % 2 ^ 64 };
 
     /// What a pass of these words has seen is legal. It does nothing.
     fn known_legal(&self, pass: &Self::Pass)

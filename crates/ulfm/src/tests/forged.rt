@@ -1,34 +1,8 @@
 //! Input that nobody meant: lines, headers and traces that are cut, too long or forged, through the program.
-use crate::program::answer;
 use crate::tests::steps::{CHECK, TRACE_ROWS, row_of};
-use crate::tests::{RUN, require};
+use crate::tests::{RUN, require, require_answer};
 use std::alloc::Global;
-use std::sync::Wait;
 use std::test::Fail;
-use std::thread::Threads;
-
-/// What the program gives for a text by these words: its output, what it tells on standard error, and its status.
-fn answered<T: Threads + Wait + Sync>(
-    rt: &T,
-    alloc: Global,
-    words: &[&str],
-    text: &[u8],
-) -> Result<(Vec<u8>, Vec<u8>, u8), Fail> {
-    let mut input = text;
-    let mut output = Vec::new(alloc);
-    let mut errors = Vec::new(alloc);
-    let status = answer(
-        rt,
-        alloc,
-        alloc,
-        words,
-        &mut input,
-        &mut output,
-        &mut errors,
-        false,
-    );
-    Ok((output, errors, status))
-}
 
 /// What stands behind the header, and the fault of line 2 that it has.
 const FAULTS: [(&[u8], &str); 13] = [
@@ -62,11 +36,8 @@ fn forged_lines(rt: HostRuntime) -> Result<(), Fail> {
     for (line, kind) in FAULTS {
         let mut script = Vec::from_slice(rt.alloc(), b"ulfm 1 3 1 4\n")?;
         script.extend_from_slice(line)?;
-        let (output, errors, status) = answered(&rt, rt.alloc(), &RUN, &script)?;
-        let wanted = format!(in rt.alloc(); "ulfm: line 2: {kind}\n")?;
-        assert_eq!(rt; errors.as_slice(), wanted.as_bytes());
-        assert!(rt; output.is_empty());
-        assert_eq!(rt; status, 1);
+        let fault = format!(in rt.alloc(); "ulfm: line 2: {kind}\n")?;
+        require_answer(&rt, rt.alloc(), &RUN, &script, (b"", fault.as_bytes(), 1))?;
     }
     Ok(())
 }
@@ -82,10 +53,7 @@ fn unknown_numbers(rt: HostRuntime) -> Result<(), Fail> {
         ),
     ];
     for (script, wanted) in rows {
-        let (output, errors, status) = answered(&rt, rt.alloc(), &RUN, script)?;
-        assert_eq!(rt; output.as_slice(), wanted);
-        assert!(rt; errors.is_empty());
-        assert_eq!(rt; status, 0);
+        require_answer(&rt, rt.alloc(), &RUN, script, (wanted, b"", 0))?;
     }
     Ok(())
 }
@@ -103,11 +71,8 @@ fn forged_headers(rt: HostRuntime) -> Result<(), Fail> {
         (b"ulfm 1 1 256 4096\n", b"", 0),
         (b"ulfm 1 1023 1 2048\n", b"", 0),
     ];
-    for (header, wanted, ends) in rows {
-        let (output, errors, status) = answered(&rt, rt.alloc(), &RUN, header)?;
-        assert_eq!(rt; errors.as_slice(), wanted);
-        assert!(rt; output.is_empty());
-        assert_eq!(rt; status, ends);
+    for (header, fault, ends) in rows {
+        require_answer(&rt, rt.alloc(), &RUN, header, (b"", fault, ends))?;
     }
     Ok(())
 }
@@ -160,37 +125,29 @@ fn changed(alloc: Global, text: &str, number: usize, change: Change) -> Result<V
     Ok(forged)
 }
 
-/// Changes of the trace of `contribution_in_flight`, and what the judge says of each.
-const FORGED: [(usize, Change, &[u8]); 9] = [
-    (10, Change::Becomes("look 0 0"), b"illegal line 10 look\n"),
-    (10, Change::Twice, b"illegal line 11 look\n"),
+/// Changes of the trace of `contribution_in_flight`, and the line and the reason by which the judge calls each illegal.
+const FORGED: [(usize, Change, &str); 9] = [
+    (10, Change::Becomes("look 0 0"), "10 look"),
+    (10, Change::Twice, "11 look"),
     (
         11,
         Change::Becomes("event 0 settle 0 0 0 flag 0000000f known 0 acked 0"),
-        b"illegal line 12 reply\n",
+        "12 reply",
     ),
     (
         11,
         Change::Becomes("event 1 settle 0 0 0 flag 0000000f known 1 acked 0"),
-        b"illegal line 11 own\n",
+        "11 own",
     ),
-    (
-        12,
-        Change::Becomes("reply 0 2 started"),
-        b"illegal line 12 reply\n",
-    ),
-    (
-        12,
-        Change::Becomes("reply 0 4 started"),
-        b"illegal line 12 reply\n",
-    ),
+    (12, Change::Becomes("reply 0 2 started"), "12 reply"),
+    (12, Change::Becomes("reply 0 4 started"), "12 reply"),
     (
         12,
         Change::Followed("event - mark 0 0 1 known 1"),
-        b"illegal line 13 event\n",
+        "13 event",
     ),
-    (9, Change::LeftOut, b"illegal line 9 call\n"),
-    (22, Change::WithoutNewline, b"illegal line 22 text\n"),
+    (9, Change::LeftOut, "9 call"),
+    (22, Change::WithoutNewline, "22 text"),
 ];
 
 #[test]
@@ -198,10 +155,14 @@ fn forged_traces(rt: HostRuntime) -> Result<(), Fail> {
     let row = row_of(&TRACE_ROWS, "trace_judged_a")?;
     for (number, change, wanted) in FORGED {
         let trace = changed(rt.alloc(), row.script, number, change)?;
-        let (output, errors, status) = answered(&rt, rt.alloc(), &CHECK, &trace)?;
-        assert_eq!(rt; output.as_slice(), wanted);
-        assert!(rt; errors.is_empty());
-        assert_eq!(rt; status, 1);
+        let verdict = format!(in rt.alloc(); "illegal line {wanted}\n")?;
+        require_answer(
+            &rt,
+            rt.alloc(),
+            &CHECK,
+            &trace,
+            (verdict.as_bytes(), b"", 1),
+        )?;
     }
     Ok(())
 }
@@ -215,10 +176,7 @@ fn first_lines_are_legal(rt: HostRuntime) -> Result<(), Fail> {
     for line in row.script.lines() {
         put_line(&mut trace, line.as_bytes())?;
         count = count.wrapping_add(1);
-        let (output, errors, status) = answered(&rt, rt.alloc(), &CHECK, &trace)?;
-        assert_eq!(rt; output.as_slice(), b"legal\n".as_slice());
-        assert!(rt; errors.is_empty());
-        assert_eq!(rt; status, 0);
+        require_answer(&rt, rt.alloc(), &CHECK, &trace, (b"legal\n", b"", 0))?;
     }
     require(count == 22)
 }

@@ -1,35 +1,33 @@
 //! Races through the program.
-use crate::program::answer;
-use crate::tests::require;
-use linked_list_allocator::LocalHeap;
+use crate::tests::{require, run_in, told};
 use std::alloc::Global;
 use std::sync::Wait;
 use std::test::Fail;
 use std::thread::Threads;
 use ulfm_devices::{Failing, Taken};
 
-/// What a race of these words writes.
+/// What a race of these words writes and tells, and its status; nothing is read.
+fn raced<T: Threads + Wait + Sync>(
+    rt: &T,
+    alloc: Global,
+    words: &[&str],
+) -> Result<(Vec<u8>, Vec<u8>, u8), Fail> {
+    let mut input = b"not read".as_slice();
+    let mut output = Vec::new(alloc);
+    let (errors, status) = told(rt, alloc, words, &mut input, &mut output);
+    require(input == b"not read".as_slice())?;
+    Ok((output, errors, status))
+}
+
+/// What a race of these words writes, where it is run.
 fn run_race<T: Threads + Wait + Sync>(
     rt: &T,
     alloc: Global,
     words: &[&str],
 ) -> Result<Vec<u8>, Fail> {
-    let mut input = b"not read".as_slice();
-    let mut output = Vec::new(alloc);
-    let mut errors = Vec::new(alloc);
-    let status = answer(
-        rt,
-        alloc,
-        alloc,
-        words,
-        &mut input,
-        &mut output,
-        &mut errors,
-        false,
-    );
+    let (output, errors, status) = raced(rt, alloc, words)?;
     require(status == 0)?;
     require(errors.is_empty())?;
-    require(input == b"not read".as_slice())?;
     Ok(output)
 }
 
@@ -140,23 +138,10 @@ fn bad_races(rt: HostRuntime) -> Result<(), Fail> {
         &["ulfm", "race", "--ranks", "4", "--rounds", "2", "--fail"],
     ];
     for words in rows {
-        let mut input = b"not read".as_slice();
-        let mut output = Vec::new(rt.alloc());
-        let mut errors = Vec::new(rt.alloc());
-        let status = answer(
-            &rt,
-            rt.alloc(),
-            rt.alloc(),
-            words,
-            &mut input,
-            &mut output,
-            &mut errors,
-            false,
-        );
+        let (output, errors, status) = raced(&rt, rt.alloc(), words)?;
         assert_eq!(rt; status, 2);
         assert_eq!(rt; errors.as_slice(), b"ulfm: bad command line\n".as_slice());
         assert!(rt; output.is_empty());
-        assert_eq!(rt; input, b"not read".as_slice());
     }
     Ok(())
 }
@@ -167,36 +152,12 @@ fn races_that_fail(rt: HostRuntime) -> Result<(), Fail> {
     let words = ["ulfm", "race", "--ranks", "2", "--rounds", "1"];
     for how in [Failing::ByNothing, Failing::AtFlush] {
         let mut output = Taken::new(rt.alloc(), 10_000, 1, how);
-        let mut errors = Vec::new(rt.alloc());
         let mut input = b"".as_slice();
-        let status = answer(
-            &rt,
-            rt.alloc(),
-            rt.alloc(),
-            &words,
-            &mut input,
-            &mut output,
-            &mut errors,
-            false,
-        );
+        let (errors, status) = told(&rt, rt.alloc(), &words, &mut input, &mut output);
         assert_eq!(rt; errors.as_slice(), b"ulfm: write failed\n".as_slice());
         assert_eq!(rt; status, 3);
     }
-    let heap = LocalHeap::new(rt.alloc(), 32)?;
-    let mut output = Vec::new(rt.alloc());
-    let mut errors = Vec::new(rt.alloc());
-    let mut input = b"".as_slice();
-    let status = answer(
-        &rt,
-        &heap,
-        rt.alloc(),
-        &words,
-        &mut input,
-        &mut output,
-        &mut errors,
-        false,
-    );
-    assert_eq!(rt; errors.as_slice(), b"ulfm: out of memory\n".as_slice());
+    let (output, status) = run_in(&rt, rt.alloc(), 32, &words, b"")?;
     assert!(rt; output.is_empty());
     assert_eq!(rt; status, 3);
     Ok(())

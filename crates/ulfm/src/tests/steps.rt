@@ -1,6 +1,5 @@
 //! Scripts of single steps, and traces, through the program; devices that fail at each call in turn.
-use crate::program::answer;
-use crate::tests::{Failure, Row, fail_each_write, require, run_rows};
+use crate::tests::{Failure, Row, answered, fail_each_write, require, run_rows, told};
 use std::alloc::Global;
 use std::sync::Wait;
 use std::test::Fail;
@@ -189,19 +188,7 @@ fn written<T: Threads + Wait + Sync>(
     words: &[&str],
     text: &[u8],
 ) -> Result<Vec<u8>, Fail> {
-    let mut input = text;
-    let mut output = Vec::new(alloc);
-    let mut errors = Vec::new(alloc);
-    let status = answer(
-        rt,
-        alloc,
-        alloc,
-        words,
-        &mut input,
-        &mut output,
-        &mut errors,
-        false,
-    );
+    let (output, _, status) = answered(rt, alloc, words, text);
     require(status == 0)?;
     Ok(output)
 }
@@ -226,17 +213,7 @@ fn fail_each_read<T: Threads + Wait + Sync>(
     for failing in 1..20_000u32 {
         let mut input = Pieces::new(script, most, failing);
         let mut output = Vec::new(alloc);
-        let mut errors = Vec::new(alloc);
-        let status = answer(
-            rt,
-            alloc,
-            alloc,
-            words,
-            &mut input,
-            &mut output,
-            &mut errors,
-            false,
-        );
+        let (errors, status) = told(rt, alloc, words, &mut input, &mut output);
         if input.calls < failing {
             require(output.as_slice() == row.output.as_bytes())?;
             return Ok(());

@@ -1,4 +1,3 @@
-ghost use Rattle.std.specs.Prelude.{◌≡◌};
 ghost use Rattle.ulfm_words.specs.Steps.{IsOf};
 ghost use Rattle.ulfm_comm.specs.Calls.{reply_of};
 ghost use Rattle.ulfm_comm.specs.Fails.{Fails, declared};

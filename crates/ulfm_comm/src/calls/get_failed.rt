@@ -1,10 +1,10 @@
-ghost use Rattle.std.specs.Prelude.{◌+◌, ◌≤◌, ◌≡◌, IfOk, OnErr, length};
+ghost use Rattle.std.specs.Prelude.{◌≡◌, IfOk, OnErr, length};
 ghost use Rattle.ulfm_model.specs.Records.{Fits};
 ghost use Rattle.ulfm_model.specs.History.{failed};
 ghost use Rattle.ulfm_model.specs.declared.call.Call.TheVariants.{GetFailed as Asked};
 ghost use Rattle.ulfm_words.specs.Steps.{IsOf};
 ghost use Rattle.ulfm_comm.specs.Calls.{Gets};
-ghost use Rattle.ulfm_comm.specs.Bound.{step_bound};
+ghost use Rattle.ulfm_comm.specs.Counts.{TakesSteps};
 
 use crate::calls::replies::counted;
 use crate::groups::{make_room, put_in};
@@ -39,17 +39,17 @@ impl<P: Packed, A: Allocator + Copy> Rank<P, A> {
         found: &mut Vec<u16, B>,
     ) -> Result<(), Refusal>
         requires of { IsOf P.meld (W.name world.now.words) (W.sight pass.old) }
-        requires fits { Fits P.meld (W.name world.now.words).limits (W.sight pass.old).seen self.old }
-        ensures gets { Gets P.meld W.alone (W.name world.now.words) (Asked self.old.number comm) self.old (W.sight pass.old) (length found.new.items) result
-            self.new (W.sight pass.new) }
+        requires fits { Fits P.meld (W.name world.now.words).limits (W.sight pass.old).seen self.old.own }
+        ensures gets { Gets P.meld W.alone (W.name world.now.words) (Asked self.old.own.number comm) self.old.own (W.sight pass.old)
+            (length found.new.items) result self.new.own (W.sight pass.new) }
         ensures group { IfOk result (λ _. found.new.items ≡ failed (W.name world.now.words).limits.ranks (W.sight pass.new).seen comm) }
         ensures kept { OnErr result (found.new.items ≡ found.old.items) }
-        ensures steps { (W.sight pass.new).steps
-            ≤ (W.sight pass.old).steps + step_bound {P = P} (W.name world.now.words).limits self.old (Asked self.old.number comm) }
+        ensures steps { TakesSteps {P = P} (W.name world.now.words).limits (Asked self.old.own.number comm) self.old.own (W.sight pass.old)
+            self.new.own self.new.last (W.sight pass.new) }
     {
         let rank = self.number();
         counted(self.call(world, pass, Call::GetFailed { rank, comm }))?;
-        let x = self.held_comm(comm);
+        let x = self.own.held_comm(comm);
         if make_room(&x.group, self.failures(), found).is_err() {
             return Err(Refusal::OutOfMemory);
         }

@@ -1,9 +1,9 @@
-ghost use Rattle.std.specs.Prelude.{◌+◌, ◌≤◌, ◌≡◌, IfOk};
+ghost use Rattle.std.specs.Prelude.{IfOk};
 ghost use Rattle.ulfm_model.specs.Records.{Fits};
 ghost use Rattle.ulfm_model.specs.declared.call.Call.TheVariants.{Poll as Asked};
 ghost use Rattle.ulfm_words.specs.Steps.{IsOf};
 ghost use Rattle.ulfm_comm.specs.Polls.{Polls, EndsIn};
-ghost use Rattle.ulfm_comm.specs.Bound.{step_bound};
+ghost use Rattle.ulfm_comm.specs.Counts.{TakesSteps};
 
 use crate::calls::polled::Polled;
 use crate::calls::replies::polled;
@@ -63,12 +63,12 @@ impl<P: Packed, A: Allocator + Copy> Rank<P, A> {
         comm: u16,
     ) -> Result<Polled<P>, Refusal>
         requires of { IsOf P.meld (W.name world.now.words) (W.sight pass.old) }
-        requires fits { Fits P.meld (W.name world.now.words).limits (W.sight pass.old).seen self.old }
-        ensures calls { Polls P.meld W.alone (W.name world.now.words) (Asked self.old.number comm) self.old (W.sight pass.old) result self.new
+        requires fits { Fits P.meld (W.name world.now.words).limits (W.sight pass.old).seen self.old.own }
+        ensures calls { Polls P.meld W.alone (W.name world.now.words) (Asked self.old.own.number comm) self.old.own (W.sight pass.old) result self.new.own
             (W.sight pass.new) }
-        ensures pending { IfOk result (EndsIn P.meld W.alone (W.name world.now.words) comm self.old (W.sight pass.old) self.new (W.sight pass.new)) }
-        ensures steps { (W.sight pass.new).steps
-            ≤ (W.sight pass.old).steps + step_bound {P = P} (W.name world.now.words).limits self.old (Asked self.old.number comm) }
+        ensures pending { IfOk result (EndsIn P.meld W.alone (W.name world.now.words) comm self.old.own (W.sight pass.old) self.new.own (W.sight pass.new)) }
+        ensures steps { TakesSteps {P = P} (W.name world.now.words).limits (Asked self.old.own.number comm) self.old.own (W.sight pass.old)
+            self.new.own self.new.last (W.sight pass.new) }
     {
         let rank = self.number();
         polled(self.call(world, pass, Call::Poll { rank, comm }))

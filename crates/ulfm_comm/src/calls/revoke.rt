@@ -1,10 +1,9 @@
-ghost use Rattle.std.specs.Prelude.{◌+◌, ◌≤◌};
 ghost use Rattle.ulfm_model.specs.Records.{Fits};
 ghost use Rattle.ulfm_model.specs.declared.call.Call.TheVariants.{Revoke as Asked};
 ghost use Rattle.ulfm_words.specs.Steps.{IsOf};
 ghost use Rattle.ulfm_comm.specs.Calls.{Calls, reply_of};
 ghost use Rattle.ulfm_comm.specs.Revokes.{revoked};
-ghost use Rattle.ulfm_comm.specs.Bound.{step_bound};
+ghost use Rattle.ulfm_comm.specs.Counts.{TakesSteps};
 
 use crate::calls::replies::revoked;
 use crate::rank::Rank;
@@ -34,11 +33,11 @@ impl<P: Packed, A: Allocator + Copy> Rank<P, A> {
         comm: u16,
     ) -> Result<bool, Refusal>
         requires of { IsOf P.meld (W.name world.now.words) (W.sight pass.old) }
-        requires fits { Fits P.meld (W.name world.now.words).limits (W.sight pass.old).seen self.old }
-        ensures calls { Calls P.meld W.alone (W.name world.now.words) (Asked self.old.number comm) self.old (W.sight pass.old)
-            (reply_of revoked result) self.new (W.sight pass.new) }
-        ensures steps { (W.sight pass.new).steps
-            ≤ (W.sight pass.old).steps + step_bound {P = P} (W.name world.now.words).limits self.old (Asked self.old.number comm) }
+        requires fits { Fits P.meld (W.name world.now.words).limits (W.sight pass.old).seen self.old.own }
+        ensures calls { Calls P.meld W.alone (W.name world.now.words) (Asked self.old.own.number comm) self.old.own (W.sight pass.old)
+            (reply_of revoked result) self.new.own (W.sight pass.new) }
+        ensures steps { TakesSteps {P = P} (W.name world.now.words).limits (Asked self.old.own.number comm) self.old.own (W.sight pass.old)
+            self.new.own self.new.last (W.sight pass.new) }
     {
         let rank = self.number();
         revoked(self.call(world, pass, Call::Revoke { rank, comm }))

@@ -1,11 +1,11 @@
-ghost use Rattle.std.specs.Prelude.{◌+◌, ◌≤◌, IfOk};
+ghost use Rattle.std.specs.Prelude.{IfOk};
 ghost use Rattle.ulfm_model.specs.Records.{Fits};
 ghost use Rattle.ulfm_model.specs.declared.call.Call.TheVariants.{Shrink as Asked};
 ghost use Rattle.ulfm_model.specs.declared.reply.Reply.TheVariants.{Started};
 ghost use Rattle.ulfm_words.specs.Steps.{IsOf};
 ghost use Rattle.ulfm_comm.specs.Calls.{Calls, reply_of};
 ghost use Rattle.ulfm_comm.specs.Excludes.{Excludes};
-ghost use Rattle.ulfm_comm.specs.Bound.{step_bound};
+ghost use Rattle.ulfm_comm.specs.Counts.{TakesSteps};
 
 use crate::calls::replies::started;
 use crate::rank::Rank;
@@ -46,12 +46,13 @@ impl<P: Packed, A: Allocator + Copy> Rank<P, A> {
         comm: u16,
     ) -> Result<(), Refusal>
         requires of { IsOf P.meld (W.name world.now.words) (W.sight pass.old) }
-        requires fits { Fits P.meld (W.name world.now.words).limits (W.sight pass.old).seen self.old }
-        ensures calls { Calls P.meld W.alone (W.name world.now.words) (Asked self.old.number comm) self.old (W.sight pass.old) (reply_of (λ _. Started) result)
-            self.new (W.sight pass.new) }
-        ensures excludes { IfOk result (λ _. Excludes P.meld (W.name world.now.words).limits (W.sight pass.old).seen (W.sight pass.new).seen self.old comm) }
-        ensures steps { (W.sight pass.new).steps
-            ≤ (W.sight pass.old).steps + step_bound {P = P} (W.name world.now.words).limits self.old (Asked self.old.number comm) }
+        requires fits { Fits P.meld (W.name world.now.words).limits (W.sight pass.old).seen self.old.own }
+        ensures calls { Calls P.meld W.alone (W.name world.now.words) (Asked self.old.own.number comm) self.old.own (W.sight pass.old)
+            (reply_of (λ _. Started) result) self.new.own (W.sight pass.new) }
+        ensures excludes { IfOk result (λ _. Excludes P.meld (W.name world.now.words).limits (W.sight pass.old).seen (W.sight pass.new).seen
+            self.old.own comm) }
+        ensures steps { TakesSteps {P = P} (W.name world.now.words).limits (Asked self.old.own.number comm) self.old.own (W.sight pass.old)
+            self.new.own self.new.last (W.sight pass.new) }
     {
         let rank = self.number();
         started(self.call(world, pass, Call::Shrink { rank, comm }))

@@ -3,12 +3,13 @@ ghost use Rattle.std.specs.Prelude.{ℕ, Bool, List, ◌≡◌, ◌+◌, ◌<◌
 ghost use Rattle.ulfm_model.specs.{Answers.{closed}, Records.{Record}, Terms.{comm_of}};
 ghost use Rattle.ulfm_comm.specs.{Phase.{IsPast, NextBelow, NextIs, StillStands, is_looking, left}, Agreement.{HasPeeked, HasReadAll, agreed_reply}, Step.{TakesTurn}};
 ghost use Rattle.ulfm_comm.specs.StepsLeft.{FewerLeft, after_peek, after_round, steps_left};
+ghost use Rattle.ulfm_comm.specs.AlsoLeft.{also_after_round, also_in};
 ghost use Rattle.ulfm_comm.specs.declared.phases.phase.Next.TheVariants.{Goes as NextGoes};
 ghost use Rattle.ulfm_comm.specs.declared.phases.phase.Phase.TheVariants.{Marking as AtMarking, Peeking as AtPeeking, Reading as AtReading};
 ghost use Rattle.ulfm_words.specs.Steps.{IsOf, Sight};
 
 use crate::phases::phase::{Next, Phase};
-use crate::rank::Rank;
+use crate::rank::RankRecord;
 use crate::world::World;
 use std::alloc::Allocator;
 use ulfm_laws::meld::Packed;
@@ -19,7 +20,7 @@ use ulfm_model::reply::Reply;
 use ulfm_steps::{Found, MarkAll, Peek, ReadBlocks, RoundBlocks};
 use ulfm_words::Words;
 
-impl<P: Packed, A: Allocator> Rank<P, A> {
+impl<P: Packed, A: Allocator> RankRecord<P, A> {
     // The exchange of a declared member's place, or of all that are left.
     #[inline(always)]
     pub(crate) fn go_marking<W: Words<P, A>>(
@@ -97,7 +98,7 @@ impl<P: Packed, A: Allocator> Rank<P, A> {
     }
 }
 
-impl<P: Packed, A: Allocator + Copy> Rank<P, A> {
+impl<P: Packed, A: Allocator + Copy> RankRecord<P, A> {
     // The load of a block, or of all that are left. Where all are set, they say what was decided.
     #[inline(always)]
     pub(crate) fn go_peeking<W: Words<P, A>>(
@@ -175,6 +176,7 @@ impl<P: Packed, A: Allocator + Copy> Rank<P, A> {
         ensures past { IsPast result }
         ensures nearer { FewerLeft (after_round (W.name world.now.words).limits self.old shrinks + 1) (W.name world.now.words).limits self.new asked.now
             result }
+        ensures also { also_in (W.name world.now.words).limits self.new asked.now result ≤ also_after_round (W.name world.now.words).limits shrinks }
         ensures turns { (alone : Bool) (old : Record) (before : Sight P)
             → HasReadAll P.meld alone (W.name world.now.words) asked.now shrinks round all old before self.old (W.sight pass.now)
             → NextIs P.meld alone (W.name world.now.words) asked.now old before result group.new.items self.new (W.sight pass.now) }

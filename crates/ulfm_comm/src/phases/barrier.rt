@@ -9,7 +9,7 @@ ghost use Rattle.ulfm_comm.specs.declared.phases.phase.Phase.TheVariants.{Waitin
 ghost use Rattle.ulfm_words.specs.Steps.{IsOf, Sight};
 
 use crate::phases::phase::{Next, Phase};
-use crate::rank::Rank;
+use crate::rank::RankRecord;
 use crate::world::World;
 use std::alloc::Allocator;
 use ulfm_laws::meld::Packed;
@@ -19,7 +19,7 @@ use ulfm_model::reply::Reply;
 use ulfm_steps::{Arrivals, Missing};
 use ulfm_words::{Words, load_revocation};
 
-impl<P: Packed, A: Allocator> Rank<P, A> {
+impl<P: Packed, A: Allocator> RankRecord<P, A> {
     // The load of a member's arrival, or of all that are left, up to the first who is missing.
     #[inline(always)]
     pub(crate) fn go_waiting<W: Words<P, A>>(

@@ -11,7 +11,7 @@ ghost use Rattle.ulfm_model.specs.declared.place.Place.TheVariants.{Slot as Slot
 ghost use Rattle.ulfm_steps.specs.Turns.{IsOneStep};
 
 use crate::groups::count_in;
-use crate::rank::Rank;
+use crate::rank::RankRecord;
 use crate::world::World;
 use std::alloc::Allocator;
 use ulfm_laws::counts::{Acked, Known};
@@ -41,7 +41,7 @@ fn contribution<P: Packed>(offer: Offer<P>, known: usize, acked: u16) -> Contrib
     }
 }
 
-impl<P: Packed, A: Allocator> Rank<P, A> {
+impl<P: Packed, A: Allocator> RankRecord<P, A> {
     // The exchange of an agree or of a shrink: the rank contributes to its next agreement round.
     #[inline(always)]
     pub(crate) fn go_settling<W: Words<P, A>>(

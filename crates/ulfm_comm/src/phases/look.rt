@@ -3,13 +3,14 @@ ghost use Rattle.std.specs.Prelude.{ℕ, List, ◌≡◌, ◌<◌, max, min, Non
 ghost use Rattle.ulfm_model.specs.declared.{call.Call.TheVariants.{Poll as PollAsked}, call.Request.TheVariants.{Barrier as OfBarrier}};
 ghost use Rattle.ulfm_comm.specs.{Polls.{IsAgreement, agreement}, Phase.{IsFurther, StillStands, left}, Look.{Passes}};
 ghost use Rattle.ulfm_comm.specs.{StepsLeft.{FewerLeft, steps_left, with_look}, Step.{FollowsLook, HasJustLooked, TakesTurn}};
+ghost use Rattle.ulfm_comm.specs.AlsoLeft.{AlsoFollows};
 ghost use Rattle.ulfm_comm.specs.declared.phases.phase.Next.TheVariants.{Goes as NextGoes};
 ghost use Rattle.ulfm_comm.specs.declared.phases.phase.Phase.TheVariants.{Begun as AtBegun, Looking as AtLooking};
 ghost use Rattle.ulfm_words.specs.Steps.{IsOf};
 
 use crate::groups::count_in;
 use crate::phases::phase::{Next, Phase};
-use crate::rank::Rank;
+use crate::rank::RankRecord;
 use crate::world::World;
 use std::alloc::Allocator;
 use ulfm_laws::meld::Packed;
@@ -54,7 +55,7 @@ fn agreement(request: Option<Request>) -> Option<(u16, bool)>
     }
 }
 
-impl<P: Packed, A: Allocator> Rank<P, A> {
+impl<P: Packed, A: Allocator> RankRecord<P, A> {
     // The first load of the list of failures, behind what was seen, or the whole look.
     #[inline(always)]
     pub(crate) fn go_begun<W: Words<P, A>>(
@@ -108,6 +109,7 @@ impl<P: Packed, A: Allocator> Rank<P, A> {
         requires just { HasJustLooked P.meld (W.name world.now.words) asked.now self.old (W.sight pass.now) }
         ensures further { IsFurther AtLooking result }
         ensures nearer { FewerLeft (with_look (W.name world.now.words).limits self.old asked.now) (W.name world.now.words).limits self.new asked.now result }
+        ensures also { AlsoFollows (W.name world.now.words).limits asked.now self.old result self.new }
         ensures turns { FollowsLook P.meld (W.name world.now.words) asked.now self.old (W.sight pass.now) result self.new }
     {
         let Some(x) = self.held(comm_of(asked)) else {
@@ -131,6 +133,7 @@ impl<P: Packed, A: Allocator> Rank<P, A> {
         requires just { HasJustLooked P.meld (W.name world.now.words) asked.now self.old (W.sight pass.now) }
         ensures further { IsFurther AtLooking result }
         ensures nearer { FewerLeft (with_look (W.name world.now.words).limits self.old asked.now) (W.name world.now.words).limits self.new asked.now result }
+        ensures also { AlsoFollows (W.name world.now.words).limits asked.now self.old result self.new }
         ensures turns { FollowsLook P.meld (W.name world.now.words) asked.now self.old (W.sight pass.now) result self.new }
     {
         let x = self.held_comm(comm_of(asked));
@@ -185,6 +188,7 @@ impl<P: Packed, A: Allocator> Rank<P, A> {
         requires polls { (rank : ℕ) × (comm : ℕ) × (asked.now ≡ PollAsked rank comm) }
         ensures further { left result < 8 }
         ensures nearer { steps_left (W.name world.now.words).limits self.now asked.now result < with_look (W.name world.now.words).limits self.now asked.now }
+        ensures also { AlsoFollows (W.name world.now.words).limits asked.now self.now (NextGoes result) self.now }
         ensures turns { FollowsLook P.meld (W.name world.now.words) asked.now self.now (W.sight pass.now) (NextGoes result) self.now }
     {
         let comm = comm_of(asked);

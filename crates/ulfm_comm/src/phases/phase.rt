@@ -1,5 +1,6 @@
 // A call that is under way.
-ghost use Rattle.std.specs.Prelude.{◌≡◌};
+ghost use Rattle.std.specs.Prelude.{◌≡◌, ◌+◌, min};
+ghost use Rattle.ulfm_comm.specs.Counts.{named_steps};
 ghost use Rattle.ulfm_comm.specs.Phase.{is_checking, is_looking, next_step};
 
 use std::alloc::Allocator;
@@ -110,22 +111,38 @@ impl<P: Packed> Phase<P> {
     }
 }
 
-/// A call of a rank that is under way: `Rank::begin` makes it, and `Rank::step` takes its steps. It is the rank's only call
-/// until its reply.
+// Where a call of a rank stands.
 #[derive(Drop)]
-pub struct Doing<P: Packed, A: Allocator> {
-    pub(crate) asked: Call<P>,
-    pub(crate) phase: Phase<P>,
+pub(crate) struct Way<P: Packed, A: Allocator> {
+    pub asked: Call<P>,
+    pub phase: Phase<P>,
     // The members of a communicator that is being made.
-    pub(crate) group: Vec<u16, A>,
+    pub group: Vec<u16, A>,
 }
 
-impl<P: Packed, A: Allocator> Model for Doing<P, A> {
+impl<P: Packed, A: Allocator> Model for Way<P, A> {
     ghost use Rattle.ulfm_comm.specs.Phase.{UnderWay};
 
     ghost Value = { UnderWay P };
 
     ghost view = { λ a. record { asked = a.asked; phase = a.phase; group = a.group.items } };
+}
+
+/// A call of a rank that is under way: `Rank::begin` makes it, and `Rank::step` takes its steps. It is the rank's only call
+/// until its reply.
+#[derive(Drop)]
+pub struct Doing<P: Packed, A: Allocator> {
+    pub(crate) way: Way<P, A>,
+    // The steps that it has made.
+    pub(crate) made: u32,
+}
+
+impl<P: Packed, A: Allocator> Model for Doing<P, A> {
+    ghost use Rattle.ulfm_comm.specs.Counts.{Counted};
+
+    ghost Value = { Counted P };
+
+    ghost view = { λ a. record { way = a.way; made = a.made } };
 }
 
 impl<P: Packed, A: Allocator> Doing<P, A> {
@@ -140,9 +157,19 @@ impl<P: Packed, A: Allocator> Doing<P, A> {
     /// assert!(rt; doing.next() == Some(StepName::List));
     /// ```
     pub fn next(&self) -> Option<StepName>
-        ensures { result ≡ next_step self.now.phase }
+        ensures { result ≡ next_step self.now.way.phase }
     {
-        self.phase.next()
+        self.way.phase.next()
+    }
+
+    // Its next step counts, where one is named.
+    #[inline(always)]
+    pub(crate) fn count(&mut self)
+        ensures way { self.new.way ≡ self.old.way }
+        ensures made { self.new.made ≡ min (self.old.made + named_steps self.old.way.phase) 4294967295 }
+    {
+        let named = self.next().is_some() as u32;
+        self.made = self.made.saturating_add(named);
     }
 
     /// What is asked.
@@ -156,9 +183,9 @@ impl<P: Packed, A: Allocator> Doing<P, A> {
     /// assert!(rt; doing.asked() == asked);
     /// ```
     pub fn asked(&self) -> Call<P>
-        ensures { result ≡ self.now.asked }
+        ensures { result ≡ self.now.way.asked }
     {
-        self.asked
+        self.way.asked
     }
 
     /// Whether its look goes on: that it has not ended yet. The step after which it does has ended it.
@@ -172,9 +199,9 @@ impl<P: Packed, A: Allocator> Doing<P, A> {
     /// assert!(rt; doing.is_looking());
     /// ```
     pub fn is_looking(&self) -> bool
-        ensures { result ≡ is_looking self.now.phase }
+        ensures { result ≡ is_looking self.now.way.phase }
     {
-        match self.phase {
+        match self.way.phase {
             Phase::Begun | Phase::Looking => true,
             _ => false,
         }
@@ -191,8 +218,8 @@ impl<P: Packed, A: Allocator> Doing<P, A> {
     /// assert!(rt; !doing.is_checking());
     /// ```
     pub fn is_checking(&self) -> bool
-        ensures { result ≡ is_checking self.now.phase }
+        ensures { result ≡ is_checking self.now.way.phase }
     {
-        matches!(self.phase, Phase::Checking { .. })
+        matches!(self.way.phase, Phase::Checking { .. })
     }
 }

@@ -1,14 +1,14 @@
 // The further steps of a shrink's poll, once its round is decided: how a rank comes by its communicator.
-ghost use Rattle.std.specs.Prelude.{Bool, ◌≡◌, ◌+◌, ◌-◌, ◌*◌, false, true, ◌⊎◌, MatchOption};
+ghost use Rattle.std.specs.Prelude.{Bool, ◌≡◌, ◌+◌, ◌-◌, ◌*◌, ◌≤◌, false, true, ◌⊎◌, MatchOption};
 ghost use Rattle.ulfm_model.specs.{Records.{Record}, Terms.{comm_of}};
 ghost use Rattle.ulfm_comm.specs.{Spawning.{HasReached}, Agreement.{HasReadAll}, Phase.{IsMaking, IsPast, NextBelow, NextIs, StillStands}};
-ghost use Rattle.ulfm_comm.specs.{StepsLeft.{FewerLeft, after_round}, Step.{TakesTurn}};
+ghost use Rattle.ulfm_comm.specs.{StepsLeft.{FewerLeft, after_round}, AlsoLeft.{also_after_round, also_in}, Step.{TakesTurn}};
 ghost use Rattle.ulfm_comm.specs.declared.phases.phase.Phase.TheVariants.{ReadingOn as AtReadingOn, Spawning as AtSpawning};
 ghost use Rattle.ulfm_words.specs.Steps.{IsOf, Sight};
 ghost use Rattle.ulfm_steps.specs.declared.append.Appended.TheVariants.{Found as IsFound, Full as IsFull, Won as IsWon};
 
 use crate::phases::phase::{Made, Next, Phase};
-use crate::rank::Rank;
+use crate::rank::RankRecord;
 use crate::world::World;
 use std::alloc::Allocator;
 use ulfm_laws::meld::Packed;
@@ -44,7 +44,7 @@ pub(crate) fn place_in(end: Appended) -> Option<u16>
     }
 }
 
-impl<P: Packed, A: Allocator + Copy> Rank<P, A> {
+impl<P: Packed, A: Allocator + Copy> RankRecord<P, A> {
     // What comes next where a shrink's round says this.
     pub(crate) fn shrunk<W: Words<P, A>>(
         &mut self,
@@ -62,6 +62,7 @@ impl<P: Packed, A: Allocator + Copy> Rank<P, A> {
         ensures sees { self.new.seen ≡ self.old.seen }
         ensures past { IsPast result }
         ensures nearer { FewerLeft (after_round (W.name world.now.words).limits self.old true + 1) (W.name world.now.words).limits self.new asked.now result }
+        ensures also { also_in (W.name world.now.words).limits self.new asked.now result ≤ also_after_round (W.name world.now.words).limits true }
         ensures turns { (alone : Bool) (old : Record) (before : Sight P)
             → HasReadAll P.meld alone (W.name world.now.words) asked.now true round all old before self.old (W.sight pass.now)
             → NextIs P.meld alone (W.name world.now.words) asked.now old before result group.new.items self.new (W.sight pass.now) }

@@ -3,15 +3,16 @@ ghost use Rattle.std.specs.Prelude.{◌≡◌, ◌+◌, ◌<◌, ◌≤◌, Bool
 ghost use Rattle.ulfm_model.specs.declared.{event.Caller.TheVariants.{Rank as OfRank}, call.Call.TheVariants.{Poll as AskedPoll}};
 ghost use Rattle.ulfm_model.specs.declared.{refusal.Refusal.TheVariants.{SelfFailed}, reply.Reply.TheVariants.{Pending as StillPending, Refused}};
 ghost use Rattle.ulfm_model.specs.{Answers.{traits_of, polled_by}, Records.{Fits, Record}, History.{History}, Terms.{comm_of}};
-ghost use Rattle.ulfm_comm.specs.{Bound.{step_bound}, StepsLeft.{steps_left}, Step.{TakesTurn, Stepped}, Calls.{EndsReply}, Polls.{EndsInMissing, IsAgreement}};
+ghost use Rattle.ulfm_comm.specs.{Bound.{AlsoBounded, also_bound, step_bound}, AlsoLeft.{also_left}, Counts.{CountsStep, TakesSteps}};
+ghost use Rattle.ulfm_comm.specs.{StepsLeft.{Spends, steps_left}, Step.{TakesTurn, Stepped}, Calls.{EndsReply}, Polls.{EndsInMissing, IsAgreement}};
 ghost use Rattle.ulfm_comm.specs.{Phase.{Answered, next_of, Stands, StillStands, Waits}, Barrier.{AnswersEarly, IsChecking}};
 ghost use Rattle.ulfm_words.specs.Steps.{IsOf, Name, Sight};
 ghost use Rattle.ulfm_steps.specs.declared.{arrivals.Arrivals.{Arrivals}, arrivals.Missing.{Missing}};
 ghost use Rattle.ulfm_comm.specs.declared.phases.phase.Next.TheVariants.{Ends as NextEnds, Goes as NextGoes};
 ghost use Rattle.ulfm_comm.specs.declared.phases.phase.Phase.TheVariants.{Begun as AtBegun, Checking as AtChecking, Over as AtOver, Waiting as AtWaiting};
 
-use crate::phases::phase::{Doing, Next, Phase};
-use crate::rank::Rank;
+use crate::phases::phase::{Doing, Next, Phase, Way};
+use crate::rank::{Rank, RankRecord};
 use crate::world::World;
 use std::alloc::Allocator;
 use std::mem;
@@ -21,7 +22,7 @@ use ulfm_model::refusal::Refusal;
 use ulfm_model::reply::Reply;
 use ulfm_words::Words;
 
-impl<P: Packed, A: Allocator + Copy> Rank<P, A> {
+impl<P: Packed, A: Allocator + Copy> RankRecord<P, A> {
     // What a call does first.
     fn first(&self) -> Phase<P>
         ensures { result ≡ (if self.now.refused then AtOver else AtBegun) }
@@ -32,18 +33,8 @@ impl<P: Packed, A: Allocator + Copy> Rank<P, A> {
         Phase::Begun
     }
 
-    /// Begins a call of this rank, any but a declaration, to be taken step by step. It is no step. The call makes as many steps as when
-    /// it is made whole, at most: with each step fewer are left.
-    ///
-    /// ```
-    /// let asked = Call::IsRevoked {
-    ///     rank: rank.number(),
-    ///     comm: 0,
-    /// };
-    /// let doing = rank.begin(asked);
-    /// assert!(rt; doing.next() == Some(StepName::List));
-    /// ```
-    pub fn begin(&self, asked: Call<P>) -> Doing<P, A>
+    // Begins a call of this rank, any but a declaration. It is no step.
+    pub(crate) fn begin(&self, asked: Call<P>) -> Way<P, A>
         requires { (traits_of asked).by ≡ OfRank self.now.number }
         ensures asked { result.asked ≡ asked }
         ensures first { result.phase ≡ (if self.now.refused then AtOver else AtBegun) }
@@ -51,8 +42,10 @@ impl<P: Packed, A: Allocator + Copy> Rank<P, A> {
             → Stands P.meld alone name self.now before result self.now before }
         ensures bounded { length self.now.seen < self.now.limits.ranks
             → steps_left self.now.limits self.now asked result.phase ≤ step_bound self.now.limits self.now asked }
+        ensures also { length self.now.seen < self.now.limits.ranks → 0 < self.now.limits.comms
+            → also_left self.now.limits self.now asked result.phase ≤ also_bound self.now.limits self.now asked 0 }
     {
-        Doing {
+        Way {
             asked,
             phase: self.first(),
             group: Vec::new(self.allocator()),
@@ -122,8 +115,107 @@ impl<P: Packed, A: Allocator + Copy> Rank<P, A> {
         }
     }
 
+    // Takes the next step of a call: the reply, in the step after which none is left.
+    #[inline(always)]
+    pub(crate) fn step<W: Words<P, A>>(
+        &mut self,
+        world: &World<W, P, A>,
+        pass: &mut W::Pass,
+        doing: &mut Way<P, A>,
+    ) -> Option<Reply<P>>
+        requires of { IsOf P.meld (W.name world.now.words) (W.sight pass.old) }
+        requires stood { (old : Record) × (before : Sight P) × (stood : Sight P)
+            × Stands P.meld false (W.name world.now.words) old before doing.old self.old stood × Waits false stood (W.sight pass.old) }
+        ensures asked { doing.new.asked ≡ doing.old.asked }
+        ensures ended { OnSome result (doing.new.phase ≡ AtOver) }
+        ensures stepped { Stepped P.meld W.alone (W.name world.now.words) doing.old self.old (W.sight pass.old) (next_of result doing.new.phase) self.new
+            (W.sight pass.new) }
+        ensures stands { (alone : Bool) → (IsTrue alone → IsTrue W.alone) → (old : Record) → (before : Sight P) → (stood : Sight P)
+            → Stands P.meld alone (W.name world.now.words) old before doing.old self.old stood → Waits alone stood (W.sight pass.old)
+            → MatchOption result (Stands P.meld alone (W.name world.now.words) old before doing.new self.new (W.sight pass.new))
+            (λ reply. Answered P.meld alone (W.name world.now.words) doing.old.asked old before reply self.new (W.sight pass.new)) }
+        ensures spends { Spends (steps_left (W.name world.now.words).limits self.old doing.old.asked doing.old.phase) (W.name world.now.words).limits self.new
+            doing.old.asked (next_of result doing.new.phase) (W.sight pass.old) (W.sight pass.new) }
+    {
+        let phase = mem::replace(&mut doing.phase, Phase::Over);
+        match self.go(world, pass, &doing.asked, phase, &mut doing.group, false) {
+            Next::Goes(phase) => {
+                doing.phase = phase;
+                None
+            }
+            Next::Ends(reply) => Some(reply),
+        }
+    }
+
+    // A whole call: its own steps, run to the end.
+    #[inline(always)]
+    pub(crate) fn call<W: Words<P, A>>(
+        &mut self,
+        world: &World<W, P, A>,
+        pass: &mut W::Pass,
+        asked: Call<P>,
+    ) -> Reply<P>
+        requires of { IsOf P.meld (W.name world.now.words) (W.sight pass.old) }
+        requires fits { Fits P.meld (W.name world.now.words).limits (W.sight pass.old).seen self.old }
+        requires mine { (traits_of asked).by ≡ OfRank self.old.number }
+        ensures ends { EndsReply P.meld W.alone (W.name world.now.words) asked self.old (W.sight pass.old) result self.new (W.sight pass.new) }
+        ensures pending { result ≡ StillPending → IsAgreement (polled_by self.old asked)
+            → EndsInMissing P.meld W.alone (W.name world.now.words) (comm_of asked) self.old (W.sight pass.old) self.new (W.sight pass.new) }
+        ensures steps { (W.sight pass.new).steps ≤ (W.sight pass.old).steps + step_bound (W.name world.now.words).limits self.old asked }
+        ensures also { AlsoBounded (W.name world.now.words).limits asked self.old (W.sight pass.old) self.new (W.sight pass.new) }
+    {
+        if self.is_refused() {
+            return Reply::Refused(Refusal::SelfFailed);
+        }
+        if self.has_seen_all() {
+            // It is one of them, and nothing is left to load.
+            self.refuse();
+            return Reply::Refused(Refusal::SelfFailed);
+        }
+        let mut group = Vec::new(self.allocator());
+        let mut phase = Phase::Begun;
+        loop {
+            match self.go(world, pass, &asked, phase, &mut group, true) {
+                Next::Goes(next) => phase = next,
+                Next::Ends(reply) => return reply,
+            }
+        }
+    }
+}
+
+impl<P: Packed, A: Allocator + Copy> Rank<P, A> {
+    /// Begins a call of this rank, any but a declaration, to be taken step by step. It is no step. The call makes as many steps as when
+    /// it is made whole, at most: with each step fewer are left.
+    ///
+    /// ```
+    /// let asked = Call::IsRevoked {
+    ///     rank: rank.number(),
+    ///     comm: 0,
+    /// };
+    /// let doing = rank.begin(asked);
+    /// assert!(rt; doing.next() == Some(StepName::List));
+    /// ```
+    pub fn begin(&self, asked: Call<P>) -> Doing<P, A>
+        requires { (traits_of asked).by ≡ OfRank self.now.own.number }
+        ensures asked { result.way.asked ≡ asked }
+        ensures first { result.way.phase ≡ (if self.now.own.refused then AtOver else AtBegun) }
+        ensures stands { (alone : Bool) (name : Name) (before : Sight P) → IsOf P.meld name before → Fits P.meld name.limits before.seen self.now.own
+            → Stands P.meld alone name self.now.own before result.way self.now.own before }
+        ensures bounded { length self.now.own.seen < self.now.own.limits.ranks
+            → steps_left self.now.own.limits self.now.own asked result.way.phase ≤ step_bound self.now.own.limits self.now.own asked }
+        ensures also { length self.now.own.seen < self.now.own.limits.ranks → 0 < self.now.own.limits.comms
+            → also_left self.now.own.limits self.now.own asked result.way.phase ≤ also_bound self.now.own.limits self.now.own asked 0 }
+        ensures made { result.made ≡ 0 }
+    {
+        Doing {
+            way: self.own.begin(asked),
+            made: 0,
+        }
+    }
+
     /// Takes the next step of a call: the reply, in the step after which none is left. Others may step in between. After its reply the
-    /// call is over, and no step of it is named.
+    /// call is over, and no step of it is named. A step counts as one of the call's where it was named; `last_steps` tells how many the
+    /// call made once it is answered.
     ///
     /// ```
     /// let asked = Call::IsRevoked {
@@ -143,27 +235,27 @@ impl<P: Packed, A: Allocator + Copy> Rank<P, A> {
     ) -> Option<Reply<P>>
         requires of { IsOf P.meld (W.name world.now.words) (W.sight pass.old) }
         requires stood { (old : Record) × (before : Sight P) × (stood : Sight P)
-            × Stands P.meld false (W.name world.now.words) old before doing.old self.old stood × Waits false stood (W.sight pass.old) }
-        ensures asked { doing.new.asked ≡ doing.old.asked }
-        ensures ended { OnSome result (doing.new.phase ≡ AtOver) }
-        ensures stepped { Stepped P.meld W.alone (W.name world.now.words) doing.old self.old (W.sight pass.old) (next_of result doing.new.phase) self.new
-            (W.sight pass.new) }
+            × Stands P.meld false (W.name world.now.words) old before doing.old.way self.old.own stood × Waits false stood (W.sight pass.old) }
+        ensures asked { doing.new.way.asked ≡ doing.old.way.asked }
+        ensures ended { OnSome result (doing.new.way.phase ≡ AtOver) }
+        ensures stepped { Stepped P.meld W.alone (W.name world.now.words) doing.old.way self.old.own (W.sight pass.old)
+            (next_of result doing.new.way.phase) self.new.own (W.sight pass.new) }
         ensures stands { (alone : Bool) → (IsTrue alone → IsTrue W.alone) → (old : Record) → (before : Sight P) → (stood : Sight P)
-            → Stands P.meld alone (W.name world.now.words) old before doing.old self.old stood → Waits alone stood (W.sight pass.old)
-            → MatchOption result (Stands P.meld alone (W.name world.now.words) old before doing.new self.new (W.sight pass.new))
-            (λ reply. Answered P.meld alone (W.name world.now.words) doing.old.asked old before reply self.new (W.sight pass.new)) }
+            → Stands P.meld alone (W.name world.now.words) old before doing.old.way self.old.own stood → Waits alone stood (W.sight pass.old)
+            → MatchOption result (Stands P.meld alone (W.name world.now.words) old before doing.new.way self.new.own (W.sight pass.new))
+            (λ reply. Answered P.meld alone (W.name world.now.words) doing.old.way.asked old before reply self.new.own (W.sight pass.new)) }
+        ensures made { CountsStep (W.name world.now.words).limits doing.old self.old.own (next_of result doing.new.way.phase) doing.new.made self.new.own }
+        ensures last { MatchOption result (self.new.last ≡ self.old.last) (λ _. self.new.last ≡ doing.new.made) }
     {
-        let phase = mem::replace(&mut doing.phase, Phase::Over);
-        match self.go(world, pass, &doing.asked, phase, &mut doing.group, false) {
-            Next::Goes(phase) => {
-                doing.phase = phase;
-                None
-            }
-            Next::Ends(reply) => Some(reply),
-        }
+        doing.count();
+        let Some(reply) = self.own.step(world, pass, &mut doing.way) else {
+            return None;
+        };
+        self.last = doing.made;
+        Some(reply)
     }
 
-    // A whole call: its own steps, run to the end.
+    // A whole call. How many steps it makes is noted.
     #[inline(never)]
     pub(crate) fn call<W: Words<P, A>>(
         &mut self,
@@ -172,28 +264,17 @@ impl<P: Packed, A: Allocator + Copy> Rank<P, A> {
         asked: Call<P>,
     ) -> Reply<P>
         requires of { IsOf P.meld (W.name world.now.words) (W.sight pass.old) }
-        requires fits { Fits P.meld (W.name world.now.words).limits (W.sight pass.old).seen self.old }
-        requires mine { (traits_of asked).by ≡ OfRank self.old.number }
-        ensures ends { EndsReply P.meld W.alone (W.name world.now.words) asked self.old (W.sight pass.old) result self.new (W.sight pass.new) }
-        ensures pending { result ≡ StillPending → IsAgreement (polled_by self.old asked)
-            → EndsInMissing P.meld W.alone (W.name world.now.words) (comm_of asked) self.old (W.sight pass.old) self.new (W.sight pass.new) }
-        ensures steps { (W.sight pass.new).steps ≤ (W.sight pass.old).steps + step_bound (W.name world.now.words).limits self.old asked }
+        requires fits { Fits P.meld (W.name world.now.words).limits (W.sight pass.old).seen self.old.own }
+        requires mine { (traits_of asked).by ≡ OfRank self.old.own.number }
+        ensures ends { EndsReply P.meld W.alone (W.name world.now.words) asked self.old.own (W.sight pass.old) result self.new.own (W.sight pass.new) }
+        ensures pending { result ≡ StillPending → IsAgreement (polled_by self.old.own asked)
+            → EndsInMissing P.meld W.alone (W.name world.now.words) (comm_of asked) self.old.own (W.sight pass.old) self.new.own (W.sight pass.new) }
+        ensures steps { TakesSteps (W.name world.now.words).limits asked self.old.own (W.sight pass.old) self.new.own self.new.last (W.sight pass.new) }
     {
-        if self.is_refused() {
-            return Reply::Refused(Refusal::SelfFailed);
-        }
-        if self.has_seen_all() {
-            // It is one of them, and nothing is left to load.
-            self.refuse();
-            return Reply::Refused(Refusal::SelfFailed);
-        }
-        let mut group = Vec::new(self.allocator());
-        let mut phase = Phase::Begun;
-        loop {
-            match self.go(world, pass, &asked, phase, &mut group, true) {
-                Next::Goes(next) => phase = next,
-                Next::Ends(reply) => return reply,
-            }
-        }
+        let before = world.words.steps_made(pass);
+        let reply = self.own.call(world, pass, asked);
+        let after = world.words.steps_made(pass);
+        self.last = after.wrapping_sub(before) as u32;
+        reply
     }
 }

@@ -3,15 +3,19 @@ use Rattle.ulfm_model.specs.declared.event.Caller.TheVariants.{Rank}
 use Rattle.ulfm_model.specs.declared.refusal.Refusal.TheVariants.{OutOfMemory}
 use Rattle.ulfm_model.specs.declared.reply.Reply.TheVariants.{Refused}
 use Rattle.ulfm_model.specs.Answers.{traits_of}
-use Rattle.ulfm_comm.specs.Jobs.{StepsBy}
-use Rattle.ulfm_comm.proofs.{Jobs.{at_error, missing_step}, Others.{by_rank, mine, other_about, other_begins, other_job, other_made, other_polls, other_step, out_polls}}
+use Rattle.ulfm_comm.specs.{Counts.{records_of}, Jobs.{StepsBy}}
+use Rattle.ulfm_comm.proofs.{Jobs.{at_error, ranked_fits, ranked_missing}, Others.{by_rank, mine, other_about, other_begins, other_job, other_made, other_polls, other_step, out_polls}}
 use Rattle.ulfm_comm.proofs.job.call_by.Goals as goal
 use Rattle.ulfm_comm.proofs.job.call_by.Goals.{After-call-reply, In-Shrunk}
 
 pub returns-then-rank-ranks-clause-step : goal.returns-then-rank-ranks-clause-step
 returns-then-rank-ranks-clause-step g c =
-    missing_step g.P.Meld.meld g.W.Words.alone (g.W.Words.name c.args.world.now.words) (g.W.Words.sight c.args.pass.now) c.args.ranks.now c.requires.job c.args.asked c.rank_of-rank.result
+    ranked_missing g.P.Meld.meld g.W.Words.alone (g.W.Words.name c.args.world.now.words) (g.W.Words.sight c.args.pass.now) c.args.ranks.now c.requires.job c.args.asked c.rank_of-rank.result
     (by_rank c.args.asked c.requires.other ∙ ap Rank (sym c.rank_of-rank.ensures)) c.if-rank-ranks.true
+
+pub call-reply-requires-clause-fits : goal.call-reply-requires-clause-fits
+call-reply-requires-clause-fits g c =
+    ranked_fits g.P.Meld.meld g.W.Words.alone (g.W.Words.name c.args.world.now.words) (g.W.Words.sight c.args.pass.now) c.args.ranks.now c.requires.job c.rank_of-rank.result c.index-ranks-rank.result (omega (arith, c.if-rank-ranks.false))
 
 pub call-reply-requires-clause-mine : goal.call-reply-requires-clause-mine
 call-reply-requires-clause-mine g c =
@@ -19,7 +23,7 @@ call-reply-requires-clause-mine g c =
 
 -- the call is one step, unless memory ran out
 stepped : (g : _) (c : After-call-reply g) → (c.call-reply.result ≡ Refused OutOfMemory → ⊥)
-    → StepsBy g.P.Meld.meld g.W.Words.alone (g.W.Words.name c.args.world.now.words) c.args.asked (g.W.Words.sight c.args.pass.now) c.args.ranks.now c.call-reply.result (g.W.Words.sight c.call-reply.new.pass) (slice_set c.args.ranks.now c.rank_of-rank.result c.call-reply.new.self)
+    → StepsBy g.P.Meld.meld g.W.Words.alone (g.W.Words.name c.args.world.now.words) c.args.asked (g.W.Words.sight c.args.pass.now) (records_of c.args.ranks.now) c.call-reply.result (g.W.Words.sight c.call-reply.new.pass) (records_of (slice_set c.args.ranks.now c.rank_of-rank.result c.call-reply.new.self))
 stepped g c kept =
     other_step g.P.Meld.meld g.W.Words.alone (g.W.Words.name c.args.world.now.words) (g.W.Words.sight c.args.pass.now) c.args.ranks.now c.requires.job c.args.asked c.requires.other c.rank_of-rank.result c.index-ranks-rank.result c.rank_of-rank.ensures (omega (arith, c.if-rank-ranks.false)) c.call-reply.new.self (g.W.Words.sight c.call-reply.new.pass) c.call-reply.result c.call-reply.ensures.ends kept
 
@@ -37,7 +41,7 @@ returns-in-OutOfMemory g c =
 pub returns-in_default-refusal : goal.returns-in_default-refusal
 returns-in_default-refusal g c =
     let at = (goal.at.returns-in_default-refusal g c).After-call-reply in
-    let step = subst (λ r. StepsBy g.P.Meld.meld g.W.Words.alone (g.W.Words.name c.args.world.now.words) c.args.asked (g.W.Words.sight c.args.pass.now) c.args.ranks.now r (g.W.Words.sight c.call-reply.new.pass) (slice_set c.args.ranks.now c.rank_of-rank.result c.call-reply.new.self)) c.in-Refused.is (stepped g at (λ out. c.in_default-refusal.not-OutOfMemory (cc (c.in-Refused.is, out)))) in
+    let step = subst (λ r. StepsBy g.P.Meld.meld g.W.Words.alone (g.W.Words.name c.args.world.now.words) c.args.asked (g.W.Words.sight c.args.pass.now) (records_of c.args.ranks.now) r (g.W.Words.sight c.call-reply.new.pass) (records_of (slice_set c.args.ranks.now c.rank_of-rank.result c.call-reply.new.self))) c.in-Refused.is (stepped g at (λ out. c.in_default-refusal.not-OutOfMemory (cc (c.in-Refused.is, out)))) in
     record { step = step; job = step.job; begins = step.begins; about = tt; memory = tt }
 
 -- where a communicator was made
@@ -47,7 +51,7 @@ made g c out = cc (out, c.in-Shrunk.is)
 pub returns-in_ok-put_members-in-Shrunk : goal.returns-in_ok-put_members-in-Shrunk
 returns-in_ok-put_members-in-Shrunk g c =
     let at = goal.at.returns-in_ok-put_members-in-Shrunk g c in
-    let step = subst (λ r. StepsBy g.P.Meld.meld g.W.Words.alone (g.W.Words.name c.args.world.now.words) c.args.asked (g.W.Words.sight c.args.pass.now) c.args.ranks.now r (g.W.Words.sight c.call-reply.new.pass) (slice_set c.args.ranks.now c.rank_of-rank.result c.call-reply.new.self)) c.in-Shrunk.is (stepped g at.After-call-reply (made g at.In-Shrunk)) in
+    let step = subst (λ r. StepsBy g.P.Meld.meld g.W.Words.alone (g.W.Words.name c.args.world.now.words) c.args.asked (g.W.Words.sight c.args.pass.now) (records_of c.args.ranks.now) r (g.W.Words.sight c.call-reply.new.pass) (records_of (slice_set c.args.ranks.now c.rank_of-rank.result c.call-reply.new.self))) c.in-Shrunk.is (stepped g at.After-call-reply (made g at.In-Shrunk)) in
     let about = other_made g.P.Meld.meld g.W.Words.alone (g.W.Words.name c.args.world.now.words) (g.W.Words.sight c.args.pass.now) c.args.ranks.now c.requires.job c.args.asked c.requires.other c.rank_of-rank.result c.index-ranks-rank.result c.rank_of-rank.ensures (omega (arith, c.if-rank-ranks.false)) c.call-reply.new.self (g.W.Words.sight c.call-reply.new.pass) c.call-reply.result c.call-reply.ensures.ends (made g at.In-Shrunk) c.in-Shrunk.comm c.in-Shrunk.context c.in-Shrunk.size c.in-Shrunk.is (traits_of c.args.asked).comm c.put_members.new.found.items c.in_ok-put_members-in-Shrunk.ensures in
     record { step = step; job = step.job; begins = step.begins; about = rw c.in-Shrunk.is at about; memory = tt }
 

@@ -2,6 +2,7 @@ use Rattle.std.proofs.Common.{[], None, subst, sym}
 use Rattle.std.specs.List.{AllByRecursion}
 use Rattle.ulfm_model.specs.Records.{Fits}
 use Rattle.ulfm_model.proofs.Lists.{each_push}
+use Rattle.ulfm_comm.specs.Counts.{records_of}
 use Rattle.ulfm_comm_tests.specs.Seats.{Sits}
 use Rattle.ulfm_comm_tests.proofs.play.seats_of.Goals as goal
 
@@ -10,7 +11,7 @@ loop-own-preserved g c =
     let meld = g.P.Meld.meld in
     let name = g.W.Words.name c.args.world.now.words in
     let pass = g.W.Words.sight c.args.pass.now in
-    let left = subst (AllByRecursion (Fits meld name.limits [])) c.in-Some.ensures.steps.0 c.loop-own.invariant.0 in
-    let fits = subst (λ h. Fits meld name.limits h c.in-Some.own) (sym c.requires.new.seen) left.0 in
-    let all = each_push (Sits meld name pass) c.loop-own.seats.items (record { own = c.in-Some.own; doing = None }) c.loop-own.invariant.1 fits in
+    let left = subst (λ rs. AllByRecursion (Fits meld name.limits []) (records_of rs)) c.in-Some.ensures.steps.0 c.loop-own.invariant.0 in
+    let fits = subst (λ h. Fits meld name.limits h c.in-Some.own.own) (sym c.requires.new.seen) left.0 in
+    let all = each_push (Sits meld name pass) c.loop-own.seats.items (record { own = c.in-Some.own.own; doing = None }) c.loop-own.invariant.1 fits in
     (left.1, subst (AllByRecursion (Sits meld name pass)) (sym c.in_ok-push.ensures.items) all)

@@ -13,7 +13,7 @@ returns-in_default-place_of g c =
     let own = record_of c.args.limits c.args.own.now in
     let asked = c.args.asked.now in
     let at = sym (rw (c.deref.ensures.value, c.comm_of.ensures) at c.place_of.ensures) ∙ c.in_default-place_of.is in
-    let test = λ (held : Option Held) (o : Option Refusal). by_record_test g.P.Meld.meld g.P.Packed.pack c.args.limits c.args.look.now (seen_at c.args.numbers.now c.args.point) c.args.events.now own held asked c.args.reply.now o in
+    let test = λ (held : Option Held) (o : Option Refusal). by_record_test g.P.Meld.meld g.P.Packed.pack c.args.limits c.args.view.now.look.now (seen_at c.args.view.now.numbers.now c.args.view.now.point) c.args.events.now own held asked c.args.reply.now o in
     let free : refusal_of own asked ≡ None = sym c.refusal_of.ensures ∙ c.in_default.is in
     sym (ap₂ test (find_missing c.args.own.now.held.items (comm_of asked) at) free)
 
@@ -28,8 +28,8 @@ returns g c =
     let own = record_of c.args.limits c.args.own.now in
     let asked = c.args.asked.now in
     let at = sym (rw (c.deref.ensures.value, c.comm_of.ensures) at c.place_of.ensures) ∙ c.in-Some-place_of.is in
-    let test = λ (held : Option Held) (o : Option Refusal). by_record_test g.P.Meld.meld g.P.Packed.pack c.args.limits c.args.look.now (seen_at c.args.numbers.now c.args.point) c.args.events.now own held asked c.args.reply.now o in
-    let on = λ (xs : List Held) (x : Held). replied_test g.P.Meld.meld g.P.Packed.pack c.args.limits c.args.look.now (seen_at c.args.numbers.now c.args.point) c.args.events.now own.number xs x asked c.args.reply.now in
+    let test = λ (held : Option Held) (o : Option Refusal). by_record_test g.P.Meld.meld g.P.Packed.pack c.args.limits c.args.view.now.look.now (seen_at c.args.view.now.numbers.now c.args.view.now.point) c.args.events.now own held asked c.args.reply.now o in
+    let on = λ (xs : List Held) (x : Held). replied_test g.P.Meld.meld g.P.Packed.pack c.args.limits c.args.view.now.look.now (seen_at c.args.view.now.numbers.now c.args.view.now.point) c.args.events.now own.number xs x asked c.args.reply.now in
     let free : refusal_of own asked ≡ None = sym c.refusal_of.ensures ∙ c.in_default.is in
     let found = find_is c.args.own.now.held.items (comm_of asked) c.in-Some-place_of.i c.index-x.result.now at in
     subst (λ t. IfOk c.is_reply_on.result (λ b. b ≡ t)) (ap₂ on c.deref-2.ensures.value c.index-x.ensures ∙ sym (ap₂ test found free)) c.is_reply_on.ensures

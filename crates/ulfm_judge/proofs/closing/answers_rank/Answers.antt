@@ -47,8 +47,8 @@ returns-clause-told g c = λ h tells.
     let found : record_at now c.args.rank ≡ Some old = at ∙ ap (λ (x : RankRecord g.row.A.Denot). Some (record_of c.args.limits x)) (sym c.index-records-j.is) in
     let looked = λ (l : Option ℕ). is_some l && looked_test g.P.Meld.meld g.P.Packed.pack c.args.limits (take (unwrap_or l 0) (failures h)) (seen_of c.args.limits.ranks (take c.args.point h)) u.own old u.asked c.args.reply.now in
     let is = ap test found ∙ (ap (λ (b : Bool). if b then refused_test Refusal.SelfFailed c.args.reply.now else looked u.look) c.if-own.false ∙ ap looked c.in-Some-look.is) in
-    let look = c.first_of-found.ensures ∙ ap (take c.in-Some-look.count) (c.deref.ensures.value ∙ tells.failures.0) in
-    let same : looked_test g.P.Meld.meld g.P.Packed.pack c.args.limits c.first_of-found.result.now (seen_at c.args.numbers.now c.args.point) c.deref-2.result.now old u.asked c.args.reply.now
+    let look = c.first_of-look.ensures ∙ ap (take c.in-Some-look.count) (c.deref.ensures.value ∙ tells.failures.0) in
+    let same : looked_test g.P.Meld.meld g.P.Packed.pack c.args.limits c.first_of-look.result.now (seen_at c.args.numbers.now c.args.point) c.deref-2.result.now old u.asked c.args.reply.now
     ≡ looked_test g.P.Meld.meld g.P.Packed.pack c.args.limits (take c.in-Some-look.count (failures h)) (seen_of c.args.limits.ranks (take c.args.point h)) u.own old u.asked c.args.reply.now =
     ap₂ (λ (xs : List ℕ) (s : Seen g.row.P.Denot). looked_test g.P.Meld.meld g.P.Packed.pack c.args.limits xs s c.deref-2.result.now old u.asked c.args.reply.now) look (seen_same c.args.limits.ranks c.args.numbers.now h tells c.args.point)
     ∙ ap (λ (own : List (Event g.row.P.Denot)). looked_test g.P.Meld.meld g.P.Packed.pack c.args.limits (take c.in-Some-look.count (failures h)) (seen_of c.args.limits.ranks (take c.args.point h)) own old u.asked c.args.reply.now) c.deref-2.ensures.value in
@@ -73,4 +73,4 @@ returns-clause-fits g c = λ may.
     let at = find_place (record_of c.args.limits) (λ (x : Record). x.number == c.args.rank) c.args.records.now c.in-Some.j c.index-records-j.result (sym c.place_of_rank.ensures.at ∙ c.in-Some.is) in
     let found = at ∙ ap (λ (x : RankRecord g.row.A.Denot). Some (record_of c.args.limits x)) (sym c.index-records-j.is) in
     on_test c.is_answer.result _ _ (λ is. may_leave (traced_of c.args.limits [] c.args.records.now []) c.args.rank u c.args.reply.now old found
-    (started_fits g.P.Meld.meld g.P.Packed.pack c.args.limits c.first_of-found.result.now (seen_at c.args.numbers.now c.args.point) c.deref-2.result.now old u.asked c.args.reply.now may.in_range.rounds is)) c.is_answer.ensures
+    (started_fits g.P.Meld.meld g.P.Packed.pack c.args.limits c.first_of-look.result.now (seen_at c.args.numbers.now c.args.point) c.deref-2.result.now old u.asked c.args.reply.now may.in_range.rounds is)) c.is_answer.ensures

@@ -3,11 +3,12 @@ use Rattle.std.proofs.Math.Seq.{map-set_same}
 use Rattle.std.specs.Prelude.{nat_eq, unwrap_or}
 use Rattle.std.specs.List.{IsDistinct}
 use Rattle.ulfm_model.specs.{Answers.{left_by}, History.{failures}, Records.{Record}}
+use Rattle.ulfm_model.proofs.Ranks.{ranks_distinct}
 use Rattle.ulfm_record.specs.{declared.record.RankRecord.{RankRecord}, Kept.{record_of}}
 use Rattle.ulfm_record.proofs.Places.{find_no_place, find_place}
 use Rattle.ulfm_trace_model.specs.Traces.{taken_in}
 use Rattle.ulfm_judge.specs.Kept.{traced_of, under_of}
-use Rattle.ulfm_judge.proofs.Leaving.{none_changed, on_ok, one_changed, ranks_distinct}
+use Rattle.ulfm_judge.proofs.Leaving.{none_changed, on_ok, one_changed}
 use Rattle.ulfm_judge.proofs.closing.settle_call.Goals as goal
 
 pub returns-in_default-place_of_rank-clause-left : goal.returns-in_default-place_of_rank-clause-left

@@ -9,19 +9,19 @@ use Rattle.ulfm_judge.proofs.polls.is_agree_poll.Goals as goal
 pub returns-then-says_pending : goal.returns-then-says_pending
 returns-then-says_pending g c =
     let x = c.args.x.now in
-    let decided = is_decided_in (seen_at c.args.numbers.now c.args.point) x.comm c.args.round in
-    let made = decision_in g.P.Meld.meld (seen_at c.args.numbers.now c.args.point) x.comm c.args.round in
+    let decided = is_decided_in (seen_at c.args.view.now.numbers.now c.args.view.now.point) x.comm c.args.round in
+    let made = decision_in g.P.Meld.meld (seen_at c.args.view.now.numbers.now c.args.view.now.point) x.comm c.args.round in
     let is = said_pending c.args.reply.now (sym c.says_pending.ensures ∙ c.if-says_pending.true) in
-    c.is_pending.ensures ∙ sym (ap (agree_test g.P.Packed.pack (pending_test c.args.look.now (seen_at c.args.numbers.now c.args.point) x c.args.round) decided made) is)
+    c.is_pending.ensures ∙ sym (ap (agree_test g.P.Packed.pack (pending_test c.args.view.now.look.now (seen_at c.args.view.now.numbers.now c.args.view.now.point) x c.args.round) decided made) is)
 
 pub returns : goal.returns
 returns g c =
     let x = c.args.x.now in
-    let late = pending_test c.args.look.now (seen_at c.args.numbers.now c.args.point) x c.args.round in
-    let decided : c.is_decided-decided.result ≡ is_decided_in (seen_at c.args.numbers.now c.args.point) x.comm c.args.round =
-    c.is_decided-decided.ensures ∙ ap (λ (y : Held). is_decided_in (seen_at c.args.numbers.now c.args.point) y.comm c.args.round) c.x.view_is in
-    let made = c.in_ok-made.ensures ∙ ap (λ (y : Held). decision_in g.P.Meld.meld (seen_at c.args.numbers.now c.args.point) y.comm c.args.round) c.x.view_is in
+    let late = pending_test c.args.view.now.look.now (seen_at c.args.view.now.numbers.now c.args.view.now.point) x c.args.round in
+    let decided : c.is_decided-decided.result ≡ is_decided_in (seen_at c.args.view.now.numbers.now c.args.view.now.point) x.comm c.args.round =
+    c.is_decided-decided.ensures ∙ ap (λ (y : Held). is_decided_in (seen_at c.args.view.now.numbers.now c.args.view.now.point) y.comm c.args.round) c.x.view_is in
+    let made = c.in_ok-made.ensures ∙ ap (λ (y : Held). decision_in g.P.Meld.meld (seen_at c.args.view.now.numbers.now c.args.view.now.point) y.comm c.args.round) c.x.view_is in
     let not_said = sym c.says_pending.ensures ∙ c.if-says_pending.false in
     let same = ap₂ (λ (d : Bool) (m : Decision g.row.P.Denot). agree_test g.P.Packed.pack false d m c.args.reply.now) decided made in
-    c.is_agree_reply-2.ensures ∙ (same ∙ late_agree g.P.Packed.pack false late (is_decided_in (seen_at c.args.numbers.now c.args.point) x.comm c.args.round)
-    (decision_in g.P.Meld.meld (seen_at c.args.numbers.now c.args.point) x.comm c.args.round) c.args.reply.now not_said)
+    c.is_agree_reply-2.ensures ∙ (same ∙ late_agree g.P.Packed.pack false late (is_decided_in (seen_at c.args.view.now.numbers.now c.args.view.now.point) x.comm c.args.round)
+    (decision_in g.P.Meld.meld (seen_at c.args.view.now.numbers.now c.args.view.now.point) x.comm c.args.round) c.args.reply.now not_said)

@@ -9,20 +9,20 @@ use Rattle.ulfm_judge.proofs.polls.is_shrink_poll.Goals as goal
 pub returns-then-says_pending : goal.returns-then-says_pending
 returns-then-says_pending g c =
     let x = c.args.x.now in
-    let decided = is_decided_in (seen_at c.args.numbers.now c.args.point) x.comm c.args.round in
-    let made = decision_in g.P.Meld.meld (seen_at c.args.numbers.now c.args.point) x.comm c.args.round in
+    let decided = is_decided_in (seen_at c.args.view.now.numbers.now c.args.view.now.point) x.comm c.args.round in
+    let made = decision_in g.P.Meld.meld (seen_at c.args.view.now.numbers.now c.args.view.now.point) x.comm c.args.round in
     let is = said_pending c.args.reply.now (sym c.says_pending.ensures ∙ c.if-says_pending.true) in
-    c.is_pending.ensures ∙ sym (ap (shrink_test c.args.limits (seen_at c.args.numbers.now c.args.point) c.args.rank c.args.x.now.comm c.args.round (pending_test c.args.look.now (seen_at c.args.numbers.now c.args.point) x c.args.round) decided made) is)
+    c.is_pending.ensures ∙ sym (ap (shrink_test c.args.limits (seen_at c.args.view.now.numbers.now c.args.view.now.point) c.args.rank c.args.x.now.comm c.args.round (pending_test c.args.view.now.look.now (seen_at c.args.view.now.numbers.now c.args.view.now.point) x c.args.round) decided made) is)
 
 pub returns : goal.returns
 returns g c =
     let x = c.args.x.now in
-    let late = pending_test c.args.look.now (seen_at c.args.numbers.now c.args.point) x c.args.round in
-    let decided : c.is_decided-decided.result ≡ is_decided_in (seen_at c.args.numbers.now c.args.point) x.comm c.args.round =
-    c.is_decided-decided.ensures ∙ ap (λ (y : Held). is_decided_in (seen_at c.args.numbers.now c.args.point) y.comm c.args.round) c.x.view_is in
-    let made = c.in_ok-made.ensures ∙ ap (λ (y : Held). decision_in g.P.Meld.meld (seen_at c.args.numbers.now c.args.point) y.comm c.args.round) c.x.view_is in
+    let late = pending_test c.args.view.now.look.now (seen_at c.args.view.now.numbers.now c.args.view.now.point) x c.args.round in
+    let decided : c.is_decided-decided.result ≡ is_decided_in (seen_at c.args.view.now.numbers.now c.args.view.now.point) x.comm c.args.round =
+    c.is_decided-decided.ensures ∙ ap (λ (y : Held). is_decided_in (seen_at c.args.view.now.numbers.now c.args.view.now.point) y.comm c.args.round) c.x.view_is in
+    let made = c.in_ok-made.ensures ∙ ap (λ (y : Held). decision_in g.P.Meld.meld (seen_at c.args.view.now.numbers.now c.args.view.now.point) y.comm c.args.round) c.x.view_is in
     let not_said = sym c.says_pending.ensures ∙ c.if-says_pending.false in
-    let same = ap₂ (λ (d : Bool) (m : Decision g.row.P.Denot). shrink_test c.args.limits (seen_at c.args.numbers.now c.args.point) c.args.rank c.args.x.now.comm c.args.round false d m c.args.reply.now) decided made in
+    let same = ap₂ (λ (d : Bool) (m : Decision g.row.P.Denot). shrink_test c.args.limits (seen_at c.args.view.now.numbers.now c.args.view.now.point) c.args.rank c.args.x.now.comm c.args.round false d m c.args.reply.now) decided made in
     c.is_shrink_reply-2.ensures
-    ∙ (same ∙ late_shrink c.args.limits (seen_at c.args.numbers.now c.args.point) c.args.rank c.args.x.now.comm c.args.round false late (is_decided_in (seen_at c.args.numbers.now c.args.point) x.comm c.args.round)
-    (decision_in g.P.Meld.meld (seen_at c.args.numbers.now c.args.point) x.comm c.args.round) c.args.reply.now not_said)
+    ∙ (same ∙ late_shrink c.args.limits (seen_at c.args.view.now.numbers.now c.args.view.now.point) c.args.rank c.args.x.now.comm c.args.round false late (is_decided_in (seen_at c.args.view.now.numbers.now c.args.view.now.point) x.comm c.args.round)
+    (decision_in g.P.Meld.meld (seen_at c.args.view.now.numbers.now c.args.view.now.point) x.comm c.args.round) c.args.reply.now not_said)

@@ -1,5 +1,6 @@
 use Rattle.std.proofs.Common.{◌≡◌, ℕ, ◌+◌, ap, sym, ◌∙◌, subst, length, not, arith, refl}
 use Rattle.ulfm_model.specs.Records.{Record}
+use Rattle.ulfm_comm.specs.Counts.{records_of}
 use Rattle.ulfm_race.specs.Races.{IsNewRank, IsStarted, Numbered}
 use Rattle.ulfm_race.proofs.Gathering.{push_numbered}
 use Rattle.ulfm_race.proofs.racing.start_all.Goals as goal
@@ -13,7 +14,7 @@ loop-rank-init g c =
       (
         0,
         omega (arith, ap length items),
-        subst (Numbered (IsNewRank c.args.plan) 0) (sym items) c.requires.ranks,
+        subst (λ rs. Numbered (IsNewRank c.args.plan) 0 (records_of rs)) (sym items) c.requires.ranks,
         λ none. (
           subst (Numbered (λ i h. IsStarted c.args.world.now.words c.args.said.now c.args.plan i h.promise) 0) (sym c.requires.nobody) tt,
           ap length c.requires.nobody,
@@ -26,7 +27,7 @@ loop-rank-preserved-else-is_err g c =
     let inv = c.loop-rank.invariant.3 in
     let r = inv.0 in
     let steps = c.in-Some.ensures.steps.0 in
-    let rest = subst (Numbered (IsNewRank c.args.plan) r) steps inv.2 in
+    let rest = subst (λ rs. Numbered (IsNewRank c.args.plan) r (records_of rs)) steps inv.2 in
     let number = ap (λ (w : Record). w.number) rest.0.record_is in
     let started = subst (λ n. IsStarted c.args.world.now.words c.args.said.now c.args.plan n c.in-Ok.handle.promise) number c.in-Ok.ensures.started in (
       refl,

@@ -1,6 +1,7 @@
 use Rattle.std.proofs.Common.{◌≡◌, ℕ, ◌+◌, length, Option, None}
 use Rattle.ulfm_laws.specs.Flags.{flag_meld}
 use Rattle.ulfm_words.specs.Steps.{IsOf}
+use Rattle.ulfm_comm.specs.Counts.{records_of}
 use Rattle.ulfm_race.specs.Races.{IsNewRank, IsStarted, Numbered}
 use Rattle.ulfm_race.proofs.racing.start_all.Given as goal
 
@@ -14,5 +15,5 @@ invariant-loop-rank g l =
     × IsOf flag_meld name l.outside
     × ((r : ℕ)
     × (r + length rest ≡ length l.fn.ranks.items)
-    × Numbered (IsNewRank plan) r rest
+    × Numbered (IsNewRank plan) r (records_of rest)
     × (l.fault ≡ None → Numbered (λ i h. IsStarted name l.fn.said plan i h.promise) 0 l.handles.items × (length l.handles.items ≡ r)))

@@ -10,8 +10,8 @@ pub returns : goal.returns
 returns g c =
     let plan = c.args.plan in
     let limits = c.args.world.now.words.limits in
-    let number = c.args.rank.number in
-    let rank = c.take_turns-ended.new.rank in
+    let number = c.args.rank.own.number in
+    let rank = c.take_turns-ended.new.rank.own in
     let said = map (λ t. t.value) c.take_turns-ended.new.tokens.items in
     let seen = c.declare.new.pass.seen in
     let here = (c.told-told.ensures.all refl).0 in
@@ -27,7 +27,7 @@ returns g c =
       declared = λ f met.
           let err = some_holds (λ fault. c.take_turns-ended.result ≡ Err fault) c.fault_in-fault.result f c.fault_in-fault.ensures.some met in
           let stopped = c.is_stopped.ensures ∙ ap is_stopped err in
-          let below = new_below limits c.args.pass.seen c.args.rank number (subst (λ l. c.args.rank ≡ new_record l number) (sym c.requires.limits) c.requires.new) c.requires.own.fits in
+          let below = new_below limits c.args.pass.seen c.args.rank.own number (subst (λ l. c.args.rank.own ≡ new_record l number) (sym c.requires.limits) c.requires.new) c.requires.own.fits in
           let same = c.number-number.ensures in
           let there = c.declare.ensures.declared stopped (subst (λ n. n < limits.ranks) (sym same) below) in
           subst (λ h. IsTrue (has (failures h) number)) (sym here) (subst (λ n. IsTrue (has (failures seen) n)) same there);

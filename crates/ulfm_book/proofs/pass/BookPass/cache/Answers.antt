@@ -26,12 +26,12 @@ pub returns-then-stood-eq0 : goal.returns-then-stood-eq0
 returns-then-stood-eq0 g c =
     let seen = c.self.inside.seen in
     let now = c.compare_exchange-stood.new.seen in
-    cache_won_tells g.P.Meld.meld g.P.Packed.pack seen.book now.book seen.log now.log c.self.inside.trail.items c.and-self-inside.result.items c.args.block c.args.word.now.key c.args.said c.compare_exchange-stood.result c.args.self.now
+    cache_won_tells g.P.Meld.meld g.P.Packed.pack seen.book now.book seen.log now.log c.self.inside.trail.log.items c.and-self-inside.result.log.items c.args.block c.args.word.now.key c.args.said c.compare_exchange-stood.result c.args.self.now
     c.self.view_is c.if-stood-eq0.true c.requires.of c.requires.within (ap (λ w. w.key) c.requires.word) c.compare_exchange-stood.ensures.0 c.compare_exchange-stood.ensures.7 c.and-self-inside.ensures
 
 pub returns : goal.returns
 returns g c =
     let seen = c.self.inside.seen in
     let now = c.compare_exchange-stood.new.seen in
-    cache_lost_tells g.P.Meld.meld g.P.Packed.pack seen.book now.book seen.log now.log c.self.inside.trail.items c.and-self-inside.result.items c.args.block c.args.word.now.key c.args.said c.compare_exchange-stood.result c.args.self.now
+    cache_lost_tells g.P.Meld.meld g.P.Packed.pack seen.book now.book seen.log now.log c.self.inside.trail.log.items c.and-self-inside.result.log.items c.args.block c.args.word.now.key c.args.said c.compare_exchange-stood.result c.args.self.now
     c.self.view_is c.if-stood-eq0.false c.requires.of c.requires.within (ap (λ w. w.key) c.requires.word) c.compare_exchange-stood.ensures.0 c.compare_exchange-stood.ensures.7 c.and-self-inside.ensures

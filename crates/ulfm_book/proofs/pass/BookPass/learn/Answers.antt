@@ -6,5 +6,5 @@ returns g c =
     let seen = c.self.inside.seen in
     let told = c.told.inside.seen in
     let now = c.learn.new.self in
-    learn_tells g.P.Meld.meld g.P.Packed.pack seen.book now.book told.book seen.log told.log now.log c.self.inside.trail.items c.args.told.now c.args.self.now
+    learn_tells g.P.Meld.meld g.P.Packed.pack seen.book now.book told.book seen.log told.log now.log c.self.inside.trail.log.items c.args.told.now c.args.self.now
     c.told.view_is c.self.view_is c.requires.of c.learn.ensures.0 c.self.invariant c.learn.ensures.2 c.learn.ensures.3 c.learn.ensures.4.1.is_log

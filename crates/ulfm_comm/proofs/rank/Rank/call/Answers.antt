@@ -1,51 +1,37 @@
-use Rattle.std.proofs.Common.{rules, ◌≡◌, false, arith, subst, sym, ◌∙◌}
-use Rattle.std.proofs.lemmas.Bool.{eqb-true}
-use Rattle.ulfm_comm.specs.{Phase.{Answered, NextIs}, StepsLeft.{Spends, steps_left}}
-use Rattle.ulfm_comm.proofs.{Look.{has_place_left, has_seen_all}, StepsLeft.{begun_bound}}
+use Rattle.std.proofs.Common.{◌≡◌, ◌+◌, ◌≤◌, arith, refl, subst, sym}
+use Rattle.ulfm_model.specs.declared.reply.Reply.TheVariants.{Pending}
+use Rattle.ulfm_model.specs.{Answers.{polled_by}, Records.{Fits}, Terms.{comm_of}}
+use Rattle.ulfm_comm.specs.{Bound.{AlsoBounded, step_bound}, Counts.{Ranked}, Polls.{EndsInMissing, IsAgreement}}
+use Rattle.ulfm_comm.proofs.Counts.{made_exact, made_small}
 use Rattle.ulfm_comm.proofs.rank.Rank.call.Goals as goal
-use Rattle.ulfm_comm.proofs.rank.Rank.call.Goals.{After-is_refused, In-Ends}
 
-pub go-requires-clause-stands : goal.go-requires-clause-stands
-go-requires-clause-stands g c = (c.args.self.now, g.W.Words.sight c.args.pass.now, c.loop-next.invariant.still)
-
--- the whole call's answer
-answered : (g : _) (c : In-Ends g) → Answered g.P.Meld.meld g.W.Words.alone (g.W.Words.name c.args.world.now.words) c.args.asked c.args.self.now (g.W.Words.sight c.args.pass.now) c.in-Ends.reply c.go.new.self (g.W.Words.sight c.go.new.pass)
-answered g c =
+pub overflow_cast-self : goal.overflow_cast-self
+overflow_cast-self g c =
+    let name = g.W.Words.name c.args.world.now.words in
     let before = g.W.Words.sight c.args.pass.now in
-    subst (λ next. NextIs g.P.Meld.meld g.W.Words.alone (g.W.Words.name c.args.world.now.words) c.args.asked c.args.self.now before next c.go.new.group.items c.go.new.self (g.W.Words.sight c.go.new.pass)) c.in-Ends.is
-    (c.go.ensures.turn.turns g.W.Words.alone (λ here. here) c.args.self.now before c.loop-next.invariant.stands)
+    let fits = subst (λ (r : Ranked). Fits g.P.Meld.meld name.limits before.seen r.own) (sym c.self.view_is) c.requires.fits in
+    let small = made_small g.P.Meld.meld g.W.Words.alone name c.args.asked c.self.inside.own before c.call-reply.result c.call-reply.new.self (g.W.Words.sight c.call-reply.new.pass)
+    c.requires.of fits c.call-reply.ensures.ends c.call-reply.ensures.steps c.steps_made-before.result c.steps_made-after.result _ c.steps_made-before.ensures c.steps_made-after.ensures refl in
+    omega (arith, small)
 
-pub returns-in-Ends-clause-pending : goal.returns-in-Ends-clause-pending
-returns-in-Ends-clause-pending g c = (answered g (goal.at.returns-in-Ends-clause-pending g c).In-Ends).pending
-
-pub returns-in-Ends-clause-steps : goal.returns-in-Ends-clause-steps
-returns-in-Ends-clause-steps g c =
+pub returns-clause-pending : goal.returns-clause-pending
+returns-clause-pending g c =
     let name = g.W.Words.name c.args.world.now.words in
-    let now = g.W.Words.sight c.loop-next.pass in
-    let after = g.W.Words.sight c.go.new.pass in
-    let spends = subst (λ next. Spends (steps_left name.limits c.loop-next.self c.args.asked c.loop-next.phase) name.limits c.go.new.self c.args.asked next now after) c.in-Ends.is c.go.ensures.turn.spends in
-    omega (arith, spends, c.loop-next.invariant.spent)
+    let before = g.W.Words.sight c.args.pass.now in
+    let after = g.W.Words.sight c.call-reply.new.pass in
+    subst (λ (r : Ranked). c.call-reply.result ≡ Pending → IsAgreement (polled_by r.own c.args.asked) → EndsInMissing g.P.Meld.meld g.W.Words.alone name (comm_of c.args.asked) r.own before c.call-reply.new.self after) c.self.view_is
+    c.call-reply.ensures.pending
 
--- it wasn't refused before
-in_use : (g : _) (c : After-is_refused g) → c.is_refused.result ≡ false → c.args.self.now.refused ≡ false
-in_use g c is = sym c.is_refused.ensures ∙ is
-
-pub returns-then-has_seen_all-clause-ends : goal.returns-then-has_seen_all-clause-ends
-returns-then-has_seen_all-clause-ends g c =
-    let at = (goal.at.returns-then-has_seen_all-clause-ends g c).After-is_refused in
-    has_seen_all g.P.Meld.meld g.W.Words.alone (g.W.Words.name c.args.world.now.words) c.args.asked c.args.self.now c.refuse.new.self (g.W.Words.sight c.args.pass.now) c.requires.of c.requires.fits (in_use g at c.if-is_refused.false)
-    c.has_seen_all.ensures.below (eqb-true _ _ (sym c.has_seen_all.ensures.all ∙ c.if-has_seen_all.true)) c.refuse.ensures
-
-pub loop-next-init : goal.loop-next-init
-loop-next-init g c =
-    let at = (goal.at.loop-next-init g c).After-is_refused in
+pub returns-clause-steps : goal.returns-clause-steps
+returns-clause-steps g c =
     let name = g.W.Words.name c.args.world.now.words in
-    let now = g.W.Words.sight c.args.pass.now in
-    let more = has_place_left g.P.Meld.meld name c.args.self.now now c.requires.of c.requires.fits (sym c.has_seen_all.ensures.all ∙ c.if-has_seen_all.false) in
+    let before = g.W.Words.sight c.args.pass.now in
+    let after = g.W.Words.sight c.call-reply.new.pass in
+    let fits = subst (λ (r : Ranked). Fits g.P.Meld.meld name.limits before.seen r.own) (sym c.self.view_is) c.requires.fits in
     record {
-      of = c.requires.of;
-      stands = search rules;
-      still = search rules;
-      in_use = in_use g at c.if-is_refused.false;
-      spent = omega (arith, begun_bound name.limits c.args.self.now c.args.asked (in_use g at c.if-is_refused.false) more);
+      steps = subst (λ (r : Ranked). after.steps ≤ before.steps + step_bound name.limits r.own c.args.asked) c.self.view_is c.call-reply.ensures.steps;
+      also = subst (λ (r : Ranked). AlsoBounded name.limits c.args.asked r.own before c.call-reply.new.self after) c.self.view_is c.call-reply.ensures.also;
+      last =
+          made_exact g.P.Meld.meld g.W.Words.alone name c.args.asked c.self.inside.own before c.call-reply.result c.call-reply.new.self after
+          c.requires.of fits c.call-reply.ensures.ends c.call-reply.ensures.steps c.steps_made-before.result c.steps_made-after.result _ c.steps_made-before.ensures c.steps_made-after.ensures refl;
     }

@@ -3,41 +3,41 @@ use Rattle.std.specs.List.Sorted.{IsStrictlyIncreasing}
 use Rattle.ulfm_model.specs.declared.call.Call.TheVariants as call
 use Rattle.ulfm_model.specs.declared.reply.Reply.TheVariants.{FailedGroup}
 use Rattle.ulfm_model.specs.{History.{has}, Records.{Held, held_at}}
-use Rattle.ulfm_comm.specs.Calls.{Calls, EndsReply}
+use Rattle.ulfm_comm.specs.{Calls.{Calls, EndsReply}, Counts.{Ranked}}
 use Rattle.ulfm_comm.proofs.{Holding.{group_rises}, Typed.{HasCounted, has_counted}}
 use Rattle.ulfm_comm.proofs.rank.Rank.get_failed.Goals as goal
 use Rattle.ulfm_comm.proofs.rank.Rank.get_failed.Goals.{After-failures, After-put_in}
 
 -- the call has counted so many
 calls : (g : _) (c : After-failures g)
-    → Calls g.P.Meld.meld g.W.Words.alone (g.W.Words.name c.args.world.now.words) (call.GetFailed c.args.self.now.number c.args.comm) c.args.self.now (g.W.Words.sight c.args.pass.now) (FailedGroup c.in_ok-counted.field-0) c.call.new.self (g.W.Words.sight c.call.new.pass)
+    → Calls g.P.Meld.meld g.W.Words.alone (g.W.Words.name c.args.world.now.words) (call.GetFailed c.args.self.now.own.number c.args.comm) c.args.self.now.own (g.W.Words.sight c.args.pass.now) (FailedGroup c.in_ok-counted.field-0) c.call.new.self.own (g.W.Words.sight c.call.new.pass)
 calls g c =
     let name = g.W.Words.name c.args.world.now.words in
-    subst (λ r. EndsReply g.P.Meld.meld g.W.Words.alone name (call.GetFailed c.args.self.now.number c.args.comm) c.args.self.now (g.W.Words.sight c.args.pass.now) r c.call.new.self (g.W.Words.sight c.call.new.pass)) (sym c.in_ok-counted.ensures)
-    (subst (λ n. EndsReply g.P.Meld.meld g.W.Words.alone name (call.GetFailed n c.args.comm) c.args.self.now (g.W.Words.sight c.args.pass.now) c.call.result c.call.new.self (g.W.Words.sight c.call.new.pass)) c.number-rank.ensures c.call.ensures.ends)
+    subst (λ r. EndsReply g.P.Meld.meld g.W.Words.alone name (call.GetFailed c.args.self.now.own.number c.args.comm) c.args.self.now.own (g.W.Words.sight c.args.pass.now) r c.call.new.self.own (g.W.Words.sight c.call.new.pass)) (sym c.in_ok-counted.ensures)
+    (subst (λ n. EndsReply g.P.Meld.meld g.W.Words.alone name (call.GetFailed n c.args.comm) c.args.self.now.own (g.W.Words.sight c.args.pass.now) c.call.result c.call.new.self.own (g.W.Words.sight c.call.new.pass)) c.number-rank.ensures c.call.ensures.ends)
 
 counts : (g : _) (c : After-failures g)
-    → HasCounted g.P.Meld.meld g.W.Words.alone (g.W.Words.name c.args.world.now.words) c.args.self.now.number c.args.comm c.in_ok-counted.field-0 c.args.self.now (g.W.Words.sight c.args.pass.now) c.call.new.self (g.W.Words.sight c.call.new.pass)
+    → HasCounted g.P.Meld.meld g.W.Words.alone (g.W.Words.name c.args.world.now.words) c.args.self.now.own.number c.args.comm c.in_ok-counted.field-0 c.args.self.now.own (g.W.Words.sight c.args.pass.now) c.call.new.self.own (g.W.Words.sight c.call.new.pass)
 counts g c =
-    has_counted g.P.Meld.meld g.W.Words.alone (g.W.Words.name c.args.world.now.words) c.args.self.now.number c.args.comm c.in_ok-counted.field-0 c.args.self.now (g.W.Words.sight c.args.pass.now) c.call.new.self (g.W.Words.sight c.call.new.pass)
+    has_counted g.P.Meld.meld g.W.Words.alone (g.W.Words.name c.args.world.now.words) c.args.self.now.own.number c.args.comm c.in_ok-counted.field-0 c.args.self.now.own (g.W.Words.sight c.args.pass.now) c.call.new.self.own (g.W.Words.sight c.call.new.pass)
     c.requires.fits (calls g c)
 
 -- the communicator is held, since its failed group was counted
 pub held_comm-x-requires : goal.held_comm-x-requires
 held_comm-x-requires g c =
-    let called : Calls g.P.Meld.meld g.W.Words.alone (g.W.Words.name c.args.world.now.words) (call.GetFailed c.args.self.now.number c.args.comm) c.args.self.now (g.W.Words.sight c.args.pass.now) (FailedGroup c.in_ok-counted.field-0) c.call.new.self (g.W.Words.sight c.call.new.pass) =
+    let called : Calls g.P.Meld.meld g.W.Words.alone (g.W.Words.name c.args.world.now.words) (call.GetFailed c.args.self.now.own.number c.args.comm) c.args.self.now.own (g.W.Words.sight c.args.pass.now) (FailedGroup c.in_ok-counted.field-0) c.call.new.self.own (g.W.Words.sight c.call.new.pass) =
     let name = g.W.Words.name c.args.world.now.words in
-    subst (λ r. EndsReply g.P.Meld.meld g.W.Words.alone name (call.GetFailed c.args.self.now.number c.args.comm) c.args.self.now (g.W.Words.sight c.args.pass.now) r c.call.new.self (g.W.Words.sight c.call.new.pass)) (sym c.in_ok-counted.ensures)
-    (subst (λ n. EndsReply g.P.Meld.meld g.W.Words.alone name (call.GetFailed n c.args.comm) c.args.self.now (g.W.Words.sight c.args.pass.now) c.call.result c.call.new.self (g.W.Words.sight c.call.new.pass)) c.number-rank.ensures c.call.ensures.ends) in
-    let h = has_counted g.P.Meld.meld g.W.Words.alone (g.W.Words.name c.args.world.now.words) c.args.self.now.number c.args.comm c.in_ok-counted.field-0 c.args.self.now (g.W.Words.sight c.args.pass.now) c.call.new.self (g.W.Words.sight c.call.new.pass) c.requires.fits called in
-    (h.x, h.held)
+    subst (λ r. EndsReply g.P.Meld.meld g.W.Words.alone name (call.GetFailed c.args.self.now.own.number c.args.comm) c.args.self.now.own (g.W.Words.sight c.args.pass.now) r c.call.new.self.own (g.W.Words.sight c.call.new.pass)) (sym c.in_ok-counted.ensures)
+    (subst (λ n. EndsReply g.P.Meld.meld g.W.Words.alone name (call.GetFailed n c.args.comm) c.args.self.now.own (g.W.Words.sight c.args.pass.now) c.call.result c.call.new.self.own (g.W.Words.sight c.call.new.pass)) c.number-rank.ensures c.call.ensures.ends) in
+    let h = has_counted g.P.Meld.meld g.W.Words.alone (g.W.Words.name c.args.world.now.words) c.args.self.now.own.number c.args.comm c.in_ok-counted.field-0 c.args.self.now.own (g.W.Words.sight c.args.pass.now) c.call.new.self.own (g.W.Words.sight c.call.new.pass) c.requires.fits called in
+    (h.x, ap (λ (r : Ranked). held_at r.own c.args.comm) c.self.view_is ∙ h.held)
 
 -- the members rise
 rises : (g : _) (c : After-failures g) → IsStrictlyIncreasing c.x.inside.group.items
 rises g c =
-    let held : held_at c.call.new.self c.args.comm ≡ Some c.held_comm-x.result.now = c.held_comm-x.ensures in
+    let held : held_at c.call.new.self.own c.args.comm ≡ Some c.held_comm-x.result.now = sym (ap (λ (r : Ranked). held_at r.own c.args.comm) c.self.view_is) ∙ c.held_comm-x.ensures in
     subst IsStrictlyIncreasing (sym (ap (λ (y : Held). y.group) c.x.view_is))
-    (group_rises g.P.Meld.meld (g.W.Words.name c.args.world.now.words).limits (g.W.Words.sight c.call.new.pass).seen c.call.new.self c.args.comm c.held_comm-x.result.now (calls g c).fits held)
+    (group_rises g.P.Meld.meld (g.W.Words.name c.args.world.now.words).limits (g.W.Words.sight c.call.new.pass).seen c.call.new.self.own c.args.comm c.held_comm-x.result.now (calls g c).fits held)
 
 pub make_room-requires : goal.make_room-requires
 make_room-requires g c = subst IsStrictlyIncreasing (sym c.deref.ensures.value) (rises g (goal.at.make_room-requires g c).After-failures)
@@ -49,10 +49,11 @@ pub returns-then-is_err-clause-gets : goal.returns-then-is_err-clause-gets
 returns-then-is_err-clause-gets g c = (counts g (goal.at.returns-then-is_err-clause-gets g c).After-failures).run_out
 
 -- the vector has the failures in the group that the look found
-found : (g : _) (c : After-put_in g) (h : HasCounted g.P.Meld.meld g.W.Words.alone (g.W.Words.name c.args.world.now.words) c.args.self.now.number c.args.comm c.in_ok-counted.field-0 c.args.self.now (g.W.Words.sight c.args.pass.now) c.call.new.self (g.W.Words.sight c.call.new.pass))
-    → c.put_in.new.found.items ≡ filter (has h.x.group) c.call.new.self.seen
+found : (g : _) (c : After-put_in g) (h : HasCounted g.P.Meld.meld g.W.Words.alone (g.W.Words.name c.args.world.now.words) c.args.self.now.own.number c.args.comm c.in_ok-counted.field-0 c.args.self.now.own (g.W.Words.sight c.args.pass.now) c.call.new.self.own (g.W.Words.sight c.call.new.pass))
+    → c.put_in.new.found.items ≡ filter (has h.x.group) c.call.new.self.own.seen
 found g c h =
-    let same : c.held_comm-x.result.now ≡ h.x = cc (c.held_comm-x.ensures, h.held) in
+    let both : Some c.held_comm-x.result.now ≡ Some h.x = sym c.held_comm-x.ensures ∙ (ap (λ (r : Ranked). held_at r.own c.args.comm) c.self.view_is ∙ h.held) in
+    let same : c.held_comm-x.result.now ≡ h.x = cc both in
     let group = c.deref-2.ensures.value ∙ (ap (λ (y : Held). y.group) c.x.view_is ∙ ap (λ (y : Held). y.group) same) in
     c.put_in.ensures ∙ ap₂ (λ w v. filter (has w) v) group c.failures-2.ensures
 
@@ -61,7 +62,7 @@ returns-clause-gets g c =
     let at = goal.at.returns-clause-gets g c in
     let h = counts g at.After-failures in
     let number = h.counted ∙ ap length (sym (found g at.After-put_in h)) in
-    subst (λ n. Calls g.P.Meld.meld g.W.Words.alone (g.W.Words.name c.args.world.now.words) (call.GetFailed c.args.self.now.number c.args.comm) c.args.self.now (g.W.Words.sight c.args.pass.now) (FailedGroup n) c.call.new.self (g.W.Words.sight c.call.new.pass)) number
+    subst (λ n. Calls g.P.Meld.meld g.W.Words.alone (g.W.Words.name c.args.world.now.words) (call.GetFailed c.args.self.now.own.number c.args.comm) c.args.self.now.own (g.W.Words.sight c.args.pass.now) (FailedGroup n) c.call.new.self.own (g.W.Words.sight c.call.new.pass)) number
     (calls g at.After-failures)
 
 pub returns-clause-group : goal.returns-clause-group

@@ -8,18 +8,18 @@ returns-clause-loads g c =
     let limits = c.self.inside.row.limits in
     let ws = c.self.inside.row.words in
     let js = c.self.inside.journal.items in
-    (loads_from g.P.Meld.meld g.P.Packed.pack g.P.Packed.unpack limits c.args.self.now ws js (vec_capacity c.self.inside.journal) c.self.inside.trail.items c.and-self-inside.result.items c.args.place c.get-word.result c.self.view_is c.self.invariant.0 c.requires c.get-word.ensures c.and-self-inside.ensures).0
+    (loads_from g.P.Meld.meld g.P.Packed.pack g.P.Packed.unpack limits c.args.self.now ws js (vec_capacity c.self.inside.journal) c.self.inside.trail.log.items c.and-self-inside.result.log.items c.args.place c.get-word.result c.self.view_is c.self.invariant.0 c.requires c.get-word.ensures c.and-self-inside.ensures).0
 
 pub returns-clause-word : goal.returns-clause-word
 returns-clause-word g c =
     let limits = c.self.inside.row.limits in
     let ws = c.self.inside.row.words in
     let js = c.self.inside.journal.items in
-    (loads_from g.P.Meld.meld g.P.Packed.pack g.P.Packed.unpack limits c.args.self.now ws js (vec_capacity c.self.inside.journal) c.self.inside.trail.items c.and-self-inside.result.items c.args.place c.get-word.result c.self.view_is c.self.invariant.0 c.requires c.get-word.ensures c.and-self-inside.ensures).1
+    (loads_from g.P.Meld.meld g.P.Packed.pack g.P.Packed.unpack limits c.args.self.now ws js (vec_capacity c.self.inside.journal) c.self.inside.trail.log.items c.and-self-inside.result.log.items c.args.place c.get-word.result c.self.view_is c.self.invariant.0 c.requires c.get-word.ensures c.and-self-inside.ensures).1
 
 pub invariant_of-self : goal.invariant_of-self
 invariant_of-self g c = (
   c.self.invariant.0,
   stood_later g.P.Meld.meld g.P.Packed.pack c.self.inside.row.limits (entries g.P.Packed.unpack c.self.inside.row.limits c.self.inside.row.words c.self.inside.journal.items) (entries g.P.Packed.unpack c.self.inside.row.limits c.self.inside.row.words c.self.inside.journal.items)
-      c.self.inside.blocks.items c.self.inside.trail.items c.and-self-inside.result.items (prefix_self _) (ap cached_by c.and-self-inside.ensures ∙ cached_place c.self.inside.trail.items c.args.place c.get-word.result true) c.self.invariant.1,
+      c.self.inside.blocks.items c.self.inside.trail.log.items c.and-self-inside.result.log.items (prefix_self _) (ap cached_by c.and-self-inside.ensures ∙ cached_place c.self.inside.trail.log.items c.args.place c.get-word.result true) c.self.invariant.1,
 )

@@ -14,8 +14,8 @@ returns-then-word-ne0 g c =
     let unpack = g.P.Packed.unpack in
     let js = c.self.inside.journal.items in
     let row_is : c.set_once-word.new.self ≡ row = ap₂ (λ limits words. let r : Filled = record { limits = limits; words = words } in r) c.set_once-word.ensures.limits (c.set_once-word.ensures.kept c.if-word-ne0.true) in
-    subst (λ (r : Filled). Sets g.P.Meld.meld g.P.Packed.pack unpack true c.args.self.now.name c.args.step c.args.self.now (Err c.set_once-word.result) (sight_of unpack r.limits r.words js c.and-self-inside.result.items)) (sym row_is)
-    (sets_lost g.P.Meld.meld g.P.Packed.pack unpack row.limits c.args.self.now row.words js (vec_capacity c.self.inside.journal) c.self.inside.trail.items c.and-self-inside.result.items c.args.step c.set_once-word.result
+    subst (λ (r : Filled). Sets g.P.Meld.meld g.P.Packed.pack unpack true c.args.self.now.name c.args.step c.args.self.now (Err c.set_once-word.result) (sight_of unpack r.limits r.words js c.and-self-inside.result.log.items)) (sym row_is)
+    (sets_lost g.P.Meld.meld g.P.Packed.pack unpack row.limits c.args.self.now row.words js (vec_capacity c.self.inside.journal) c.self.inside.trail.log.items c.and-self-inside.result.log.items c.args.step c.set_once-word.result
     c.self.view_is c.self.invariant.0 c.requires.within c.set_once-word.ensures.stood c.if-word-ne0.true c.and-self-inside.ensures)
 
 pub invariant_of-self : goal.invariant_of-self
@@ -23,11 +23,11 @@ invariant_of-self g c =
     rw (c.set_once-word.ensures.limits, c.set_once-word.ensures.kept c.if-word-ne0.true) (
       c.self.invariant.0,
       stood_later g.P.Meld.meld g.P.Packed.pack c.self.inside.row.limits (entries g.P.Packed.unpack c.self.inside.row.limits c.self.inside.row.words c.self.inside.journal.items) (entries g.P.Packed.unpack c.self.inside.row.limits c.self.inside.row.words c.self.inside.journal.items)
-          c.self.inside.blocks.items c.self.inside.trail.items c.and-self-inside.result.items (prefix_self _) (ap cached_by c.and-self-inside.ensures ∙ cached_place c.self.inside.trail.items c.args.step.place c.set_once-word.result false) c.self.invariant.1,
+          c.self.inside.blocks.items c.self.inside.trail.log.items c.and-self-inside.result.log.items (prefix_self _) (ap cached_by c.and-self-inside.ensures ∙ cached_place c.self.inside.trail.log.items c.args.step.place c.set_once-word.result false) c.self.invariant.1,
     )
 
 within_of : (g : _) (c : After-push g) → IsWithin c.self.inside.row.limits c.args.step.place
-within_of g c = within_is g.P.Meld.meld g.P.Packed.pack g.P.Packed.unpack c.self.inside.row.limits c.args.self.now c.self.inside.row.words c.self.inside.journal.items c.self.inside.trail.items c.args.step.place c.self.view_is c.requires.within
+within_of g c = within_is g.P.Meld.meld g.P.Packed.pack g.P.Packed.unpack c.self.inside.row.limits c.args.self.now c.self.inside.row.words c.self.inside.journal.items c.self.inside.trail.log.items c.args.step.place c.self.view_is c.requires.within
 
 below : (g : _) (c : After-push g) → key_in c.self.inside.row.limits c.args.step.place < length c.self.inside.row.words
 below g c = omega (arith, key_lt c.self.inside.row.limits c.args.step.place (within_of g c), c.self.invariant.0.size)
@@ -77,10 +77,10 @@ added g c =
 -- .. so that the blocks stand as they stood
 standing : (g : _) (c : After-push g)
     → AreStood g.P.Meld.meld g.P.Packed.pack c.self.inside.row.limits (entries g.P.Packed.unpack c.self.inside.row.limits (slice_set c.self.inside.row.words (key_in c.self.inside.row.limits c.args.step.place) c.args.step.word) c.push.new.self.items)
-    c.self.inside.blocks.items c.and-self-inside.result.items
+    c.self.inside.blocks.items c.and-self-inside.result.log.items
 standing g c =
-    stood_later g.P.Meld.meld g.P.Packed.pack c.self.inside.row.limits (entries g.P.Packed.unpack c.self.inside.row.limits c.self.inside.row.words c.self.inside.journal.items) _ c.self.inside.blocks.items c.self.inside.trail.items c.and-self-inside.result.items
-    ((may_in g c).entry ∷ [], sym (added g c)) (ap cached_by c.and-self-inside.ensures ∙ cached_place c.self.inside.trail.items c.args.step.place c.set_once-word.result false) c.self.invariant.1
+    stood_later g.P.Meld.meld g.P.Packed.pack c.self.inside.row.limits (entries g.P.Packed.unpack c.self.inside.row.limits c.self.inside.row.words c.self.inside.journal.items) _ c.self.inside.blocks.items c.self.inside.trail.log.items c.and-self-inside.result.log.items
+    ((may_in g c).entry ∷ [], sym (added g c)) (ap cached_by c.and-self-inside.ensures ∙ cached_place c.self.inside.trail.log.items c.args.step.place c.set_once-word.result false) c.self.invariant.1
 
 -- the row after the word was set
 row_is : (g : _) (c : After-push g) → c.set_once-word.new.self ≡ record { limits = c.self.inside.row.limits; words = slice_set c.self.inside.row.words (key_in c.self.inside.row.limits c.args.step.place) c.args.step.word }
@@ -101,6 +101,6 @@ returns g c =
     let key = key_in limits c.args.step.place in
     let may = may_in g at in
     let set : slice_index (slice_set ws key c.args.step.word) key ≡ c.args.step.word = get_or-set_same ws key c.args.step.word 0 (below g at) in
-    subst (λ (r : Filled). Sets g.P.Meld.meld g.P.Packed.pack unpack true c.args.self.now.name c.args.step c.args.self.now (Ok tt) (sight_of unpack r.limits r.words c.push.new.self.items c.and-self-inside.result.items)) (sym (row_is g at))
-    (sets_won g.P.Meld.meld g.P.Packed.pack unpack limits c.args.self.now ws (slice_set ws key c.args.step.word) js c.push.new.self.items (vec_capacity c.push.new.self) c.self.inside.trail.items c.and-self-inside.result.items c.args.step c.set_once-word.result
+    subst (λ (r : Filled). Sets g.P.Meld.meld g.P.Packed.pack unpack true c.args.self.now.name c.args.step c.args.self.now (Ok tt) (sight_of unpack r.limits r.words c.push.new.self.items c.and-self-inside.result.log.items)) (sym (row_is g at))
+    (sets_won g.P.Meld.meld g.P.Packed.pack unpack limits c.args.self.now ws (slice_set ws key c.args.step.word) js c.push.new.self.items (vec_capacity c.push.new.self) c.self.inside.trail.log.items c.and-self-inside.result.log.items c.args.step c.set_once-word.result
     c.self.view_is (tied g at) c.requires.within may.entry may.is_entry (added g at) set c.if-word-ne0.false c.and-self-inside.ensures)

@@ -1,9 +1,0 @@
-use Rattle.std.proofs.Common.{rules}
-use Rattle.ulfm_comm.proofs.StepsLeft.{first_bound}
-use Rattle.ulfm_comm.proofs.rank.Rank.begin.Goals as goal
-
-pub returns-clause-asked : goal.returns-clause-asked
-returns-clause-asked g c = search rules steps 100000
-
-pub returns-clause-bounded : goal.returns-clause-bounded
-returns-clause-bounded g c = λ more. rw c.first.ensures (first_bound c.args.self.now.limits c.args.self.now c.args.asked more)

@@ -1,0 +1,53 @@
+use Rattle.std.proofs.Common.{rules, ◌≡◌, ◌≤◌, ap, arith, subst, ◌∙◌}
+use Rattle.ulfm_model.specs.Records.{Record}
+use Rattle.ulfm_comm.specs.{Step.{Walks}, StepsLeft.{steps_left}}
+use Rattle.ulfm_comm.specs.declared.phases.phase.Phase.TheVariants.{Begun, Looking}
+use Rattle.ulfm_comm.proofs.{AlsoLeft.{also_resumes}, Look.{begins_looking}, StepsLeft.{fewer_more, resumed_left}}
+use Rattle.ulfm_comm.proofs.rank.RankRecord.go_begun.Goals as goal
+use Rattle.ulfm_comm.proofs.rank.RankRecord.go_begun.Goals.{After-resume}
+
+pub go_looking-requires-clause-stands : goal.go_looking-requires-clause-stands
+go_looking-requires-clause-stands g c =
+    let p = c.requires.stands in
+    let old = p.1.0 in
+    let before = p.1.1 in (
+      p.0,
+      (
+        old,
+        before,
+        begins_looking g.P.Meld.meld _ (g.W.Words.name c.args.world.now.words) c.args.asked.now old before p.0 c.args.self.now c.resume.new.self (g.W.Words.sight c.args.pass.now) c.requires.of c.resume.ensures p.1.2,
+      ),
+    )
+
+-- it is of a world of these limits
+ranks : (g : _) (c : After-resume g) → c.args.self.now.limits.ranks ≡ (g.W.Words.name c.args.world.now.words).limits.ranks
+ranks g c =
+    let u = c.requires.stands.1.2 in
+    ap (λ (w : Record). w.limits.ranks) u.at.1 ∙ ap (λ l. l.ranks) u.fits.same_limits
+
+-- it has as many steps left as before
+left : (g : _) (c : After-resume g) → steps_left (g.W.Words.name c.args.world.now.words).limits c.resume.new.self c.args.asked.now Looking ≤ steps_left (g.W.Words.name c.args.world.now.words).limits c.args.self.now c.args.asked.now Begun
+left g c =
+    resumed_left (g.W.Words.name c.args.world.now.words).limits c.args.self.now c.resume.new.self c.args.asked.now (ranks g c) (omega (arith, c.requires.of.may_open.in_range.some_ranks)) c.resume.ensures
+
+pub returns : goal.returns
+returns g c =
+    λ group.
+    let now = g.W.Words.sight c.args.pass.now in
+    let after = g.W.Words.sight c.go_looking.new.pass in
+    let t = c.go_looking.ensures group in
+    let fewer = left g (goal.at.returns g c).After-resume in
+    record {
+      walks = subst (λ (w : Record). Walks g.P.Meld.meld g.W.Words.alone (g.W.Words.name c.args.world.now.words) w.number now after) c.resume.ensures t.walks;
+      named = t.named;
+      nearer = λ single. fewer_more (g.W.Words.name c.args.world.now.words).limits c.go_looking.new.self c.args.asked.now _ _ fewer c.go_looking.result (t.nearer single);
+      spends = omega (arith, fewer, t.spends);
+      also = also_resumes (g.W.Words.name c.args.world.now.words).limits c.args.self.now c.resume.new.self c.args.asked.now (ranks g (goal.at.returns g c).After-resume) c.resume.ensures now after c.go_looking.result c.go_looking.new.self t.also;
+      further = search rules;
+      adds = t.adds;
+      sees = search rules;
+      leads = search rules;
+      turns = λ alone only old before u.
+          t.turns alone only old before
+          (begins_looking g.P.Meld.meld alone (g.W.Words.name c.args.world.now.words) c.args.asked.now old before group c.args.self.now c.resume.new.self (g.W.Words.sight c.args.pass.now) c.requires.of c.resume.ensures u);
+    }

@@ -1,0 +1,160 @@
+// How many steps a rank's last call made: of whole calls, and of calls that are taken step by step.
+
+use crate::calls::apply;
+use crate::play::{Play, Verb, call_of};
+use std::alloc::Global;
+use std::process::Abort;
+use std::test::Fail;
+use ulfm_comm::Job;
+use ulfm_laws::flag_and::FlagAnd;
+use ulfm_model::call::Call;
+use ulfm_model::limits::Limits;
+use ulfm_model::reply::Reply;
+use ulfm_words::PlainWords;
+
+/// A move, and how many steps the rank's last call has made then.
+#[derive(Clone, Copy, Debug)]
+enum Move {
+    /// The outside declares a rank, which wasn't declared before.
+    Fail(u16),
+    /// A rank asks for the failed group.
+    Get(u16, u32),
+    /// It contributes to its next round.
+    Agree(u16, u32),
+    /// It polls.
+    Poll(u16, u32),
+}
+
+// The rank of a move, what it asks, and how many steps that is to take.
+fn asked_of(made: Move) -> Option<(u16, Verb<FlagAnd>, u32)> {
+    match made {
+        Move::Fail(_) => None,
+        Move::Get(rank, steps) => Some((rank, Verb::Get, steps)),
+        Move::Agree(rank, steps) => Some((rank, Verb::Agree(FlagAnd { bits: 0x3 }), steps)),
+        Move::Poll(rank, steps) => Some((rank, Verb::Poll, steps)),
+    }
+}
+
+fn limits(ranks: u16) -> Limits {
+    Limits {
+        ranks,
+        comms: 1,
+        rounds: 4,
+    }
+}
+
+// By whole calls.
+fn whole(rt: &impl Abort, alloc: Global, ranks: u16, moves: &[Move]) -> Result<(), Fail> {
+    let mut job = Job::open(alloc, PlainWords::<FlagAnd>::open(limits(ranks))?)?;
+    let mut group = Vec::new(alloc);
+    for made in moves {
+        if let Move::Fail(rank) = *made {
+            let reply = apply(&mut job, &Call::Fail { rank }, &mut group)?;
+            assert!(rt; reply == Reply::Declared);
+        }
+        if let Some((rank, verb, steps)) = asked_of(*made) {
+            apply(&mut job, &call_of(rank, 0, verb), &mut group)?;
+            assert!(rt; job.rank(rank).map(|own| own.last_steps()) == Some(steps));
+        }
+    }
+    Ok(())
+}
+
+// Step by step: before the reply the count is that of the call before.
+fn stepped(rt: &impl Abort, alloc: Global, ranks: u16, moves: &[Move]) -> Result<(), Fail> {
+    let mut play = Play::open(alloc, PlainWords::<FlagAnd>::open(limits(ranks))?)?;
+    for made in moves {
+        if let Move::Fail(rank) = *made {
+            assert!(rt; play.fail(rank) == Ok(true));
+        }
+        if let Some((rank, verb, steps)) = asked_of(*made) {
+            let before = play.last_steps(rank);
+            assert!(rt; play.begin(rank, 0, verb));
+            for _ in 1..steps {
+                assert!(rt; play.step(rank).is_none());
+                assert!(rt; play.last_steps(rank) == before);
+            }
+            assert!(rt; play.step(rank).is_some());
+            assert!(rt; play.last_steps(rank) == Some(steps));
+        }
+    }
+    Ok(())
+}
+
+fn both(rt: &impl Abort, alloc: Global, ranks: u16, moves: &[Move]) -> Result<(), Fail> {
+    whole(rt, alloc, ranks, moves)?;
+    stepped(rt, alloc, ranks, moves)
+}
+
+#[test]
+fn looks_are_counted(rt: HostRuntime) -> Result<(), Fail> {
+    let moves = [
+        Move::Get(0, 1),
+        Move::Fail(2),
+        Move::Get(0, 2),
+        Move::Get(0, 1),
+    ];
+    both(&rt, rt.alloc(), 3, &moves)
+}
+
+#[test]
+fn polls_are_counted(rt: HostRuntime) -> Result<(), Fail> {
+    let moves = [
+        Move::Agree(0, 2),
+        Move::Agree(1, 2),
+        Move::Agree(2, 2),
+        Move::Poll(0, 9),
+        Move::Poll(1, 3),
+    ];
+    both(&rt, rt.alloc(), 3, &moves)
+}
+
+#[test]
+fn marks_are_counted(rt: HostRuntime) -> Result<(), Fail> {
+    let moves = [
+        Move::Fail(2),
+        Move::Agree(0, 3),
+        Move::Agree(1, 3),
+        Move::Poll(0, 10),
+        Move::Poll(1, 3),
+    ];
+    both(&rt, rt.alloc(), 3, &moves)
+}
+
+#[test]
+fn single_blocks_are_counted(rt: HostRuntime) -> Result<(), Fail> {
+    let moves = [
+        Move::Agree(0, 2),
+        Move::Agree(1, 2),
+        Move::Agree(2, 2),
+        Move::Agree(3, 2),
+        Move::Poll(0, 7),
+        Move::Poll(1, 2),
+    ];
+    both(&rt, rt.alloc(), 4, &moves)
+}
+
+#[test]
+fn others_steps_are_not_counted(rt: HostRuntime) -> Result<(), Fail> {
+    let mut play = Play::open(rt.alloc(), PlainWords::<FlagAnd>::open(limits(3))?)?;
+    assert!(rt; play.last_steps(0) == Some(0));
+    assert!(rt; play.begin(0, 0, Verb::Standing));
+    assert!(rt; play.step(0).is_none());
+    // A whole call by another, with a look and an exchange.
+    assert!(rt; play.revoke(1, 0) == Some(Ok(true)));
+    assert!(rt; play.last_steps(1) == Some(2));
+    assert!(rt; play.last_steps(0) == Some(0));
+    assert!(rt; play.step(0) == Some(Reply::Standing { revoked: true }));
+    assert!(rt; play.last_steps(0) == Some(2));
+    // A rank that is refused for good makes no step.
+    assert!(rt; play.fail(0) == Ok(true));
+    assert!(rt; play.revoke(0, 0).is_some());
+    assert!(rt; play.last_steps(0) == Some(2));
+    assert!(rt; play.revoke(0, 0).is_some());
+    assert!(rt; play.last_steps(0) == Some(0));
+    assert!(rt; play.revoke(1, 0) == Some(Ok(false)));
+    assert!(rt; play.begin(0, 0, Verb::Get));
+    assert!(rt; play.step(0).is_some());
+    assert!(rt; play.last_steps(0) == Some(0));
+    Ok(())
+}

@@ -1,0 +1,61 @@
+use Rattle.std.proofs.Common.{◌≡◌, ◌∙◌, subst, sym, arith, true, is_some}
+use Rattle.ulfm_model.specs.{Blocks.{block_of, has_block}, declared.block.Side.{Side}, declared.block.Side.TheVariants.{Front, Back}}
+use Rattle.ulfm_model.proofs.Blocks.{has_block_stays}
+use Rattle.ulfm_words.proofs.Trails.{did_prefix}
+use Rattle.ulfm_steps.specs.Blocks.{AreOf, Tells, block_at}
+use Rattle.ulfm_steps.proofs.{InBlocks.{are_later, few_members, told_of, within_of}, Reading.{round_stays}}
+use Rattle.ulfm_steps.proofs.blocks.Peek.step.Goals as goal
+use Rattle.ulfm_steps.proofs.blocks.Peek.step.Goals.{After-load_said-said}
+
+pub load_said-said-requires-clause-within : goal.load_said-said-requires-clause-within
+load_said-said-requires-clause-within g c =
+    within_of g.P.Meld.meld (g.W.Words.name c.args.words.now).limits (g.W.Words.sight c.args.pass.now).seen c.args.self.now.comm c.args.self.now.round c.args.self.now.side c.args.group.now c.requires.of.legal c.requires.of.may_open c.requires.round
+
+pub overflow_cast-group : goal.overflow_cast-group
+overflow_cast-group g c =
+    let few = few_members (g.W.Words.name c.args.words.now).limits (g.W.Words.sight c.args.pass.now).seen c.args.self.now.comm c.args.self.now.round c.args.group.now c.requires.of.may_open c.requires.round in
+    omega (arith, few)
+
+-- what the block says, whichever it is
+told : (g : _) (c : After-load_said-said g) (side : Side) → c.args.self.now.side ≡ side
+    → Tells g.P.Meld.meld (g.W.Words.sight c.load_said-said.new.pass).seen c.args.self.now.comm c.args.self.now.round (block_of side c.args.group.now) c.load_said-said.result
+told g c side is =
+    let limits = (g.W.Words.name c.args.words.now).limits in
+    let old = (g.W.Words.sight c.args.pass.now).seen in
+    let new = (g.W.Words.sight c.load_said-said.new.pass).seen in
+    let r = c.args.self.now in
+    let round = round_stays limits old new r.comm r.round c.args.group.now (did_prefix g.W.Words.alone _ old new c.load_said-said.ensures.peeks.did) c.requires.round in
+    subst (λ s. Tells g.P.Meld.meld new r.comm r.round (block_of s c.args.group.now) c.load_said-said.result) is
+    (told_of g.P.Meld.meld limits new r.comm r.round r.side c.args.group.now c.load_said-said.result round c.load_said-said.ensures.said)
+
+-- .. and what was known before is known
+later : (g : _) (c : After-load_said-said g) → AreOf g.P.Meld.meld (g.W.Words.sight c.load_said-said.new.pass).seen c.args.self.now.comm c.args.self.now.round c.args.group.now c.args.self.now.blocks
+later g c =
+    let old = (g.W.Words.sight c.args.pass.now).seen in
+    let new = (g.W.Words.sight c.load_said-said.new.pass).seen in
+    are_later g.P.Meld.meld old new c.args.self.now.comm c.args.self.now.round c.args.group.now c.args.self.now.blocks (did_prefix g.W.Words.alone _ old new c.load_said-said.ensures.peeks.did) c.requires.are
+
+-- a block that was set is found set
+finds : (g : _) (c : After-load_said-said g) (side : Side) → c.args.self.now.side ≡ side → has_block (g.W.Words.sight c.args.pass.now).cached (block_at c.args.self.now.comm c.args.self.now.round side) ≡ true → is_some c.load_said-said.result ≡ true
+finds g c side is has =
+    let e = c.load_said-said.ensures.peeks in
+    let r = c.args.self.now in
+    let new = (g.W.Words.sight c.load_said-said.new.pass).cached in
+    let still = has_block_stays (g.W.Words.sight c.args.pass.now).cached new (block_at r.comm r.round side) e.cached has in
+    sym e.known ∙ subst (λ s. has_block new (block_at r.comm r.round s) ≡ true) (sym is) still
+
+pub returns-in-Front-clause-are : goal.returns-in-Front-clause-are
+returns-in-Front-clause-are g c =
+    let at = (goal.at.returns-in-Front-clause-are g c).After-load_said-said in
+    record { front = told g at Front c.in-Front.is; back = (later g at).back }
+
+pub returns-in-Front-clause-front : goal.returns-in-Front-clause-front
+returns-in-Front-clause-front g c side has = finds g (goal.at.returns-in-Front-clause-front g c).After-load_said-said Front side has
+
+pub returns-in-Back-clause-are : goal.returns-in-Back-clause-are
+returns-in-Back-clause-are g c =
+    let at = (goal.at.returns-in-Back-clause-are g c).After-load_said-said in
+    record { front = (later g at).front; back = told g at Back c.in-Back.is }
+
+pub returns-in-Back-clause-back : goal.returns-in-Back-clause-back
+returns-in-Back-clause-back g c side has = finds g (goal.at.returns-in-Back-clause-back g c).After-load_said-said Back side has

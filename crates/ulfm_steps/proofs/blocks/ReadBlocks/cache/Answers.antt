@@ -1,0 +1,68 @@
+use Rattle.std.proofs.Common.{◌≡◌, ◌-◌, ◌∙◌, refl, length, ap, subst, sym, arith, false}
+use Rattle.ulfm_model.proofs.Summed.{summed_none}
+use Rattle.ulfm_words.proofs.Trails.{did_prefix}
+use Rattle.ulfm_steps.specs.Blocks.{AreOf, Tells, is_whole}
+use Rattle.ulfm_steps.proofs.InBlocks.{apart_lt, are_with, few_members, is_block, known_with, next_by, within_of}
+use Rattle.ulfm_steps.proofs.blocks.ReadBlocks.cache.Goals as goal
+use Rattle.ulfm_steps.proofs.blocks.ReadBlocks.cache.Goals.{Joined-self, in-Front, in-Back}
+
+pub cache-requires-clause-within : goal.cache-requires-clause-within
+cache-requires-clause-within g c =
+    within_of g.P.Meld.meld (g.W.Words.name c.args.words.now).limits (g.W.Words.sight c.args.pass.now).seen c.args.self.now.comm c.args.self.now.round c.args.self.now.side c.args.group.now c.requires.of.legal c.requires.of.may_open c.requires.round
+
+pub cache-requires-clause-may : goal.cache-requires-clause-may
+cache-requires-clause-may g c =
+    let r = c.args.self.now in
+    is_block g.P.Meld.meld g.P.Packed.pack (g.W.Words.name c.args.words.now).limits (g.W.Words.sight c.args.pass.now).seen r.comm r.round r.side c.args.group.now r.read c.block_word.result r.all c.requires.round c.requires.at.side c.requires.all c.requires.at.read c.block_word.ensures
+
+pub overflow_cast-members : goal.overflow_cast-members
+overflow_cast-members g c =
+    let few = few_members (g.W.Words.name c.args.words.now).limits (g.W.Words.sight c.args.pass.now).seen c.args.self.now.comm c.args.self.now.round c.args.group.now c.requires.of.may_open c.requires.round in
+    omega (arith, few)
+
+-- what is known after it
+blocks_are : (g : _) (c : Joined-self g) → c.match-self.self ≡ record c.args.self.now { blocks = known_with c.args.self.now.blocks c.args.self.now.side c.args.self.now.all }
+blocks_are g c =
+    let r = c.args.self.now in
+    elim c.match-self.branch [
+      | in-Front w ↦ w.self-is ∙ ap (λ s. record r { blocks = known_with r.blocks s r.all }) (sym w.in-Front.is)
+      | in-Back w ↦ w.self-is ∙ ap (λ s. record r { blocks = known_with r.blocks s r.all }) (sym w.in-Back.is)
+    ]
+
+known : (g : _) (c : Joined-self g) → AreOf g.P.Meld.meld (g.W.Words.sight c.cache.new.pass).seen c.args.self.now.comm c.args.self.now.round c.args.group.now (known_with c.args.self.now.blocks c.args.self.now.side c.args.self.now.all)
+known g c =
+    let old = (g.W.Words.sight c.args.pass.now).seen in
+    let new = (g.W.Words.sight c.cache.new.pass).seen in
+    are_with g.P.Meld.meld old new c.args.group.now c.args.self.now (did_prefix g.W.Words.alone _ old new c.cache.ensures.did) c.requires.at c.requires.all
+
+pub returns-in-Some-clause-tells : goal.returns-in-Some-clause-tells
+returns-in-Some-clause-tells g c =
+    let at = (goal.at.returns-in-Some-clause-tells g c).Joined-self in
+    let meld = g.P.Meld.meld in
+    let new = (g.W.Words.sight c.cache.new.pass).seen in
+    let r = c.args.self.now in
+    let group = c.args.group.now in
+    let is = blocks_are g at in
+    let tells = c.all.ensures.tells new r.comm r.round group refl (rw is (known g at)) in
+    rw is (subst (Tells meld new r.comm r.round group) c.in-Some.is tells)
+
+pub returns-clause-tells : goal.returns-clause-tells
+returns-clause-tells g c =
+    let at = (goal.at.returns-clause-tells g c).Joined-self in
+    let meld = g.P.Meld.meld in
+    let new = (g.W.Words.sight c.cache.new.pass).seen in
+    let r = c.args.self.now in
+    let group = c.args.group.now in
+    let is = blocks_are g at in
+    let whole : is_whole (known_with r.blocks r.side r.all) (length group) ≡ false = subst (λ b. is_whole b (length group) ≡ false) (ap (λ x. x.blocks) is) (sym c.in_default.ensures.whole) in
+    let next = next_by r.side r.blocks r.all (length group) c.requires.at.front whole in
+    rw (is, c.unit-self.ensures) (record {
+      are = known g at;
+      unknown = next.1;
+      side = apart_lt (length group) next.2;
+      front = λ _. next.0;
+      wide = c.requires.at.wide;
+      begins = ap (λ w. length group - w) c.requires.at.wide;
+      within = omega arith;
+      read = summed_none meld new r.comm r.round;
+    })

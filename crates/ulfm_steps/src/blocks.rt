@@ -1,0 +1,352 @@
+// The two blocks of an agreement round: what is known of them, the loads that a poll begins with, and the reading of those that are 0:
+// each block's members in order, up to the first who isn't settled, and then its cache. A member that was found settled stays so and
+// says the same; that one is missing holds at its load alone.
+ghost use Rattle.std.specs.Prelude.{◌≡◌, ◌<◌, ◌≤◌, ◌+◌, ◌*◌, None, IsSome, false, true, is_some, length};
+ghost use Rattle.ulfm_model.specs.Blocks.{IsSide, width as width_of};
+ghost use Rattle.ulfm_model.specs.History.{History};
+ghost use Rattle.ulfm_model.specs.declared.block.Side.TheVariants.{Front, Back};
+ghost use Rattle.ulfm_words.specs.Steps.{IsOf, Goes};
+ghost use Rattle.ulfm_steps.specs.Blocks.{AreOf, AtBlock, BlocksTake, BlocksTell, FindsSet, PeekTakes, Tells, has_back as is_apart, is_whole, said_at, starts_at};
+ghost use Rattle.ulfm_steps.specs.Rounds.{IsRoundOf};
+
+use std::alloc::Allocator;
+use ulfm_laws::meld::{Meld, Packed};
+use ulfm_laws::summary::Summary;
+use ulfm_model::block::{Block, Side};
+use ulfm_words::{Words, block_word, load_said, load_summary};
+
+/// What is known of the two blocks of an agreement round: what the members of each say together, where that is known.
+#[derive(Clone, Copy)]
+pub struct RoundBlocks<P: Packed> {
+    pub front: Option<Summary<P>>,
+    pub back: Option<Summary<P>>,
+}
+
+/// How many members a block of so many has: the greatest power of two that is at most their number.
+#[inline(always)]
+pub fn width(members: u16) -> u16
+    requires { 0 < members }
+    ensures { result ≡ width_of members }
+{
+    1 << (15 - members.leading_zeros())
+}
+
+/// Whether a round of so many members has a back block.
+#[inline(always)]
+pub fn has_back(members: u16) -> bool
+    requires { 0 < members }
+    ensures { result ≡ is_apart members }
+{
+    width(members) < members
+}
+
+impl<P: Packed> RoundBlocks<P> {
+    /// Nothing is known yet.
+    pub fn new() -> RoundBlocks<P>
+        ensures { result ≡ record { front = None; back = None } }
+    {
+        RoundBlocks {
+            front: None,
+            back: None,
+        }
+    }
+
+    /// What is known of one of them.
+    #[inline(always)]
+    pub fn of(&self, side: Side) -> Option<Summary<P>>
+        ensures { result ≡ said_at self.now side }
+    {
+        match side {
+            Side::Front => self.front,
+            Side::Back => self.back,
+        }
+    }
+
+    /// What all members of the round say together, where all its blocks are known. They overlap, which changes nothing: whoever
+    /// is in both counts once.
+    #[inline(always)]
+    pub fn all(&self, members: u16) -> Option<Summary<P>>
+        requires { 0 < members }
+        ensures whole { is_some result ≡ is_whole self.now members }
+        ensures tells { (h : History P) (c k : _) (group : _) → length group ≡ members → AreOf P.meld h c k group self.now → Tells P.meld h c k group result }
+    {
+        let front = self.front?;
+        if !has_back(members) {
+            return Some(front);
+        }
+        let back = self.back?;
+        Some(front.meld(&back))
+    }
+}
+
+/// A peek at a round's blocks that is under way.
+#[derive(Clone, Copy)]
+pub struct Peek<P: Packed> {
+    pub comm: u16,
+    pub round: u16,
+    /// The block that is loaded next.
+    pub side: Side,
+    /// What is known of those that were loaded.
+    pub blocks: RoundBlocks<P>,
+}
+
+impl<P: Packed> Peek<P> {
+    /// A peek that has loaded nothing yet.
+    pub fn new(comm: u16, round: u16) -> Peek<P>
+        ensures comm { result.comm ≡ comm }
+        ensures round { result.round ≡ round }
+        ensures side { result.side ≡ Front }
+        ensures none { (is_some result.blocks.front ≡ false) × (is_some result.blocks.back ≡ false) }
+    {
+        Peek {
+            comm,
+            round,
+            side: Side::Front,
+            blocks: RoundBlocks::new(),
+        }
+    }
+
+    /// One load, of the next block: whether it was the last one.
+    #[inline(always)]
+    pub fn step<A: Allocator, W: Words<P, A>>(
+        &mut self,
+        words: &W,
+        pass: &mut W::Pass,
+        group: &[u16],
+    ) -> bool
+        requires of { IsOf P.meld (W.name words.now) (W.sight pass.old) }
+        requires round { IsRoundOf (W.name words.now).limits (W.sight pass.old).seen self.old.comm self.old.round group.now }
+        requires some { IsSide self.old.side group.now }
+        requires are { AreOf P.meld (W.sight pass.old).seen self.old.comm self.old.round group.now self.old.blocks }
+        ensures goes { Goes P.meld W.alone (W.name words.now) 1 (W.sight pass.old) (W.sight pass.new) }
+        ensures takes { PeekTakes false (length group.now) self.old result self.new (W.sight pass.old) (W.sight pass.new) }
+        ensures comm { self.new.comm ≡ self.old.comm }
+        ensures round { self.new.round ≡ self.old.round }
+        ensures are { AreOf P.meld (W.sight pass.new).seen self.old.comm self.old.round group.now self.new.blocks }
+        ensures next { result ≡ false → (self.old.side ≡ Front) × (self.new.side ≡ Back) × (is_apart (length group.now) ≡ true) }
+        ensures last { result ≡ true → self.old.side ≡ Front → is_apart (length group.now) ≡ false }
+        ensures front { self.old.side ≡ Front → FindsSet (W.sight pass.old).cached self.new Front }
+        ensures back { self.old.side ≡ Back → FindsSet (W.sight pass.old).cached self.new Back }
+        ensures kept { self.old.side ≡ Back → self.new.blocks.front ≡ self.old.blocks.front }
+    {
+        let block = Block {
+            comm: self.comm,
+            round: self.round,
+            side: self.side,
+        };
+        let said = load_said(words, pass, block);
+        match self.side {
+            Side::Front => {
+                self.blocks.front = said;
+                self.side = Side::Back;
+                !has_back(group.len() as u16)
+            }
+            Side::Back => {
+                self.blocks.back = said;
+                true
+            }
+        }
+    }
+
+    /// One load; or, where all are made at once, those that are left. Whether the last one was made.
+    #[inline(always)]
+    pub fn advance<A: Allocator, W: Words<P, A>>(
+        &mut self,
+        words: &W,
+        pass: &mut W::Pass,
+        group: &[u16],
+        whole: bool,
+    ) -> bool
+        requires of { IsOf P.meld (W.name words.now) (W.sight pass.old) }
+        requires round { IsRoundOf (W.name words.now).limits (W.sight pass.old).seen self.old.comm self.old.round group.now }
+        requires some { IsSide self.old.side group.now }
+        requires are { AreOf P.meld (W.sight pass.old).seen self.old.comm self.old.round group.now self.old.blocks }
+        ensures goes { Goes P.meld W.alone (W.name words.now) 2 (W.sight pass.old) (W.sight pass.new) }
+        ensures takes { PeekTakes whole (length group.now) self.old result self.new (W.sight pass.old) (W.sight pass.new) }
+        ensures comm { self.new.comm ≡ self.old.comm }
+        ensures round { self.new.round ≡ self.old.round }
+        ensures are { AreOf P.meld (W.sight pass.new).seen self.old.comm self.old.round group.now self.new.blocks }
+        ensures some { result ≡ false → IsSide self.new.side group.now }
+        ensures done { whole ≡ true → result ≡ true }
+        ensures front { self.old.side ≡ Front → FindsSet (W.sight pass.old).cached self.new Front }
+        ensures back { result ≡ true → is_apart (length group.now) ≡ true → FindsSet (W.sight pass.old).cached self.new Back }
+        ensures kept { self.old.side ≡ Back → self.new.blocks.front ≡ self.old.blocks.front }
+    {
+        if self.step(words, pass, group) {
+            return true;
+        }
+        if !whole {
+            return false;
+        }
+        self.step(words, pass, group)
+    }
+}
+
+/// What a reading of blocks ends with.
+#[derive(Clone, Copy)]
+pub enum Found<P: Packed> {
+    /// A member isn't settled.
+    Missing,
+    /// What all members say together, each of whom is settled.
+    All(Summary<P>),
+}
+
+/// A reading of blocks that is under way.
+#[derive(Clone, Copy)]
+pub struct ReadBlocks<P: Packed> {
+    pub comm: u16,
+    pub round: u16,
+    /// The block that is read.
+    pub side: Side,
+    /// How many members a block has.
+    pub width: u16,
+    /// How many members of the round stand before this block.
+    pub first: u16,
+    /// How many of its members were found settled, the first of them.
+    pub read: u16,
+    /// What these say together.
+    pub all: Summary<P>,
+    /// What is known of both blocks.
+    pub blocks: RoundBlocks<P>,
+}
+
+impl<P: Packed> ReadBlocks<P> {
+    /// A reading of those blocks that aren't known, the front one first, which has read nothing yet.
+    pub fn new(comm: u16, round: u16, blocks: RoundBlocks<P>, members: u16) -> ReadBlocks<P>
+        requires { 0 < members }
+        ensures { result ≡ starts_at comm round blocks members }
+    {
+        let width = width(members);
+        let (side, first) = match blocks.front {
+            None => (Side::Front, 0),
+            Some(_) => (Side::Back, members - width),
+        };
+        ReadBlocks {
+            comm,
+            round,
+            side,
+            width,
+            first,
+            read: 0,
+            all: Summary::unit(),
+            blocks,
+        }
+    }
+
+    /// One step: a load of the next member's place, or, once all of the block are read, its cache.
+    #[inline(always)]
+    pub fn step<A: Allocator, W: Words<P, A>>(
+        &mut self,
+        words: &W,
+        pass: &mut W::Pass,
+        group: &[u16],
+    ) -> Option<Found<P>>
+        requires of { IsOf P.meld (W.name words.now) (W.sight pass.old) }
+        requires round { IsRoundOf (W.name words.now).limits (W.sight pass.old).seen self.old.comm self.old.round group.now }
+        requires at { AtBlock P.meld (W.sight pass.old).seen group.now self.old }
+        ensures goes { Goes P.meld W.alone (W.name words.now) 1 (W.sight pass.old) (W.sight pass.new) }
+        ensures takes { BlocksTake false group.now self.old result self.new (W.sight pass.old) (W.sight pass.new) }
+        ensures comm { self.new.comm ≡ self.old.comm }
+        ensures round { self.new.round ≡ self.old.round }
+        ensures tells { BlocksTell P.meld (W.sight pass.new) group.now self.new result }
+    {
+        if self.read < self.width {
+            return self.load(words, pass, group);
+        }
+        self.cache(words, pass, group)
+    }
+
+    /// One step; or, where the whole reading is made at once, all that are left.
+    #[inline(always)]
+    pub fn advance<A: Allocator, W: Words<P, A>>(
+        &mut self,
+        words: &W,
+        pass: &mut W::Pass,
+        group: &[u16],
+        whole: bool,
+    ) -> Option<Found<P>>
+        requires of { IsOf P.meld (W.name words.now) (W.sight pass.old) }
+        requires round { IsRoundOf (W.name words.now).limits (W.sight pass.old).seen self.old.comm self.old.round group.now }
+        requires at { AtBlock P.meld (W.sight pass.old).seen group.now self.old }
+        ensures goes { Goes P.meld W.alone (W.name words.now) (2 * (width_of (length group.now) + 1)) (W.sight pass.old) (W.sight pass.new) }
+        ensures takes { BlocksTake whole group.now self.old result self.new (W.sight pass.old) (W.sight pass.new) }
+        ensures comm { self.new.comm ≡ self.old.comm }
+        ensures round { self.new.round ≡ self.old.round }
+        ensures tells { BlocksTell P.meld (W.sight pass.new) group.now self.new result }
+        ensures done { whole ≡ true → IsSome result }
+    {
+        loop {
+            let found = self.step(words, pass, group);
+            if !whole || found.is_some() {
+                return found;
+            }
+        }
+    }
+
+    // One load, of the next member's place.
+    #[inline(always)]
+    fn load<A: Allocator, W: Words<P, A>>(
+        &mut self,
+        words: &W,
+        pass: &mut W::Pass,
+        group: &[u16],
+    ) -> Option<Found<P>>
+        requires of { IsOf P.meld (W.name words.now) (W.sight pass.old) }
+        requires round { IsRoundOf (W.name words.now).limits (W.sight pass.old).seen self.old.comm self.old.round group.now }
+        requires at { AtBlock P.meld (W.sight pass.old).seen group.now self.old }
+        requires more { self.old.read < width_of (length group.now) }
+        ensures goes { Goes P.meld W.alone (W.name words.now) 1 (W.sight pass.old) (W.sight pass.new) }
+        ensures takes { BlocksTake false group.now self.old result self.new (W.sight pass.old) (W.sight pass.new) }
+        ensures comm { self.new.comm ≡ self.old.comm }
+        ensures round { self.new.round ≡ self.old.round }
+        ensures tells { BlocksTell P.meld (W.sight pass.new) group.now self.new result }
+    {
+        let rank = group[(self.first + self.read) as usize];
+        match load_summary(words, pass, self.comm, self.round, rank) {
+            None => Some(Found::Missing),
+            Some(said) => {
+                self.all = self.all.meld(&said);
+                self.read += 1;
+                None
+            }
+        }
+    }
+
+    // The cache of a block whose members were all read. A block that another has cached meanwhile has the same word.
+    fn cache<A: Allocator, W: Words<P, A>>(
+        &mut self,
+        words: &W,
+        pass: &mut W::Pass,
+        group: &[u16],
+    ) -> Option<Found<P>>
+        requires of { IsOf P.meld (W.name words.now) (W.sight pass.old) }
+        requires round { IsRoundOf (W.name words.now).limits (W.sight pass.old).seen self.old.comm self.old.round group.now }
+        requires at { AtBlock P.meld (W.sight pass.old).seen group.now self.old }
+        requires all { self.old.read ≡ width_of (length group.now) }
+        ensures goes { Goes P.meld W.alone (W.name words.now) 1 (W.sight pass.old) (W.sight pass.new) }
+        ensures takes { BlocksTake false group.now self.old result self.new (W.sight pass.old) (W.sight pass.new) }
+        ensures comm { self.new.comm ≡ self.old.comm }
+        ensures round { self.new.round ≡ self.old.round }
+        ensures tells { BlocksTell P.meld (W.sight pass.new) group.now self.new result }
+    {
+        let block = Block {
+            comm: self.comm,
+            round: self.round,
+            side: self.side,
+        };
+        let _ = words.cache(pass, block, block_word(&self.all));
+        match self.side {
+            Side::Front => self.blocks.front = Some(self.all),
+            Side::Back => self.blocks.back = Some(self.all),
+        }
+        let members = group.len() as u16;
+        if let Some(all) = self.blocks.all(members) {
+            return Some(Found::All(all));
+        }
+        self.side = Side::Back;
+        self.first = members - self.width;
+        self.read = 0;
+        self.all = Summary::unit();
+        None
+    }
+}
