@@ -12,4 +12,6 @@ mod member;
 #[cfg(test)]
 mod play;
 #[cfg(test)]
+mod sizes;
+#[cfg(test)]
 mod step_by_step;

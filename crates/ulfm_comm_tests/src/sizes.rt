@@ -1,0 +1,17 @@
+// How many bytes a rank takes, as docs/GUIDE.md tells.
+
+use std::alloc::Global;
+use std::mem::size_of;
+use std::process::Abort;
+use std::test::Fail;
+use ulfm_comm::Rank;
+use ulfm_laws::flag_and::FlagAnd;
+use ulfm_record::held::HeldComm;
+
+/// A rank has 72 bytes of its own, and room for 32 communicators takes 1,536. Its two lists have 2 bytes for each rank.
+#[test]
+fn bytes_of_a_rank(rt: HostRuntime) -> Result<(), Fail> {
+    assert_eq!(rt; size_of::<Rank<FlagAnd, Global>>(), 72);
+    assert_eq!(rt; 32 * size_of::<HeldComm<Global>>(), 1536);
+    Ok(())
+}
