@@ -138,40 +138,36 @@ ended_by_read lang HasRun known b left old mid v ahead kept n Memory i k =
 ended_by_read lang HasRun known b left old mid v ahead kept n Write i k = absurd k
 ended_by_read lang HasRun known b left old mid v ahead kept n (Line m kind) i k = absurd k
 
--- there is no further line
+-- there is no further line: the machine has run all of the text
 pub ended_done : (lang : Language) (HasRun : Stage lang) (known b left old mid : Known) (v ahead : List ℕ) (n : ℕ)
     → Going lang HasRun known b old mid v n → Keeps b (prepend_known ahead left) → IsAtEnd (prepend_known ahead left)
-    → EndsUpTo lang known left ahead old mid v (Ok tt)
+    → EndsUpTo lang known left ahead old mid v (Ok tt) × HasRunAll lang HasRun known (Holds old mid v)
 ended_done lang HasRun known b left old mid v ahead n i k z =
     let e = comes_end lang i.done i.limits i.items n i.comes in
-    let c = prepend_known ahead left in (
+    let c = prepend_known ahead left in
+    let whole = whole_text known c i.done (consumes_keeps known b c i.done i.taken k) z in (
+      (
+        record {
+          text = i.done;
+          out = i.out;
+          whole = whole;
+          faults = ap (λ (s : Script lang.Item). s.fault) e;
+          printed = all_printed lang i.done i.out i.limits i.items (asked_last n []) e i.prints;
+          told = i.held;
+        },
+        end_behind ahead left z,
+      ),
       record {
         text = i.done;
+        limits = i.limits;
+        items = i.items;
         out = i.out;
-        whole = whole_text known c i.done (consumes_keeps known b c i.done i.taken k) z;
-        faults = ap (λ (s : Script lang.Item). s.fault) e;
-        printed = all_printed lang i.done i.out i.limits i.items (asked_last n []) e i.prints;
+        whole = whole;
+        script_is = e;
+        has_run = i.has_run;
         told = i.held;
       },
-      end_behind ahead left z,
     )
-
--- there is no further line, and the machine has run all of the text
-pub ran_all : (lang : Language) (HasRun : Stage lang) (known b left old mid : Known) (v ahead : List ℕ) (n : ℕ)
-    → Going lang HasRun known b old mid v n → Keeps b (prepend_known ahead left) → IsAtEnd (prepend_known ahead left)
-    → HasRunAll lang HasRun known (Holds old mid v)
-ran_all lang HasRun known b left old mid v ahead n i k z =
-    let c = prepend_known ahead left in
-    record {
-      text = i.done;
-      limits = i.limits;
-      items = i.items;
-      out = i.out;
-      whole = whole_text known c i.done (consumes_keeps known b c i.done i.taken k) z;
-      script_is = comes_end lang i.done i.limits i.items n i.comes;
-      has_run = i.has_run;
-      told = i.held;
-    }
 
 -- a fault that all texts with this beginning have
 fault_told : (lang : Language) (known : Known) (text : List ℕ) (old new : Known) (w out : List ℕ) (limits : Limits) (items : List lang.Item)

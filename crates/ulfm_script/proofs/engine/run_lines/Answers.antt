@@ -1,7 +1,7 @@
 use Rattle.std.proofs.Common.{arith}
 use Rattle.ulfm_script.specs.declared.fault.RunFault.TheVariants.{Memory}
 use Rattle.ulfm_script.specs.Buffers.{pending, unread, waiting}
-use Rattle.ulfm_script.proofs.RunLemmas.{ended_at_once, ended_by_read, ended_cut, ended_done, ended_first, ended_line, ended_unopened, goes_first, goes_on, handed_on, ran_all}
+use Rattle.ulfm_script.proofs.RunLemmas.{ended_at_once, ended_by_read, ended_cut, ended_done, ended_first, ended_line, ended_unopened, goes_first, goes_on, handed_on}
 use Rattle.ulfm_script.proofs.engine.run_lines.Goals as goal
 
 pub returns-in_err-line-clause-ends : goal.returns-in_err-line-clause-ends
@@ -52,23 +52,18 @@ returns-in_err-read_line-clause-ends g c =
     (w c.args.writer.now) (w c.lines.writer) (waiting c.lines.output) (pending c.read_line.new.self) c.read_line.new.line.items
     c.lines.number fault c.lines.invariant.1 c.in_err-read_line.ensures)
 
-pub returns-in-Done-clause-ends : goal.returns-in-Done-clause-ends
-returns-in-Done-clause-ends g c =
+pub returns-in-Done : goal.returns-in-Done
+returns-in-Done g c =
     let k = g.R.Read.remaining in
     let w = g.W.Write.contents in
     let e = rw c.in-Done.is at c.in_ok-read_line.ensures in
-    ended_done g.M.Interpreter.lang (g.M.Interpreter.HasRun c.args.plan c.lines.machine) (unread k c.args.input.now c.args.reader.now) (unread k c.lines.input c.lines.reader) (k c.read_line.new.reader)
-    (w c.args.writer.now) (w c.lines.writer) (waiting c.lines.output) (pending c.read_line.new.self)
-    c.lines.number c.lines.invariant.1 e.0 e.1
-
-pub returns-in-Done-clause-all : goal.returns-in-Done-clause-all
-returns-in-Done-clause-all g c =
-    let k = g.R.Read.remaining in
-    let w = g.W.Write.contents in
-    let e = rw c.in-Done.is at c.in_ok-read_line.ensures in
-    ran_all g.M.Interpreter.lang (g.M.Interpreter.HasRun c.args.plan c.lines.machine) (unread k c.args.input.now c.args.reader.now) (unread k c.lines.input c.lines.reader) (k c.read_line.new.reader)
-    (w c.args.writer.now) (w c.lines.writer) (waiting c.lines.output) (pending c.read_line.new.self)
-    c.lines.number c.lines.invariant.1 e.0 e.1
+    let done = ended_done g.M.Interpreter.lang (g.M.Interpreter.HasRun c.args.plan c.lines.machine) (unread k c.args.input.now c.args.reader.now)
+    (unread k c.lines.input c.lines.reader) (k c.read_line.new.reader) (w c.args.writer.now) (w c.lines.writer) (waiting c.lines.output)
+    (pending c.read_line.new.self) c.lines.number c.lines.invariant.1 e.0 e.1 in
+    record {
+      ends = done.0;
+      all = done.1;
+    }
 
 pub returns-in-Cut-clause-ends : goal.returns-in-Cut-clause-ends
 returns-in-Cut-clause-ends g c =
