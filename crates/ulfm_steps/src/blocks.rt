@@ -82,10 +82,10 @@ impl<P: Packed> RoundBlocks<P> {
 pub struct Peek<P: Packed> {
     pub comm: u16,
     pub round: u16,
+    /// What is known of the blocks that were loaded.
+    pub blocks: RoundBlocks<P>,
     /// The block that is loaded next.
     pub side: Side,
-    /// What is known of those that were loaded.
-    pub blocks: RoundBlocks<P>,
 }
 
 impl<P: Packed> Peek<P> {
@@ -99,8 +99,8 @@ impl<P: Packed> Peek<P> {
         Peek {
             comm,
             round,
-            side: Side::Front,
             blocks: RoundBlocks::new(),
+            side: Side::Front,
         }
     }
 
