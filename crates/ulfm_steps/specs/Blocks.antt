@@ -1,10 +1,10 @@
 -- What is known of a round's blocks, and what the machines that load and read them ask for and tell.
-use Rattle.std.specs.Prelude.{◌≡◌, ℕ, ◌+◌, ◌-◌, ◌≤◌, Bool, true, false, List, Option, Some, None, is_some, length, slice_index, take, if◌then◌else◌, nat_lt}
+use Rattle.std.specs.Prelude.{◌≡◌, ℕ, ◌+◌, ◌-◌, ◌≤◌, Bool, true, false, List, Option, Some, None, IsSome, is_some, length, slice_index, take, if◌then◌else◌, nat_lt}
 use Rattle.ulfm_laws.specs.{declared.summary.Summary.{Summary}, Summaries.{summary_unit}}
 use Rattle.ulfm_model.specs.declared.{block.Block.{Block}, block.Side.{Side}, block.Side.TheVariants.{Front, Back}, place.Place.TheVariants.{Slot as SlotAt}}
 use Rattle.ulfm_model.specs.{Blocks.{IsSide, IsSummed, block_of, has_block, width}, History.{History}}
-use Rattle.ulfm_words.specs.{Steps.{Sight}, declared.{step.Site.{Site}}}
-use Rattle.ulfm_steps.specs.{Rounds.{IsMissing}, Turns.{TakesAt, left_without}}
+use Rattle.ulfm_words.specs.{Steps.{Goes, IsOf, Name, Sight}, declared.{step.Site.{Site}}}
+use Rattle.ulfm_steps.specs.{Rounds.{IsMissing, IsRoundOf}, Turns.{TakesAt, left_without}}
 use Rattle.ulfm_steps.specs.declared.{blocks.Peek.{Peek}, blocks.ReadBlocks.{ReadBlocks}, blocks.Found.{Found}, blocks.Found.TheVariants.{Missing, All}}
 use Rattle.ulfm_steps.specs.declared.blocks.RoundBlocks.{RoundBlocks}
 
@@ -52,6 +52,27 @@ PeekTakes whole n old done new = TakesAt whole (Site.Block (block_at old.comm ol
 -- a block that was set already was found set
 abbrev pub FindsSet : {P : Type 0} → List Block → Peek P → Side → Type 0
 FindsSet cached peek side = has_block cached (block_at peek.comm peek.round side) ≡ true → is_some (said_at peek.blocks side) ≡ true
+
+-- what a peek asks for: the pass is of these words, these are its round's members, it has the next block, and what it knows stands
+pub record MayPeek {P : Type 0} (meld : P → P → P) (name : Name) (group : List ℕ) (peek : Peek P) (sight : Sight P) : Type 0 where
+  pub of : IsOf meld name sight
+  pub round : IsRoundOf name.limits sight.seen peek.comm peek.round group
+  pub some : IsSide peek.side group
+  pub are : AreOf meld sight.seen peek.comm peek.round group peek.blocks
+
+-- loads of a peek, so many at most, and whether the last was made: what it knows stands, and says which blocks were set before
+pub record PeeksOn {P : Type 0} (meld : P → P → P) (alone whole : Bool) (name : Name) (most : ℕ) (group : List ℕ) (peek : Peek P) (old : Sight P)
+    (done : Bool) (left : Peek P) (new : Sight P) : Type 0 where
+  pub goes : Goes meld alone name most old new
+  pub takes : PeekTakes whole (length group) peek done left old new
+  pub comm : left.comm ≡ peek.comm
+  pub round : left.round ≡ peek.round
+  pub are : AreOf meld new.seen peek.comm peek.round group left.blocks
+  pub some : done ≡ false → IsSide left.side group
+  pub ends : whole ≡ true → done ≡ true
+  pub front : peek.side ≡ Front → FindsSet old.cached left Front
+  pub back : done ≡ true → has_back (length group) ≡ true → FindsSet old.cached left Back
+  pub kept : peek.side ≡ Back → left.blocks.front ≡ peek.blocks.front
 
 -- where a block's members begin among those of its round
 abbrev pub first_of : Side → ℕ → ℕ
@@ -112,6 +133,22 @@ abbrev pub BlocksTake : {P : Type 0} → Bool → List ℕ → ReadBlocks P → 
 BlocksTake whole group old found new =
     TakesAt whole (site_of group old) (nat_lt old.read old.width) (blocks_left (length group) old)
     (left_without found (blocks_left (length group) new))
+
+-- what a reading of blocks asks for: the pass is of these words, these are its round's members, and it stands at a block
+pub record MayReadBlocks {P : Type 0} (meld : P → P → P) (name : Name) (group : List ℕ) (reading : ReadBlocks P) (sight : Sight P) : Type 0 where
+  pub of : IsOf meld name sight
+  pub round : IsRoundOf name.limits sight.seen reading.comm reading.round group
+  pub at : AtBlock meld sight.seen group reading
+
+-- steps of a reading of blocks, so many at most, and what was found: an answer, where all are made at once, or else where it stands
+pub record ReadsBlocks {P : Type 0} (meld : P → P → P) (alone whole : Bool) (name : Name) (most : ℕ) (group : List ℕ) (reading : ReadBlocks P)
+    (old : Sight P) (found : Option (Found P)) (left : ReadBlocks P) (new : Sight P) : Type 0 where
+  pub goes : Goes meld alone name most old new
+  pub takes : BlocksTake whole group reading found left old new
+  pub comm : left.comm ≡ reading.comm
+  pub round : left.round ≡ reading.round
+  pub tells : BlocksTell meld new group left found
+  pub ends : whole ≡ true → IsSome found
 
 -- a reading that has read nothing of a block yet
 abbrev pub begins_at : {P : Type 0} → ℕ → ℕ → RoundBlocks P → ℕ → Side → ReadBlocks P

@@ -1,13 +1,11 @@
 // The two blocks of an agreement round: what is known of them, the loads that a poll begins with, and the reading of those that are 0:
 // each block's members in order, up to the first who isn't settled, and then its cache. A member that was found settled stays so and
 // says the same; that one is missing holds at its load alone.
-ghost use Rattle.std.specs.Prelude.{◌≡◌, ◌<◌, ◌≤◌, ◌+◌, ◌*◌, None, IsSome, false, true, is_some, length};
-ghost use Rattle.ulfm_model.specs.Blocks.{IsSide, width as width_of};
+ghost use Rattle.std.specs.Prelude.{◌≡◌, ◌<◌, ◌+◌, ◌*◌, None, false, true, is_some, length};
+ghost use Rattle.ulfm_model.specs.Blocks.{width as width_of};
 ghost use Rattle.ulfm_model.specs.History.{History};
 ghost use Rattle.ulfm_model.specs.declared.block.Side.TheVariants.{Front, Back};
-ghost use Rattle.ulfm_words.specs.Steps.{IsOf, Goes};
-ghost use Rattle.ulfm_steps.specs.Blocks.{AreOf, AtBlock, BlocksTake, BlocksTell, FindsSet, PeekTakes, Tells, has_back as is_apart, is_whole, said_at, starts_at};
-ghost use Rattle.ulfm_steps.specs.Rounds.{IsRoundOf};
+ghost use Rattle.ulfm_steps.specs.Blocks.{AreOf, FindsSet, MayPeek, MayReadBlocks, PeeksOn, ReadsBlocks, Tells, has_back as is_apart, is_whole, said_at, starts_at};
 
 use std::alloc::Allocator;
 use ulfm_laws::meld::{Meld, Packed};
@@ -84,10 +82,10 @@ impl<P: Packed> RoundBlocks<P> {
 pub struct Peek<P: Packed> {
     pub comm: u16,
     pub round: u16,
+    /// What is known of the blocks that were loaded.
+    pub blocks: RoundBlocks<P>,
     /// The block that is loaded next.
     pub side: Side,
-    /// What is known of those that were loaded.
-    pub blocks: RoundBlocks<P>,
 }
 
 impl<P: Packed> Peek<P> {
@@ -101,8 +99,8 @@ impl<P: Packed> Peek<P> {
         Peek {
             comm,
             round,
-            side: Side::Front,
             blocks: RoundBlocks::new(),
+            side: Side::Front,
         }
     }
 
@@ -114,20 +112,11 @@ impl<P: Packed> Peek<P> {
         pass: &mut W::Pass,
         group: &[u16],
     ) -> bool
-        requires of { IsOf P.meld (W.name words.now) (W.sight pass.old) }
-        requires round { IsRoundOf (W.name words.now).limits (W.sight pass.old).seen self.old.comm self.old.round group.now }
-        requires some { IsSide self.old.side group.now }
-        requires are { AreOf P.meld (W.sight pass.old).seen self.old.comm self.old.round group.now self.old.blocks }
-        ensures goes { Goes P.meld W.alone (W.name words.now) 1 (W.sight pass.old) (W.sight pass.new) }
-        ensures takes { PeekTakes false (length group.now) self.old result self.new (W.sight pass.old) (W.sight pass.new) }
-        ensures comm { self.new.comm ≡ self.old.comm }
-        ensures round { self.new.round ≡ self.old.round }
-        ensures are { AreOf P.meld (W.sight pass.new).seen self.old.comm self.old.round group.now self.new.blocks }
+        requires { MayPeek P.meld (W.name words.now) group.now self.old (W.sight pass.old) }
+        ensures peeks { PeeksOn P.meld W.alone false (W.name words.now) 1 group.now self.old (W.sight pass.old) result self.new (W.sight pass.new) }
         ensures next { result ≡ false → (self.old.side ≡ Front) × (self.new.side ≡ Back) × (is_apart (length group.now) ≡ true) }
         ensures last { result ≡ true → self.old.side ≡ Front → is_apart (length group.now) ≡ false }
-        ensures front { self.old.side ≡ Front → FindsSet (W.sight pass.old).cached self.new Front }
         ensures back { self.old.side ≡ Back → FindsSet (W.sight pass.old).cached self.new Back }
-        ensures kept { self.old.side ≡ Back → self.new.blocks.front ≡ self.old.blocks.front }
     {
         let block = Block {
             comm: self.comm,
@@ -157,20 +146,8 @@ impl<P: Packed> Peek<P> {
         group: &[u16],
         whole: bool,
     ) -> bool
-        requires of { IsOf P.meld (W.name words.now) (W.sight pass.old) }
-        requires round { IsRoundOf (W.name words.now).limits (W.sight pass.old).seen self.old.comm self.old.round group.now }
-        requires some { IsSide self.old.side group.now }
-        requires are { AreOf P.meld (W.sight pass.old).seen self.old.comm self.old.round group.now self.old.blocks }
-        ensures goes { Goes P.meld W.alone (W.name words.now) 2 (W.sight pass.old) (W.sight pass.new) }
-        ensures takes { PeekTakes whole (length group.now) self.old result self.new (W.sight pass.old) (W.sight pass.new) }
-        ensures comm { self.new.comm ≡ self.old.comm }
-        ensures round { self.new.round ≡ self.old.round }
-        ensures are { AreOf P.meld (W.sight pass.new).seen self.old.comm self.old.round group.now self.new.blocks }
-        ensures some { result ≡ false → IsSide self.new.side group.now }
-        ensures done { whole ≡ true → result ≡ true }
-        ensures front { self.old.side ≡ Front → FindsSet (W.sight pass.old).cached self.new Front }
-        ensures back { result ≡ true → is_apart (length group.now) ≡ true → FindsSet (W.sight pass.old).cached self.new Back }
-        ensures kept { self.old.side ≡ Back → self.new.blocks.front ≡ self.old.blocks.front }
+        requires { MayPeek P.meld (W.name words.now) group.now self.old (W.sight pass.old) }
+        ensures { PeeksOn P.meld W.alone whole (W.name words.now) 2 group.now self.old (W.sight pass.old) result self.new (W.sight pass.new) }
     {
         if self.step(words, pass, group) {
             return true;
@@ -241,14 +218,8 @@ impl<P: Packed> ReadBlocks<P> {
         pass: &mut W::Pass,
         group: &[u16],
     ) -> Option<Found<P>>
-        requires of { IsOf P.meld (W.name words.now) (W.sight pass.old) }
-        requires round { IsRoundOf (W.name words.now).limits (W.sight pass.old).seen self.old.comm self.old.round group.now }
-        requires at { AtBlock P.meld (W.sight pass.old).seen group.now self.old }
-        ensures goes { Goes P.meld W.alone (W.name words.now) 1 (W.sight pass.old) (W.sight pass.new) }
-        ensures takes { BlocksTake false group.now self.old result self.new (W.sight pass.old) (W.sight pass.new) }
-        ensures comm { self.new.comm ≡ self.old.comm }
-        ensures round { self.new.round ≡ self.old.round }
-        ensures tells { BlocksTell P.meld (W.sight pass.new) group.now self.new result }
+        requires { MayReadBlocks P.meld (W.name words.now) group.now self.old (W.sight pass.old) }
+        ensures { ReadsBlocks P.meld W.alone false (W.name words.now) 1 group.now self.old (W.sight pass.old) result self.new (W.sight pass.new) }
     {
         if self.read < self.width {
             return self.load(words, pass, group);
@@ -265,15 +236,9 @@ impl<P: Packed> ReadBlocks<P> {
         group: &[u16],
         whole: bool,
     ) -> Option<Found<P>>
-        requires of { IsOf P.meld (W.name words.now) (W.sight pass.old) }
-        requires round { IsRoundOf (W.name words.now).limits (W.sight pass.old).seen self.old.comm self.old.round group.now }
-        requires at { AtBlock P.meld (W.sight pass.old).seen group.now self.old }
-        ensures goes { Goes P.meld W.alone (W.name words.now) (2 * (width_of (length group.now) + 1)) (W.sight pass.old) (W.sight pass.new) }
-        ensures takes { BlocksTake whole group.now self.old result self.new (W.sight pass.old) (W.sight pass.new) }
-        ensures comm { self.new.comm ≡ self.old.comm }
-        ensures round { self.new.round ≡ self.old.round }
-        ensures tells { BlocksTell P.meld (W.sight pass.new) group.now self.new result }
-        ensures done { whole ≡ true → IsSome result }
+        requires { MayReadBlocks P.meld (W.name words.now) group.now self.old (W.sight pass.old) }
+        ensures { ReadsBlocks P.meld W.alone whole (W.name words.now) (2 * (width_of (length group.now) + 1)) group.now self.old (W.sight pass.old)
+            result self.new (W.sight pass.new) }
     {
         loop {
             let found = self.step(words, pass, group);
@@ -291,15 +256,9 @@ impl<P: Packed> ReadBlocks<P> {
         pass: &mut W::Pass,
         group: &[u16],
     ) -> Option<Found<P>>
-        requires of { IsOf P.meld (W.name words.now) (W.sight pass.old) }
-        requires round { IsRoundOf (W.name words.now).limits (W.sight pass.old).seen self.old.comm self.old.round group.now }
-        requires at { AtBlock P.meld (W.sight pass.old).seen group.now self.old }
+        requires may { MayReadBlocks P.meld (W.name words.now) group.now self.old (W.sight pass.old) }
         requires more { self.old.read < width_of (length group.now) }
-        ensures goes { Goes P.meld W.alone (W.name words.now) 1 (W.sight pass.old) (W.sight pass.new) }
-        ensures takes { BlocksTake false group.now self.old result self.new (W.sight pass.old) (W.sight pass.new) }
-        ensures comm { self.new.comm ≡ self.old.comm }
-        ensures round { self.new.round ≡ self.old.round }
-        ensures tells { BlocksTell P.meld (W.sight pass.new) group.now self.new result }
+        ensures { ReadsBlocks P.meld W.alone false (W.name words.now) 1 group.now self.old (W.sight pass.old) result self.new (W.sight pass.new) }
     {
         let rank = group[(self.first + self.read) as usize];
         match load_summary(words, pass, self.comm, self.round, rank) {
@@ -319,15 +278,9 @@ impl<P: Packed> ReadBlocks<P> {
         pass: &mut W::Pass,
         group: &[u16],
     ) -> Option<Found<P>>
-        requires of { IsOf P.meld (W.name words.now) (W.sight pass.old) }
-        requires round { IsRoundOf (W.name words.now).limits (W.sight pass.old).seen self.old.comm self.old.round group.now }
-        requires at { AtBlock P.meld (W.sight pass.old).seen group.now self.old }
+        requires may { MayReadBlocks P.meld (W.name words.now) group.now self.old (W.sight pass.old) }
         requires all { self.old.read ≡ width_of (length group.now) }
-        ensures goes { Goes P.meld W.alone (W.name words.now) 1 (W.sight pass.old) (W.sight pass.new) }
-        ensures takes { BlocksTake false group.now self.old result self.new (W.sight pass.old) (W.sight pass.new) }
-        ensures comm { self.new.comm ≡ self.old.comm }
-        ensures round { self.new.round ≡ self.old.round }
-        ensures tells { BlocksTell P.meld (W.sight pass.new) group.now self.new result }
+        ensures { ReadsBlocks P.meld W.alone false (W.name words.now) 1 group.now self.old (W.sight pass.old) result self.new (W.sight pass.new) }
     {
         let block = Block {
             comm: self.comm,

@@ -1,10 +1,10 @@
 // Reading a round, in the order of its members, up to the first who isn't settled. A member that was found settled stays so
 // and says the same; that one is missing holds at its load alone.
-ghost use Rattle.std.specs.Prelude.{◌≡◌, ◌+◌, ◌≤◌, ◌<◌, ◌-◌, false, true, length, take, MatchBool, MatchOption};
+ghost use Rattle.std.specs.Prelude.{◌≡◌, ◌+◌, ◌≤◌, ◌<◌, ◌-◌, false, true, length, MatchBool, MatchOption};
 ghost use Rattle.ulfm_laws.specs.Summaries.{summary_unit};
-ghost use Rattle.ulfm_words.specs.Steps.{IsOf, Goes};
+ghost use Rattle.ulfm_words.specs.Steps.{Goes};
 ghost use Rattle.ulfm_model.specs.Blocks.{IsSummed};
-ghost use Rattle.ulfm_steps.specs.Rounds.{IsRoundOf, IsMissing, ReadTakes};
+ghost use Rattle.ulfm_steps.specs.Rounds.{IsMissing, MayReadRound, ReadsRound};
 
 use std::alloc::Allocator;
 use ulfm_laws::meld::{Meld, Packed};
@@ -43,26 +43,19 @@ impl<P: Packed> ReadRound<P> {
         pass: &mut W::Pass,
         group: &[u16],
     ) -> bool
-        requires of { IsOf P.meld (W.name words.now) (W.sight pass.old) }
-        requires round { IsRoundOf (W.name words.now).limits (W.sight pass.old).seen self.old.comm self.old.round group.now }
+        requires may { MayReadRound P.meld (W.name words.now) group.now self.old (W.sight pass.old) }
         requires more { self.old.read < length group.now }
-        requires read { IsSummed P.meld (W.sight pass.old).seen self.old.comm self.old.round (take self.old.read group.now) self.old.all }
-        ensures goes { Goes P.meld W.alone (W.name words.now) 1 (W.sight pass.old) (W.sight pass.new) }
-        ensures takes { ReadTakes false group.now self.old result self.new (W.sight pass.old) (W.sight pass.new) }
-        ensures comm { self.new.comm ≡ self.old.comm }
-        ensures round { self.new.round ≡ self.old.round }
+        ensures reads { ReadsRound P.meld W.alone false (W.name words.now) 1 group.now self.old (W.sight pass.old) result self.new (W.sight pass.new) }
         ensures further { MatchBool result (self.new.read ≡ self.old.read + 1) (self.new.read ≡ self.old.read) }
-        ensures read { IsSummed P.meld (W.sight pass.new).seen self.old.comm self.old.round (take self.new.read group.now) self.new.all }
-        ensures missing { MatchBool result (Unit {0}) (IsMissing (W.sight pass.new).last (W.sight pass.new).seen self.old.comm self.old.round group.now) }
     {
         let rank = group[self.read];
         match load_summary(words, pass, self.comm, self.round, rank) {
-            None => false,
             Some(said) => {
                 self.all = self.all.meld(&said);
                 self.read += 1;
                 true
             }
+            None => false,
         }
     }
 
@@ -75,18 +68,11 @@ impl<P: Packed> ReadRound<P> {
         group: &[u16],
         whole: bool,
     ) -> bool
-        requires of { IsOf P.meld (W.name words.now) (W.sight pass.old) }
-        requires round { IsRoundOf (W.name words.now).limits (W.sight pass.old).seen self.old.comm self.old.round group.now }
+        requires may { MayReadRound P.meld (W.name words.now) group.now self.old (W.sight pass.old) }
         requires more { self.old.read < length group.now }
-        requires read { IsSummed P.meld (W.sight pass.old).seen self.old.comm self.old.round (take self.old.read group.now) self.old.all }
-        ensures goes { Goes P.meld W.alone (W.name words.now) (length group.now) (W.sight pass.old) (W.sight pass.new) }
-        ensures takes { ReadTakes whole group.now self.old result self.new (W.sight pass.old) (W.sight pass.new) }
-        ensures comm { self.new.comm ≡ self.old.comm }
-        ensures round { self.new.round ≡ self.old.round }
+        ensures reads { ReadsRound P.meld W.alone whole (W.name words.now) (length group.now) group.now self.old (W.sight pass.old) result self.new (W.sight pass.new) }
         ensures onward { MatchBool result (self.old.read < self.new.read) (self.old.read ≤ self.new.read) }
         ensures within { self.new.read ≤ length group.now }
-        ensures read { IsSummed P.meld (W.sight pass.new).seen self.old.comm self.old.round (take self.new.read group.now) self.new.all }
-        ensures missing { MatchBool result (Unit {0}) (IsMissing (W.sight pass.new).last (W.sight pass.new).seen self.old.comm self.old.round group.now) }
         ensures done { result ≡ true → whole ≡ true → self.new.read ≡ length group.now }
     {
         // The loop works on a copy, which needs no memory.
@@ -110,10 +96,8 @@ impl<P: Packed> ReadRound<P> {
         pass: &mut W::Pass,
         group: &[u16],
     ) -> Option<Summary<P>>
-        requires of { IsOf P.meld (W.name words.now) (W.sight pass.old) }
-        requires round { IsRoundOf (W.name words.now).limits (W.sight pass.old).seen self.comm self.round group.now }
+        requires may { MayReadRound P.meld (W.name words.now) group.now self (W.sight pass.old) }
         requires within { self.read ≤ length group.now }
-        requires read { IsSummed P.meld (W.sight pass.old).seen self.comm self.round (take self.read group.now) self.all }
         ensures goes { Goes P.meld W.alone (W.name words.now) (length group.now - self.read) (W.sight pass.old) (W.sight pass.new) }
         ensures loaded { MatchOption result ((W.sight pass.old).steps < (W.sight pass.new).steps) (λ _. Unit {0}) }
         ensures read { MatchOption result (IsMissing (W.sight pass.new).last (W.sight pass.new).seen self.comm self.round group.now)

@@ -1,4 +1,4 @@
-use Rattle.std.proofs.Common.{◌≡◌, ◌∙◌, subst, sym, arith, true, is_some}
+use Rattle.std.proofs.Common.{◌≡◌, ◌∙◌, subst, sym, arith, true, is_some, rules}
 use Rattle.ulfm_model.specs.{Blocks.{block_of, has_block}, declared.block.Side.{Side}, declared.block.Side.TheVariants.{Front, Back}}
 use Rattle.ulfm_model.proofs.Blocks.{has_block_stays}
 use Rattle.ulfm_words.proofs.Trails.{did_prefix}
@@ -44,18 +44,37 @@ finds g c side is has =
     let still = has_block_stays (g.W.Words.sight c.args.pass.now).cached new (block_at r.comm r.round side) e.cached has in
     sym e.known ∙ subst (λ s. has_block new (block_at r.comm r.round s) ≡ true) (sym is) still
 
-pub returns-in-Front-clause-are : goal.returns-in-Front-clause-are
-returns-in-Front-clause-are g c =
-    let at = (goal.at.returns-in-Front-clause-are g c).After-load_said-said in
-    record { front = told g at Front c.in-Front.is; back = (later g at).back }
+pub returns-in-Front-clause-peeks : goal.returns-in-Front-clause-peeks
+returns-in-Front-clause-peeks g c =
+    let at = (goal.at.returns-in-Front-clause-peeks g c).After-load_said-said in
+    record {
+      goes = search rules;
+      takes = search rules;
+      comm = search rules;
+      round = search rules;
+      are = record { front = told g at Front c.in-Front.is; back = (later g at).back };
+      some = search rules;
+      ends = search rules;
+      front = finds g at Front;
+      back = search rules;
+      kept = search rules;
+    }
 
-pub returns-in-Front-clause-front : goal.returns-in-Front-clause-front
-returns-in-Front-clause-front g c side has = finds g (goal.at.returns-in-Front-clause-front g c).After-load_said-said Front side has
-
-pub returns-in-Back-clause-are : goal.returns-in-Back-clause-are
-returns-in-Back-clause-are g c =
-    let at = (goal.at.returns-in-Back-clause-are g c).After-load_said-said in
-    record { front = (later g at).front; back = told g at Back c.in-Back.is }
+pub returns-in-Back-clause-peeks : goal.returns-in-Back-clause-peeks
+returns-in-Back-clause-peeks g c =
+    let at = (goal.at.returns-in-Back-clause-peeks g c).After-load_said-said in
+    record {
+      goes = search rules;
+      takes = search rules;
+      comm = search rules;
+      round = search rules;
+      are = record { front = (later g at).front; back = told g at Back c.in-Back.is };
+      some = search rules;
+      ends = search rules;
+      front = search rules;
+      back = λ _ _. finds g at Back c.in-Back.is;
+      kept = search rules;
+    }
 
 pub returns-in-Back-clause-back : goal.returns-in-Back-clause-back
 returns-in-Back-clause-back g c side has = finds g (goal.at.returns-in-Back-clause-back g c).After-load_said-said Back side has

@@ -1,4 +1,4 @@
-use Rattle.std.proofs.Common.{◌≡◌, None, [], length, ap, sym, ◌∙◌, arith, nat_lt}
+use Rattle.std.proofs.Common.{◌≡◌, None, [], length, ap, sym, ◌∙◌, arith, nat_lt, rules}
 use Rattle.ulfm_model.proofs.Lists.{none_of, prefix_trans}
 use Rattle.ulfm_words.proofs.Trails.{did_prefix, did_wait}
 use Rattle.ulfm_steps.specs.Blocks.{blocks_left, site_of}
@@ -7,17 +7,30 @@ use Rattle.ulfm_steps.proofs.{InBlocks.{blocks_most}, Reading.{round_stays}, Tur
 use Rattle.ulfm_steps.proofs.blocks.ReadBlocks.advance.Goals as goal
 use Rattle.ulfm_steps.proofs.blocks.ReadBlocks.advance.Goals.{After-step-found}
 
-pub returns-then-not-whole-clause-goes : goal.returns-then-not-whole-clause-goes
-returns-then-not-whole-clause-goes g c =
+pub returns-then-not-whole : goal.returns-then-not-whole
+returns-then-not-whole g c =
     let inv = c.loop-found.invariant in
     let e = c.step-found.ensures in
-    let most = blocks_most (length c.args.group.now) c.args.self.now in
+    let group = c.args.group.now in
+    let r = c.loop-found.self in
+    let first = c.args.self.now in
+    let most = blocks_most (length group) first in
     record {
-      of = e.goes.of;
-      did = did_wait g.W.Words.alone [] (g.W.Words.sight c.args.pass.now).seen (g.W.Words.sight c.loop-found.pass).seen (g.W.Words.sight c.step-found.new.pass).seen inv.did e.goes.did;
-      cached = prefix_trans _ _ _ inv.cached e.goes.cached;
-      onward = omega (arith, inv.onward, e.goes.onward);
-      steps = omega (arith, inv.steps, e.goes.steps, most);
+      goes = record {
+        of = e.goes.of;
+        did = did_wait g.W.Words.alone [] (g.W.Words.sight c.args.pass.now).seen (g.W.Words.sight c.loop-found.pass).seen (g.W.Words.sight c.step-found.new.pass).seen inv.did e.goes.did;
+        cached = prefix_trans _ _ _ inv.cached e.goes.cached;
+        onward = omega (arith, inv.onward, e.goes.onward);
+        steps = omega (arith, inv.steps, e.goes.steps, most);
+      };
+      takes =
+          takes_on_at c.args.whole (site_of group first) (site_of group r) (nat_lt first.read first.width) (nat_lt r.read r.width) (blocks_left (length group) first) (blocks_left (length group) r)
+          (left_without c.step-found.result (blocks_left (length group) c.step-found.new.self)) (g.W.Words.sight c.args.pass.now) (g.W.Words.sight c.loop-found.pass) (g.W.Words.sight c.step-found.new.pass)
+          (λ single. let same = inv.turn single in (sym (inv.first single), ap (site_of group) same, ap (λ x. nat_lt x.read x.width) same)) inv.onward inv.steps e.takes;
+      comm = e.comm ∙ inv.comm;
+      round = e.round ∙ inv.round;
+      tells = e.tells;
+      ends = search rules;
     }
 
 pub loop-found-preserved : goal.loop-found-preserved
@@ -43,13 +56,3 @@ loop-found-preserved g c =
       onward = omega (arith, inv.onward, e.goes.onward);
       steps = omega (arith, inv.steps, turns);
     }
-
-pub returns-then-not-whole-clause-takes : goal.returns-then-not-whole-clause-takes
-returns-then-not-whole-clause-takes g c =
-    let inv = c.loop-found.invariant in
-    let group = c.args.group.now in
-    let r = c.loop-found.self in
-    let first = c.args.self.now in
-    takes_on_at c.args.whole (site_of group first) (site_of group r) (nat_lt first.read first.width) (nat_lt r.read r.width) (blocks_left (length group) first) (blocks_left (length group) r)
-    (left_without c.step-found.result (blocks_left (length group) c.step-found.new.self)) (g.W.Words.sight c.args.pass.now) (g.W.Words.sight c.loop-found.pass) (g.W.Words.sight c.step-found.new.pass)
-    (λ single. let same = inv.turn single in (sym (inv.first single), ap (site_of group) same, ap (λ x. nat_lt x.read x.width) same)) inv.onward inv.steps c.step-found.ensures.takes

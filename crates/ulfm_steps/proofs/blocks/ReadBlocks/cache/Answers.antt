@@ -1,4 +1,4 @@
-use Rattle.std.proofs.Common.{◌≡◌, ◌-◌, ◌∙◌, refl, length, ap, subst, sym, arith, false}
+use Rattle.std.proofs.Common.{◌≡◌, ◌-◌, ◌∙◌, refl, length, ap, subst, sym, arith, false, rules}
 use Rattle.ulfm_model.proofs.Summed.{summed_none}
 use Rattle.ulfm_words.proofs.Trails.{did_prefix}
 use Rattle.ulfm_steps.specs.Blocks.{AreOf, Tells, is_whole}
@@ -8,16 +8,16 @@ use Rattle.ulfm_steps.proofs.blocks.ReadBlocks.cache.Goals.{Joined-self, in-Fron
 
 pub cache-requires-clause-within : goal.cache-requires-clause-within
 cache-requires-clause-within g c =
-    within_of g.P.Meld.meld (g.W.Words.name c.args.words.now).limits (g.W.Words.sight c.args.pass.now).seen c.args.self.now.comm c.args.self.now.round c.args.self.now.side c.args.group.now c.requires.of.legal c.requires.of.may_open c.requires.round
+    within_of g.P.Meld.meld (g.W.Words.name c.args.words.now).limits (g.W.Words.sight c.args.pass.now).seen c.args.self.now.comm c.args.self.now.round c.args.self.now.side c.args.group.now c.requires.may.of.legal c.requires.may.of.may_open c.requires.may.round
 
 pub cache-requires-clause-may : goal.cache-requires-clause-may
 cache-requires-clause-may g c =
     let r = c.args.self.now in
-    is_block g.P.Meld.meld g.P.Packed.pack (g.W.Words.name c.args.words.now).limits (g.W.Words.sight c.args.pass.now).seen r.comm r.round r.side c.args.group.now r.read c.block_word.result r.all c.requires.round c.requires.at.side c.requires.all c.requires.at.read c.block_word.ensures
+    is_block g.P.Meld.meld g.P.Packed.pack (g.W.Words.name c.args.words.now).limits (g.W.Words.sight c.args.pass.now).seen r.comm r.round r.side c.args.group.now r.read c.block_word.result r.all c.requires.may.round c.requires.may.at.side c.requires.all c.requires.may.at.read c.block_word.ensures
 
 pub overflow_cast-members : goal.overflow_cast-members
 overflow_cast-members g c =
-    let few = few_members (g.W.Words.name c.args.words.now).limits (g.W.Words.sight c.args.pass.now).seen c.args.self.now.comm c.args.self.now.round c.args.group.now c.requires.of.may_open c.requires.round in
+    let few = few_members (g.W.Words.name c.args.words.now).limits (g.W.Words.sight c.args.pass.now).seen c.args.self.now.comm c.args.self.now.round c.args.group.now c.requires.may.of.may_open c.requires.may.round in
     omega (arith, few)
 
 -- what is known after it
@@ -33,36 +33,50 @@ known : (g : _) (c : Joined-self g) → AreOf g.P.Meld.meld (g.W.Words.sight c.c
 known g c =
     let old = (g.W.Words.sight c.args.pass.now).seen in
     let new = (g.W.Words.sight c.cache.new.pass).seen in
-    are_with g.P.Meld.meld old new c.args.group.now c.args.self.now (did_prefix g.W.Words.alone _ old new c.cache.ensures.did) c.requires.at c.requires.all
+    are_with g.P.Meld.meld old new c.args.group.now c.args.self.now (did_prefix g.W.Words.alone _ old new c.cache.ensures.did) c.requires.may.at c.requires.all
 
-pub returns-in-Some-clause-tells : goal.returns-in-Some-clause-tells
-returns-in-Some-clause-tells g c =
-    let at = (goal.at.returns-in-Some-clause-tells g c).Joined-self in
+pub returns-in-Some : goal.returns-in-Some
+returns-in-Some g c =
+    let at = (goal.at.returns-in-Some g c).Joined-self in
     let meld = g.P.Meld.meld in
     let new = (g.W.Words.sight c.cache.new.pass).seen in
     let r = c.args.self.now in
     let group = c.args.group.now in
     let is = blocks_are g at in
     let tells = c.all.ensures.tells new r.comm r.round group refl (rw is (known g at)) in
-    rw is (subst (Tells meld new r.comm r.round group) c.in-Some.is tells)
+    record {
+      goes = search rules;
+      takes = search rules;
+      comm = search rules;
+      round = search rules;
+      tells = rw is (subst (Tells meld new r.comm r.round group) c.in-Some.is tells);
+      ends = search rules;
+    }
 
-pub returns-clause-tells : goal.returns-clause-tells
-returns-clause-tells g c =
-    let at = (goal.at.returns-clause-tells g c).Joined-self in
+pub returns : goal.returns
+returns g c =
+    let at = (goal.at.returns g c).Joined-self in
     let meld = g.P.Meld.meld in
     let new = (g.W.Words.sight c.cache.new.pass).seen in
     let r = c.args.self.now in
     let group = c.args.group.now in
     let is = blocks_are g at in
     let whole : is_whole (known_with r.blocks r.side r.all) (length group) ≡ false = subst (λ b. is_whole b (length group) ≡ false) (ap (λ x. x.blocks) is) (sym c.in_default.ensures.whole) in
-    let next = next_by r.side r.blocks r.all (length group) c.requires.at.front whole in
-    rw (is, c.unit-self.ensures) (record {
-      are = known g at;
-      unknown = next.1;
-      side = apart_lt (length group) next.2;
-      front = λ _. next.0;
-      wide = c.requires.at.wide;
-      begins = ap (λ w. length group - w) c.requires.at.wide;
-      within = omega arith;
-      read = summed_none meld new r.comm r.round;
-    })
+    let next = next_by r.side r.blocks r.all (length group) c.requires.may.at.front whole in
+    record {
+      goes = search rules;
+      takes = search rules;
+      comm = search rules;
+      round = search rules;
+      tells = rw (is, c.unit-self.ensures) (record {
+        are = known g at;
+        unknown = next.1;
+        side = apart_lt (length group) next.2;
+        front = λ _. next.0;
+        wide = c.requires.may.at.wide;
+        begins = ap (λ w. length group - w) c.requires.may.at.wide;
+        within = omega arith;
+        read = summed_none meld new r.comm r.round;
+      });
+      ends = search rules;
+    }

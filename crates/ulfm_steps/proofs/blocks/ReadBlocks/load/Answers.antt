@@ -1,76 +1,66 @@
-use Rattle.std.proofs.Common.{◌≡◌, ◌+◌, [], ◌∷◌, ◌++◌, None, Some, true, take, slice_index_or, ap, sym, ◌∙◌, arith}
+use Rattle.std.proofs.Common.{◌≡◌, ℕ, ◌+◌, ◌≤◌, [], ◌∷◌, ◌++◌, false, take, slice_index_or, nat_lt, ap, sym, ◌∙◌, arith, rules}
 use Rattle.std.specs.Prelude.{length}
-use Rattle.std.specs.Option.{option_map_or}
 use Rattle.ulfm_laws.specs.Summaries.{summary_meld}
-use Rattle.ulfm_model.specs.{Blocks.{block_of}, History.{slot}, Laws.{summary_of}, Words.{slot_word, word_at}, declared.{place.Place.TheVariants.{Slot as SlotAt}}}
+use Rattle.ulfm_model.specs.{Blocks.{block_of}, Laws.{summary_of}, declared.{place.Place.TheVariants.{Slot as SlotAt}}}
 use Rattle.ulfm_model.proofs.Summed.{summed_later, summed_push}
 use Rattle.ulfm_words.proofs.Trails.{did_prefix}
-use Rattle.ulfm_words.specs.declared.step.Site.{Site}
-use Rattle.ulfm_steps.specs.Blocks.{blocks_left}
-use Rattle.ulfm_steps.proofs.{InBlocks.{are_later, block_index, block_length, few_members, rank_is, rank_within, takes_member}, Reading.{has_at, member_within, take_one_more}, Turning.{takes_load}}
+use Rattle.ulfm_steps.specs.{Blocks.{blocks_left, site_of}, Turns.{TakesAt}}
+use Rattle.ulfm_steps.proofs.{InBlocks.{are_later, block_index, block_length, few_members, rank_is, rank_within, takes_member}, Reading.{has_at, member_within, missing_at, take_one_more}, Turning.{takes_load}}
 use Rattle.ulfm_steps.proofs.blocks.ReadBlocks.load.Goals as goal
+use Rattle.ulfm_steps.proofs.blocks.ReadBlocks.load.Goals.{After-load_summary}
 
 pub overflow_add-rank : goal.overflow_add-rank
 overflow_add-rank g c =
-    let lt = rank_within g.P.Meld.meld (g.W.Words.sight c.args.pass.now).seen c.args.group.now c.args.self.now c.requires.at c.requires.more in
-    let most = few_members (g.W.Words.name c.args.words.now).limits (g.W.Words.sight c.args.pass.now).seen c.args.self.now.comm c.args.self.now.round c.args.group.now c.requires.of.may_open c.requires.round in
+    let lt = rank_within g.P.Meld.meld (g.W.Words.sight c.args.pass.now).seen c.args.group.now c.args.self.now c.requires.may.at c.requires.more in
+    let most = few_members (g.W.Words.name c.args.words.now).limits (g.W.Words.sight c.args.pass.now).seen c.args.self.now.comm c.args.self.now.round c.args.group.now c.requires.may.of.may_open c.requires.may.round in
     omega (arith, lt, most)
 
 pub bounds-group-self : goal.bounds-group-self
-bounds-group-self g c = rank_within g.P.Meld.meld (g.W.Words.sight c.args.pass.now).seen c.args.group.now c.args.self.now c.requires.at c.requires.more
+bounds-group-self g c = rank_within g.P.Meld.meld (g.W.Words.sight c.args.pass.now).seen c.args.group.now c.args.self.now c.requires.may.at c.requires.more
 
 pub load_summary-requires-clause-within : goal.load_summary-requires-clause-within
 load_summary-requires-clause-within g c =
     let r = c.args.self.now in
-    let lt = rank_within g.P.Meld.meld (g.W.Words.sight c.args.pass.now).seen c.args.group.now c.args.self.now c.requires.at c.requires.more in
+    let lt = rank_within g.P.Meld.meld (g.W.Words.sight c.args.pass.now).seen c.args.group.now c.args.self.now c.requires.may.at c.requires.more in
     member_within (g.W.Words.name c.args.words.now).limits g.P.Meld.meld (g.W.Words.sight c.args.pass.now).seen r.comm r.round (slice_index_or c.args.group.now (r.first + r.read) 0) c.args.group.now
-    c.requires.of.legal c.requires.of.may_open c.requires.round (has_at c.args.group.now (r.first + r.read) 0 lt)
+    c.requires.may.of.legal c.requires.may.of.may_open c.requires.may.round (has_at c.args.group.now (r.first + r.read) 0 lt)
 
 pub overflow_add-self : goal.overflow_add-self
 overflow_add-self g c =
-    let lt = rank_within g.P.Meld.meld (g.W.Words.sight c.args.pass.now).seen c.args.group.now c.args.self.now c.requires.at c.requires.more in
-    let most = few_members (g.W.Words.name c.args.words.now).limits (g.W.Words.sight c.args.pass.now).seen c.args.self.now.comm c.args.self.now.round c.args.group.now c.requires.of.may_open c.requires.round in
+    let lt = rank_within g.P.Meld.meld (g.W.Words.sight c.args.pass.now).seen c.args.group.now c.args.self.now c.requires.may.at c.requires.more in
+    let most = few_members (g.W.Words.name c.args.words.now).limits (g.W.Words.sight c.args.pass.now).seen c.args.self.now.comm c.args.self.now.round c.args.group.now c.requires.may.of.may_open c.requires.may.round in
     omega (arith, lt, most)
 
-pub returns-in-None-clause-takes : goal.returns-in-None-clause-takes
-returns-in-None-clause-takes g c =
+-- the load is a step of the reading
+takes : (g : _) (c : After-load_summary g) (after : ℕ) → after + 1 ≤ blocks_left (length c.args.group.now) c.args.self.now
+    → TakesAt false (site_of c.args.group.now c.args.self.now) (nat_lt c.args.self.now.read c.args.self.now.width) (blocks_left (length c.args.group.now) c.args.self.now) after (g.W.Words.sight c.args.pass.now) (g.W.Words.sight c.load_summary.new.pass)
+takes g c after fewer =
     let r = c.args.self.now in
     let old = g.W.Words.sight c.args.pass.now in
     let new = g.W.Words.sight c.load_summary.new.pass in
     let before = blocks_left (length c.args.group.now) r in
-    takes_member c.args.group.now r before 0 old new (omega (arith, c.requires.more, c.requires.at.wide))
-    (takes_load g.P.Meld.meld g.P.Packed.pack g.W.Words.alone (g.W.Words.name c.args.words.now) _ old new _ before 0 c.load_summary.ensures.loads (ap (λ x. SlotAt r.comm r.round x) (rank_is g.P.Meld.meld old.seen c.args.group.now r c.requires.at)) (omega arith))
+    takes_member c.args.group.now r before after old new (omega (arith, c.requires.more, c.requires.may.at.wide))
+    (takes_load g.P.Meld.meld g.P.Packed.pack g.W.Words.alone (g.W.Words.name c.args.words.now) _ old new _ before after c.load_summary.ensures.loads (ap (λ x. SlotAt r.comm r.round x) (rank_is g.P.Meld.meld old.seen c.args.group.now r c.requires.may.at)) fewer)
 
-pub returns-in-Some-clause-takes : goal.returns-in-Some-clause-takes
-returns-in-Some-clause-takes g c =
+pub returns-in-None : goal.returns-in-None
+returns-in-None g c =
     let r = c.args.self.now in
-    let old = g.W.Words.sight c.args.pass.now in
-    let new = g.W.Words.sight c.load_summary.new.pass in
-    let before = blocks_left (length c.args.group.now) r in
-    takes_member c.args.group.now r before _ old new (omega (arith, c.requires.more, c.requires.at.wide))
-    (takes_load g.P.Meld.meld g.P.Packed.pack g.W.Words.alone (g.W.Words.name c.args.words.now) _ old new _ before _ c.load_summary.ensures.loads (ap (λ x. SlotAt r.comm r.round x) (rank_is g.P.Meld.meld old.seen c.args.group.now r c.requires.at)) (omega (arith, c.requires.more)))
-
-pub returns-in-None-clause-tells : goal.returns-in-None-clause-tells
-returns-in-None-clause-tells g c =
-    let r = c.args.self.now in
-    let new = g.W.Words.sight c.load_summary.new.pass in
-    let rank = slice_index_or c.args.group.now (r.first + r.read) 0 in
-    let lt = rank_within g.P.Meld.meld (g.W.Words.sight c.args.pass.now).seen c.args.group.now r c.requires.at c.requires.more in
-    let none : slot new.seen r.comm r.round rank ≡ None = c.in-None.ensures.summary in
-    let word : word_at g.P.Packed.pack new.seen (SlotAt r.comm r.round rank) ≡ 0 = ap (λ s. option_map_or (slot_word g.P.Packed.pack) s 0) none in
+    let lt = rank_within g.P.Meld.meld (g.W.Words.sight c.args.pass.now).seen c.args.group.now r c.requires.may.at c.requires.more in
     record {
-      rank = rank;
-      member = has_at c.args.group.now (r.first + r.read) 0 lt;
-      empty = none;
-      found = c.load_summary.ensures.loads.last ∙ ap (λ w. Some (record { at = Site.Place (SlotAt r.comm r.round rank); word = w; load = true })) word;
+      goes = search rules;
+      takes = takes g (goal.at.returns-in-None g c).After-load_summary 0 (omega arith);
+      comm = search rules;
+      round = search rules;
+      tells = missing_at g.P.Packed.pack (g.W.Words.sight c.load_summary.new.pass) r.comm r.round (r.first + r.read) c.args.group.now lt c.in-None.ensures.summary c.load_summary.ensures.loads.last;
+      ends = search rules;
     }
 
-pub returns-in-Some-clause-tells : goal.returns-in-Some-clause-tells
-returns-in-Some-clause-tells g c =
+pub returns-in-Some : goal.returns-in-Some
+returns-in-Some g c =
     let meld = g.P.Meld.meld in
     let r = c.args.self.now in
     let group = c.args.group.now in
-    let at = c.requires.at in
+    let at = c.requires.may.at in
     let old = (g.W.Words.sight c.args.pass.now).seen in
     let new = (g.W.Words.sight c.load_summary.new.pass).seen in
     let begins = did_prefix g.W.Words.alone _ old new c.load_summary.ensures.loads.did in
@@ -84,12 +74,19 @@ returns-in-Some-clause-tells g c =
     let same : slice_index_or block r.read 0 ≡ rank = block_index r.side r.read group c.requires.more ∙ sym (rank_is meld old group r at) in
     let push : take (r.read + 1) block ≡ done ++ rank ∷ [] = take_one_more block r.read 0 (omega (arith, c.requires.more, block_length r.side group)) ∙ ap (λ x. done ++ x ∷ []) same in
     record {
-      are = are_later meld old new r.comm r.round group r.blocks begins at.are;
-      unknown = at.unknown;
-      side = at.side;
-      front = at.front;
-      wide = at.wide;
-      begins = at.begins;
-      within = omega (arith, c.requires.more);
-      read = rw (is, push) more;
+      goes = search rules;
+      takes = takes g (goal.at.returns-in-Some g c).After-load_summary _ (omega (arith, c.requires.more));
+      comm = search rules;
+      round = search rules;
+      tells = record {
+        are = are_later meld old new r.comm r.round group r.blocks begins at.are;
+        unknown = at.unknown;
+        side = at.side;
+        front = at.front;
+        wide = at.wide;
+        begins = at.begins;
+        within = omega (arith, c.requires.more);
+        read = rw (is, push) more;
+      };
+      ends = search rules;
     }

@@ -1,11 +1,17 @@
 use Rattle.std.proofs.Common.{◌∙◌, ap, subst, arith}
 use Rattle.ulfm_model.specs.Blocks.{IsSummed}
+use Rattle.ulfm_model.proofs.Summed.{summed_none}
 use Rattle.ulfm_steps.proofs.{Reading.{world_round}, Spawning.{world_spawns}}
 use Rattle.ulfm_steps.proofs.intruder.Intruder.spawn.Goals as goal
 
-pub finish-requires-clause-round : goal.finish-requires-clause-round
-finish-requires-clause-round g c =
-    rw (c.new.ensures, c.requires.world, c.deref.ensures.value, c.in-Ok.ensures) (world_round c.args.self.now.plain.limits c.args.pass.now.plain.seen c.args.round c.requires.round)
+pub finish-requires-clause-may : goal.finish-requires-clause-may
+finish-requires-clause-may g c =
+    let h = c.args.pass.now.plain.seen in
+    record {
+      of = c.requires.of;
+      round = rw (c.new.ensures, c.requires.world, c.deref.ensures.value, c.in-Ok.ensures) (world_round c.args.self.now.plain.limits h c.args.round c.requires.round);
+      read = rw c.new.ensures (summed_none g.P.Meld.meld h c.args.parent c.args.round);
+    }
 
 pub finish-requires-then-mask-ne0-clause-may : goal.finish-requires-then-mask-ne0-clause-may
 finish-requires-then-mask-ne0-clause-may g c =

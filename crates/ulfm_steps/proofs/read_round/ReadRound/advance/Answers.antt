@@ -10,10 +10,10 @@ loop-reading-preserved g c =
     let first = (g.W.Words.sight c.args.pass.now).seen in
     let now = (g.W.Words.sight c.loop-reading.pass).seen in
     let after = (g.W.Words.sight c.step-settled.new.pass).seen in
-    let e = c.step-settled.ensures in
+    let e = c.step-settled.ensures.reads in
     let inv = c.loop-reading.invariant in
     let next = c.step-settled.new.self in
-    let one : next.read ≡ c.loop-reading.reading.read + 1 = subst (λ b. MatchBool b (next.read ≡ c.loop-reading.reading.read + 1) (next.read ≡ c.loop-reading.reading.read)) c.if-not-settled.false e.further in
+    let one : next.read ≡ c.loop-reading.reading.read + 1 = subst (λ b. MatchBool b (next.read ≡ c.loop-reading.reading.read + 1) (next.read ≡ c.loop-reading.reading.read)) c.if-not-settled.false c.step-settled.ensures.further in
     record {
       of = e.goes.of;
       did = did_wait g.W.Words.alone [] first now after inv.did e.goes.did;
