@@ -12,7 +12,7 @@ use Rattle.ulfm_model.specs.declared.place.Place.TheVariants.{Slot as SlotAt}
 use Rattle.ulfm_model.specs.declared.step_name.StepName.TheVariants as step
 use Rattle.ulfm_words.proofs.Trails.{did_none, did_prefix, did_wait}
 use Rattle.ulfm_steps.specs.declared.{mark_all.MarkAll.{MarkAll}, blocks.ReadBlocks.{ReadBlocks}, blocks.RoundBlocks.{RoundBlocks}}
-use Rattle.ulfm_steps.specs.{Blocks.{AreOf, AtBlock, block_at, is_whole, next_of, site_of, starts_at}, Marks.{HasMarked as MarkedOn, IsAt, Marks, MayMarkAll, members_in}, Rounds.{IsMissing, IsRoundOf}, Turns.{IsStepAt}}
+use Rattle.ulfm_steps.specs.{Blocks.{AreOf, AtBlock, MayReadBlocks, block_at, is_whole, next_of, site_of, starts_at}, Marks.{HasMarked as MarkedOn, IsAt, Marks, MayMarkAll, members_in}, Rounds.{IsMissing, IsRoundOf}, Turns.{IsStepAt}}
 use Rattle.ulfm_model.specs.Blocks.{IsSummed}
 use Rattle.ulfm_steps.proofs.{InBlocks.{are_later, few_members, starts}, Marking.{marks_join, marks_wait, new_members, take_all}}
 use Rattle.ulfm_comm.specs.{Polls.{HasMarked, agreement}, Phase.{Answered, Stands, next_step}, StepsLeft.{MakesStep}, Agreement.{HasReadAll, IsMarking, IsReading, agreed_reply}}
@@ -306,12 +306,13 @@ module _ {P : Type 0} (meld : P → P → P) (name : Name) (asked : Call P) (rea
   read_same = members_are ∙ ap (λ (z : Held). z.group) (same_held own (comm_of asked) w reads.x y w_is found reads.marked.held)
 
   -- the next one may be made
-  pub reading_may : IsRoundOf name.limits now.seen reading.comm reading.round members
-  reading_may =
-      subst (λ ms. IsRoundOf name.limits now.seen reading.comm reading.round ms) (sym read_same) (reading_round meld name.limits alone (comm_of asked) shrinks reading old before.seen own now.seen reads)
-
-  pub reading_at : AtBlock meld now.seen members reading
-  reading_at = subst (λ ms. AtBlock meld now.seen ms reading) (sym read_same) reads.at
+  pub reading_may : IsOf meld name now → MayReadBlocks meld name members reading now
+  reading_may of =
+      record {
+        of = of;
+        round = subst (λ ms. IsRoundOf name.limits now.seen reading.comm reading.round ms) (sym read_same) (reading_round meld name.limits alone (comm_of asked) shrinks reading old before.seen own now.seen reads);
+        at = subst (λ ms. AtBlock meld now.seen ms reading) (sym read_same) reads.at;
+      }
 
   module _ (quiet : Bool) (only : IsTrue alone → IsTrue quiet) (after : Sight P) (of : IsOf meld name after) (did : Did quiet [] now.seen after.seen) (steps : now.steps ≤ after.steps) where
     marked_on : HasMarked meld name.limits alone (comm_of asked) shrinks reading.round reads.x old before.seen own after.seen

@@ -9,7 +9,7 @@ use Rattle.ulfm_model.proofs.{Lists.{each_from, filter_none}, OnlyReply.{all_mem
 use Rattle.ulfm_words.specs.{Steps.{IsOf, Name, Sight}, declared.step.Site.{Site}}
 use Rattle.ulfm_words.proofs.Trails.{did_none, did_prefix, did_quiet, did_wait}
 use Rattle.ulfm_steps.specs.declared.{mark_all.MarkAll.{MarkAll}, blocks.Peek.{Peek}, blocks.ReadBlocks.{ReadBlocks}}
-use Rattle.ulfm_steps.specs.{Blocks.{AreOf, block_at, is_whole, starts_at}, Marks.{IsAt, Marks, members_in}, Rounds.{IsRoundOf}, Turns.{IsStepAt}}
+use Rattle.ulfm_steps.specs.{Blocks.{AreOf, MayPeek, block_at, is_whole, starts_at}, Marks.{IsAt, Marks, members_in}, Rounds.{IsRoundOf}, Turns.{IsStepAt}}
 use Rattle.ulfm_steps.proofs.{InBlocks.{few_members}, Groups.{members_rise}, Marking.{marks_none}}
 use Rattle.ulfm_comm.specs.{Polls.{HasMarked, agreement}, Phase.{Stands, next_step}, StepsLeft.{MakesStep}, Agreement.{HasPeeked, HasReadAll, IsMarking, IsPeeking}}
 use Rattle.ulfm_comm.specs.declared.phases.phase.Phase.TheVariants.{Marking, Peeking, Reading}
@@ -94,18 +94,21 @@ module _ {P : Type 0} (meld : P → P → P) (name : Name) (asked : Call P) (pee
   peek_same : members ≡ peeking.x.group
   peek_same = members_are ∙ ap (λ (z : Held). z.group) (same_held own (comm_of asked) w peeking.x y w_is found peeking.held)
 
+  peek_round : IsRoundOf name.limits now.seen peek.comm peek.round members
+  peek_round = subst (λ ms. IsRoundOf name.limits now.seen peek.comm peek.round ms) (sym peek_same) (peeking_round meld name.limits alone (comm_of asked) shrinks peek old before.seen own now.seen peeking of.legal)
+
   -- the next one may be loaded
-  pub peek_may : IsRoundOf name.limits now.seen peek.comm peek.round members
-  peek_may = subst (λ ms. IsRoundOf name.limits now.seen peek.comm peek.round ms) (sym peek_same) (peeking_round meld name.limits alone (comm_of asked) shrinks peek old before.seen own now.seen peeking of.legal)
-
-  pub peek_side : IsSide peek.side members
-  peek_side = subst (IsSide peek.side) (sym peek_same) st.at.2
-
-  pub peek_are : AreOf meld now.seen peek.comm peek.round members peek.blocks
-  peek_are = subst (λ ms. AreOf meld now.seen peek.comm peek.round ms peek.blocks) (sym peek_same) peeking.are
+  pub peek_may : MayPeek meld name members peek now
+  peek_may =
+      record {
+        of = of;
+        round = peek_round;
+        some = subst (IsSide peek.side) (sym peek_same) st.at.2;
+        are = subst (λ ms. AreOf meld now.seen peek.comm peek.round ms peek.blocks) (sym peek_same) peeking.are;
+      }
 
   pub peek_few : length members ≤ 1024
-  peek_few = few_members name.limits now.seen peek.comm peek.round members of.may_open peek_may
+  peek_few = few_members name.limits now.seen peek.comm peek.round members of.may_open peek_round
 
   pub peek_any : 0 < length members
   peek_any = subst (λ ms. 0 < length ms) (sym peek_same) (some_member peeking.x.group own.number (holds meld name.limits peeking.look own (comm_of asked) peeking.x peeking.fits peeking.held).member)

@@ -1,5 +1,6 @@
 -- What is known of a round's blocks, and what the machines that load and read them ask for and tell.
-use Rattle.std.specs.Prelude.{◌≡◌, ℕ, ◌+◌, ◌-◌, ◌≤◌, Bool, true, false, List, Option, Some, None, IsSome, is_some, length, slice_index, take, if◌then◌else◌, nat_lt}
+use Rattle.std.specs.Prelude.{◌≡◌, ℕ, ◌+◌, ◌-◌, ◌≤◌, Bool, true, false, List, Option, Some, None, IsSome, is_some}
+use Rattle.std.specs.Prelude.{length, slice_index, take, if◌then◌else◌, nat_lt}
 use Rattle.ulfm_laws.specs.{declared.summary.Summary.{Summary}, Summaries.{summary_unit}}
 use Rattle.ulfm_model.specs.declared.{block.Block.{Block}, block.Side.{Side}, block.Side.TheVariants.{Front, Back}, place.Place.TheVariants.{Slot as SlotAt}}
 use Rattle.ulfm_model.specs.{Blocks.{IsSide, IsSummed, block_of, has_block, width}, History.{History}}

@@ -5,7 +5,8 @@ ghost use Rattle.std.specs.Prelude.{◌≡◌, ◌<◌, ◌+◌, ◌*◌, None, 
 ghost use Rattle.ulfm_model.specs.Blocks.{width as width_of};
 ghost use Rattle.ulfm_model.specs.History.{History};
 ghost use Rattle.ulfm_model.specs.declared.block.Side.TheVariants.{Front, Back};
-ghost use Rattle.ulfm_steps.specs.Blocks.{AreOf, FindsSet, MayPeek, MayReadBlocks, PeeksOn, ReadsBlocks, Tells, has_back as is_apart, is_whole, said_at, starts_at};
+ghost use Rattle.ulfm_steps.specs.Blocks.{AreOf, FindsSet, MayPeek, MayReadBlocks, PeeksOn, ReadsBlocks, Tells};
+ghost use Rattle.ulfm_steps.specs.Blocks.{has_back as is_apart, is_whole, said_at, starts_at};
 
 use std::alloc::Allocator;
 use ulfm_laws::meld::{Meld, Packed};

@@ -70,7 +70,8 @@ impl<P: Packed> ReadRound<P> {
     ) -> bool
         requires may { MayReadRound P.meld (W.name words.now) group.now self.old (W.sight pass.old) }
         requires more { self.old.read < length group.now }
-        ensures reads { ReadsRound P.meld W.alone whole (W.name words.now) (length group.now) group.now self.old (W.sight pass.old) result self.new (W.sight pass.new) }
+        ensures reads { ReadsRound P.meld W.alone whole (W.name words.now) (length group.now) group.now self.old (W.sight pass.old)
+            result self.new (W.sight pass.new) }
         ensures onward { MatchBool result (self.old.read < self.new.read) (self.old.read ≤ self.new.read) }
         ensures within { self.new.read ≤ length group.now }
         ensures done { result ≡ true → whole ≡ true → self.new.read ≡ length group.now }

@@ -1,6 +1,7 @@
 use Rattle.std.proofs.Common.{◌-◌, ◌≤◌, length, take}
+use Rattle.ulfm_model.specs.Blocks.{IsSummed}
 use Rattle.ulfm_words.specs.Steps.{IsOf}
-use Rattle.ulfm_steps.specs.Rounds.{IsRoundOf, IsSummed}
+use Rattle.ulfm_steps.specs.Rounds.{IsRoundOf}
 use Rattle.ulfm_steps_tests.proofs.stepped.read.Given as goal
 
 abbrev pub invariant-loop-reading : goal.invariant-loop-reading

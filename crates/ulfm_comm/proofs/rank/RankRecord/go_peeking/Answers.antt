@@ -5,7 +5,7 @@ use Rattle.ulfm_comm.specs.{Phase.{IsFurther, IsPast, Turns}, Step.{TakesTurn}, 
 use Rattle.ulfm_comm.specs.declared.{phases.phase.Next.{Next}, phases.phase.Phase.TheVariants.{Peeking}}
 use Rattle.ulfm_comm.specs.AlsoLeft.{AlsoSpends, FindsSetIn, also_left}
 use Rattle.ulfm_comm.proofs.AlsoLeft.{also_peeks_on, also_peeks_over, also_whole}
-use Rattle.ulfm_comm.proofs.{Peeking.{peek_any, peek_are, peek_ends, peek_few, peek_goes, peek_may, peek_named, peek_side, peek_unread}, StepsLeft.{below_more, peeks_fewer, peeks_on, peeks_over, peeks_past, peeks_spend}}
+use Rattle.ulfm_comm.proofs.{Peeking.{peek_any, peek_ends, peek_few, peek_goes, peek_may, peek_named, peek_unread}, StepsLeft.{below_more, peeks_fewer, peeks_on, peeks_over, peeks_past, peeks_spend}}
 use Rattle.ulfm_comm.proofs.rank.RankRecord.go_peeking.Goals as goal
 use Rattle.ulfm_comm.proofs.rank.RankRecord.go_peeking.Goals.{After-deref, After-advance, After-len-members, In-Some}
 
@@ -13,23 +13,11 @@ use Rattle.ulfm_comm.proofs.rank.RankRecord.go_peeking.Goals.{After-deref, After
 members : (g : _) (c : After-deref g) → c.deref.result.now ≡ c.held_comm-x.result.now.group
 members g c = c.deref.ensures.value ∙ ap (λ (y : Held). y.group) c.x.view_is
 
-pub advance-requires-clause-round : goal.advance-requires-clause-round
-advance-requires-clause-round g c =
+pub advance-requires : goal.advance-requires
+advance-requires g c =
     let stands = c.requires.stands in
     peek_may g.P.Meld.meld (g.W.Words.name c.args.world.now.words) c.args.asked.now c.args.peek c.args.shrinks c.args.group.now.items c.args.self.now (g.W.Words.sight c.args.pass.now) c.requires.of
-    c.held_comm-x.result.now c.comm_of.result c.held_comm-x.ensures c.comm_of.ensures c.deref.result.now (members g (goal.at.advance-requires-clause-round g c).After-deref) false stands.0 stands.1 stands.2
-
-pub advance-requires-clause-some : goal.advance-requires-clause-some
-advance-requires-clause-some g c =
-    let stands = c.requires.stands in
-    peek_side g.P.Meld.meld (g.W.Words.name c.args.world.now.words) c.args.asked.now c.args.peek c.args.shrinks c.args.group.now.items c.args.self.now (g.W.Words.sight c.args.pass.now) c.requires.of
-    c.held_comm-x.result.now c.comm_of.result c.held_comm-x.ensures c.comm_of.ensures c.deref.result.now (members g (goal.at.advance-requires-clause-some g c).After-deref) false stands.0 stands.1 stands.2
-
-pub advance-requires-clause-are : goal.advance-requires-clause-are
-advance-requires-clause-are g c =
-    let stands = c.requires.stands in
-    peek_are g.P.Meld.meld (g.W.Words.name c.args.world.now.words) c.args.asked.now c.args.peek c.args.shrinks c.args.group.now.items c.args.self.now (g.W.Words.sight c.args.pass.now) c.requires.of
-    c.held_comm-x.result.now c.comm_of.result c.held_comm-x.ensures c.comm_of.ensures c.deref.result.now (members g (goal.at.advance-requires-clause-are g c).After-deref) false stands.0 stands.1 stands.2
+    c.held_comm-x.result.now c.comm_of.result c.held_comm-x.ensures c.comm_of.ensures c.deref.result.now (members g (goal.at.advance-requires g c).After-deref) false stands.0 stands.1 stands.2
 
 -- .. and their number
 length_is : (g : _) (c : After-len-members g) → c.len-members.result ≡ length c.deref.result.now

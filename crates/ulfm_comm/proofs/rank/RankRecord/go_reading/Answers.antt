@@ -3,7 +3,7 @@ use Rattle.ulfm_model.specs.{Records.{Held, Record, held_at}, Terms.{comm_of}}
 use Rattle.ulfm_comm.specs.{Phase.{IsFurther, IsPast, Turns}, Step.{TakesTurn}, StepsLeft.{FewerLeft, Spends, steps_left}}
 use Rattle.ulfm_model.specs.declared.reply.Reply.TheVariants.{Pending}
 use Rattle.ulfm_comm.specs.declared.{phases.phase.Next.{Next}, phases.phase.Next.TheVariants.{Ends}, phases.phase.Phase.TheVariants.{Reading}}
-use Rattle.ulfm_comm.proofs.{Agreement.{reading_at, reading_ends, reading_goes, reading_may, reading_pends, reads_named}, StepsLeft.{reads_fewer, reads_on, reads_spend}}
+use Rattle.ulfm_comm.proofs.{Agreement.{reading_ends, reading_goes, reading_may, reading_pends, reads_named}, StepsLeft.{reads_fewer, reads_on, reads_spend}}
 use Rattle.ulfm_comm.proofs.rank.RankRecord.go_reading.Goals as goal
 use Rattle.ulfm_comm.proofs.rank.RankRecord.go_reading.Goals.{After-deref, After-advance}
 
@@ -11,17 +11,11 @@ use Rattle.ulfm_comm.proofs.rank.RankRecord.go_reading.Goals.{After-deref, After
 members : (g : _) (c : After-deref g) → c.deref.result.now ≡ c.held_comm-x.result.now.group
 members g c = c.deref.ensures.value ∙ ap (λ (y : Held). y.group) c.x.view_is
 
-pub advance-requires-clause-round : goal.advance-requires-clause-round
-advance-requires-clause-round g c =
+pub advance-requires : goal.advance-requires
+advance-requires g c =
     let stands = c.requires.stands in
     reading_may g.P.Meld.meld (g.W.Words.name c.args.world.now.words) c.args.asked.now c.args.reading c.args.shrinks c.args.group.now.items c.args.self.now (g.W.Words.sight c.args.pass.now)
-    c.held_comm-x.result.now c.comm_of.result c.held_comm-x.ensures c.comm_of.ensures c.deref.result.now (members g (goal.at.advance-requires-clause-round g c).After-deref) false stands.0 stands.1 stands.2
-
-pub advance-requires-clause-at : goal.advance-requires-clause-at
-advance-requires-clause-at g c =
-    let stands = c.requires.stands in
-    reading_at g.P.Meld.meld (g.W.Words.name c.args.world.now.words) c.args.asked.now c.args.reading c.args.shrinks c.args.group.now.items c.args.self.now (g.W.Words.sight c.args.pass.now)
-    c.held_comm-x.result.now c.comm_of.result c.held_comm-x.ensures c.comm_of.ensures c.deref.result.now (members g (goal.at.advance-requires-clause-at g c).After-deref) false stands.0 stands.1 stands.2
+    c.held_comm-x.result.now c.comm_of.result c.held_comm-x.ensures c.comm_of.ensures c.deref.result.now (members g (goal.at.advance-requires g c).After-deref) false stands.0 stands.1 stands.2 c.requires.of
 
 pub decided-requires-clause-read : goal.decided-requires-clause-read
 decided-requires-clause-read g c =
