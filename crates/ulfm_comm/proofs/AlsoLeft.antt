@@ -1,5 +1,5 @@
 -- How many steps a call makes at most beside a load for each failure that its rank has seen more.
-use Rattle.std.proofs.Common.{◌≡◌, ℕ, ◌+◌, ◌-◌, ◌*◌, ◌<◌, ◌≤◌, Bool, true, false, List, [], length, take, min, Option, Some, None, is_some, if◌then◌else◌, refl, ap, ap₂, sym, ◌∙◌, subst, append-nil, arith}
+use Rattle.std.proofs.Common.{◌≡◌, ℕ, ◌+◌, ◌-◌, ◌*◌, ◌<◌, ◌≤◌, Bool, true, false, List, [], length, take, min, Option, Some, None, is_some, if◌then◌else◌, refl, ap, sym, ◌∙◌, subst, append-nil, arith}
 use Rattle.std.proofs.lemmas.List.{length-take}
 use mathlib.Core.List.{IsPrefix}
 use Rattle.ulfm_model.specs.declared.call.Call.TheVariants as call
@@ -17,24 +17,12 @@ use Rattle.ulfm_comm.specs.declared.{phases.phase.Made.{Made}, phases.phase.Next
 use Rattle.ulfm_comm.specs.declared.phases.phase.Phase.TheVariants.{Over, Begun, Looking, Settling, Arriving, Revoking, Asking, Peeking, Marking, Reading, ReadingOn, Spawning, Waiting, Checking}
 use Rattle.ulfm_comm.proofs.StepsLeft.{passes_none, refusal_same}
 
--- what was seen makes no difference to what follows a look
-also_behind_same : {P : Type 0} (limits : Limits) (own : Record) (seen : List ℕ) (asked : Call P) → also_behind_look limits (record own { seen = seen }) asked ≡ also_behind_look limits own asked
-also_behind_same limits own seen (call.Fail rank) = refl
-also_behind_same limits own seen (call.GetFailed rank c) = refl
-also_behind_same limits own seen (call.Ack rank c count) = refl
-also_behind_same limits own seen (call.Agree rank c value) = refl
-also_behind_same limits own seen (call.Shrink rank c) = refl
-also_behind_same limits own seen (call.Barrier rank c) = refl
-also_behind_same limits own seen (call.Poll rank c) = refl
-also_behind_same limits own seen (call.Revoke rank c) = refl
-also_behind_same limits own seen (call.IsRevoked rank c) = refl
-also_behind_same limits own seen (call.Free rank c) = refl
-
 module _ {P : Type 0} (limits : Limits) (own new : Record) (seen : List ℕ) (asked : Call P) (kept : new ≡ record own { seen = seen }) where
+  -- what was seen makes no difference to what follows a look
   also_after_same : also_after_look limits new asked ≡ also_after_look limits own asked
   also_after_same =
       ap (λ (w : Record). also_after_look limits w asked) kept
-      ∙ ap₂ (λ (r : Option Refusal) n. if is_some r then 0 else n) (refusal_same own seen asked) (also_behind_same limits own seen asked)
+      ∙ ap (λ (r : Option Refusal). if is_some r then 0 else also_behind_look limits own asked) (refusal_same own seen asked)
 
   -- nor to where the blocks of an open request are, of which more may be known
   pub blocks_stay : (cached longer : List Block) → IsPrefix cached longer → BlocksStand own asked cached → BlocksStand new asked longer

@@ -7,14 +7,14 @@ use Rattle.ulfm_model.specs.declared.{call.Call.{Call}, call.Request.{Request}, 
 use Rattle.ulfm_model.specs.{Answers.{CallAdds, Replies, StartReplies, View, first_refusal, opened, refusal_on, traits_of}, History.{History, IsLegal, failures, has_arrived, is_revoked}, Records.{Fits, Held, Record, held_at, is_shrink, with_held}, Runs.{Did}, Words.{MayOpen}}
 use Rattle.ulfm_model.specs.Terms.{comm_of, tests_of}
 use Rattle.ulfm_model.proofs.Stable.{fits_stays}
-use Rattle.ulfm_words.specs.{Places.{IsCell}, Steps.{IsAdded, IsOf, Name, Sight}, Tries.{MayCome}}
+use Rattle.ulfm_words.specs.{Places.{IsCell}, Steps.{IsAdded, IsOf, Name, Sight}, Tries.{MayCome, MayEnd}}
 use Rattle.ulfm_words.proofs.Trails.{added_after, did_added, did_after, did_prefix}
 use Rattle.ulfm_record.specs.Kept.{HasNext}
 use Rattle.ulfm_comm.specs.{Calls.{Calls, reply_of}, Phase.{Answered, Stands}, Look.{HasLooked}}
 use Rattle.ulfm_comm.specs.{Exchange.{StartsWith, Settles, start_leaves, start_result}, Step.{Walks}, Revokes.{revoked}}
 use Rattle.ulfm_comm.specs.declared.phases.phase.Phase.TheVariants.{Settling}
 use Rattle.ulfm_comm.proofs.BarrierStart.{barrier_may_come, barrier_within, calls_entered, calls_entered_before}
-use Rattle.ulfm_comm.proofs.{AmongOthers.{added_loosely, did_loosely, tried_loosely}, WholeCall.{held_before}, Revokes.{calls_revoked, calls_standing}}
+use Rattle.ulfm_comm.proofs.{AmongOthers.{added_loosely, did_loosely, tried_loosely}, WholeCall.{held_before}, Revokes.{calls_revoked, calls_standing, held_below, held_may_end}}
 use Rattle.ulfm_comm.proofs.Starts.{calls_started}
 
 -- no test holds, so the first doesn't
@@ -87,6 +87,13 @@ module _ {P : Type 0} (meld : P → P → P) (limits : Limits) (alone : Bool) (a
   -- what is found of the communicator is what the look found
   pub found_same : (x : Held) → held_at own (comm_of asked) ≡ Some x → p.x ≡ x
   found_same x held = cc (held, p.held)
+
+  -- the call's communicator is one of the world's, and may be revoked while it isn't
+  pub asked_below : IsLegal meld limits now → MayOpen limits → comm_of asked < limits.comms
+  asked_below legal may = held_below meld limits now own (comm_of asked) p.x (fits_now legal) p.held legal may
+
+  pub asked_may_end : IsLegal meld limits now → MayEnd meld limits now (comm_of asked)
+  asked_may_end legal = held_may_end meld limits now own (comm_of asked) p.x (fits_now legal) p.held
 
   -- no test of the record holds
   pub passes_tests : first_refusal (tests_of old p.x asked) ≡ None

@@ -1,8 +1,8 @@
 -- What one step of a call adds.
 use Rattle.std.specs.List.{slice_index}
-use Rattle.std.proofs.Common.{◌≡◌, ℕ, ◌<◌, length, Bool, true, false, List, [], ◌∷◌, Option, Some, Result, Ok, Err, refl, ap, sym, ◌∙◌, subst, inl, inr, IsTrue}
+use Rattle.std.proofs.Common.{◌≡◌, ℕ, ◌<◌, length, Bool, true, false, List, [], ◌∷◌, Option, Some, Result, Ok, Err, refl, ap, sym, ◌∙◌, subst, inl, inr, IsTrue, MatchBool}
 use Rattle.ulfm_model.specs.declared.call.Call.TheVariants as call
-use Rattle.ulfm_model.specs.declared.{call.Call.{Call}, call.Request.{Request}, contribution.Contribution.{Contribution}, contribution.MarkCount.{MarkCount}, contribution.Offer.{Offer}, contribution.Slot.{Slot}, contribution.Slot.TheVariants.{Given, Mark as Marked}, event.Caller.TheVariants.{Rank}, event.Event.{Event}, event.Event.TheVariants.{Arrive, Mark, Revoke, Settle}, limits.Limits.{Limits}, reply.Reply.{Reply}, reply.Reply.TheVariants.{Revoked, Started}}
+use Rattle.ulfm_model.specs.declared.{call.Call.{Call}, call.Request.{Request}, contribution.Contribution.{Contribution}, contribution.MarkCount.{MarkCount}, contribution.Offer.{Offer}, contribution.Slot.{Slot}, contribution.Slot.TheVariants.{Given, Mark as Marked}, event.Caller.TheVariants.{Rank}, event.Event.{Event}, event.Event.TheVariants.{Arrive, Mark, Revoke, Settle}, limits.Limits.{Limits}, reply.Reply.{Reply}, reply.Reply.TheVariants.{AlreadyRevoked, Revoked, Started}}
 use Rattle.ulfm_model.specs.{Answers.{CallAdds, MarksDeclared, PollAdds, traits_of}, History.{History, IsLegal, entries_by, failures, has}, Records.{Fits, Held, Record, held_at}, Runs.{Did}}
 use Rattle.ulfm_model.specs.Terms.{comm_of}
 use Rattle.ulfm_words.specs.Steps.{IsAdded, IsOf, Name, Sight}
@@ -11,7 +11,7 @@ use Rattle.ulfm_words.proofs.Trails.{did_added, did_prefix, did_wait}
 use Rattle.ulfm_steps.proofs.Reading.{has_at}
 use Rattle.ulfm_steps.specs.Marks.{MarksOnce}
 use Rattle.ulfm_steps.specs.declared.{mark_all.MarkAll.{MarkAll}, blocks.RoundBlocks.{RoundBlocks}}
-use Rattle.ulfm_comm.specs.{Calls.{reply_of}, Polls.{agreement}, Step.{Adds, Makes, StepAdds}, Look.{HasLooked}, Agreement.{IsMarking}, Phase.{Stands}}
+use Rattle.ulfm_comm.specs.{Calls.{reply_of}, Polls.{agreement}, Step.{Adds, Makes, StepAdds}, Look.{HasLooked}, Revokes.{revoked}, Agreement.{IsMarking}, Phase.{Stands}}
 use Rattle.ulfm_comm.specs.Exchange.{Settles, start_leaves, start_result}
 use Rattle.ulfm_comm.specs.declared.phases.phase.Phase.{Phase}
 use Rattle.ulfm_comm.specs.declared.phases.phase.Phase.TheVariants.{Over, Begun, Looking, Settling, Arriving, Revoking, Asking, Peeking, Marking, Reading, ReadingOn, Spawning, Waiting, Checking}
@@ -62,11 +62,13 @@ module _ {P : Type 0} (meld : P → P → P) (quiet : Bool) (limits : Limits) (a
       (record { x = p.x; held = p.held; adds = subst (λ (a : Call P). CallAdds own.seen own.number p.x a (Arrive (comm_of asked) round own.number)) (sym is) same; wins = λ starts. inl refl })
       (did_added quiet _ now after added)
 
-  pub adds_revoked : (rank : ℕ) → asked ≡ call.Revoke rank (comm_of asked) → IsAdded quiet (record { by = Rank own.number; event = Revoke (comm_of asked) }) now after → Adds quiet own.seen own asked (Some Revoked) now after
-  adds_revoked rank is added =
+  pub adds_revoked : (rank : ℕ) → asked ≡ call.Revoke rank (comm_of asked) → (won : Bool) → MatchBool won (IsAdded quiet (record { by = Rank own.number; event = Revoke (comm_of asked) }) now after) (Did quiet [] now after)
+      → Adds quiet own.seen own asked (Some (revoked won)) now after
+  adds_revoked rank is true added =
       adds_one quiet own.seen own asked (Some Revoked) now after (Revoke (comm_of asked))
       (record { x = p.x; held = p.held; adds = subst (λ (a : Call P). CallAdds own.seen own.number p.x a (Revoke (comm_of asked))) (sym is) (ap Revoke (sym named)); wins = λ starts. inr refl })
       (did_added quiet _ now after added)
+  adds_revoked rank is false did = adds_none quiet own.seen own asked (Some AlreadyRevoked) now after did
 
 -- the exchange of a mark
 module _ {P : Type 0} (meld : P → P → P) (quiet : Bool) (name : Name) (asked : Call P) (marks : MarkAll) (blocks : RoundBlocks P) (shrinks : Bool) (group : List ℕ) (old : Record) (before : Sight P) (own : Record) (now : Sight P) (after : History P) (of : IsOf meld name now)

@@ -1,5 +1,5 @@
 -- How many steps a call makes at most.
-use Rattle.std.proofs.Common.{◌≡◌, ℕ, ◌+◌, ◌-◌, ◌*◌, ◌<◌, ◌≤◌, Bool, true, false, List, length, filter, take, max, min, Option, Some, None, is_some, if◌then◌else◌, refl, ap, ap₂, sym, ◌∙◌, subst, length-append, arith}
+use Rattle.std.proofs.Common.{◌≡◌, ℕ, ◌+◌, ◌-◌, ◌*◌, ◌<◌, ◌≤◌, Bool, true, false, List, length, filter, take, max, min, Option, Some, None, is_some, if◌then◌else◌, refl, ap, sym, ◌∙◌, subst, length-append, arith}
 use Rattle.std.proofs.lemmas.List.{length-take}
 use mathlib.Core.List.{IsPrefix}
 use Rattle.ulfm_model.specs.declared.call.Call.TheVariants as call
@@ -16,20 +16,7 @@ use Rattle.ulfm_comm.specs.{Bound.{call_bound, poll_bound, step_bound}, Look.{Pa
 use Rattle.ulfm_comm.specs.declared.{phases.phase.Next.{Next}, phases.phase.Next.TheVariants.{Goes, Ends}}
 use Rattle.ulfm_comm.specs.declared.phases.phase.Phase.TheVariants.{Over, Begun, Looking, Marking, Peeking, Reading, Waiting}
 
--- what was seen makes no difference to what follows a look that goes on
-behind_look_same : {P : Type 0} (limits : Limits) (own : Record) (seen : List ℕ) (asked : Call P) → behind_look limits (record own { seen = seen }) asked ≡ behind_look limits own asked
-behind_look_same limits own seen (call.Fail rank) = refl
-behind_look_same limits own seen (call.GetFailed rank c) = refl
-behind_look_same limits own seen (call.Ack rank c count) = refl
-behind_look_same limits own seen (call.Agree rank c value) = refl
-behind_look_same limits own seen (call.Shrink rank c) = refl
-behind_look_same limits own seen (call.Barrier rank c) = refl
-behind_look_same limits own seen (call.Poll rank c) = refl
-behind_look_same limits own seen (call.Revoke rank c) = refl
-behind_look_same limits own seen (call.IsRevoked rank c) = refl
-behind_look_same limits own seen (call.Free rank c) = refl
-
--- nor to what the record refuses
+-- what was seen makes no difference to what the record refuses
 pub refusal_same : {P : Type 0} (own : Record) (seen : List ℕ) (asked : Call P) → refusal_of (record own { seen = seen }) asked ≡ refusal_of own asked
 refusal_same own seen asked = go (held_at own (comm_of asked))
   where
@@ -37,9 +24,9 @@ refusal_same own seen asked = go (held_at own (comm_of asked))
     go None = refl
     go (Some x) = ap first_refusal (tests_same own seen x asked)
 
--- so to what may follow a look
+-- nor to what may follow a look
 pub after_look_same : {P : Type 0} (limits : Limits) (own : Record) (seen : List ℕ) (asked : Call P) → after_look limits (record own { seen = seen }) asked ≡ after_look limits own asked
-after_look_same limits own seen asked = ap₂ (λ (r : Option Refusal) n. if is_some r then 0 else n) (refusal_same own seen asked) (behind_look_same limits own seen asked)
+after_look_same limits own seen asked = ap (λ (r : Option Refusal). if is_some r then 0 else behind_look limits own asked) (refusal_same own seen asked)
 
 -- what is fewer than some is fewer than more
 pub fewer_more : {P : Type 0} (limits : Limits) (own : Record) (asked : Call P) (few more : ℕ) → few ≤ more → (next : Next P) → FewerLeft few limits own asked next → FewerLeft more limits own asked next

@@ -1,15 +1,13 @@
 -- How many atomic steps a call makes at most beside a load for each failure that its rank has seen more.
 use Rattle.std.specs.Prelude.{◌≡◌, ℕ, ◌+◌, ◌-◌, ◌*◌, ◌≤◌, Bool, true, false, List, length, Option, Some, None, is_some, if◌then◌else◌, ⊤}
-use Rattle.ulfm_model.specs.declared.call.Call.TheVariants as call
 use Rattle.ulfm_model.specs.declared.{block.Block.{Block}, block.Side.TheVariants.{Front, Back}}
 use Rattle.ulfm_model.specs.declared.{call.Call.{Call}, call.Request.{Request}, call.Request.TheVariants.{Agree, Shrink, Barrier}, limits.Limits.{Limits}}
 use Rattle.ulfm_model.specs.{Answers.{refusal_of}, Blocks.{has_block}, Records.{Record, held_at}, Terms.{comm_of, request_of}}
 use Rattle.ulfm_words.specs.Steps.{Sight}
-use Rattle.ulfm_steps.specs.{Appends.{turns_left}, Arriving.{arrivals_left}, Blocks.{block_at, has_back, peeks_left}, declared.blocks.Peek.{Peek}}
-use Rattle.ulfm_comm.specs.{Bound.{BlocksStand}, StepsLeft.{group_of}}
+use Rattle.ulfm_steps.specs.{Blocks.{block_at, has_back, peeks_left}, declared.blocks.Peek.{Peek}}
+use Rattle.ulfm_comm.specs.{Bound.{BlocksStand}, StepsLeft.{behind, group_of, steps_left}}
 use Rattle.ulfm_comm.specs.declared.{phases.phase.Next.{Next}, phases.phase.Next.TheVariants.{Goes, Ends}, phases.phase.Phase.{Phase}}
-use Rattle.ulfm_comm.specs.declared.phases.phase.Phase.TheVariants.{Over, Begun, Looking, Settling, Arriving, Revoking, Asking, Peeking, Marking}
-use Rattle.ulfm_comm.specs.declared.phases.phase.Phase.TheVariants.{Reading, ReadingOn, Spawning, Waiting, Checking}
+use Rattle.ulfm_comm.specs.declared.phases.phase.Phase.TheVariants.{Begun, Looking, Peeking, Marking, Reading, ReadingOn}
 
 -- the poll of an agreement, once it knows its round's decision: a shrink looks for its communicator
 abbrev pub also_after_round : Limits → Bool → ℕ
@@ -25,39 +23,24 @@ also_polling limits n (Some (Barrier k)) = n + 1
 
 -- a call that goes on behind its look, after it
 abbrev pub also_behind_look : {P : Type 0} → Limits → Record → Call P → ℕ
-also_behind_look limits own (call.Fail rank) = 0
-also_behind_look limits own (call.GetFailed rank c) = 0
-also_behind_look limits own (call.Ack rank c count) = 0
-also_behind_look limits own (call.Agree rank c value) = 1
-also_behind_look limits own (call.Shrink rank c) = 1
-also_behind_look limits own (call.Barrier rank c) = 1
-also_behind_look limits own (call.Poll rank c) = also_polling limits (length (group_of (held_at own c))) (request_of (held_at own c))
-also_behind_look limits own (call.Revoke rank c) = 1
-also_behind_look limits own (call.IsRevoked rank c) = 1
-also_behind_look limits own (call.Free rank c) = 0
+also_behind_look limits own asked = let x = held_at own (comm_of asked) in behind (also_polling limits (length (group_of x)) (request_of x)) asked
 
 -- any call after its look: none where the record refuses it
 abbrev pub also_after_look : {P : Type 0} → Limits → Record → Call P → ℕ
 also_after_look limits own asked = if is_some (refusal_of own asked) then 0 else also_behind_look limits own asked
 
 -- A call from here on, by what it does next. A look makes one load that finds nothing; where its rank had seen all, one that finds again what
--- it had seen. For marks and readings of members nothing is said: a poll that knows its round's blocks doesn't come there.
+-- it had seen. For marks and readings of members nothing is said: a poll that knows its round's blocks doesn't come there. What else it may do
+-- loads no list of failures, and takes the steps that are left.
 abbrev pub also_left : {P : Type 0} → Limits → Record → Call P → Phase P → ℕ
-also_left limits own asked Over = 0
 also_left limits own asked Begun = length own.seen - (limits.ranks - 1) + 1 + also_after_look limits own asked
 also_left limits own asked Looking = 1 + also_after_look limits own asked
-also_left limits own asked (Settling request offer) = 1
-also_left limits own asked (Arriving round) = 1
-also_left limits own asked Revoking = 1
-also_left limits own asked Asking = 1
 also_left limits own asked (Peeking peek shrinks) =
     peeks_left (length (group_of (held_at own (comm_of asked)))) peek.side + also_after_round limits shrinks
 also_left limits own asked (Marking marks blocks shrinks) = 0
 also_left limits own asked (Reading reading shrinks) = 0
 also_left limits own asked (ReadingOn on made) = also_after_round limits true
-also_left limits own asked (Spawning append context reach) = turns_left (limits.comms - 1) append
-also_left limits own asked (Waiting arrivals) = arrivals_left (group_of (held_at own (comm_of asked))) own.seen arrivals + 1
-also_left limits own asked (Checking missing) = 1
+also_left limits own asked phase = steps_left limits own asked phase
 
 -- after a step: none where the call has ended
 abbrev pub also_in : {P : Type 0} → Limits → Record → Call P → Next P → ℕ

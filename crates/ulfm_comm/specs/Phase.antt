@@ -1,12 +1,12 @@
 -- Where a call of a rank stands between two steps.
 use Rattle.std.specs.Prelude.{◌≡◌, ◌⊎◌, ℕ, ◌<◌, ◌≤◌, Bool, true, false, List, [], Some, None, Option, length, nat_lt, IsTrue, IsFalse, if◌then◌else◌, ⊤}
 use Rattle.ulfm_model.specs.declared.call.Call.TheVariants as call
-use Rattle.ulfm_model.specs.declared.{call.Call.{Call}, event.Caller.TheVariants.{Rank}, reply.Reply.{Reply}, reply.Reply.TheVariants.{Pending}}
-use Rattle.ulfm_model.specs.{Answers.{polled_by, traits_of}, History.{History, failures}, Records.{Fits, Held, Record}, Runs.{Did}, Terms.{comm_of}}
+use Rattle.ulfm_model.specs.declared.{call.Call.{Call}, event.Caller.TheVariants.{Rank}, reply.Reply.{Reply}}
+use Rattle.ulfm_model.specs.{Answers.{traits_of}, History.{History, failures}, Records.{Fits, Held, Record}, Runs.{Did}, Terms.{comm_of}}
 use Rattle.ulfm_model.specs.Blocks.{IsSide}
 use Rattle.ulfm_words.specs.Steps.{Name, Sight}
 use Rattle.ulfm_steps.specs.{Arriving.{AtArrival}, Looks.{LookIs}, ReadsOn.{AtFailure}}
-use Rattle.ulfm_comm.specs.{Calls.{EndsReply}, Ends.{IsRefusedAgain}, Polls.{EndsInMissing, IsAgreement}, Look.{HasLooked}, Exchange.{StartsWith}}
+use Rattle.ulfm_comm.specs.{Calls.{EndsReply}, Ends.{IsRefusedAgain}, Polls.{PendsIn}, Look.{HasLooked}, Exchange.{StartsWith}}
 use Rattle.ulfm_comm.specs.{Agreement.{IsMarking, IsPeeking, IsReading}, Spawning.{IsDecided, IsSpawning}, Barrier.{IsWaiting, IsChecking}}
 use Rattle.ulfm_comm.specs.declared.{phases.phase.Next.{Next}, phases.phase.Next.TheVariants.{Goes, Ends}, phases.phase.Phase.{Phase}}
 use Rattle.ulfm_model.specs.declared.step_name.StepName.{StepName}
@@ -168,7 +168,7 @@ pub record Waits {P : Type 0} (alone : Bool) (old new : Sight P) : Type 0 where
 pub record Answered {P : Type 0} (meld : P → P → P) (alone : Bool) (name : Name) (asked : Call P) (old : Record) (before : Sight P) (reply : Reply P)
     (new : Record) (after : Sight P) : Type 0 where
   pub ends : (IsRefusedAgain old reply new × Waits alone before after) ⊎ EndsReply meld alone name asked old before reply new after
-  pub pending : reply ≡ Pending → IsAgreement (polled_by old asked) → EndsInMissing meld alone name (comm_of asked) old before new after
+  pub pending : PendsIn meld alone name asked old before reply new after
 
 -- what comes next: further steps, or the reply
 abbrev pub NextIs : {P : Type 0} → (P → P → P) → Bool → Name → Call P → Record → Sight P → Next P → List ℕ → Record → Sight P → Type 0

@@ -6,7 +6,7 @@ use Rattle.ulfm_model.specs.declared.{limits.Limits.{Limits}, place.Place.TheVar
 use Rattle.ulfm_model.specs.declared.{refusal.Refusal.TheVariants.{OutOfMemory}, reply.Reply.{Reply}}
 use Rattle.ulfm_model.specs.declared.{reply.Reply.TheVariants.{Agreed as AgreedOn, Done as AllCame, Pending as StillPending, Shrunk as ShrunkTo}}
 use Rattle.ulfm_model.specs.{Answers.{polled_by}, History.{History, IsLegal, failures, has, slot}, Records.{Fits, Held, Record, held_at, is_shrink}}
-use Rattle.ulfm_model.specs.{Runs.{Did, IsRun}}
+use Rattle.ulfm_model.specs.{Runs.{Did, IsRun}, Terms.{comm_of}}
 use Rattle.ulfm_words.specs.Steps.{IsOf, Name, Sight}
 use Rattle.ulfm_model.specs.Blocks.{IsSummed}
 use Rattle.ulfm_words.specs.declared.step.Site.{Site}
@@ -87,6 +87,11 @@ pub record EndsInMissing {P : Type 0} (meld : P → P → P) (alone : Bool) (nam
   pub unsettled : slot run.span.point c round member ≡ None
   pub in_call : before.steps < after.steps
   pub loaded : after.last ≡ Some (record { at = Site.Place (SlotAt c round member); word = 0; load = true })
+
+-- a call with this reply does, where it is an agreement's poll that answers pending
+abbrev pub PendsIn : {P : Type 0} → (P → P → P) → Bool → Name → Call P → Record → Sight P → Reply P → Record → Sight P → Type 0
+PendsIn meld alone name asked old before reply new after =
+    reply ≡ StillPending → IsAgreement (polled_by old asked) → EndsInMissing meld alone name (comm_of asked) old before new after
 
 -- a pending poll of an agreement ends so
 abbrev pub EndsIn : {P : Type 0} → (P → P → P) → Bool → Name → ℕ → Record → Sight P → Record → Sight P → Polled P → Type 0

@@ -100,3 +100,8 @@ pub record TakesTurn {P : Type 0} (meld : P → P → P) (quiet whole : Bool) (n
   pub sees : StepSees phase own.seen new.seen
   pub leads : LeadsTo phase next
   pub turns : Turns meld quiet name asked phase group own now next left new after
+
+-- a phase of one step ends its call, with this reply
+abbrev pub EndsTurn : {P : Type 0} → (P → P → P) → Bool → Name → Call P → Phase P → Record → Sight P → Reply P → Record → Sight P → Type 0
+EndsTurn meld quiet name asked phase own now reply new after =
+    (group : List ℕ) (whole : Bool) → TakesTurn meld quiet whole name asked phase group own now (Ends reply) group new after

@@ -47,18 +47,22 @@ polling limits n (Some (Agree k)) = 3 * n + 2
 polling limits n (Some (Shrink k)) = 3 * n + 2 * limits.comms + 1
 polling limits n (Some (Barrier k)) = n + 1
 
--- how many a call makes after its look that goes on behind it
+-- how many a call makes after its look that goes on behind it, where a poll makes so many
+abbrev pub behind : {P : Type 0} → ℕ → Call P → ℕ
+behind polls (call.Fail rank) = 0
+behind polls (call.GetFailed rank c) = 0
+behind polls (call.Ack rank c count) = 0
+behind polls (call.Agree rank c value) = 1
+behind polls (call.Shrink rank c) = 1
+behind polls (call.Barrier rank c) = 1
+behind polls (call.Poll rank c) = polls
+behind polls (call.Revoke rank c) = 1
+behind polls (call.IsRevoked rank c) = 1
+behind polls (call.Free rank c) = 0
+
+-- .. by the members of its communicator and the request that is open there
 abbrev pub behind_look : {P : Type 0} → Limits → Record → Call P → ℕ
-behind_look limits own (call.Fail rank) = 0
-behind_look limits own (call.GetFailed rank c) = 0
-behind_look limits own (call.Ack rank c count) = 0
-behind_look limits own (call.Agree rank c value) = 1
-behind_look limits own (call.Shrink rank c) = 1
-behind_look limits own (call.Barrier rank c) = 1
-behind_look limits own (call.Poll rank c) = polling limits (length (group_of (held_at own c))) (request_of (held_at own c))
-behind_look limits own (call.Revoke rank c) = 1
-behind_look limits own (call.IsRevoked rank c) = 1
-behind_look limits own (call.Free rank c) = 0
+behind_look limits own asked = let x = held_at own (comm_of asked) in behind (polling limits (length (group_of x)) (request_of x)) asked
 
 -- how many a call makes after its look: none where the record refuses it
 abbrev pub after_look : {P : Type 0} → Limits → Record → Call P → ℕ

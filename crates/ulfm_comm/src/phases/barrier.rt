@@ -3,8 +3,8 @@ ghost use Rattle.std.specs.Prelude.{ℕ, Bool, List, ◌≡◌, IsTrue};
 ghost use Rattle.ulfm_model.specs.{History.{History}, Records.{Fits, Record}, Terms.{comm_of}};
 ghost use Rattle.ulfm_model.specs.declared.call.Call.TheVariants.{Poll as AskedPoll};
 ghost use Rattle.ulfm_steps.specs.declared.arrivals.Missing.{Missing};
-ghost use Rattle.ulfm_comm.specs.{Barrier.{AnswersEarly, IsChecking}, Phase.{Stands, StillStands}, Step.{TakesTurn}};
-ghost use Rattle.ulfm_comm.specs.declared.phases.phase.Next.TheVariants.{Ends as NextEnds, Goes as NextGoes};
+ghost use Rattle.ulfm_comm.specs.{Barrier.{AnswersEarly, IsChecking}, Phase.{Stands, StillStands}, Step.{EndsTurn, TakesTurn}};
+ghost use Rattle.ulfm_comm.specs.declared.phases.phase.Next.TheVariants.{Goes as NextGoes};
 ghost use Rattle.ulfm_comm.specs.declared.phases.phase.Phase.TheVariants.{Waiting as AtWaiting, Checking as AtChecking};
 ghost use Rattle.ulfm_words.specs.Steps.{IsOf, Sight};
 
@@ -59,8 +59,8 @@ impl<P: Packed, A: Allocator> RankRecord<P, A> {
     ) -> Reply<P>
         requires of { IsOf P.meld (W.name world.now.words) (W.sight pass.old) }
         requires stands { (group : List ℕ) × StillStands P.meld (W.name world.now.words) asked.now (AtChecking missing) group self.old (W.sight pass.old) }
-        ensures turn { (group : List ℕ) (whole : Bool) → TakesTurn P.meld W.alone whole (W.name world.now.words) asked.now (AtChecking missing) group self.old
-            (W.sight pass.old) (NextEnds result) group self.new (W.sight pass.new) }
+        ensures turn { EndsTurn P.meld W.alone (W.name world.now.words) asked.now (AtChecking missing) self.old (W.sight pass.old) result self.new
+            (W.sight pass.new) }
         ensures early { (alone : Bool) → (IsTrue alone → IsTrue W.alone) → (old : Record) → (before : Sight P)
             → Fits P.meld (W.name world.now.words).limits before.seen old → asked.now ≡ AskedPoll old.number (comm_of asked.now) → (earlier : History P)
             → IsChecking P.meld (W.name world.now.words).limits alone (comm_of asked.now) missing earlier old before.seen self.old (W.sight pass.old).seen

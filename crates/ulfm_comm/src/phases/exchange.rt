@@ -1,11 +1,9 @@
-// The one step that starts and questions make after their look.
-ghost use Rattle.std.specs.Prelude.{ℕ, Bool, List, ◌≡◌, false, Some, ◌≤◌, ◌<◌, filter, length};
+// The one step that starts and revocations make after their look.
+ghost use Rattle.std.specs.Prelude.{ℕ, List, ◌≡◌, false, Some, ◌≤◌, ◌<◌, filter, length};
 ghost use Rattle.ulfm_model.specs.{Terms.{comm_of}, History.{has}, Records.{Fits, held_at}};
 ghost use Rattle.ulfm_record.specs.Kept.{HasNext};
-ghost use Rattle.ulfm_comm.specs.{Phase.{StillStands}, Exchange.{Settles, start_leaves, start_result}, Step.{TakesTurn}};
-ghost use Rattle.ulfm_comm.specs.declared.phases.phase.Next.TheVariants.{Ends as NextEnds};
+ghost use Rattle.ulfm_comm.specs.{Phase.{StillStands}, Exchange.{Settles, start_leaves, start_result}, Step.{EndsTurn}};
 ghost use Rattle.ulfm_comm.specs.declared.phases.phase.Phase.TheVariants.{Settling as AtSettling, Arriving as AtArriving, Revoking as AtRevoking};
-ghost use Rattle.ulfm_comm.specs.declared.phases.phase.Phase.TheVariants.{Asking as AtAsking};
 ghost use Rattle.ulfm_words.specs.Steps.{IsOf};
 ghost use Rattle.ulfm_model.specs.declared.place.Place.TheVariants.{Slot as SlotAt};
 ghost use Rattle.ulfm_steps.specs.Turns.{IsOneStep};
@@ -23,7 +21,7 @@ use ulfm_model::refusal::Refusal;
 use ulfm_model::reply::Reply;
 use ulfm_record::HeldComm;
 use ulfm_steps::Settle;
-use ulfm_words::{Words, load_revocation, set_arrival, set_revocation};
+use ulfm_words::{Words, set_arrival, set_revocation};
 
 // An offer with these counts of failures.
 fn contribution<P: Packed>(offer: Offer<P>, known: usize, acked: u16) -> Contribution<P>
@@ -55,8 +53,8 @@ impl<P: Packed, A: Allocator> RankRecord<P, A> {
         requires of { IsOf P.meld (W.name world.now.words) (W.sight pass.old) }
         requires stands { (group : List ℕ)
             × StillStands P.meld (W.name world.now.words) asked.now (AtSettling request offer) group self.old (W.sight pass.old) }
-        ensures { (group : List ℕ) (whole : Bool) → TakesTurn P.meld W.alone whole (W.name world.now.words) asked.now (AtSettling request offer) group
-            self.old (W.sight pass.old) (NextEnds result) group self.new (W.sight pass.new) }
+        ensures { EndsTurn P.meld W.alone (W.name world.now.words) asked.now (AtSettling request offer) self.old (W.sight pass.old) result self.new
+            (W.sight pass.new) }
     {
         let x = self.held_comm(comm_of(asked));
         let settled = self.contribute(world, pass, x, offer);
@@ -77,8 +75,7 @@ impl<P: Packed, A: Allocator> RankRecord<P, A> {
     ) -> Reply<P>
         requires of { IsOf P.meld (W.name world.now.words) (W.sight pass.old) }
         requires stands { (group : List ℕ) × StillStands P.meld (W.name world.now.words) asked.now (AtArriving round) group self.old (W.sight pass.old) }
-        ensures { (group : List ℕ) (whole : Bool) → TakesTurn P.meld W.alone whole (W.name world.now.words) asked.now (AtArriving round) group self.old
-            (W.sight pass.old) (NextEnds result) group self.new (W.sight pass.new) }
+        ensures { EndsTurn P.meld W.alone (W.name world.now.words) asked.now (AtArriving round) self.old (W.sight pass.old) result self.new (W.sight pass.new) }
     {
         let comm = comm_of(asked);
         let number = self.number();
@@ -100,32 +97,13 @@ impl<P: Packed, A: Allocator> RankRecord<P, A> {
     ) -> Reply<P>
         requires of { IsOf P.meld (W.name world.now.words) (W.sight pass.old) }
         requires stands { (group : List ℕ) × StillStands P.meld (W.name world.now.words) asked.now AtRevoking group self.now (W.sight pass.old) }
-        ensures { (group : List ℕ) (whole : Bool) → TakesTurn P.meld W.alone whole (W.name world.now.words) asked.now AtRevoking group self.now
-            (W.sight pass.old) (NextEnds result) group self.now (W.sight pass.new) }
+        ensures { EndsTurn P.meld W.alone (W.name world.now.words) asked.now AtRevoking self.now (W.sight pass.old) result self.now (W.sight pass.new) }
     {
         let by = Caller::Rank(self.number());
         if set_revocation(&world.words, pass, by, comm_of(asked)) {
             Reply::Revoked
         } else {
             Reply::AlreadyRevoked
-        }
-    }
-
-    // The load of a revocation.
-    #[inline(always)]
-    pub(crate) fn go_asking<W: Words<P, A>>(
-        &self,
-        world: &World<W, P, A>,
-        pass: &mut W::Pass,
-        asked: &Call<P>,
-    ) -> Reply<P>
-        requires of { IsOf P.meld (W.name world.now.words) (W.sight pass.old) }
-        requires stands { (group : List ℕ) × StillStands P.meld (W.name world.now.words) asked.now AtAsking group self.now (W.sight pass.old) }
-        ensures { (group : List ℕ) (whole : Bool) → TakesTurn P.meld W.alone whole (W.name world.now.words) asked.now AtAsking group self.now
-            (W.sight pass.old) (NextEnds result) group self.now (W.sight pass.new) }
-    {
-        Reply::Standing {
-            revoked: load_revocation(&world.words, pass, comm_of(asked)),
         }
     }
 

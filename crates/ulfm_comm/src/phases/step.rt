@@ -1,10 +1,10 @@
 // Calls, step by step and whole.
 ghost use Rattle.std.specs.Prelude.{◌≡◌, ◌+◌, ◌<◌, ◌≤◌, Bool, false, length, true, None, Some, IsTrue, MatchOption, OnSome, if◌then◌else◌};
 ghost use Rattle.ulfm_model.specs.declared.{event.Caller.TheVariants.{Rank as OfRank}, call.Call.TheVariants.{Poll as AskedPoll}};
-ghost use Rattle.ulfm_model.specs.declared.{refusal.Refusal.TheVariants.{SelfFailed}, reply.Reply.TheVariants.{Pending as StillPending, Refused}};
-ghost use Rattle.ulfm_model.specs.{Answers.{traits_of, polled_by}, Records.{Fits, Record}, History.{History}, Terms.{comm_of}};
+ghost use Rattle.ulfm_model.specs.declared.{refusal.Refusal.TheVariants.{SelfFailed}, reply.Reply.TheVariants.{Refused}};
+ghost use Rattle.ulfm_model.specs.{Answers.{traits_of}, Records.{Fits, Record}, History.{History}, Terms.{comm_of}};
 ghost use Rattle.ulfm_comm.specs.{Bound.{AlsoBounded, also_bound, step_bound}, AlsoLeft.{also_left}, Counts.{CountsStep, TakesSteps}};
-ghost use Rattle.ulfm_comm.specs.{StepsLeft.{Spends, steps_left}, Step.{TakesTurn, Stepped}, Calls.{EndsReply}, Polls.{EndsInMissing, IsAgreement}};
+ghost use Rattle.ulfm_comm.specs.{StepsLeft.{Spends, steps_left}, Step.{TakesTurn, Stepped}, Calls.{EndsReply}, Polls.{PendsIn}};
 ghost use Rattle.ulfm_comm.specs.{Phase.{Answered, next_of, Stands, StillStands, Waits}, Barrier.{AnswersEarly, IsChecking}};
 ghost use Rattle.ulfm_words.specs.Steps.{IsOf, Name, Sight};
 ghost use Rattle.ulfm_steps.specs.declared.{arrivals.Arrivals.{Arrivals}, arrivals.Missing.{Missing}};
@@ -17,10 +17,10 @@ use crate::world::World;
 use std::alloc::Allocator;
 use std::mem;
 use ulfm_laws::meld::Packed;
-use ulfm_model::call::Call;
+use ulfm_model::call::{Call, comm_of};
 use ulfm_model::refusal::Refusal;
 use ulfm_model::reply::Reply;
-use ulfm_words::Words;
+use ulfm_words::{Words, load_revocation};
 
 impl<P: Packed, A: Allocator + Copy> RankRecord<P, A> {
     // What a call does first.
@@ -88,7 +88,9 @@ impl<P: Packed, A: Allocator + Copy> RankRecord<P, A> {
             }
             Phase::Arriving { round } => Next::Ends(self.go_arriving(world, pass, asked, round)),
             Phase::Revoking => Next::Ends(self.go_revoking(world, pass, asked)),
-            Phase::Asking => Next::Ends(self.go_asking(world, pass, asked)),
+            Phase::Asking => Next::Ends(Reply::Standing {
+                revoked: load_revocation(&world.words, pass, comm_of(asked)),
+            }),
             Phase::Peeking { peek, shrinks } => {
                 self.go_peeking(world, pass, asked, peek, shrinks, whole, group)
             }
@@ -159,8 +161,7 @@ impl<P: Packed, A: Allocator + Copy> RankRecord<P, A> {
         requires fits { Fits P.meld (W.name world.now.words).limits (W.sight pass.old).seen self.old }
         requires mine { (traits_of asked).by ≡ OfRank self.old.number }
         ensures ends { EndsReply P.meld W.alone (W.name world.now.words) asked self.old (W.sight pass.old) result self.new (W.sight pass.new) }
-        ensures pending { result ≡ StillPending → IsAgreement (polled_by self.old asked)
-            → EndsInMissing P.meld W.alone (W.name world.now.words) (comm_of asked) self.old (W.sight pass.old) self.new (W.sight pass.new) }
+        ensures pending { PendsIn P.meld W.alone (W.name world.now.words) asked self.old (W.sight pass.old) result self.new (W.sight pass.new) }
         ensures steps { (W.sight pass.new).steps ≤ (W.sight pass.old).steps + step_bound (W.name world.now.words).limits self.old asked }
         ensures also { AlsoBounded (W.name world.now.words).limits asked self.old (W.sight pass.old) self.new (W.sight pass.new) }
     {
@@ -267,8 +268,7 @@ impl<P: Packed, A: Allocator + Copy> Rank<P, A> {
         requires fits { Fits P.meld (W.name world.now.words).limits (W.sight pass.old).seen self.old.own }
         requires mine { (traits_of asked).by ≡ OfRank self.old.own.number }
         ensures ends { EndsReply P.meld W.alone (W.name world.now.words) asked self.old.own (W.sight pass.old) result self.new.own (W.sight pass.new) }
-        ensures pending { result ≡ StillPending → IsAgreement (polled_by self.old.own asked)
-            → EndsInMissing P.meld W.alone (W.name world.now.words) (comm_of asked) self.old.own (W.sight pass.old) self.new.own (W.sight pass.new) }
+        ensures pending { PendsIn P.meld W.alone (W.name world.now.words) asked self.old.own (W.sight pass.old) result self.new.own (W.sight pass.new) }
         ensures steps { TakesSteps (W.name world.now.words).limits asked self.old.own (W.sight pass.old) self.new.own self.new.last (W.sight pass.new) }
     {
         let before = world.words.steps_made(pass);

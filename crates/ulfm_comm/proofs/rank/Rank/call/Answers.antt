@@ -1,7 +1,6 @@
-use Rattle.std.proofs.Common.{◌≡◌, ◌+◌, ◌≤◌, arith, refl, subst, sym}
-use Rattle.ulfm_model.specs.declared.reply.Reply.TheVariants.{Pending}
-use Rattle.ulfm_model.specs.{Answers.{polled_by}, Records.{Fits}, Terms.{comm_of}}
-use Rattle.ulfm_comm.specs.{Bound.{AlsoBounded, step_bound}, Counts.{Ranked}, Polls.{EndsInMissing, IsAgreement}}
+use Rattle.std.proofs.Common.{◌+◌, ◌≤◌, arith, refl, subst, sym}
+use Rattle.ulfm_model.specs.Records.{Fits}
+use Rattle.ulfm_comm.specs.{Bound.{AlsoBounded, step_bound}, Counts.{Ranked}, Polls.{PendsIn}}
 use Rattle.ulfm_comm.proofs.Counts.{made_exact, made_small}
 use Rattle.ulfm_comm.proofs.rank.Rank.call.Goals as goal
 
@@ -19,7 +18,7 @@ returns-clause-pending g c =
     let name = g.W.Words.name c.args.world.now.words in
     let before = g.W.Words.sight c.args.pass.now in
     let after = g.W.Words.sight c.call-reply.new.pass in
-    subst (λ (r : Ranked). c.call-reply.result ≡ Pending → IsAgreement (polled_by r.own c.args.asked) → EndsInMissing g.P.Meld.meld g.W.Words.alone name (comm_of c.args.asked) r.own before c.call-reply.new.self after) c.self.view_is
+    subst (λ (r : Ranked). PendsIn g.P.Meld.meld g.W.Words.alone name c.args.asked r.own before c.call-reply.result c.call-reply.new.self after) c.self.view_is
     c.call-reply.ensures.pending
 
 pub returns-clause-steps : goal.returns-clause-steps
