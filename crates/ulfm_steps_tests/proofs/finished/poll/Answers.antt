@@ -1,5 +1,6 @@
-use Rattle.std.proofs.Common.{[], refl, append-nil, arith}
+use Rattle.std.proofs.Common.{[], refl, append-nil, arith, rules}
 use Rattle.ulfm_model.specs.History.{failures}
+use Rattle.ulfm_model.proofs.Summed.{summed_none}
 use Rattle.ulfm_steps.proofs.{Groups.{round_rises}, Reading.{world_round}}
 use Rattle.ulfm_steps_tests.proofs.finished.poll.Goals as goal
 
@@ -19,5 +20,11 @@ finish-requires-2-clause-may g c =
       begins = rw (c.deref-2.ensures.value, c.finish.ensures.found) ([], append-nil _);
     })
 
-pub finish-requires-3-clause-round : goal.finish-requires-3-clause-round
-finish-requires-3-clause-round g c = rw (c.new-3.ensures, c.requires.group) (world_round (g.W.Words.name c.args.words.now).limits (g.W.Words.sight c.finish-2.new.pass).seen 0 c.requires.rounds)
+pub finish-requires-3-clause-may : goal.finish-requires-3-clause-may
+finish-requires-3-clause-may g c =
+    let seen = (g.W.Words.sight c.finish-2.new.pass).seen in
+    record {
+      of = search rules;
+      round = rw (c.new-3.ensures, c.requires.group) (world_round (g.W.Words.name c.args.words.now).limits seen 0 c.requires.rounds);
+      read = rw c.new-3.ensures (summed_none g.P.Meld.meld seen 0 0);
+    }
