@@ -9,7 +9,8 @@ ghost use Rattle.ulfm_laws.specs.Flags.{flag_meld};
 ghost use Rattle.ulfm_model.specs.declared.reply.Reply.{Reply as ReplyOf};
 ghost use Rattle.ulfm_wait.specs.Waits.{IsPolledOn};
 ghost use Rattle.ulfm_race.specs.declared.plan.Plan.{Plan as PlanOf};
-ghost use Rattle.ulfm_race.specs.Races.{AreOf, IsAnswered, IsKept, IsPlan, IsReady, IsReported, SaysAgree, flag_of, is_refused, is_stopped, limits_of};
+ghost use Rattle.ulfm_race.specs.Races.{AreOf, IsAnswered, IsKept, IsPlan, IsReady, IsReported, SaysAgree, Starts, Works};
+ghost use Rattle.ulfm_race.specs.Races.{flag_of, is_refused, is_stopped, limits_of};
 
 use crate::plan::{Gate, Plan, RaceFault, Turn};
 use std::alloc::Global;
@@ -28,6 +29,14 @@ pub(crate) type Replies = boxcar::Vec<Reply<FlagAnd>>;
 pub(crate) type Token = boxcar::Pushed<Reply<FlagAnd>>;
 
 pub(crate) type Own = Rank<FlagAnd, Global>;
+
+/// What a worker works with: its rank, its pass, and a token of each reply that it was given.
+#[derive(Drop)]
+pub(crate) struct Worker {
+    pub rank: Own,
+    pub pass: BookPass<FlagAnd>,
+    pub tokens: Vec<Token>,
+}
 
 /// What a worker gives back.
 #[derive(Drop)]
@@ -56,26 +65,25 @@ pub(crate) fn work<G: Gate, R: Wait>(
     ensures { IsReported world.now.words said.now plan rank.own.number result.rank.own result.told result.tokens.items result.fault }
 {
     let number = rank.number();
-    let mut rank = rank;
-    let mut pass = pass;
-    let mut tokens = Vec::new(alloc);
-    let ended = take_turns(
-        rt,
-        gate,
-        world,
-        said,
-        plan,
-        &mut rank,
-        &mut pass,
-        &mut tokens,
-    );
-    let fault = fault_in(&ended);
-    declare(world, &rank, number, &mut pass, is_stopped(&ended));
-    let told = world.told(&pass);
-    Report {
+    let mut worker = Worker {
         rank,
+        pass,
+        tokens: Vec::new(alloc),
+    };
+    let ended = take_turns(rt, gate, world, said, plan, &mut worker);
+    let fault = fault_in(&ended);
+    declare(
+        world,
+        &worker.rank,
+        number,
+        &mut worker.pass,
+        is_stopped(&ended),
+    );
+    let told = world.told(&worker.pass);
+    Report {
+        rank: worker.rank,
         told,
-        tokens,
+        tokens: worker.tokens,
         fault,
     }
 }
@@ -117,27 +125,22 @@ fn take_turns<G: Gate, R: Wait>(
     world: &Shared,
     said: &Replies,
     plan: Plan,
-    rank: &mut Own,
-    pass: &mut BookPass<FlagAnd>,
-    tokens: &mut Vec<Token>,
+    worker: &mut Worker,
 ) -> Result<bool, RaceFault>
-    requires limits { world.now.words.limits ≡ limits_of plan }
-    requires own { AreOf world.now.words rank.old.own pass.old }
-    requires shown { AllByRecursion (Shows said.now) tokens.old.items }
-    requires ready { IsReady plan rank.old.own.number 0 rank.old.own pass.old.seen (map (λ t. t.value) tokens.old.items) }
-    ensures own { AreOf world.now.words rank.new.own pass.new }
-    ensures shown { AllByRecursion (Shows said.now) tokens.new.items }
-    ensures answered { IfOk result (λ _. IsAnswered plan pass.new.seen rank.old.own.number rank.new.own (map (λ t. t.value) tokens.new.items)) }
+    requires { Starts world.now.words said.now plan worker.old.rank.own worker.old.pass worker.old.tokens.items }
+    ensures works { Works world.now.words said.now worker.new.rank.own worker.new.pass worker.new.tokens.items }
+    ensures answered { IfOk result (λ _. IsAnswered plan worker.new.pass.seen worker.old.rank.own.number worker.new.rank.own
+        (map (λ t. t.value) worker.new.tokens.items)) }
 {
-    match agree_all(rt, gate, world, said, plan, rank, pass, tokens) {
+    match agree_all(rt, gate, world, said, plan, worker) {
         Ok(true) => {}
         Ok(false) => return Ok(false),
         Err(fault) => return Err(fault),
     }
-    match shrink(rt, gate, world, rank, pass) {
-        Ok(reply) => match keep(rt, said, tokens, reply) {
+    match shrink(rt, gate, world, &mut worker.rank, &mut worker.pass) {
+        Ok(reply) => match keep(rt, said, &mut worker.tokens, reply) {
             Ok(()) => {
-                gate.answered(rank.number());
+                gate.answered(worker.rank.number());
                 Ok(!is_refused(&reply))
             }
             Err(fault) => Err(fault),
@@ -307,28 +310,24 @@ pub(crate) fn agree_all<G: Gate, R: Wait>(
     world: &Shared,
     said: &Replies,
     plan: Plan,
-    rank: &mut Own,
-    pass: &mut BookPass<FlagAnd>,
-    tokens: &mut Vec<Token>,
+    worker: &mut Worker,
 ) -> Result<bool, RaceFault>
-    requires limits { world.now.words.limits ≡ limits_of plan }
-    requires own { AreOf world.now.words rank.old.own pass.old }
-    requires shown { AllByRecursion (Shows said.now) tokens.old.items }
-    requires ready { IsReady plan rank.old.own.number 0 rank.old.own pass.old.seen (map (λ t. t.value) tokens.old.items) }
-    ensures own { AreOf world.now.words rank.new.own pass.new }
-    ensures shown { AllByRecursion (Shows said.now) tokens.new.items }
+    requires { Starts world.now.words said.now plan worker.old.rank.own worker.old.pass worker.old.tokens.items }
+    ensures works { Works world.now.words said.now worker.new.rank.own worker.new.pass worker.new.tokens.items }
     ensures says { IfOk result (λ goes. MatchBool goes
-        (IsReady plan rank.old.own.number plan.rounds rank.new.own pass.new.seen (map (λ t. t.value) tokens.new.items))
-        (IsAnswered plan pass.new.seen rank.old.own.number rank.new.own (map (λ t. t.value) tokens.new.items))) }
+        (IsReady plan worker.old.rank.own.number plan.rounds worker.new.rank.own worker.new.pass.seen
+        (map (λ t. t.value) worker.new.tokens.items))
+        (IsAnswered plan worker.new.pass.seen worker.old.rank.own.number worker.new.rank.own
+        (map (λ t. t.value) worker.new.tokens.items))) }
 {
     for round in 0..plan.rounds {
-        match agree(rt, gate, world, rank, pass, round) {
+        match agree(rt, gate, world, &mut worker.rank, &mut worker.pass, round) {
             Ok(reply) => {
-                match keep(rt, said, tokens, reply) {
+                match keep(rt, said, &mut worker.tokens, reply) {
                     Ok(()) => {}
                     Err(fault) => return Err(fault),
                 }
-                gate.answered(rank.number());
+                gate.answered(worker.rank.number());
                 if is_refused(&reply) {
                     return Ok(false);
                 }

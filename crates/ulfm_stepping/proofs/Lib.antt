@@ -1,4 +1,5 @@
 pub mod Reseen
+pub mod ByPhase
 pub mod Turns
 pub mod Nexts
 pub mod Ending

@@ -13,6 +13,7 @@ use Rattle.ulfm_comm.specs.{Look.{HasLooked, Looked as HasFound}, Spawning.{IsDe
 use Rattle.ulfm_comm.specs.Phase.{Stands, StandsAt, UnderWay, is_looking}
 use Rattle.ulfm_comm.specs.declared.phases.phase.{Phase.{Phase}, Phase.TheVariants.{Over, Begun, Looking, Settling, Arriving, Revoking, Asking, Peeking, Marking, Reading, ReadingOn, Spawning, Waiting, Checking}}
 use Rattle.ulfm_comm.proofs.{Polls.{not_refused}, WholeCall.{held_before}}
+use Rattle.ulfm_stepping.proofs.ByPhase.{in_look}
 
 -- a history between two that are one
 pub squeeze : {E : Type 0} (a b c : List E) → IsPrefix a b → IsPrefix b c → a ≡ c → b ≡ c
@@ -121,20 +122,6 @@ found_all asked old own before now f same =
 pub begins_again : {P : Type 0} (meld : P → P → P) (name : Name) (old : Record) (before : Sight P) (doing : UnderWay P) (own : Record) (now : Sight P) → is_looking doing.phase ≡ true → Stands meld false name old before doing own now → IsOf meld name now → IsPrefix before.seen now.seen
     → Stands meld false name old now doing own now
 begins_again {P} meld name old before doing own now looking s of begins =
-    record { fits = fits_stays meld name.limits before.seen now.seen old begins of.legal s.fits; mine = s.mine; onward = omega arith; at = go doing.phase looking s.at }
-  where
-    go : (phase : Phase P) → is_looking phase ≡ true → StandsAt meld false name doing.asked old before phase doing.group own now → StandsAt meld false name doing.asked old now phase doing.group own now
-    go Begun looking p = (p.0, p.1, did_none false now.seen)
-    go Looking looking p = (p.0, p.1, did_none false now.seen, p.3)
-    go Over looking p = absurd (cc looking)
-    go (Settling request offer) looking p = absurd (cc looking)
-    go (Arriving round) looking p = absurd (cc looking)
-    go Revoking looking p = absurd (cc looking)
-    go Asking looking p = absurd (cc looking)
-    go (Peeking peek shrinks) looking p = absurd (cc looking)
-    go (Marking marks blocks shrinks) looking p = absurd (cc looking)
-    go (Reading reading shrinks) looking p = absurd (cc looking)
-    go (ReadingOn on made) looking p = absurd (cc looking)
-    go (Spawning append context reach) looking p = absurd (cc looking)
-    go (Waiting arrivals) looking p = absurd (cc looking)
-    go (Checking missing) looking p = absurd (cc looking)
+    let At : Phase P → Sight P → Type 0 = λ phase start. StandsAt meld false name doing.asked old start phase doing.group own now in
+    let again = in_look (λ (phase : Phase P). At phase before → At phase now) (λ p. (p.0, p.1, did_none false now.seen)) (λ p. (p.0, p.1, did_none false now.seen, p.3)) doing.phase looking in
+    record { fits = fits_stays meld name.limits before.seen now.seen old begins of.legal s.fits; mine = s.mine; onward = omega arith; at = again s.at }

@@ -7,48 +7,25 @@ use Rattle.ulfm_model.specs.declared.limits.Limits.{Limits}
 use Rattle.ulfm_model.proofs.Lists.{prefix_trans}
 use Rattle.ulfm_words.specs.Steps.{IsOf, Name, Sight}
 use Rattle.ulfm_words.proofs.Trails.{did_prefix, did_quiet}
+use Rattle.ulfm_steps.specs.declared.arrivals.Missing.{Missing}
 use Rattle.ulfm_comm.specs.{Barrier.{IsChecking}, Calls.{EndsAs, EndsReply, wants_memory}, Ends.{IsEarlyRun, IsEndRun, IsRefusedAgain}, Phase.{Answered, Stands, StandsAt, UnderWay, Waits, is_looking}, Step.{StepAdds}}
-use Rattle.ulfm_comm.specs.declared.phases.phase.{Phase.{Phase}, Phase.TheVariants.{Over, Begun, Looking, Settling, Arriving, Revoking, Asking, Peeking, Marking, Reading, ReadingOn, Spawning, Waiting, Checking}}
+use Rattle.ulfm_comm.specs.declared.phases.phase.{Phase.{Phase}, Phase.TheVariants.{Checking}}
 use Rattle.ulfm_comm.proofs.AmongOthers.{did_among}
 use Rattle.ulfm_trace_model.specs.declared.line.Line.TheVariants.{Looked}
 use Rattle.ulfm_trace_model.specs.Traces.{MayCome, Traced, Under, after, call_by, record_of}
 use Rattle.ulfm_trace_model.proofs.Callers.{find_change}
 use Rattle.ulfm_stepping.specs.Stepping.{FoundAt, HasBegun, HasCalled}
-use Rattle.ulfm_stepping.proofs.{Ending.{ends_so, may_list}, LookedAt.{begins_again, found_all, found_by_phase, squeeze}, Replying.{reply_answers}, Reseen.{reseen}, Turns.{EndsSo, LooksOn}}
+use Rattle.ulfm_stepping.proofs.{ByPhase.{found_by_check, in_look}, Ending.{ends_so, may_list}, LookedAt.{begins_again, found_all, found_by_phase, squeeze}, Replying.{reply_answers}, Reseen.{reseen}, Turns.{EndsSo, LooksOn}}
 
 -- a look makes no event
 pub no_event : {P : Type 0} (own : Record) (asked : Call P) (phase : Phase P) (reply : Option (Reply P)) (old new : History P) → is_looking phase ≡ true → StepAdds true own asked phase reply old new → new ≡ old
-no_event own asked Begun reply old new looking did = did_quiet true old new did refl
-no_event own asked Looking reply old new looking did = did_quiet true old new did refl
-no_event own asked Over reply old new looking adds = absurd (cc looking)
-no_event own asked (Settling request offer) reply old new looking adds = absurd (cc looking)
-no_event own asked (Arriving round) reply old new looking adds = absurd (cc looking)
-no_event own asked Revoking reply old new looking adds = absurd (cc looking)
-no_event own asked Asking reply old new looking adds = absurd (cc looking)
-no_event own asked (Peeking peek shrinks) reply old new looking adds = absurd (cc looking)
-no_event own asked (Marking marks blocks shrinks) reply old new looking adds = absurd (cc looking)
-no_event own asked (Reading reading shrinks) reply old new looking adds = absurd (cc looking)
-no_event own asked (ReadingOn on made) reply old new looking adds = absurd (cc looking)
-no_event own asked (Spawning append context reach) reply old new looking adds = absurd (cc looking)
-no_event own asked (Waiting arrivals) reply old new looking adds = absurd (cc looking)
-no_event own asked (Checking missing) reply old new looking adds = absurd (cc looking)
+no_event {P} own asked phase reply old new looking =
+    in_look (λ (at : Phase P). StepAdds true own asked at reply old new → new ≡ old) (λ did. did_quiet true old new did refl) (λ did. did_quiet true old new did refl) phase looking
 
 -- in its look, a call's rank has its number
 same_number : {P : Type 0} (meld : P → P → P) (name : Name) (asked : Call P) (old : Record) (before : Sight P) (group : List ℕ) (own : Record) (now : Sight P) (phase : Phase P) → is_looking phase ≡ true → StandsAt meld false name asked old before phase group own now → own.number ≡ old.number
-same_number meld name asked old before group own now Begun looking p = ap (λ (w : Record). w.number) p.1
-same_number meld name asked old before group own now Looking looking p = ap (λ (w : Record). w.number) p.1
-same_number meld name asked old before group own now Over looking p = absurd (cc looking)
-same_number meld name asked old before group own now (Settling request offer) looking p = absurd (cc looking)
-same_number meld name asked old before group own now (Arriving round) looking p = absurd (cc looking)
-same_number meld name asked old before group own now Revoking looking p = absurd (cc looking)
-same_number meld name asked old before group own now Asking looking p = absurd (cc looking)
-same_number meld name asked old before group own now (Peeking peek shrinks) looking p = absurd (cc looking)
-same_number meld name asked old before group own now (Marking marks blocks shrinks) looking p = absurd (cc looking)
-same_number meld name asked old before group own now (Reading reading shrinks) looking p = absurd (cc looking)
-same_number meld name asked old before group own now (ReadingOn on made) looking p = absurd (cc looking)
-same_number meld name asked old before group own now (Spawning append context reach) looking p = absurd (cc looking)
-same_number meld name asked old before group own now (Waiting arrivals) looking p = absurd (cc looking)
-same_number meld name asked old before group own now (Checking missing) looking p = absurd (cc looking)
+same_number {P} meld name asked old before group own now =
+    in_look (λ (phase : Phase P). StandsAt meld false name asked old before phase group own now → own.number ≡ old.number) (λ p. ap (λ (w : Record). w.number) p.1) (λ p. ap (λ (w : Record). w.number) p.1)
 
 -- all that a call's last look found was seen, whatever it polls
 sees_all : {P : Type 0} (b : Bool) (look after : History P) (seen : List ℕ) → Sees b (failures look) after seen → failures look ≡ failures after → seen ≡ failures after
@@ -58,25 +35,16 @@ sees_all true look after seen sees all = squeeze (failures look) seen (failures 
 -- a barrier's poll that makes its last load at the look's end found at the look who is missing
 found_now : {P : Type 0} (meld : P → P → P) (limits : Limits) (asked : Call P) (name : Name) (old : Record) (before : Sight P) (group : List ℕ) (own : Record) (now : Sight P) (found : ℕ) (phase : Phase P) → StandsAt meld false name asked old before phase group own now
     → name.limits ≡ limits → before.seen ≡ now.seen → found ≡ length now.seen → FoundAt meld limits (comm_of asked) old before.seen own now.seen found phase
-found_now {P} meld limits asked name old before group own now found (Checking missing) p limits_is still found_is =
-    let i = p.2 in
-    let w = i.waits in
-    let begins = prefix_trans before.seen w.look p.1 (did_prefix false [] before.seen w.look w.looked.did) (did_prefix false [] w.look p.1 w.waited) in
-    let here : p.1 ≡ now.seen = squeeze before.seen p.1 now.seen begins (did_prefix false [] p.1 now.seen i.waited) still in
-    (p.1, subst (λ (l : Limits). IsChecking meld l false (comm_of asked) missing p.1 old before.seen own now.seen) limits_is i, ap length here ∙ sym found_is)
-found_now meld limits asked name old before group own now found Over p limits_is still found_is = tt
-found_now meld limits asked name old before group own now found Begun p limits_is still found_is = tt
-found_now meld limits asked name old before group own now found Looking p limits_is still found_is = tt
-found_now meld limits asked name old before group own now found (Settling request offer) p limits_is still found_is = tt
-found_now meld limits asked name old before group own now found (Arriving round) p limits_is still found_is = tt
-found_now meld limits asked name old before group own now found Revoking p limits_is still found_is = tt
-found_now meld limits asked name old before group own now found Asking p limits_is still found_is = tt
-found_now meld limits asked name old before group own now found (Peeking peek shrinks) p limits_is still found_is = tt
-found_now meld limits asked name old before group own now found (Marking marks blocks shrinks) p limits_is still found_is = tt
-found_now meld limits asked name old before group own now found (Reading reading shrinks) p limits_is still found_is = tt
-found_now meld limits asked name old before group own now found (ReadingOn on made) p limits_is still found_is = tt
-found_now meld limits asked name old before group own now found (Spawning append context reach) p limits_is still found_is = tt
-found_now meld limits asked name old before group own now found (Waiting arrivals) p limits_is still found_is = tt
+found_now {P} meld limits asked name old before group own now found phase p limits_is still found_is =
+    found_by_check (λ (at : Phase P). StandsAt meld false name asked old before at group own now) meld limits (comm_of asked) old before.seen own now.seen found go phase p
+  where
+    go : (missing : Missing) → StandsAt meld false name asked old before (Checking missing) group own now → FoundAt meld limits (comm_of asked) old before.seen own now.seen found (Checking missing)
+    go missing p =
+        let i = p.2 in
+        let w = i.waits in
+        let begins = prefix_trans before.seen w.look p.1 (did_prefix false [] before.seen w.look w.looked.did) (did_prefix false [] w.look p.1 w.waited) in
+        let here : p.1 ≡ now.seen = squeeze before.seen p.1 now.seen begins (did_prefix false [] p.1 now.seen i.waited) still in
+        (p.1, subst (λ (l : Limits). IsChecking meld l false (comm_of asked) missing p.1 old before.seen own now.seen) limits_is i, ap length here ∙ sym found_is)
 
 module _ {P : Type 0} (meld : P → P → P) (name : Name) (now : Traced P) (pass after_it : Sight P) (own : Record) (doing : UnderWay P) (h : HasBegun meld name now pass own doing) (of : IsOf meld name after_it) (result : Option (Reply P)) (own' : Record) (doing' : UnderWay P)
     (adds : StepAdds true own doing.asked doing.phase result pass.seen after_it.seen) (asked' : doing'.asked ≡ doing.asked) (found' : ℕ) (found_is' : found' ≡ length after_it.seen) where

@@ -7,15 +7,16 @@ use Rattle.ulfm_model.specs.{Answers.{comm_of, traits_of}, History.{History}, Re
 use Rattle.ulfm_model.proofs.{LeftRuns.{left_keeps}, Stable.{fits_stays}}
 use Rattle.ulfm_words.specs.Steps.{IsOf, Name, Sight}
 use Rattle.ulfm_words.proofs.Trails.{did_wait}
+use Rattle.ulfm_steps.specs.declared.arrivals.Missing.{Missing}
 use Rattle.ulfm_comm.specs.Phase.{UnderWay, Waits}
-use Rattle.ulfm_comm.specs.declared.phases.phase.{Phase.{Phase}, Phase.TheVariants.{Over, Begun, Looking, Settling, Arriving, Revoking, Asking, Peeking, Marking, Reading, ReadingOn, Spawning, Waiting, Checking}}
+use Rattle.ulfm_comm.specs.declared.phases.phase.{Phase.{Phase}, Phase.TheVariants.{Checking}}
 use Rattle.ulfm_comm.proofs.{Stands.{stands_lasts}, AmongOthers.{did_among}}
 use Rattle.ulfm_trace_model.specs.declared.line.{Line.{Line}, Line.TheVariants.{Called, Happened, Looked, Replied}}
 use Rattle.ulfm_trace_model.specs.Follows.{AreOf, is_of}
 use Rattle.ulfm_trace_model.specs.Traces.{Told, Traced, Under, after, after_reply, call_by, caller_of, change_by, found_by, record_of, records_after, said_by, same_caller, taken_in, with_event}
 use Rattle.ulfm_trace_model.proofs.{Callers.{same_is}, Kept.{find_other_record, limits_stay}}
 use Rattle.ulfm_stepping.specs.{Seats.{AreOthers, Seated, Sits, SitsAt, line_by}, Stepping.{FoundAt, HasBegun, HasCalled, IsIdle, events_by}}
-use Rattle.ulfm_stepping.proofs.{LookedAt.{begins_again}, Replying.{by_append}, Stepped.{keeps_asked}}
+use Rattle.ulfm_stepping.proofs.{ByPhase.{found_by_check}, LookedAt.{begins_again}, Replying.{by_append}, Stepped.{keeps_asked}}
 
 -- who is another caller isn't this rank
 apart : (n : ℕ) (by : Caller) → same_caller by (Rank n) ≡ false → (c : Caller) → same_caller c by ≡ true → same_caller c (Rank n) ≡ true → ⊥
@@ -114,21 +115,12 @@ module _ {P : Type 0} (n : ℕ) where
 -- who is missing in a barrier was found at a beginning of what is seen later, too
 found_lasts : {P : Type 0} (meld : P → P → P) (limits : Limits) (c : ℕ) (old : Record) (before : History P) (own : Record) (now later : History P) (found : ℕ) → IsPrefix now later → (phase : Phase P) → FoundAt meld limits c old before own now found phase
     → FoundAt meld limits c old before own later found phase
-found_lasts meld limits c old before own now later found begins (Checking missing) (earlier, i, is) =
-    (earlier, record { x = i.x; k = i.k; waits = i.waits; are = i.are; legal = i.legal; waited = did_wait false [] earlier now later i.waited (did_among now later begins) }, is)
-found_lasts meld limits c old before own now later found begins Over f = tt
-found_lasts meld limits c old before own now later found begins Begun f = tt
-found_lasts meld limits c old before own now later found begins Looking f = tt
-found_lasts meld limits c old before own now later found begins (Settling request offer) f = tt
-found_lasts meld limits c old before own now later found begins (Arriving round) f = tt
-found_lasts meld limits c old before own now later found begins Revoking f = tt
-found_lasts meld limits c old before own now later found begins Asking f = tt
-found_lasts meld limits c old before own now later found begins (Peeking peek shrinks) f = tt
-found_lasts meld limits c old before own now later found begins (Marking marks blocks shrinks) f = tt
-found_lasts meld limits c old before own now later found begins (Reading reading shrinks) f = tt
-found_lasts meld limits c old before own now later found begins (ReadingOn on made) f = tt
-found_lasts meld limits c old before own now later found begins (Spawning append context reach) f = tt
-found_lasts meld limits c old before own now later found begins (Waiting arrivals) f = tt
+found_lasts meld limits c old before own now later found begins =
+    found_by_check (FoundAt meld limits c old before own now found) meld limits c old before own later found go
+  where
+    go : (missing : Missing) → FoundAt meld limits c old before own now found (Checking missing) → FoundAt meld limits c old before own later found (Checking missing)
+    go missing (earlier, i, is) =
+        (earlier, record { x = i.x; k = i.k; waits = i.waits; are = i.are; legal = i.legal; waited = did_wait false [] earlier now later i.waited (did_among now later begins) }, is)
 
 -- others' lines led from `now` to `t`, and the pass has seen their events since
 module _ {P : Type 0} (meld : P → P → P) (name : Name) (now t : Traced P) (pass later : Sight P) (own : Record) (of : IsOf meld name later) (limits_t : t.limits ≡ now.limits) (history_t : t.history ≡ later.seen) (s : Stays own.number now t) (onward : pass.steps ≤ later.steps) where
@@ -157,29 +149,29 @@ module _ {P : Type 0} (meld : P → P → P) (name : Name) (now t : Traced P) (p
       record {
         limits = limits_t ∙ h.limits;
         history = history_t;
-        u = h.u;
         call = s.call ∙ h.call;
+        record_is = s.record_is ∙ h.record_is;
+        waits = record { did = did_wait false [] h.stood.seen pass.seen later.seen h.waits.did waits.did; onward = omega (arith, first, onward) };
+        rest = h.rest ++ s.more;
+        since = sym (append_assoc h.before.seen h.rest s.more) ∙ (ap (λ w. w ++ s.more) h.since ∙ grown);
+        own_is = by_append (Rank own.number) h.rest s.more ∙ (ap (λ es. events_by (Rank own.number) h.rest ++ es) s.others ∙ (append-nil (events_by (Rank own.number) h.rest) ∙ h.own_is));
+        found_at = found_lasts meld name.limits (comm_of doing.asked) h.old h.before.seen own pass.seen later.seen found (s.more, grown) doing.phase h.found_at;
+        u = h.u;
         asked = h.asked;
         old = h.old;
         seen = h.seen;
-        record_is = s.record_is ∙ h.record_is;
         before = h.before;
         stood = h.stood;
         stands = h.stands;
-        waits = record { did = did_wait false [] h.stood.seen pass.seen later.seen h.waits.did waits.did; onward = omega (arith, first, onward) };
         past = h.past;
         in_use = h.in_use;
         own_same = h.own_same;
         sees = h.sees;
         begun = h.begun;
         look = h.look;
-        rest = h.rest ++ s.more;
-        since = sym (append_assoc h.before.seen h.rest s.more) ∙ (ap (λ w. w ++ s.more) h.since ∙ grown);
-        own_is = by_append (Rank own.number) h.rest s.more ∙ (ap (λ es. events_by (Rank own.number) h.rest ++ es) s.others ∙ (append-nil (events_by (Rank own.number) h.rest) ∙ h.own_is));
         no_own = h.no_own;
         not_declared = h.not_declared;
         not_refused = h.not_refused;
-        found_at = found_lasts meld name.limits (comm_of doing.asked) h.old h.before.seen own pass.seen later.seen found (s.more, grown) doing.phase h.found_at;
       }
 
   begun_lasts : (doing : UnderWay P) → HasBegun meld name now pass own doing → HasBegun meld name t later own doing
@@ -191,17 +183,17 @@ module _ {P : Type 0} (meld : P → P → P) (name : Name) (now t : Traced P) (p
       record {
         limits = limits_t ∙ h.limits;
         history = history_t;
-        u = h.u;
         call = s.call ∙ h.call;
+        record_is = s.record_is ∙ h.record_is;
+        stands = begins_again meld name h.old pass doing own later h.looking still of (s.more, grown);
+        begun = omega (arith, first, longer);
+        u = h.u;
         asked = h.asked;
         old = h.old;
         seen = h.seen;
-        record_is = s.record_is ∙ h.record_is;
         number = h.number;
         looking = h.looking;
         in_use = h.in_use;
-        stands = begins_again meld name h.old pass doing own later h.looking still of (s.more, grown);
-        begun = omega (arith, first, longer);
         look = h.look;
         own_is = h.own_is;
       }

@@ -7,7 +7,7 @@ use Rattle.ulfm_model.proofs.Lists.{in_list}
 use Rattle.ulfm_words.specs.Steps.{IsOf, Name, Sight}
 use Rattle.ulfm_words.proofs.Ranks.{failures_le}
 use Rattle.ulfm_comm.specs.{Calls.{EndsAs, EndsReply, wants_memory}, Ends.{IsRefusedAgain}, Phase.{Answered, Stands, StandsAt, UnderWay, Waits, is_checking, is_looking, next_of}, Step.{StepAdds, Stepped}, StepsLeft.{FewerLeft, steps_left}}
-use Rattle.ulfm_comm.specs.declared.phases.phase.{Phase.{Phase}, Phase.TheVariants.{Over, Begun, Looking, Settling, Arriving, Revoking, Asking, Peeking, Marking, Reading, ReadingOn, Spawning, Waiting, Checking}}
+use Rattle.ulfm_comm.specs.declared.phases.phase.{Phase.{Phase}, Phase.TheVariants.{Begun}}
 use Rattle.ulfm_comm.proofs.AmongOthers.{did_among}
 use Rattle.ulfm_trace_model.specs.declared.line.Line.TheVariants.{Happened, Looked}
 use Rattle.ulfm_trace_model.specs.Follows.{AreOf, EndsInReply, is_event}
@@ -15,7 +15,7 @@ use Rattle.ulfm_trace_model.specs.Traces.{AreLegalAfter, Told, Traced, after, li
 use Rattle.ulfm_trace_model.proofs.Callers.{same_rank}
 use Rattle.ulfm_stepping.specs.declared.told.{Answer.{Answer}, StepTold.{StepTold}}
 use Rattle.ulfm_stepping.specs.{Seats.{MayList, Seated, Sits, SitsAt, TellsBegin, TellsPiece, entries_of, event_piece, has_looked, left_in, look_piece, piece_of, reply_piece, wants_in}, Stepping.{HasBegun, HasCalled, IsIdle, point_of, replied}}
-use Rattle.ulfm_stepping.proofs.{Beginning.{begun, may_call, refused}, LooksOn.{looks_on, no_event}, Nexts.{reply_next}, Reseen.{reseen}, Stepped.{comes}, Turns.{EndsSo, LooksOn, NextAt, SaysStep}}
+use Rattle.ulfm_stepping.proofs.{Beginning.{begun, may_call, refused}, ByPhase.{in_look}, LooksOn.{looks_on, no_event}, Nexts.{reply_next}, Reseen.{reseen}, Stepped.{comes}, Turns.{EndsSo, LooksOn, NextAt, SaysStep}}
 
 -- The lines of a call that begins.
 module _ {P : Type 0} (meld : P → P → P) (name : Name) (own : Record) (found : ℕ) (pass : Sight P) (asked : Call P) (mine : (traits_of asked).by ≡ Rank own.number) where
@@ -103,20 +103,7 @@ module _ {P : Type 0} (r : ℕ) where
 
 -- a look makes no load of a barrier's poll
 not_checking : {P : Type 0} (phase : Phase P) → is_looking phase ≡ true → is_checking phase ≡ false
-not_checking Begun looking = refl
-not_checking Looking looking = refl
-not_checking Over looking = refl
-not_checking (Settling request offer) looking = refl
-not_checking (Arriving round) looking = refl
-not_checking Revoking looking = refl
-not_checking Asking looking = refl
-not_checking (Peeking peek shrinks) looking = refl
-not_checking (Marking marks blocks shrinks) looking = refl
-not_checking (Reading reading shrinks) looking = refl
-not_checking (ReadingOn on made) looking = refl
-not_checking (Spawning append context reach) looking = refl
-not_checking (Waiting arrivals) looking = refl
-not_checking (Checking missing) looking = absurd (cc looking)
+not_checking {P} = in_look (λ (phase : Phase P). is_checking phase ≡ false) refl refl
 
 -- One step of a call, by what `Rank::step` promises, and by what was read off it.
 module _ {P : Type 0} (meld : P → P → P) (name : Name) (before later : Sight P) (own own' : Record) (found : ℕ) (doing doing' : UnderWay P) (result : Option (Reply P)) (of : IsOf meld name before) (s : Stepped meld true name doing own before (next_of result doing'.phase) own' later)
@@ -289,20 +276,8 @@ module _ {P : Type 0} (meld : P → P → P) (name : Name) (before later : Sight
 
 -- in a look of a record only what was seen is new
 begun_same : {P : Type 0} (meld : P → P → P) (name : Name) (asked : Call P) (old : Record) (before : Sight P) (group : List ℕ) (own : Record) (now : Sight P) (phase : Phase P) → is_looking phase ≡ true → StandsAt meld false name asked old before phase group own now → own ≡ reseen old own.seen
-begun_same meld name asked old before group own now Begun looking p = p.1 ∙ ap (λ (w : Record). reseen old w.seen) (sym p.1)
-begun_same meld name asked old before group own now Looking looking p = p.1
-begun_same meld name asked old before group own now Over looking p = absurd (cc looking)
-begun_same meld name asked old before group own now (Settling request offer) looking p = absurd (cc looking)
-begun_same meld name asked old before group own now (Arriving round) looking p = absurd (cc looking)
-begun_same meld name asked old before group own now Revoking looking p = absurd (cc looking)
-begun_same meld name asked old before group own now Asking looking p = absurd (cc looking)
-begun_same meld name asked old before group own now (Peeking peek shrinks) looking p = absurd (cc looking)
-begun_same meld name asked old before group own now (Marking marks blocks shrinks) looking p = absurd (cc looking)
-begun_same meld name asked old before group own now (Reading reading shrinks) looking p = absurd (cc looking)
-begun_same meld name asked old before group own now (ReadingOn on made) looking p = absurd (cc looking)
-begun_same meld name asked old before group own now (Spawning append context reach) looking p = absurd (cc looking)
-begun_same meld name asked old before group own now (Waiting arrivals) looking p = absurd (cc looking)
-begun_same meld name asked old before group own now (Checking missing) looking p = absurd (cc looking)
+begun_same {P} meld name asked old before group own now =
+    in_look (λ (phase : Phase P). StandsAt meld false name asked old before phase group own now → own ≡ reseen old own.seen) (λ p. p.1 ∙ ap (λ (w : Record). reseen old w.seen) (sym p.1)) (λ p. p.1)
 
 -- only the poll of a shrink runs out of memory
 module _ {P : Type 0} (meld : P → P → P) (name : Name) (before later : Sight P) (own own' : Record) (found : ℕ) (doing doing' : UnderWay P) (result : Option (Reply P))

@@ -18,7 +18,7 @@ use Rattle.ulfm_trace_model.specs.declared.line.Line.TheVariants.{Happened}
 use Rattle.ulfm_trace_model.specs.Traces.{MayCome, Traced, Under, after, call_by, found_by, is_owned, record_of, same_caller, with_event}
 use Rattle.ulfm_trace_model.proofs.Callers.{find_change, same_rank}
 use Rattle.ulfm_stepping.specs.Stepping.{FoundAt, HasCalled, events_by, is_early, point_of}
-use Rattle.ulfm_stepping.proofs.{Ending.{ends_so, found_is, lists_none, may_list}, Nexts.{reply_next}, Phases.{IsBarrier, barrier_phase, checking_polls, making_shrinks, seen_stays, stands_same, stays_making, stays_past}}
+use Rattle.ulfm_stepping.proofs.{ByPhase.{found_by_check}, Ending.{ends_so, found_is, lists_none, may_list}, Nexts.{reply_next}, Phases.{IsBarrier, barrier_phase, checking_polls, making_shrinks, seen_stays, stands_same, stays_making, stays_past}}
 use Rattle.ulfm_stepping.proofs.{Replying.{by_append, reply_answers}, Reseen.{own_reseen, reseen}, Swapping.{answer_swaps}, Turns.{EndsSo, NextAt, SaysStep}}
 
 -- an event that needs no look may be added with any
@@ -321,23 +321,7 @@ module _ {P : Type 0} (meld : P → P → P) (name : Name) (now : Traced P) (pas
             absurd (omega (arith, less))
 
     found_then : FoundIn doing'.phase
-    found_then = go doing'.phase refl
-      where
-        go : (phase : Phase P) → doing'.phase ≡ phase → FoundIn phase
-        go (Checking missing) is = found_checking missing is
-        go Over is = tt
-        go Begun is = tt
-        go Looking is = tt
-        go (Settling request offer) is = tt
-        go (Arriving round) is = tt
-        go Revoking is = tt
-        go Asking is = tt
-        go (Peeking peek shrinks) is = tt
-        go (Marking marks blocks shrinks) is = tt
-        go (Reading reading shrinks) is = tt
-        go (ReadingOn on made) is = tt
-        go (Spawning append context reach) is = tt
-        go (Waiting arrivals) is = tt
+    found_then = found_by_check (λ (phase : Phase P). doing'.phase ≡ phase) meld name.limits (comm_of doing'.asked) h.old start own' after_it.seen found' found_checking doing'.phase refl
 
   -- the call is answered
   module _ (reply : Reply P) (is : result ≡ Some reply) (point : ℕ) (point_is : point ≡ point_of found (length after_it.seen) (is_checking doing.phase) reply) (calls : Calls meld false name doing.asked h.old h.before reply own' after_it) where

@@ -11,8 +11,8 @@ returns g c =
     let plan = c.args.plan in
     let limits = c.args.world.now.words.limits in
     let number = c.args.rank.own.number in
-    let rank = c.take_turns-ended.new.rank.own in
-    let said = map (λ t. t.value) c.take_turns-ended.new.tokens.items in
+    let rank = c.take_turns-ended.new.worker.rank.own in
+    let said = map (λ t. t.value) c.take_turns-ended.new.worker.tokens.items in
     let seen = c.declare.new.pass.seen in
     let here = (c.told-told.ensures.all refl).0 in
     let legal = subst (λ l. IsLegal flag_meld l seen) c.requires.limits c.declare.ensures.own.of.legal in
@@ -20,10 +20,10 @@ returns g c =
       name_is = c.told-told.ensures.name_is;
       legal = subst (IsLegal flag_meld limits) (sym here) c.declare.ensures.own.of.legal;
       fits = subst (λ h. Fits flag_meld limits h rank) (sym here) c.declare.ensures.own.fits;
-      shown = c.take_turns-ended.ensures.shown;
+      shown = c.take_turns-ended.ensures.works.shown;
       answered = λ none.
-          let is = ok_holds (IsAnswered plan c.take_turns-ended.new.pass.seen number rank said) c.take_turns-ended.result c.take_turns-ended.ensures.answered (c.fault_in-fault.ensures.none none) in
-          subst (λ h. IsAnswered plan h number rank said) (sym here) (answered_lasts plan c.take_turns-ended.new.pass.seen seen c.declare.ensures.seen legal number rank said is);
+          let is = ok_holds (IsAnswered plan c.take_turns-ended.new.worker.pass.seen number rank said) c.take_turns-ended.result c.take_turns-ended.ensures.answered (c.fault_in-fault.ensures.none none) in
+          subst (λ h. IsAnswered plan h number rank said) (sym here) (answered_lasts plan c.take_turns-ended.new.worker.pass.seen seen c.declare.ensures.seen legal number rank said is);
       declared = λ f met.
           let err = some_holds (λ fault. c.take_turns-ended.result ≡ Err fault) c.fault_in-fault.result f c.fault_in-fault.ensures.some met in
           let stopped = c.is_stopped.ensures ∙ ap is_stopped err in
