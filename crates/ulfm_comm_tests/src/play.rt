@@ -160,20 +160,14 @@ fn seats_of<P: Packed, A: Allocator + Copy, W: Words<P, A>>(
 
 /// A world, all its ranks and one pass. Each rank may have a call under way.
 #[derive(Drop)]
-pub(crate) struct Play<W, P: Packed, A: Allocator>
-where
-    W: Words<P, A>,
-{
+pub(crate) struct Play<W: Words<P, A>, P: Packed, A: Allocator> {
     world: World<W, P, A>,
     pass: W::Pass,
     // In the order of their numbers.
     seats: Vec<Seat<P, A>, A>,
 }
 
-impl<W, P: Packed, A: Allocator> Model for Play<W, P, A>
-where
-    W: Words<P, A>,
-{
+impl<W: Words<P, A>, P: Packed, A: Allocator> Model for Play<W, P, A> {
     ghost use Rattle.ulfm_words.specs.Steps.{Name};
     ghost use Rattle.ulfm_comm_tests.specs.Seats.{IsPlay};
 
