@@ -144,9 +144,10 @@ fn a_front_block_may_have_all(rt: HostRuntime) -> Result<(), Fail> {
     let words = Counted { plain };
     let mut pass = words.pass(rt.alloc())?;
     let group = [0, 1, 2, 3];
-    for rank in group {
-        assert!(rt; give(&words, &mut pass, rank, FlagAnd { bits: 0xff >> rank }));
-    }
+    assert!(rt; give(&words, &mut pass, 0, FlagAnd { bits: 0xff }));
+    assert!(rt; give(&words, &mut pass, 1, FlagAnd { bits: 0x7f }));
+    assert!(rt; give(&words, &mut pass, 2, FlagAnd { bits: 0x3f }));
+    assert!(rt; give(&words, &mut pass, 3, FlagAnd { bits: 0x1f }));
     assert!(rt; read(&words, &mut pass, &group) == said(0x1f));
     assert_eq!(rt; counts(&pass), (1, 4, 1));
     assert!(rt; read(&words, &mut pass, &group) == said(0x1f));
