@@ -5,6 +5,6 @@ pub mod command_line;
 pub mod filter;
 pub mod telling;
 
-pub use command_line::{Unread, read_args, tell_bad_line, tell_unread};
+pub use command_line::{Unread, answer_args, tell_bad_line, tell_unread};
 pub use filter::{Filter, run_filter};
 pub use telling::{print_text, tell, tell_fault};
