@@ -38,7 +38,9 @@ fn words_of_slots(rt: HostRuntime) {
 }
 
 // What members say together of whom one has acknowledged no failure.
-fn said(body: Body<FlagAnd>, known: u16) -> Summary<FlagAnd> {
+fn said(body: Body<FlagAnd>, known: u16) -> Summary<FlagAnd>
+    requires { known ≤ 1024 }
+{
     Summary {
         body,
         known: Known { count: known },

@@ -1,4 +1,4 @@
-use Rattle.std.proofs.Common.{◌∙◌, ap, arith, false, is_some, sym}
+use Rattle.std.proofs.Common.{◌∙◌, ap, arith, is_some, sym}
 use Rattle.ulfm_steps.proofs.{InBlocks.{few_members, starts}, Reading.{world_round}}
 use Rattle.ulfm_steps_tests.proofs.blocks.read.Goals as goal
 
