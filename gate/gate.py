@@ -4,9 +4,9 @@
 It is the toolchain's `rt ci` with three things changed. Each library is proved into a folder of this run, which is empty at
 first, so that its edits are tried over that proof and not over a second one. The edits of a crate are tried in groups: edits of
 different functions are applied together, the crate is checked once, and each edit is judged by what the prover says of the
-function that it turns. An edit counts as refused in a group only where that function is itself not proved. One whose function
-is proved, is blamed on a callee, or isn't told of, is tried again, at last alone, by the toolchain itself. And tests that no
-contract rests on are run and not proved.
+function that it turns. An edit counts as refused in a group only where that function is itself not proved, whatever it calls.
+One whose function is proved, is only blamed on a callee, or isn't told of, is tried again, at last alone, by the toolchain
+itself. And tests that no contract rests on are run and not proved.
 
     gate/gate.py            the gate: 'N passed, M failed', and then how many edits were tried in groups and how many alone
     gate/gate.py NAME..     the edits of these crates alone, over what `rt check` keeps
@@ -56,10 +56,14 @@ BODY = re.compile(r"^[ \t]*(?:\{|(?:pub|fn|const|unsafe|\)).*\{)$", re.M)
 USES = re.compile(r"(?:use [^;]*;\s*)+")
 IMPL = re.compile(r"^impl\b(.*)$", re.M)
 TOLD = re.compile(r"^fn (\S+): (.*)$", re.M)
-COMMENT = re.compile(r"^[ \t]*//.*$", re.M)
-CALL = re.compile(r"(?:\b(\w+)(?:<[^()]*>)?(\.|::))?\b(\w+)(?:::<[^()]*>)?\(")
-LOST = re.compile(r"no proof\b|not proved\b")
-BLAMED = re.compile(r"\bit (?:calls|waits for)\b|\bwhich (?:is|are) not proved\b")
+CYCLE = re.compile(r"#\[cycle\b[^\n]*\n(?:[ \t]*(?:#\[|//)[^\n]*\n)*\Z")
+# What the prover says of a function that is not proved for its own sake, whatever else it calls: an antt text that is refused, an answer that is
+# missing or that `search` did not find. One that lacks nothing but the proof of what it calls is told as `no proof: it calls ..`.
+LOST = re.compile(r"not proved$|no proof(?!: it (?:calls|waits for)\b)")
+# A function whose proof file is refused while what it calls isn't proved either: it is lost for its own sake where an error stands in its own files
+# that isn't only about a declaration which was refused elsewhere.
+LOST_BESIDE = re.compile(r"not proved; it calls\b")
+ELSEWHERE = re.compile(r"was not admitted|which was rejected")
 
 
 class Edit:
@@ -102,7 +106,7 @@ def bare(text):
 
 def code_at(text, at, path, crate):
     """The function whose body holds the place, by crate, module and name, or by crate, type and name, as `laws::BodyMeld::meld`; None outside a
-    function, and nothing in a contract."""
+    function and in one of a cycle, whose functions have one proof; and nothing in a contract."""
     heads = [it for it in FUNCTION.finditer(text) if it.start() < at]
     if not heads:
         return {None}
@@ -113,6 +117,8 @@ def code_at(text, at, path, crate):
     body = BODY.search(text, head.start())
     if body and at < body.end():
         return set()
+    if CYCLE.search(text[: head.start()]):
+        return {None}
     owner = [it for it in IMPL.finditer(text) if it.start() <= head.start()] if indent else []
     module = path.removeprefix("src/").removesuffix(".rt").split("/")
     module = [] if module in (["lib"], ["main"]) else [it for it in module if it != "mod"]
@@ -128,83 +134,39 @@ def type_of(head):
     return "".join(reversed(names))
 
 
-class Calls:
-    """Which functions of a crate come to which others by their calls, as the text names them. A method of `self`, or of a type or a module that is named,
-    is that one's; one of another value stands for each method of this name, and a name alone for each function of this name outside types."""
-
-    def __init__(self, crate):
-        self.called, self.named, bodies = {}, {}, {}
-        for folder, _, files in os.walk(f"{crate.folder}/src"):
-            for file in [it for it in files if it.endswith(".rt")]:
-                with open(f"{folder}/{file}", encoding="utf-8") as it:
-                    self.read(it.read(), os.path.relpath(f"{folder}/{file}", crate.folder), crate.name, bodies)
-        for function in bodies:
-            self.named.setdefault(function.rsplit("::", 1)[1], set()).add(function)
-        for function, body in bodies.items():
-            owner = function.rsplit("::", 1)[0]
-            self.called[function] = {it for call in CALL.findall(body) for it in self.meant(owner, *call)}
-
-    @staticmethod
-    def read(text, path, crate, bodies):
-        """Adds the functions of a file, each with its body. Those of one name, as of two traits of one type, count as one."""
-        text = COMMENT.sub("", text)
-        heads = list(FUNCTION.finditer(text))
-        for head, after in zip(heads, [*heads[1:], None]):
-            body = BODY.search(text, head.start(), after.start() if after else len(text))
-            for function in code_at(text, body.end(), path, crate) - {None} if body else ():
-                bodies[function] = bodies.get(function, "") + text[body.end() : after.start() if after else len(text)]
-
-    def meant(self, owner, of, mark, name):
-        """The functions that a call may mean."""
-        named, of = self.named.get(name, set()), owner.rsplit("::", 1)[1] if of in ("self", "Self") else of
-        is_value = of and of == of.lower() and mark == "."
-        return {it for it in named if (is_method(it) if is_value else it.split("::")[-2] == of if of else not is_method(it))}
-
-    def from_here(self, function):
-        """All functions that its calls come to."""
-        found, left = set(), [function]
-        while left:
-            for it in self.called.get(left.pop(), set()) - found:
-                found.add(it)
-                left.append(it)
-        return found
-
-    def are_apart(self, one, other):
-        """Whether neither comes to the other."""
-        return other not in self.from_here(one) and one not in self.from_here(other)
-
-
-def is_method(function):
-    """Whether a function is a type's."""
-    return function.split("::")[-2][:1].isupper()
-
-
 def said_of(function, told):
-    """What the prover says of a function and of the closures in it, or nothing where it tells of none or of two such functions. It names a
-    method by the module of its type, wherever the method stands."""
+    """What the prover says of a function and of the closures in it, each by its name, or nothing where it tells of none or of two such functions.
+    It names a method by the module of its type, wherever the method stands."""
     crate, _, name = function.partition("::")
     named = [it for it, _ in told if it.startswith(f"{crate}::") and it.endswith(f"::{name}")]
-    return [said for it, said in told if it == named[0] or it.startswith(f"{named[0]}::")] if len(named) == 1 else []
+    return [(it, said) for it, said in told if it == named[0] or it.startswith(f"{named[0]}::")] if len(named) == 1 else []
+
+
+def is_lost(function, said, output):
+    """Whether the prover says that a function is not proved for its own sake, and not only since it calls one that isn't."""
+    if not LOST_BESIDE.match(said):
+        return bool(LOST.match(said))
+    own = re.compile(rf"^(?:\./)?proofs/{'/'.join(function.split('::')[1:])}/\w+\.antt:\d+:\d+: error: (.*)$", re.M)
+    return any(not ELSEWHERE.search(it) for it in own.findall(output))
 
 
 def judged(group, output):
     """The edits of a group that are refused, each with what the prover says of the function that it turns, and those whose function is
     proved with them. Where there are such, nothing is said of the others: a body that is read without a contract could be what broke them."""
     told, refused = TOLD.findall(output), {}
-    passed = [it for it in group if said_of(it.function, told) and all(said == "proved" for said in said_of(it.function, told))]
+    passed = [it for it in group if said_of(it.function, told) and all(said == "proved" for _, said in said_of(it.function, told))]
     for edit in [] if passed else group:
-        lost = [it for it in said_of(edit.function, told) if LOST.match(it) and not BLAMED.search(it)]
+        lost = [(it, said) for it, said in said_of(edit.function, told) if is_lost(it, said, output)]
         if lost:
-            refused[edit] = f"fn {edit.function}: {lost[0]}"
+            refused[edit] = "fn {}: {}".format(*lost[0])
     return refused, passed
 
 
-def chosen(edits, crate, calls):
-    """Edits of different functions that can be applied together, as many as there are, and the texts that they make. No function of them comes to
-    another by its calls, so that none is blamed on another."""
+def chosen(edits, crate):
+    """Edits of different functions that can be applied together, as many as there are, and the texts that they make."""
     group, made = [], {}
     for edit in edits:
-        if any(edit.function == it.function or not calls.are_apart(edit.function, it.function) for it in group):
+        if any(edit.function == it.function for it in group):
             continue
         texts, why = rt.edited("\n".join(it.text for it in [*group, edit]), crate.folder)
         if not why:
@@ -223,10 +185,10 @@ def checked(crate, texts, flags, kept):
 
 def in_groups(crate, edits, flags, kept):
     """The edits that are refused in some group, each with what was said, and how many runs of the prover that took."""
-    pools, refused, runs, calls = [[it for it in edits if it.function]], {}, 0, Calls(crate)
+    pools, refused, runs = [[it for it in edits if it.function]], {}, 0
     while pools:
         left = pools.pop()
-        group, texts = chosen(left, crate, calls)
+        group, texts = chosen(left, crate)
         if len(group) < 2:
             pools += [left[1:]] if left[1:] else []
             continue
