@@ -1,19 +1,14 @@
-//! Two judges on each small change of some traces.
-use crate::plain_judge::PlainJudge;
+//! The check and the second one on each small change of some traces.
 use crate::reasons::{TAKEN_PLACES, TWO_RANKS};
 use crate::second_check::plain_check;
-use crate::tested::{Tested, check};
+use crate::tested::check;
 use crate::traces::{
     CONTRIBUTION_IN_FLIGHT, DECISION_OF_NOBODY, LATE_ARRIVAL, MARK_COMES_FIRST, MARK_ENDS,
     REVOKED_BETWEEN_LOADS, SHRINK, spliced, text_of,
 };
-use crate::variations::{Change, changed, compare};
-use std::alloc::Global;
+use crate::variations::{Change, changed};
 use std::test::Fail;
 use ulfm_trace::Verdict;
-
-/// The judge that the tested one is compared with.
-type Plain = PlainJudge<Global>;
 
 const CHANGES: [Change; 5] = [
     Change::Drop,
@@ -34,21 +29,6 @@ fn trace(rt: &HostRuntime, number: usize) -> Result<Vec<u8>, Fail> {
         _ => text_of(rt.alloc(), &SHRINK)?,
     };
     Ok(text)
-}
-
-/// Both judges say the same of each change, and some changes are legal and some are not.
-#[test]
-fn judges_agree(rt: HostRuntime) -> Result<(), Fail> {
-    for number in 0..6 {
-        let text = trace(&rt, number)?;
-        for change in CHANGES {
-            match compare::<Tested<Global>, Plain, Global>(rt.alloc(), &text, change) {
-                Ok(Ok(_)) => {}
-                other => assert!(rt; false, "trace {number}, {change:?}: {other:?}"),
-            }
-        }
-    }
-    Ok(())
 }
 
 /// The second check says the same of each change of a text: how many changes there are, and how many leave it legal.

@@ -10,8 +10,6 @@ mod faults;
 #[cfg(test)]
 mod holder;
 #[cfg(test)]
-mod impls;
-#[cfg(test)]
 mod past;
 #[cfg(test)]
 mod plain_judge;

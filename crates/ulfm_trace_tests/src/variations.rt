@@ -1,7 +1,6 @@
-//! Changes of a trace, and what two judges say of each.
+//! Changes of a trace.
 use std::alloc::{AllocError, Allocator};
 use std::io::Write;
-use ulfm_trace::{CheckFault, LineJudge, Verdict, check_by};
 
 /// How a text is changed.
 #[derive(Clone, Copy, Debug, PartialEq, Eq)]
@@ -144,30 +143,4 @@ pub fn changed<A: Allocator + Copy>(
         Change::More | Change::Less => with_number(alloc, text, change, place),
         _ => with_line(alloc, text, change, place),
     }
-}
-
-/// What a judge says of a text.
-pub fn verdict_of<J: LineJudge<A>, A: Allocator + Copy>(
-    alloc: A,
-    text: &[u8],
-) -> Result<Verdict, CheckFault> {
-    let mut reader = text;
-    check_by::<J, A, &[u8]>(alloc, &mut reader)
-}
-
-/// Compares two judges on a text with each change of one kind: the first place at which they differ, or how many changes there are.
-pub fn compare<J: LineJudge<A>, K: LineJudge<A>, A: Allocator + Copy>(
-    alloc: A,
-    text: &[u8],
-    change: Change,
-) -> Result<Result<usize, usize>, CheckFault> {
-    for place in 0..usize::MAX {
-        let Some(other) = changed(alloc, text, change, place)? else {
-            return Ok(Ok(place));
-        };
-        if verdict_of::<J, A>(alloc, &other)? != verdict_of::<K, A>(alloc, &other)? {
-            return Ok(Err(place));
-        }
-    }
-    Ok(Ok(usize::MAX))
 }
