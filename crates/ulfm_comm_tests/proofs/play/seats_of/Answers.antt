@@ -1,10 +1,19 @@
-use Rattle.std.proofs.Common.{[], None, subst, sym}
+use Rattle.std.proofs.Common.{◌≡◌, [], None, subst, sym}
 use Rattle.std.specs.List.{AllByRecursion}
 use Rattle.ulfm_model.specs.Records.{Fits}
 use Rattle.ulfm_model.proofs.Lists.{each_push}
 use Rattle.ulfm_comm.specs.Counts.{records_of}
 use Rattle.ulfm_comm_tests.specs.Seats.{Sits}
 use Rattle.ulfm_comm_tests.proofs.play.seats_of.Goals as goal
+
+pub loop-own-init : goal.loop-own-init
+loop-own-init g c =
+    let meld = g.P.Meld.meld in
+    let name = g.W.Words.name c.args.world.now.words in
+    let pass = g.W.Words.sight c.args.pass.now in
+    let all : c.into_iter-own-iterator.result.rest.items ≡ c.args.ranks.items = c.into_iter-own-iterator.ensures.into_iter_gives.0 in
+    let fits = subst (λ rs. AllByRecursion (Fits meld name.limits []) (records_of rs)) (sym all) c.requires.fits in
+    (fits, subst (AllByRecursion (Sits meld name pass)) (sym c.in_ok-seats.ensures.items) tt)
 
 pub loop-own-preserved : goal.loop-own-preserved
 loop-own-preserved g c =
