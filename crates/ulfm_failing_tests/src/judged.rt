@@ -2,160 +2,177 @@
 use std::alloc::{AllocError, Global};
 use std::test::Fail;
 
-/// The words of a line, and empty ones behind them.
-type Words<'a> = [&'a str; 12];
-
-/// A rank that gave its flag in a round of a communicator.
+/// A reply `agreed`, from its first word on, and the round that it is of.
 #[derive(Clone, Copy)]
-struct Settled<'a> {
-    rank: &'a str,
+struct Agreed<'a> {
     comm: &'a str,
     round: &'a str,
+    reply: &'a str,
 }
 
-/// A reply `agreed` in a round.
-#[derive(Drop)]
-struct Agreed<'a> {
-    round: Settled<'a>,
-    reply: Words<'a>,
+/// The last four replies to a rank, each from its first word on.
+#[derive(Clone, Copy)]
+struct Replies<'a> {
+    first: &'a str,
+    second: &'a str,
+    third: &'a str,
+    last: &'a str,
 }
 
-/// What a trace tells of three ranks.
-#[derive(Drop)]
-pub(crate) struct Seen<'a> {
-    settled: Vec<Settled<'a>>,
-    agreed: Vec<Agreed<'a>>,
-    // The communicators that they polled last.
-    polled: [&'a str; 3],
-    // Their last four replies, without the words before.
-    replies: [[Words<'a>; 4]; 3],
-    declared: [bool; 3],
+/// What a trace tells of a rank.
+#[derive(Clone, Copy)]
+struct Told<'a> {
+    rank: &'a str,
+    declared: bool,
+    replies: Replies<'a>,
 }
 
-fn words_of(line: &str) -> Words<'_> {
-    let mut words = [""; 12];
-    for (place, word) in words.iter_mut().zip(line.split(' ')) {
-        *place = word;
-    }
-    words
-}
-
-/// The rank that a word names.
-fn rank_of(word: &str) -> usize {
-    match word {
-        "0" => 0,
-        "1" => 1,
-        _ => 2,
-    }
+/// The word at this place of a line, from 0; empty where there is none.
+fn word(line: &str, place: usize) -> &str {
+    line.split(' ').nth(place).unwrap_or("")
 }
 
 /// The reply of a line, without its caller and its point.
-fn reply_of<'a>(words: &Words<'a>) -> Words<'a> {
-    let mut reply = [""; 12];
-    for (place, word) in reply.iter_mut().zip(words[3..].iter()) {
-        *place = *word;
-    }
-    reply
+fn reply_of(line: &str) -> &str {
+    line.splitn(4, ' ').nth(3).unwrap_or("")
 }
 
-impl<'a> Seen<'a> {
-    /// What the lines of a trace tell.
-    pub(crate) fn of(alloc: Global, trace: &'a str) -> Result<Seen<'a>, AllocError> {
-        let mut seen = Seen {
-            settled: Vec::new(alloc),
-            agreed: Vec::new(alloc),
-            polled: [""; 3],
-            replies: [[[""; 12]; 4]; 3],
-            declared: [false; 3],
-        };
-        for line in trace.lines() {
-            seen.take(&words_of(line))?;
+fn is_declaration_of(line: &str, rank: &str) -> bool {
+    word(line, 0) == "event"
+        && word(line, 1) == "-"
+        && word(line, 2) == "fail"
+        && word(line, 3) == rank
+}
+
+fn is_poll_of(line: &str, rank: &str) -> bool {
+    word(line, 0) == "call" && word(line, 1) == "poll" && word(line, 2) == rank
+}
+
+fn is_reply_to(line: &str, rank: &str) -> bool {
+    word(line, 0) == "reply" && word(line, 1) == rank
+}
+
+/// The rank gives its own flag.
+fn is_settle_of(line: &str, rank: &str) -> bool {
+    word(line, 0) == "event"
+        && word(line, 1) == rank
+        && word(line, 2) == "settle"
+        && word(line, 5) == rank
+}
+
+/// Adds each reply `agreed` to a rank: it is of the round in which the rank gave its flag last, on the communicator that it polled last.
+fn add_agreed<'a>(
+    agreed: &mut Vec<Agreed<'a>>,
+    alloc: Global,
+    trace: &'a str,
+    rank: &str,
+) -> Result<(), AllocError> {
+    let mut comm = "";
+    let mut settles: Vec<&'a str> = Vec::new(alloc);
+    for line in trace.lines() {
+        if is_poll_of(line, rank) {
+            comm = word(line, 3);
         }
-        Ok(seen)
-    }
-
-    fn take(&mut self, words: &Words<'a>) -> Result<(), AllocError> {
-        match (words[0], words[1], words[2]) {
-            ("call", "poll", rank) => self.polled[rank_of(rank)] = words[3],
-            ("event", "-", "fail") => self.declared[rank_of(words[3])] = true,
-            ("event", by, "settle") if by == words[5] => self.settled.push(Settled {
-                rank: by,
-                comm: words[3],
-                round: words[4],
-            })?,
-            ("reply", "-", _) => {}
-            ("reply", rank, _) => self.take_reply(rank, &reply_of(words))?,
-            _ => {}
+        if is_settle_of(line, rank) {
+            settles.push(line)?;
         }
-        Ok(())
-    }
-
-    fn take_reply(&mut self, rank: &'a str, reply: &Words<'a>) -> Result<(), AllocError> {
-        let row = &mut self.replies[rank_of(rank)];
-        *row = [row[1], row[2], row[3], *reply];
-        if reply[0] != "agreed" {
-            return Ok(());
+        if is_reply_to(line, rank) && word(line, 3) == "agreed" {
+            if let Some(settle) = settles.iter().rfind(|settle| word(settle, 3) == comm) {
+                let round = word(settle, 4);
+                let reply = reply_of(line);
+                agreed.push(Agreed { comm, round, reply })?;
+            }
         }
-        let comm = self.polled[rank_of(rank)];
-        let last = self
-            .settled
-            .iter()
-            .rfind(|settled| settled.rank == rank && settled.comm == comm);
-        if let Some(round) = last {
-            self.agreed.push(Agreed {
-                round: *round,
-                reply: *reply,
-            })?;
+    }
+    Ok(())
+}
+
+impl<'a> Agreed<'a> {
+    /// The two are of one round, and are answered differently.
+    fn differs(&self, other: &Agreed<'a>) -> bool {
+        let same_comm = self.comm == other.comm;
+        let same_round = self.round == other.round;
+        let same_reply = self.reply == other.reply;
+        same_comm && same_round && !same_reply
+    }
+}
+
+/// What the lines of a trace tell of a rank.
+fn told_of<'a>(trace: &'a str, rank: &'a str) -> Told<'a> {
+    let mut declared = false;
+    let mut replies = Replies {
+        first: "",
+        second: "",
+        third: "",
+        last: "",
+    };
+    for line in trace.lines() {
+        if is_declaration_of(line, rank) {
+            declared = true;
         }
-        Ok(())
+        if is_reply_to(line, rank) {
+            replies = Replies {
+                first: replies.second,
+                second: replies.third,
+                third: replies.last,
+                last: reply_of(line),
+            };
+        }
+    }
+    Told {
+        rank,
+        declared,
+        replies,
+    }
+}
+
+impl<'a> Told<'a> {
+    /// The rank is answered `agreed` and then `shrunk` at the end, as another is.
+    fn ends_as(&self, other: &Told<'a>) -> bool {
+        word(self.replies.first, 0) == "started"
+            && word(self.replies.second, 0) == "agreed"
+            && word(self.replies.third, 0) == "started"
+            && word(self.replies.last, 0) == "shrunk"
+            && self.replies.second == other.replies.second
+            && self.replies.last == other.replies.last
     }
 
-    /// All that are answered `agreed` in a round are answered the same.
-    fn has_one_answer_a_round(&self) -> bool {
-        self.agreed.iter().all(|one| {
-            self.agreed.iter().all(|other| {
-                one.round.comm != other.round.comm
-                    || one.round.round != other.round.round
-                    || one.reply == other.reply
-            })
-        })
+    /// The rank is among the members that its last reply, a `shrunk`, tells.
+    fn is_member(&self) -> bool {
+        self.replies
+            .last
+            .split(' ')
+            .enumerate()
+            .any(|(place, member)| place >= 5 && member == self.rank)
     }
+}
 
-    /// Who isn't declared is answered `agreed` and then `shrunk` at the end, as the first of them is.
-    fn ends_so(&self, first: usize) -> bool {
-        let [_, agreed, _, shrunk] = &self.replies[first % 3];
-        self.replies.iter().zip(self.declared.iter()).all(|(row, declared)| {
-            *declared
-                || (row[0][0] == "started"
-                    && row[1][0] == "agreed"
-                    && row[2][0] == "started"
-                    && row[3][0] == "shrunk"
-                    && row[1] == *agreed
-                    && row[3] == *shrunk)
-        })
+/// What a trace tells is as it must be: one answer a round, and who isn't declared ends in one new communicator.
+pub(crate) fn judge(alloc: Global, trace: &str) -> Result<(), Fail> {
+    let mut agreed = Vec::new(alloc);
+    for rank in ["0", "1", "2"] {
+        add_agreed(&mut agreed, alloc, trace, rank)?;
     }
-
-    /// Who isn't declared is among the members of the new communicator.
-    fn leaves_nobody_out(&self, first: usize) -> bool {
-        let members = &self.replies[first % 3][3][5..];
-        ["0", "1", "2"].iter().zip(self.declared.iter()).all(|(rank, declared)| *declared
-            || members.iter().any(|member| member == rank))
-    }
-
-    /// What a trace tells is as it must be.
-    pub(crate) fn judge(&self) -> Result<(), Fail> {
-        if !self.has_one_answer_a_round() {
+    for one in agreed.iter() {
+        if agreed.iter().any(|other| one.differs(other)) {
             return Err(Fail::from("a round has two answers"));
         }
-        let Some(first) = self.declared.iter().position(|declared| !*declared) else {
-            return Err(Fail::from("all ranks are declared"));
-        };
-        if !self.ends_so(first) {
+    }
+    let all = [
+        told_of(trace, "0"),
+        told_of(trace, "1"),
+        told_of(trace, "2"),
+    ];
+    let Some(first) = all.iter().find(|told| !told.declared) else {
+        return Err(Fail::from("all ranks are declared"));
+    };
+    for told in all.iter() {
+        if !told.declared && !told.ends_as(first) {
             return Err(Fail::from("it ends otherwise"));
         }
-        if !self.leaves_nobody_out(first) {
+        if !told.declared && !told.is_member() {
             return Err(Fail::from("somebody is left out"));
         }
-        Ok(())
     }
+    Ok(())
 }

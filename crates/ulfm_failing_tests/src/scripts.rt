@@ -1,6 +1,8 @@
 //! Six scripts of three ranks that make calls, one after another or step by step in turns, and at last agree and shrink once more. In each a rank is
 //! declared behind each step.
-use crate::judged::Seen;
+ghost use Rattle.std.specs.Prelude.{◌<◌};
+
+use crate::judged;
 use std::alloc::Global;
 use std::io::{self, Write};
 use std::process::Abort;
@@ -72,7 +74,7 @@ fn judge(alloc: Global, trace: &[u8]) -> Result<(), Fail> {
     let Ok(text) = str::from_utf8(trace) else {
         return Err(Fail::from("a trace is no text"));
     };
-    Seen::of(alloc, text)?.judge()
+    judged::judge(alloc, text)
 }
 
 /// Declares each rank behind each step of a script, which makes so many.
