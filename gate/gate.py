@@ -64,6 +64,9 @@ LOST = re.compile(r"not proved$|no proof(?!: it (?:calls|waits for)\b)")
 # that isn't only about a declaration which was refused elsewhere.
 LOST_BESIDE = re.compile(r"not proved; it calls\b")
 ELSEWHERE = re.compile(r"was not admitted|which was rejected")
+# What is refused only because a proof file names what the edit took away, in the toolchain's words: that says little of a contract.
+BY_NAMES = "only because a proof file names what the edit took away, so this says little of the contract: change a value and keep the names"
+NAMES = re.compile(r"has no field|is not in scope|has no `|was not admitted|which was rejected")
 
 
 class Edit:
@@ -142,12 +145,23 @@ def said_of(function, told):
     return [(it, said) for it, said in told if it == named[0] or it.startswith(f"{named[0]}::")] if len(named) == 1 else []
 
 
+def faults_in(function, output):
+    """The errors in the function's own proof files."""
+    return re.findall(rf"^(?:\./)?proofs/{'/'.join(function.split('::')[1:])}/\w+\.antt:\d+:\d+: error: (.*)$", output, re.M)
+
+
 def is_lost(function, said, output):
     """Whether the prover says that a function is not proved for its own sake, and not only since it calls one that isn't."""
-    if not LOST_BESIDE.match(said):
-        return bool(LOST.match(said))
-    own = re.compile(rf"^(?:\./)?proofs/{'/'.join(function.split('::')[1:])}/\w+\.antt:\d+:\d+: error: (.*)$", re.M)
-    return any(not ELSEWHERE.search(it) for it in own.findall(output))
+    if LOST_BESIDE.match(said):
+        return any(not ELSEWHERE.search(it) for it in faults_in(function, output))
+    return bool(LOST.match(said))
+
+
+def loss(function, said, output):
+    """What to say of a function that is lost."""
+    faults = faults_in(function, output)
+    by_names = "no proof" not in said and faults and all(NAMES.search(it) for it in faults)
+    return f"fn {function}: {said}"[:200] + (f" ({BY_NAMES})" if by_names else "")
 
 
 def judged(group, output):
@@ -158,7 +172,7 @@ def judged(group, output):
     for edit in [] if passed else group:
         lost = [(it, said) for it, said in said_of(edit.function, told) if is_lost(it, said, output)]
         if lost:
-            refused[edit] = "fn {}: {}".format(*lost[0])
+            refused[edit] = loss(*lost[0], output)
     return refused, passed
 
 
@@ -202,9 +216,9 @@ def in_groups(crate, edits, flags, kept):
     return refused, runs
 
 
-# (how many edits of each crate were tried, in how many groups, and how many alone; the folder of this run; and whether this run proves
-# crates into it, so that a crate's proof needn't be made again before its edits)
-tried, room, proves_here = {}, None, False
+# (how many edits of each crate were tried, in how many groups, and how many alone; those that are refused by names alone; the folder of this run;
+# and whether this run proves crates into it, so that a crate's proof needn't be made again before its edits)
+tried, weak, room, proves_here = {}, [], None, False
 
 
 def add_edits(tasks, crate, files, first, waits, is_well, kept, start=None, in_ci=True):
@@ -246,7 +260,7 @@ def must_fail_all(crate, files, flags):
     for file in files:
         label = f"must-fail {crate.name}/{os.path.basename(file)}"
         if file in by_file:
-            given.append((REFUSED, f"{label}: refused, as it must be: {by_file[file][:200]}"))
+            given.append((REFUSED, f"{label}: refused, as it must be: {by_file[file]}"))
         elif file in idle:
             given.append((UNSURE, f"{label}: BAD EDIT: it changes no code, so it tries no contract"))
         else:
@@ -255,6 +269,7 @@ def must_fail_all(crate, files, flags):
             kind, text = over if over[0] in SETTLED else rt.must_fail(crate, file, flags)
             given.append((UNSURE if kind == BAD else kind, text))
     tried[crate.name] = len(files), runs, alone
+    weak.extend(f"{crate.name}/{os.path.basename(file)}" for file, (_, text) in zip(files, given) if BY_NAMES in text)
     return given
 
 
@@ -310,6 +325,8 @@ def main(names):
     sys.stdout.flush()
     for name, counts in [*sorted(tried.items()), ("all", [sum(it) for it in zip((0, 0, 0), *tried.values())])]:
         print("gate: {}: {} edits, {} groups, {} edits alone".format(name, *counts), file=sys.stderr)
+    if weak:
+        print(f"gate: refused {BY_NAMES}: {' '.join(sorted(weak))}", file=sys.stderr)
     return status
 
 
