@@ -4,10 +4,12 @@ import os
 import subprocess
 import sys
 import tempfile
+import time
 
 HERE = os.path.dirname(os.path.realpath(__file__))
-LIB = """// A crate for the gate's own test.
-#![tactic(auto)]
+# (of a text that no earlier run on this machine has read, nothing is kept)
+LIB = f"""// A crate for the gate's own test, {time.time_ns()}.
+""" + """#![tactic(auto)]
 
 ghost use Rattle.std.specs.Prelude.{◌≡◌, ◌+◌};
 
