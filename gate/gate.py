@@ -66,7 +66,7 @@ LOST_BESIDE = re.compile(r"not proved; it calls\b")
 ELSEWHERE = re.compile(r"was not admitted|which was rejected")
 # What is refused only because a proof file names what the edit took away, in the toolchain's words: that says little of a contract.
 BY_NAMES = "only because a proof file names what the edit took away, so this says little of the contract: change a value and keep the names"
-NAMES = re.compile(r"has no field|is not in scope|has no `|was not admitted|which was rejected")
+NAMES = re.compile(rf"has no field|is not in scope|has no `|{ELSEWHERE.pattern}")
 
 
 class Edit:
