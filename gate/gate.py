@@ -23,29 +23,28 @@ import tempfile
 sys.dont_write_bytecode = True
 
 
-# What the gate stands on, in the two forms that the toolchain has had: in one its tasks are listed edit by edit (rattle-kit-13f), in the other
-# one call tries a crate's edits and says of each whether it was refused (rattle-kit-13b).
-BY_TASKS = ("add_edits", "ci", "edits_alone", "Kept", "must_fail", "need", "SETTLED", "REFUSED", "AT_LIMIT", "UNSURE", "BAD")
-BY_CRATES = ("must_fail_all", "ci", "edits_alone", "must_fail", "checked", "edited", "read_edit", "unread")
+# What the gate stands on of the toolchain's command (rattle-kit-13f).
+STANDS_ON = (
+    *("add_edits", "ci", "edits_alone", "Kept", "must_fail", "need", "checked", "edited", "read_edit", "unread"),
+    *("SETTLED", "REFUSED", "AT_LIMIT", "UNSURE", "BAD"),
+)
 
 
 def toolchain():
-    """The toolchain's command `rt` as a module. One that has neither form of what this gate stands on is run as it is: it tries each edit alone."""
+    """The toolchain's command `rt` as a module. One that lacks what this gate stands on is run as it is: it tries each edit alone."""
     found = shutil.which("rt")
     if not found:
         sys.exit("gate: the toolchain's command rt isn't on the PATH")
     loader = importlib.machinery.SourceFileLoader("rt", os.path.realpath(found))
     module = importlib.util.module_from_spec(importlib.util.spec_from_loader("rt", loader))
     loader.exec_module(module)
-    if not any(all(hasattr(module, it) for it in form) for form in (BY_TASKS, BY_CRATES)):
+    if not all(hasattr(module, it) for it in STANDS_ON):
         print("gate: this toolchain isn't one that the gate knows, so its own gate is run", file=sys.stderr, flush=True)
         os.execv(found, ["rt", *(["must-fail", *sys.argv[1:]] if sys.argv[1:] else ["ci"])])
     return module
 
 
 rt = toolchain()
-is_by_tasks = hasattr(rt, "add_edits")
-REFUSED, UNSURE, SETTLED, BAD = (rt.REFUSED, rt.UNSURE, rt.SETTLED, rt.BAD) if is_by_tasks else (True, False, (True,), False)
 # Crates of tests that this gate only runs, by the toolchain's checked build: no contract rests on their proofs, which `rt ci` makes.
 ONLY_RUN = (
     *("ulfm_steps_tests", "ulfm_comm_tests", "ulfm_object_tests", "ulfm_run_tests", "ulfm_examples_tests"),
@@ -236,7 +235,7 @@ def add_edits(tasks, crate, files, first, waits, is_well, kept, start=None, in_c
         if not is_well(given, len(files) - len(known)):
             return None
         left = [at for at in range(len(files)) if at not in known]
-        results = must_fail_all(crate, [files[at] for at in left], ["--jobs", str(jobs)]) if left else []
+        results = try_edits(crate, [files[at] for at in left], ["--jobs", str(jobs)]) if left else []
         for at, (kind, text) in zip(left, results):
             if names[at] and kind in (rt.REFUSED, rt.AT_LIMIT) and kept.is_untouched(crate):
                 kept.keep_tried(names[at], kind, text)
@@ -247,9 +246,8 @@ def add_edits(tasks, crate, files, first, waits, is_well, kept, start=None, in_c
     return lambda given: [given[key][at][:2] for at in range(len(files))], lambda: known
 
 
-def must_fail_all(crate, files, flags):
-    """Tries a crate's edits, in place of the toolchain's function of this name: for each what it came to, and what to say. A bad edit fails this
-    gate, as one that isn't tried does."""
+def try_edits(crate, files, flags):
+    """Tries a crate's edits: for each what it came to, and what to say. A bad edit fails this gate, as one that isn't tried does."""
     edits = [Edit(crate, it) for it in files if not rt.read_edit(it, crate.folder)[1]]
     idle = {it.file for it in edits if not it.changes_code}
     kept = folder_of(crate)
@@ -260,14 +258,14 @@ def must_fail_all(crate, files, flags):
     for file in files:
         label = f"must-fail {crate.name}/{os.path.basename(file)}"
         if file in by_file:
-            given.append((REFUSED, f"{label}: refused, as it must be: {by_file[file]}"))
+            given.append((rt.REFUSED, f"{label}: refused, as it must be: {by_file[file]}"))
         elif file in idle:
-            given.append((UNSURE, f"{label}: BAD EDIT: it changes no code, so it tries no contract"))
+            given.append((rt.UNSURE, f"{label}: BAD EDIT: it changes no code, so it tries no contract"))
         else:
             alone += 1
-            over = rt.must_fail(crate, file, flags, kept) if is_sound else (UNSURE, "")
-            kind, text = over if over[0] in SETTLED else rt.must_fail(crate, file, flags)
-            given.append((UNSURE if kind == BAD else kind, text))
+            over = rt.must_fail(crate, file, flags, kept) if is_sound else (rt.UNSURE, "")
+            kind, text = over if over[0] in rt.SETTLED else rt.must_fail(crate, file, flags)
+            given.append((rt.UNSURE if kind == rt.BAD else kind, text))
     tried[crate.name] = len(files), runs, alone
     weak.extend(f"{crate.name}/{os.path.basename(file)}" for file, (_, text) in zip(files, given) if BY_NAMES in text)
     return given
@@ -307,10 +305,7 @@ def say(text, out=None, say=rt.say):
 def main(names):
     global proves_here
     rt.say = say
-    if is_by_tasks:
-        rt.add_edits = add_edits
-    else:
-        rt.must_fail_all = must_fail_all
+    rt.add_edits = add_edits
     proves_here = not names
     if names:
         for name in names:
@@ -321,7 +316,7 @@ def main(names):
         # (the folder was empty when the proof began, so nothing older than this run is trusted)
         pattern = rt.rtlib.VERDICT.pattern.replace(r"statements=trusted\n", r"statements=trusted( incremental=trusted)?\n")
         rt.rtlib.VERDICT = re.compile(pattern, re.M)
-        status = rt.ci(anew=False) if is_by_tasks else rt.ci()
+        status = rt.ci(anew=False)
     sys.stdout.flush()
     for name, counts in [*sorted(tried.items()), ("all", [sum(it) for it in zip((0, 0, 0), *tried.values())])]:
         print("gate: {}: {} edits, {} groups, {} edits alone".format(name, *counts), file=sys.stderr)
