@@ -1,9 +1,10 @@
 -- What holds where the words are alone holds among the steps of others.
-use Rattle.std.proofs.Common.{ℕ, Bool, true, false, List, [], IsTrue, MatchBool}
+use Rattle.std.proofs.Common.{ℕ, Bool, true, false, List, [], IsTrue, MatchBool, append-nil, arith}
 use Rattle.ulfm_model.specs.declared.{event.Entry.{Entry}}
 use Rattle.ulfm_model.specs.{History.{History}, Runs.{Did}}
-use Rattle.ulfm_words.specs.Steps.{IsAdded}
+use Rattle.ulfm_words.specs.Steps.{IsAdded, Sight}
 use Rattle.ulfm_steps.specs.Marks.{Marks}
+use Rattle.ulfm_comm.specs.Phase.{Waits}
 use mathlib.Core.List.{IsPrefix}
 
 module _ {P : Type 0} (alone quiet : Bool) (only : IsTrue alone → IsTrue quiet) where
@@ -35,3 +36,7 @@ module _ {P : Type 0} (alone quiet : Bool) (only : IsTrue alone → IsTrue quiet
 -- any longer history is one of others' events
 pub did_among : {P : Type 0} (x y : History P) → IsPrefix x y → Did false [] x y
 did_among x y begins = record { since = begins.0; goes_on = begins.1; stands = tt; quiet = λ here. absurd (cc here) }
+
+-- nothing has come since
+pub waits_none : {P : Type 0} (now : Sight P) → Waits false now now
+waits_none now = record { did = did_among now.seen now.seen ([], append-nil now.seen); onward = omega arith }

@@ -8,7 +8,7 @@ use Rattle.ulfm_words.specs.Steps.{IsOf, Name, Sight}
 use Rattle.ulfm_words.proofs.Trails.{did_prefix, did_wait}
 use Rattle.ulfm_comm.specs.{Calls.{Calls, EndsAs, EndsReply, wants_memory}, Fails.{Fails}, Ends.{IsRefusedAgain}}
 use Rattle.ulfm_comm.specs.{Counts.{Counted}, Phase.{Answered, Stands, UnderWay, Waits, next_of, reply_in}, Step.{Stepped}}
-use Rattle.ulfm_comm.proofs.{StepAdds.{step_did}, CallRuns.{called_run}, InOrder.{each_set}, AmongOthers.{did_among}}
+use Rattle.ulfm_comm.proofs.{StepAdds.{step_did}, CallRuns.{called_run}, InOrder.{each_set}, AmongOthers.{did_among, waits_none}}
 use Rattle.ulfm_comm_tests.specs.Seats.{HasStood, IsPlay, Seated, Sits}
 use mathlib.Core.List.{IsPrefix}
 
@@ -22,10 +22,6 @@ module _ {P : Type 0} (meld : P → P → P) (name : Name) where
   -- what was seen has grown
   waits_begin : (now after : Sight P) → Waits false now after → IsPrefix now.seen after.seen
   waits_begin now after waits = did_prefix false [] now.seen after.seen waits.did
-
-  -- nothing has come
-  pub waits_none : (now : Sight P) → Waits false now now
-  waits_none now = record { did = did_among now.seen now.seen ([], append-nil now.seen); onward = omega arith }
 
   -- more has come
   waits_on : (stood now after : Sight P) → Waits false stood now → Waits false now after → Waits false stood after

@@ -1,14 +1,10 @@
 -- A call that a member's rank has just begun.
-use Rattle.std.proofs.Common.{◌≡◌, Bool, false, [], append-nil, arith, subst}
+use Rattle.std.proofs.Common.{◌≡◌, Bool, false, subst}
 use Rattle.ulfm_model.specs.Records.{Fits, Record}
 use Rattle.ulfm_words.specs.Steps.{IsOf, Name, Sight}
 use Rattle.ulfm_comm.specs.Phase.{Stands, UnderWay, Waits}
-use Rattle.ulfm_comm.proofs.AmongOthers.{did_among}
+use Rattle.ulfm_comm.proofs.AmongOthers.{waits_none}
 use Rattle.ulfm_member.specs.Members.{IsMember, Membership}
-
--- nothing has come since
-waits_none : {P : Type 0} (now : Sight P) → Waits false now now
-waits_none now = record { did = did_among now.seen now.seen ([], append-nil now.seen); onward = omega arith }
 
 -- it stands where it began
 pub stands_begun : {P : Type 0} (meld : P → P → P) (m : Membership P) (name : Name) (way : UnderWay P) → m.name ≡ name → IsMember meld m

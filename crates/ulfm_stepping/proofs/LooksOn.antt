@@ -1,5 +1,5 @@
 -- One step of a call in its look: its end, where it comes, is told at once, with the number of failures that there are.
-use Rattle.std.proofs.Common.{◌≡◌, ◌⊎◌, ℕ, ◌≤◌, Bool, true, false, List, [], length, Option, Some, None, refl, ap, sym, ◌∙◌, subst, arith, append-nil, inl, inr, IsFalse}
+use Rattle.std.proofs.Common.{◌≡◌, ◌⊎◌, ℕ, ◌≤◌, Bool, true, false, List, [], length, Option, Some, None, refl, ap, sym, ◌∙◌, subst, append-nil, inl, inr, IsFalse}
 use Rattle.std.specs.Prelude.{MatchOption}
 use Rattle.ulfm_model.specs.declared.{call.Call.{Call}, event.Caller.TheVariants.{Rank}, reply.Reply.{Reply}}
 use Rattle.ulfm_model.specs.{Answers.{IsReply, IsSelfFailed, Sees, comm_of, polled_by, refusal_of}, History.{History, failures, has}, Records.{Fits, Record, is_shrink}}
@@ -10,7 +10,7 @@ use Rattle.ulfm_words.proofs.Trails.{did_prefix, did_quiet}
 use Rattle.ulfm_steps.specs.declared.arrivals.Missing.{Missing}
 use Rattle.ulfm_comm.specs.{Barrier.{IsChecking}, Calls.{EndsAs, EndsReply, wants_memory}, Ends.{IsEarlyRun, IsEndRun, IsRefusedAgain}, Phase.{Answered, Stands, StandsAt, UnderWay, Waits, is_looking}, Step.{StepAdds}}
 use Rattle.ulfm_comm.specs.declared.phases.phase.{Phase.{Phase}, Phase.TheVariants.{Checking}}
-use Rattle.ulfm_comm.proofs.AmongOthers.{did_among}
+use Rattle.ulfm_comm.proofs.AmongOthers.{waits_none}
 use Rattle.ulfm_trace_model.specs.declared.line.Line.TheVariants.{Looked}
 use Rattle.ulfm_trace_model.specs.Traces.{MayCome, Traced, Under, after, call_by, record_of}
 use Rattle.ulfm_trace_model.proofs.Callers.{find_change}
@@ -113,7 +113,7 @@ module _ {P : Type 0} (meld : P → P → P) (name : Name) (now : Traced P) (pas
             before = pass;
             stood = after_it;
             stands = stands;
-            waits = record { did = did_among after_it.seen after_it.seen ([], append-nil after_it.seen); onward = omega arith };
+            waits = waits_none after_it;
             past = past;
             in_use = h.in_use;
             own_same = same;

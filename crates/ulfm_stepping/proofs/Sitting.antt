@@ -8,7 +8,7 @@ use Rattle.ulfm_words.specs.Steps.{IsOf, Name, Sight}
 use Rattle.ulfm_words.proofs.Ranks.{failures_le}
 use Rattle.ulfm_comm.specs.{Calls.{EndsAs, EndsReply, wants_memory}, Ends.{IsRefusedAgain}, Phase.{Answered, Stands, StandsAt, UnderWay, Waits, is_checking, is_looking, next_of}, Step.{StepAdds, Stepped}, StepsLeft.{FewerLeft, steps_left}}
 use Rattle.ulfm_comm.specs.declared.phases.phase.{Phase.{Phase}, Phase.TheVariants.{Begun}}
-use Rattle.ulfm_comm.proofs.AmongOthers.{did_among}
+use Rattle.ulfm_comm.proofs.AmongOthers.{waits_none}
 use Rattle.ulfm_trace_model.specs.declared.line.Line.TheVariants.{Happened, Looked}
 use Rattle.ulfm_trace_model.specs.Follows.{AreOf, EndsInReply, is_event}
 use Rattle.ulfm_trace_model.specs.Traces.{AreLegalAfter, Told, Traced, after, listed, said_by, same_caller}
@@ -119,9 +119,6 @@ module _ {P : Type 0} (meld : P → P → P) (name : Name) (before later : Sight
   abbrev c : ℕ
   c = comm_of doing.asked
 
-  still_is : Waits false before before
-  still_is = record { did = did_among before.seen before.seen ([], append-nil before.seen); onward = omega arith }
-
   adds : StepAdds true own doing.asked doing.phase result before.seen later.seen
   adds = subst (λ q. StepAdds true own doing.asked doing.phase q before.seen later.seen) (reply_next result doing'.phase) s.adds
 
@@ -162,7 +159,7 @@ module _ {P : Type 0} (meld : P → P → P) (name : Name) (before later : Sight
               let both = follows (after now (Happened (Rank r) (Some e))) next in build None (Some e) no_look (read_one (Rank r) e before.seen later.seen event reads more) both.0 more (may, both.1) both.2
 
       at_look : HasBegun meld name now before own doing → Comes now rest After
-      at_look h = go (looks_on meld name now before later own doing h s.of result own' doing' adds asked' found' found_is has_memory (stands false (λ alone. absurd (cc alone)) h.old before before h.stands still_is))
+      at_look h = go (looks_on meld name now before later own doing h s.of result own' doing' adds asked' found' found_is has_memory (stands false (λ alone. absurd (cc alone)) h.old before before h.stands (waits_none before)))
         where
           still : before.seen ≡ later.seen
           still = sym (no_event own doing.asked doing.phase result before.seen later.seen h.looking adds)
@@ -295,7 +292,7 @@ module _ {P : Type 0} (meld : P → P → P) (name : Name) (before later : Sight
   pub polls_shrink : (now : Traced P) → SitsAt meld name now before own found (Some doing) → IsTrue (is_shrink (polled_by own doing.asked))
   polls_shrink now (inl h) =
       shrinks h.old before h.in_use (begun_same meld name doing.asked h.old before doing.group own before doing.phase h.looking h.stands.at)
-      (stands false (λ alone. absurd (cc alone)) h.old before before h.stands (record { did = did_among before.seen before.seen ([], append-nil before.seen); onward = omega arith }))
+      (stands false (λ alone. absurd (cc alone)) h.old before before h.stands (waits_none before))
   polls_shrink now (inr h) = shrinks h.old h.before h.in_use h.own_same (stands false (λ alone. absurd (cc alone)) h.old h.before h.stood h.stands h.waits)
 
 -- so many failures as a look found are fewer than can be counted
@@ -308,7 +305,7 @@ module _ {P : Type 0} (meld : P → P → P) (name : Name) (before later : Sight
   look_fits now (inr h) = let none = ap (λ b. has_looked b result doing'.phase) h.past in absurd (cc (none, ended))
   look_fits now (inl h) =
       go (looks_on meld name now before later own doing h s.of result own' doing' (subst (λ q. StepAdds true own doing.asked doing.phase q before.seen later.seen) (reply_next result doing'.phase) s.adds) asked' (length later.seen) refl has_memory
-      (stands false (λ alone. absurd (cc alone)) h.old before before h.stands (record { did = did_among before.seen before.seen ([], append-nil before.seen); onward = omega arith })))
+      (stands false (λ alone. absurd (cc alone)) h.old before before h.stands (waits_none before)))
     where
       go : LooksOn meld name own.number (comm_of doing.asked) (length later.seen) (length later.seen) now result later own' doing' → length own'.seen < 2 ^ 16
       go (inl (none, number, begins)) =

@@ -13,7 +13,7 @@ use Rattle.ulfm_words.proofs.Trails.{did_prefix, did_quiet}
 use Rattle.ulfm_steps.specs.declared.{arrivals.Missing.{Missing}}
 use Rattle.ulfm_comm.specs.{Barrier.{AnswersEarly, IsChecking}, Calls.{Calls, EndsAs, EndsReply, wants_memory}, Ends.{IsEarlyRun, IsEndRun, IsRefusedAgain}, Phase.{Answered, LeadsTo, Stands, StandsAt, UnderWay, Waits, is_checking, is_making, next_of, reply_in}, Step.{Adds, Makes, StepAdds, Stepped}, StepsLeft.{FewerLeft, steps_left}}
 use Rattle.ulfm_comm.specs.declared.phases.phase.{Phase.{Phase}, Phase.TheVariants.{Over, Begun, Looking, Settling, Arriving, Revoking, Asking, Peeking, Marking, Reading, ReadingOn, Spawning, Waiting, Checking}}
-use Rattle.ulfm_comm.proofs.{StepAdds.{adds_none}, AmongOthers.{did_among}, Stands.{stands_lasts}}
+use Rattle.ulfm_comm.proofs.{StepAdds.{adds_none}, AmongOthers.{waits_none}, Stands.{stands_lasts}}
 use Rattle.ulfm_trace_model.specs.declared.line.Line.TheVariants.{Happened}
 use Rattle.ulfm_trace_model.specs.Traces.{MayCome, Traced, Under, after, call_by, found_by, is_owned, record_of, same_caller, with_event}
 use Rattle.ulfm_trace_model.proofs.Callers.{find_change, same_rank}
@@ -196,7 +196,7 @@ module _ {P : Type 0} (meld : P → P → P) (name : Name) (now : Traced P) (pas
             before = h.before;
             stood = after_it;
             stands = stands;
-            waits = record { did = did_among after_it.seen after_it.seen ([], append-nil after_it.seen); onward = omega arith };
+            waits = waits_none after_it;
             past = past;
             in_use = h.in_use;
             own_same = same;

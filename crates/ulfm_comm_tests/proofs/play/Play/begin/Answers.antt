@@ -1,6 +1,7 @@
 use Rattle.std.proofs.Common.{arith}
+use Rattle.ulfm_comm.proofs.AmongOthers.{waits_none}
 use Rattle.ulfm_comm_tests.specs.Seats.{Sits}
-use Rattle.ulfm_comm_tests.proofs.Seats.{each_at, play_next, waits_none}
+use Rattle.ulfm_comm_tests.proofs.Seats.{each_at, play_next}
 use Rattle.ulfm_comm_tests.proofs.play.Play.begin.Goals as goal
 
 pub begin-requires-clause-sits : goal.begin-requires-clause-sits
@@ -13,4 +14,4 @@ pub invariant_of-self : goal.invariant_of-self
 invariant_of-self g c =
     let name = g.W.Words.name c.self.inside.world.words in
     let pass = g.W.Words.sight c.self.inside.pass in
-    play_next g.P.Meld.meld name pass pass c.self.inside.seats.items c.args.rank c.begin.new.self c.self.invariant c.self.invariant.of (waits_none g.P.Meld.meld name pass) c.begin.ensures.sits
+    play_next g.P.Meld.meld name pass pass c.self.inside.seats.items c.args.rank c.begin.new.self c.self.invariant c.self.invariant.of (waits_none pass) c.begin.ensures.sits

@@ -1,9 +1,10 @@
 use Rattle.std.proofs.Common.{sym}
-use Rattle.ulfm_comm_tests.proofs.Seats.{call_waits, waits_none}
+use Rattle.ulfm_comm.proofs.AmongOthers.{waits_none}
+use Rattle.ulfm_comm_tests.proofs.Seats.{call_waits}
 use Rattle.ulfm_comm_tests.proofs.play.Seat.revoke.Goals as goal
 
 pub returns-in-Some-clause-waits : goal.returns-in-Some-clause-waits
-returns-in-Some-clause-waits g c = waits_none g.P.Meld.meld (g.W.Words.name c.args.world.now.words) (g.W.Words.sight c.args.pass.now)
+returns-in-Some-clause-waits g c = waits_none (g.W.Words.sight c.args.pass.now)
 
 pub revoke-requires-clause-fits : goal.revoke-requires-clause-fits
 revoke-requires-clause-fits g c = rw c.in-None.is at (rw (sym c.self.view_is) at c.requires.sits)
