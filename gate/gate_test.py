@@ -1,6 +1,7 @@
 #!/usr/bin/env python3
-"""Tests the gate on small crates: which edits are refused in a group, which alone, and which the gate must report."""
+"""Tests the gate on small crates: what it must report of proofs and tests, and which edits are refused in a group, which alone, and which it must report."""
 import os
+import shutil
 import subprocess
 import sys
 import tempfile
@@ -54,7 +55,8 @@ use Rattle.NAME.proofs.two_after_next.Goals as goal
 pub returns : goal.returns
 returns c = omega arith
 """
-# What each edit turns, and what the gate must say of it: of those that are refused, whether this is seen in a group.
+FAILING = LIB + "\n#[test]\nfn it_fails(rt: HostRuntime) {\n    assert_eq!(rt; seven(), 8);\n}\n"
+# What each edit turns, and what the gate must say of it.
 EDITS = {
     # (the caller and the called are turned in one group, and each is told by itself)
     "together": {
@@ -80,8 +82,16 @@ EDITS = {
         "next.is_no_code": ("x as u16 + 1", "x as u16 + ", "BAD EDIT"),
     },
 }
+LISTED = "".join(f"{it}:\n" for it in (*EDITS, "unproved", "failing", "run_tests"))
 # How many edits of these crates are tried in how many groups, and how many alone.
-COUNTS = ("together: 4 edits, 1 groups, 0 edits alone", "blamed: 3 edits, 2 groups, 2 edits alone")
+COUNTS = ("together: 4 edits, 0 known, 1 groups, 0 alone", "blamed: 3 edits, 0 known, 2 groups, 2 alone")
+# A toolchain of which no line on a function can be read.
+GARBLED = """#!/usr/bin/env python3
+import subprocess, sys
+ran = subprocess.run(["{rt}", *sys.argv[1:]], stdout=subprocess.PIPE, stderr=subprocess.STDOUT, text=True)
+print(ran.stdout.replace("\\nfn ", "\\nfunction ") if sys.argv[1:2] == ["check"] else ran.stdout, end="")
+sys.exit(ran.returncode)
+"""
 
 
 def write(path, text):
@@ -101,43 +111,83 @@ def lay(root, name, edits, lib=LIB):
         write(f"{crate}/must-fail/{edit}.edit", f"file: src/lib.rt\nold: {old}\nnew: {new}\n")
 
 
-def expect(holds, why, said):
+def expect(holds, why, printed):
     if not holds:
-        sys.exit(f"gate_test: {why}\n{said}")
+        sys.exit(f"gate_test: {why}\n{printed}")
 
 
-def expect_edits(crate, edits, said, output):
-    """Expects what the gate says of a crate's edits."""
-    for name, (_, _, wanted) in edits.items():
-        line = next((it for it in said if f"must-fail {crate}/{name}.edit: " in it), "")
-        expect(f": {wanted}" in line, f"{crate}/{name} is not {wanted}", output)
+def run(root, *words, path=None):
+    """Runs a part of the gate at the root. Gives its status and what it printed."""
+    surroundings = {**os.environ, "XDG_CACHE_HOME": f"{root}/kept", "PATH": f"{path or HERE}:{os.environ['PATH']}"}
+    ran = subprocess.run([sys.executable, *words], cwd=root, stdout=subprocess.PIPE, stderr=subprocess.STDOUT, text=True, env=surroundings)
+    return ran.returncode, ran.stdout
+
+
+def expect_edits(edits, printed):
+    """Expects what is said of each edit of some crates, and the last line."""
+    for crate, wanted_of in edits.items():
+        for name, (_, _, wanted) in wanted_of.items():
+            line = next((it for it in printed.splitlines() if it.startswith(f"must-fail {crate}/{name}.edit: ")), "")
+            expect(f": {wanted}" in line, f"{crate}/{name} is not {wanted}", printed)
+    all_wanted = [wanted for it in edits.values() for _, _, wanted in it.values()]
+    counts = f"{all_wanted.count('refused')} passed, {len(all_wanted) - all_wanted.count('refused')} failed"
+    expect(printed.splitlines()[-1] == counts, f"the last line is not {counts}", printed)
+
+
+def tests_proofs(root):
+    """An unproved function and a failing test are reported by name, whether the test is proved or only run; edits aren't tried."""
+    status, printed = run(root, f"{HERE}/proofs.py")
+    expect("rt: FAILED: unproved failing (tests)" in printed.splitlines(), "it isn't told which crates failed", printed)
+    expect("proofs: FAILED: run_tests" in printed.splitlines(), "a failing test that is only run passes", printed)
+    expect("must-fail" not in printed, "edits are tried", printed)
+    # (a crate whose test fails is proved all the same, and counts for both)
+    expect(status == 1 and printed.splitlines()[-1] == f"{len(EDITS) + 1} passed, 3 failed", "the counts are wrong", printed)
+    # (alone, so that this takes no longer than it must)
+    write(f"{root}/crates.txt", "run_tests:\n")
+    status, printed = run(root, f"{HERE}/proofs.py", "--all")
+    expect(status == 1 and "rt: FAILED: run_tests (tests)" in printed.splitlines(), "with --all a failing test isn't proved and run", printed)
+    write(f"{root}/crates.txt", LISTED)
+
+
+def tests_edits(root):
+    """Each edit is told as it must be; what was refused is known then; nothing is told of what time doesn't reach."""
+    names = list(EDITS)
+    status, printed = run(root, f"{HERE}/edits.py", "--minutes", "0.001", "together", "blamed")
+    expect(status == 0 and "not reached: " in printed and printed.splitlines()[-1] == "0 passed, 0 failed", "edits are told of that time didn't reach", printed)
+    status, printed = run(root, f"{HERE}/edits.py", *names)
+    expect(status == 1, "edits that aren't refused pass", printed)
+    expect_edits(EDITS, printed)
+    for counts in COUNTS:
+        expect(f"edits: {counts}" in printed.splitlines(), f"it isn't said: {counts}", printed)
+    status, printed = run(root, f"{HERE}/edits.py", "together")
+    expect(status == 0 and "4 edits, 4 of them known" in printed and printed.splitlines()[-1] == "4 passed, 0 failed", "what was refused isn't known", printed)
+    status, printed = run(root, f"{HERE}/edits.py", "unproved")
+    expect(status == 1 and "unproved could not be proved" in printed, "an edit of a crate that isn't proved passes", printed)
+
+
+def tests_fall_back(root):
+    """Where nothing can be read of what is said of functions, each edit is tried by the toolchain's own command."""
+    shutil.rmtree(f"{root}/kept")
+    write(f"{root}/garbled/rt", GARBLED.format(rt=shutil.which("rt")))
+    os.chmod(f"{root}/garbled/rt", 0o755)
+    status, printed = run(root, f"{HERE}/edits.py", "blamed", path=f"{root}/garbled")
+    expect(status == 1, "edits that aren't refused pass, where the toolchain's lines can't be read", printed)
+    expect_edits({"blamed": EDITS["blamed"]}, printed)
 
 
 def main():
-    failing = LIB + "\n#[test]\nfn it_fails(rt: HostRuntime) {\n    assert_eq!(rt; seven(), 8);\n}\n"
     with tempfile.TemporaryDirectory(prefix="gate-test-") as root:
-        write(f"{root}/crates.txt", "".join(f"{it}:\n" for it in (*EDITS, "unproved", "failing", "ulfm_run_tests")))
+        write(f"{root}/crates.txt", LISTED)
+        write(f"{root}/gate/costs.txt", "run_tests 1 1 run\n")
         write(f"{root}/HANDLES", "Handles allowed: none.\n")
         for name, edits in EDITS.items():
             lay(root, name, edits)
-        lay(root, "unproved", {}, LIB.replace("    7", "    8"))
-        lay(root, "failing", {}, failing)
-        lay(root, "ulfm_run_tests", {}, failing)
-        ran = subprocess.run([sys.executable, f"{HERE}/gate.py"], cwd=root, stdout=subprocess.PIPE, stderr=subprocess.STDOUT, text=True)
-    said = ran.stdout.splitlines()
-    for name, edits in EDITS.items():
-        expect_edits(name, edits, said, ran.stdout)
-    for counts in COUNTS:
-        expect(f"gate: {counts}" in said, f"it isn't said: {counts}", ran.stdout)
-    lost = [f"{crate}/{name}.edit" for crate, edits in EDITS.items() for name, (_, _, wanted) in edits.items() if wanted != "refused"]
-    named = next((it.split()[2:] for it in said if it.startswith("rt: FAILED: ")), [])
-    expect("unproved" in named, "an unproved function passes", ran.stdout)
-    expect("failing" in named, "a failing test passes", ran.stdout)
-    expect("ulfm_run_tests" in named, "a failing test that is only run passes", ran.stdout)
-    expect(sorted(it for it in named if "/" in it) == sorted(lost), "other edits fail", ran.stdout)
-    passed = sum(len(it) for it in EDITS.values()) - len(lost) + len(EDITS) + 1
-    counts = f"{passed} passed, {len(lost) + 3} failed"
-    expect(ran.returncode == 1 and counts in said, f"the counts are not {counts}", ran.stdout)
+        lay(root, "unproved", {"seven.is_nine": ("    8", "    9", "")}, LIB.replace("    7", "    8"))
+        lay(root, "failing", {}, FAILING)
+        lay(root, "run_tests", {}, FAILING)
+        tests_proofs(root)
+        tests_edits(root)
+        tests_fall_back(root)
     print("gate_test: ok")
 
 

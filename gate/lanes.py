@@ -1,0 +1,87 @@
+"""Tasks that are run side by side, as many as there are processors."""
+import os
+import time
+from concurrent.futures import FIRST_COMPLETED, ThreadPoolExecutor, wait
+from dataclasses import dataclass
+from typing import Callable
+
+from rooms import end_all
+
+# the memory in bytes that a further check is to find free
+FREE = 5_000_000_000
+MOST_JOBS = 4
+
+
+def processors():
+    """How many processors there are to use."""
+    return len(os.sched_getaffinity(0))
+
+
+def has_memory():
+    """Whether a further check is likely to find its memory."""
+    with open("/proc/meminfo", encoding="ascii") as it:
+        free = next((line.split()[1] for line in it if line.startswith("MemAvailable:")), None)
+    return free is None or int(free) * 1024 > FREE
+
+
+@dataclass
+class Task:
+    """Something to run: what it waits for, its place among those that are ready (the least comes first), what it costs, alone and with the dearest
+    chain of others behind it, and the work, which is told how many jobs it may use and answers whether those behind it can begin."""
+
+    work: Callable
+    waits: tuple = ()
+    place: tuple = (0,)
+    cost: float = 0
+    chain: float = 0
+    result: object = None
+
+
+def in_lanes(tasks, is_over=lambda: False, tell=lambda done, running: None):
+    """Runs tasks side by side, each once those that it waits for are done. The one with the dearest chain gets half of the processors, where there are
+    as many free, since all wait for it in the end; each other one gets one, and more where processors would idle.
+    Gives the keys of those that were not begun: what they wait for failed, or it was over before."""
+    with ThreadPoolExecutor(processors()) as pool:
+        try:
+            return run_all(tasks, pool, is_over, tell)
+        except BaseException:
+            # (the pool waits for what runs)
+            end_all()
+            raise
+
+
+def run_all(tasks, pool, is_over, tell):
+    left, running, done = dict(tasks), {}, set()
+    while True:
+        ready = sorted((it for it in left if done.issuperset(left[it].waits)), key=lambda it: left[it].place)
+        for at, key in enumerate(ready):
+            idle = processors() - sum(jobs for _, jobs in running.values())
+            if idle <= 0 or is_over() or running and not has_memory():
+                break
+            unfinished = [tasks[it].chain for it in tasks if tasks[it].result is None]
+            wanted = processors() // 2 if tasks[key].chain == max(unfinished) > 0 else 1
+            jobs = max(1, min(idle, MOST_JOBS, max(wanted, idle // (len(ready) - at))))
+            running[pool.submit(left.pop(key).work, jobs)] = key, jobs
+            tell(len(done), [it for it, _ in running.values()])
+        if not running:
+            return list(left)
+        for it in wait(running, timeout=1, return_when=FIRST_COMPLETED).done:
+            key, _ = running.pop(it)
+            tasks[key].result = it.result()
+            if tasks[key].result:
+                done.add(key)
+            tell(len(done), [it for it, _ in running.values()])
+
+
+def minutes_left(tasks, begun):
+    """How many minutes the tasks that aren't done take by their costs, on the processors that there are. `begun` has when each began that runs."""
+    left = {it: task.cost for it, task in tasks.items() if task.result is None}
+    for key, since in begun.items():
+        left[key] = max(left.get(key, 0) - (time.monotonic() - since), 0)
+    chains = {}
+    for key in reversed(list(tasks)):
+        above = [chains[it] for it in chains if key in tasks[it].waits]
+        chains[key] = left.get(key, 0) + max(above, default=0)
+    # (a chain's crates get several jobs where processors idle)
+    seconds = max(sum(left.values()) / processors(), max(chains.values(), default=0) / min(2, processors()))
+    return round(seconds / 60)

@@ -1,0 +1,114 @@
+#!/usr/bin/env python3
+"""Every proof from nothing, every crate's tests, and the programs by both compilers: the toolchain's own gate on a copy without must-fail edits.
+
+The copy has the crates alone, and nothing that was built. Crates of tests that no contract rests on (`run` in gate/costs.txt) aren't in it: their tests
+are run beside it, by the toolchain's checked build, and aren't proved. With --all they are in it, too.
+
+    gate/proofs.py [--all]      the last line is 'N passed, M failed'
+
+The programs that were proved and built stay in the repository's out/.
+"""
+import os
+import shutil
+import subprocess
+import sys
+import tempfile
+import threading
+import time
+
+sys.dont_write_bytecode = True
+import said
+from crates import Crates
+from lanes import processors
+from rooms import end_all, lay_crate, run
+
+
+class Proofs:
+    """A run of the toolchain's gate, with how far it is."""
+
+    def __init__(self, root, proves_all):
+        self.crates = Crates(root)
+        self.only_run = [it.name for it in self.crates.by_name.values() if it.only_run and not proves_all]
+        self.proved = [it for it in self.crates.by_name if it not in self.only_run]
+        self.since, self.done, self.lost = time.monotonic(), set(), []
+        # (as the toolchain's gate has them: each crate's proof, and the proof of its tests where it has some)
+        self.costs = {(it, False): self.crates.by_name[it].proof for it in self.proved}
+        self.costs.update({(it, True): self.crates.by_name[it].tests for it in self.proved if self.crates.by_name[it].tests})
+
+    def lay(self, copy):
+        for name in self.proved:
+            lay_crate(self.crates.folder(name), f"{copy}/crates/{name}")
+        with open(f"{copy}/crates.txt", "w", encoding="utf-8") as it:
+            it.write("".join(f"{self.crates.by_name[name].line}\n" for name in self.proved))
+        if os.path.isfile(f"{self.crates.root}/HANDLES"):
+            shutil.copy(f"{self.crates.root}/HANDLES", copy)
+
+    def prove(self, copy):
+        """Runs the toolchain's gate on the copy, with a line of its own behind each crate that is done. Gives how many passed and failed."""
+        how = {"cwd": copy, "stdin": subprocess.DEVNULL, "stdout": subprocess.PIPE, "stderr": subprocess.STDOUT, "text": True, "errors": "replace"}
+        output = []
+        with subprocess.Popen(["rt", "ci"], **how) as command:
+            for line in command.stdout:
+                output.append(line)
+                print(line, end="", flush=True)
+                self.tell(said.done(line))
+        counts = said.counts("".join(output)) or (0, 1)
+        return counts if counts[1] or not command.returncode else (counts[0], 1)
+
+    def tell(self, done):
+        """Says how many proofs are done, and how long the others take by their costs."""
+        if done not in self.costs or done in self.done:
+            return
+        self.done.add(done)
+        left = sum(cost for it, cost in self.costs.items() if it not in self.done)
+        minutes = round(left / processors() / 60)
+        print(f"proofs: {len(self.done)} of {len(self.costs)} done, {(time.monotonic() - self.since) / 60:.0f} minutes so far, "
+              f"about {minutes} minutes left", flush=True)
+
+    def run_tests(self):
+        """Runs the tests that aren't proved, one crate after another, where processors idle."""
+        for name in self.only_run:
+            status, output = run(["nice", "rt", "try", "--test"], self.crates.folder(name))
+            if status:
+                self.lost.append(name)
+                print(f"== {name}: its tests\n{output}", end="", flush=True)
+            print(f"proofs: {name}: its tests, which were only run, {'NOT PASSED' if status else 'passed'}", flush=True)
+
+    def keep_programs(self, copy):
+        for name in filter(self.crates.is_program, self.proved):
+            made, to = f"{copy}/crates/{name}/out/{name}", f"{self.crates.folder(name)}/out/{name}"
+            if os.path.isfile(made):
+                os.makedirs(os.path.dirname(to), exist_ok=True)
+                shutil.copy(made, f"{to}.new")
+                os.replace(f"{to}.new", to)
+
+    def whole(self):
+        """Runs all. Gives how many passed and failed."""
+        tests = threading.Thread(target=self.run_tests)
+        tests.start()
+        with tempfile.TemporaryDirectory(prefix="ulfm-proofs-") as copy:
+            self.lay(copy)
+            passed, failed = self.prove(copy)
+            if not failed:
+                self.keep_programs(copy)
+        tests.join()
+        return passed + len(self.only_run) - len(self.lost), failed + len(self.lost)
+
+
+def main(words):
+    if words not in ([], ["--all"]):
+        sys.exit("usage: gate/proofs.py [--all]")
+    proofs = Proofs(os.getcwd(), bool(words))
+    try:
+        passed, failed = proofs.whole()
+    except KeyboardInterrupt:
+        end_all()
+        sys.exit(130)
+    if proofs.lost:
+        print(f"proofs: FAILED: {' '.join(proofs.lost)}")
+    print(f"{passed} passed, {failed} failed")
+    sys.exit(1 if failed else 0)
+
+
+if __name__ == "__main__":
+    main(sys.argv[1:])
