@@ -13,7 +13,7 @@ import time
 sys.dont_write_bytecode = True
 from crates import Crates
 from lanes import Task, in_lanes, minutes_left
-from rooms import LEFT_OUT, Room
+from rooms import LEFT_OUT, Room, end_at_a_signal
 
 HERE = os.path.dirname(os.path.dirname(os.path.abspath(__file__)))
 PROGRAM = "ulfm"
@@ -117,6 +117,7 @@ def say(text):
 
 
 def main():
+    end_at_a_signal()
     crates = Crates(HERE)
     build = Build(crates, [PROGRAM])
     tasks, count = build.tasks(), len(build.names)

@@ -26,7 +26,7 @@ import said
 from build import Build, sum_of
 from crates import Crates, read
 from lanes import Task, in_lanes, minutes_left
-from rooms import Room, end_all
+from rooms import Room, end_all, end_at_a_signal
 from turned import edited, edits_of, strays_of
 
 # to be raised where the rules change by which an edit counts as refused: what was known by older ones is then tried again
@@ -304,6 +304,7 @@ def main():
     words.add_argument("--minutes", type=float, default=0, help="ends after this time, and says what was not reached")
     words.add_argument("names", nargs="*", metavar="NAME")
     given = words.parse_args()
+    end_at_a_signal()
     try:
         passed, failed = Run(os.getcwd(), given.names, given.minutes).tries()
     except KeyboardInterrupt:

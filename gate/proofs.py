@@ -20,7 +20,7 @@ sys.dont_write_bytecode = True
 import said
 from crates import Crates
 from lanes import processors
-from rooms import end_all, lay_crate, run
+from rooms import end_all, end_at_a_signal, lay_crate, run
 
 
 class Proofs:
@@ -98,6 +98,7 @@ class Proofs:
 def main(words):
     if words not in ([], ["--all"]):
         sys.exit("usage: gate/proofs.py [--all]")
+    end_at_a_signal()
     proofs = Proofs(os.getcwd(), bool(words))
     try:
         passed, failed = proofs.whole()

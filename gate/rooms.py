@@ -22,7 +22,7 @@ class Room:
 
     def __init__(self, crates, name, takes=False):
         self.crates, self.name, self.takes = crates, name, takes
-        self.root = tempfile.mkdtemp(prefix="ulfm-room-")
+        self.root = tempfile.mkdtemp(prefix="ulfm-room-", dir=place_for(crates.root))
         self.folder = f"{self.root}/crates/{name}"
 
     def __enter__(self):
@@ -51,6 +51,15 @@ class Room:
     def write(self, path, text):
         with open(f"{self.folder}/{path}", "w", encoding="utf-8") as it:
             it.write(text)
+
+
+def place_for(root):
+    """Where rooms are laid: among temporary files, where the repository's can be linked to, or else in the repository's own out/."""
+    place = tempfile.gettempdir()
+    if os.stat(place).st_dev != os.stat(root).st_dev:
+        place = f"{root}/out"
+        os.makedirs(place, exist_ok=True)
+    return place
 
 
 def lay_crate(folder, to):
@@ -85,6 +94,15 @@ def run(words, folder, given=None):
         with lock:
             running.discard(command)
     return command.returncode, said
+
+
+def end_at_a_signal():
+    """Has a signal to end (SIGTERM) be taken as an interrupt is, so that rooms are left in order."""
+
+    def interrupt(*_):
+        raise KeyboardInterrupt
+
+    signal.signal(signal.SIGTERM, interrupt)
 
 
 def end_all():
