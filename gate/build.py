@@ -112,6 +112,11 @@ def arguments(folder):
         return []
 
 
+def sources_of_program():
+    """What the program stands on, as the launcher tells it, which compares this with what it finds later."""
+    return subprocess.run([f"{HERE}/ulfm", "--sources"], stdout=subprocess.PIPE, text=True).stdout
+
+
 def say(text):
     print(f"ulfm: {text}", file=sys.stderr, flush=True)
 
@@ -119,6 +124,7 @@ def say(text):
 def main():
     end_at_a_signal()
     crates = Crates(HERE)
+    sources = sources_of_program()
     build = Build(crates, [PROGRAM])
     tasks, count = build.tasks(), len(build.names)
     if build.kept and tasks:
@@ -140,6 +146,8 @@ def main():
         say(f"{name} could not be proved and built: {log} has all that rt said")
     if build.failed or lost:
         sys.exit(3)
+    with open(f"{crates.folder(PROGRAM)}/out/built", "w", encoding="utf-8") as it:
+        it.write(sources)
     say(f"proved and built, after {round((time.monotonic() - build.since) / 60)} minutes: crates/{PROGRAM}/out/{PROGRAM}")
 
 

@@ -18,6 +18,7 @@ import random
 import re
 import subprocess
 import sys
+import tempfile
 import threading
 import time
 
@@ -41,7 +42,11 @@ class Known:
     def __init__(self, crates):
         self.crates = crates
         self.folder = os.path.join(os.environ.get("XDG_CACHE_HOME") or os.path.expanduser("~/.cache"), "ulfm-gate")
-        os.makedirs(self.folder, exist_ok=True)
+        try:
+            os.makedirs(self.folder, exist_ok=True)
+        except OSError:
+            # (where nothing can be kept, each edit is tried)
+            self.folder = tempfile.mkdtemp(prefix="ulfm-gate-")
 
     def file(self, crate, edit):
         return f"{self.folder}/{sum_of(self.crates, crate, f'{RULES} {hashlib.sha256(edit.text.encode()).hexdigest()}')}"
