@@ -30,7 +30,7 @@ class Proofs:
         self.crates = Crates(root)
         self.only_run = [it.name for it in self.crates.by_name.values() if it.only_run and not proves_all]
         self.proved = [it for it in self.crates.by_name if it not in self.only_run]
-        self.since, self.done, self.lost = time.monotonic(), set(), []
+        self.since, self.done, self.lost, self.is_over = time.monotonic(), set(), [], False
         # (as the toolchain's gate has them: each crate's proof, and the proof of its tests where it has some)
         self.costs = {(it, False): self.crates.by_name[it].proof for it in self.proved}
         self.costs.update({(it, True): self.crates.by_name[it].tests for it in self.proved if self.crates.by_name[it].tests})
@@ -69,6 +69,8 @@ class Proofs:
         """Runs the tests that aren't proved, one crate after another, where processors idle."""
         for name in self.only_run:
             status, output = run(["nice", "rt", "try", "--test"], self.crates.folder(name))
+            if self.is_over:
+                return
             if status:
                 self.lost.append(name)
                 print(f"== {name}: its tests\n{output}", end="", flush=True)
@@ -86,11 +88,16 @@ class Proofs:
         """Runs all. Gives how many passed and failed."""
         tests = threading.Thread(target=self.run_tests)
         tests.start()
-        with tempfile.TemporaryDirectory(prefix="ulfm-proofs-") as copy:
-            self.lay(copy)
-            passed, failed = self.prove(copy)
-            if not failed:
-                self.keep_programs(copy)
+        try:
+            with tempfile.TemporaryDirectory(prefix="ulfm-proofs-") as copy:
+                self.lay(copy)
+                passed, failed = self.prove(copy)
+                if not failed:
+                    self.keep_programs(copy)
+        except BaseException:
+            self.is_over = True
+            end_all()
+            raise
         tests.join()
         return passed + len(self.only_run) - len(self.lost), failed + len(self.lost)
 
@@ -103,7 +110,6 @@ def main(words):
     try:
         passed, failed = proofs.whole()
     except KeyboardInterrupt:
-        end_all()
         sys.exit(130)
     if proofs.lost:
         print(f"proofs: FAILED: {' '.join(proofs.lost)}")
