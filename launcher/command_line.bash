@@ -115,7 +115,7 @@ refuse_option() {
 
 # A word that is neither an option nor a command.
 refuse_word() {
-    local word=$1 close what=exist usage
+    local word=$1 close names what usage
     usage=$(usage_of "$command")
     if [ "$command" != ulfm ]; then
         refuse_with_usage "$usage" "unexpected argument '$word' found"
@@ -128,8 +128,8 @@ refuse_word() {
             1) what='a similar subcommand exists' ;;
             *) what='some similar subcommands exist' ;;
         esac
-        close=$(printf "', '%s" "${close[@]}")
-        refuse_with_usage "$usage" "unrecognized subcommand '$word'"$'\n\n'"  tip: $what: ${close#\', }'"
+        printf -v names ", '%s'" "${close[@]}"
+        refuse_with_usage "$usage" "unrecognized subcommand '$word'"$'\n\n'"  tip: $what: ${names#, }"
     fi
 }
 
@@ -147,7 +147,8 @@ fault_of_number() {
     fi
     value=${digits%%[!0-9]*}
     value=${value#"${value%%[!0]*}"}
-    # a number is found too large at the digit where it is, before a later byte that is none
+    # A number is found too large at the digit where it is, before a later byte that is none. As texts, since the shell's numbers end there too.
+    # shellcheck disable=SC2071
     if [ ${#value} -gt 19 ] || { [ ${#value} -eq 19 ] && [[ $value > $most ]]; }; then
         echo "number too $which to fit in target type"
     elif [ -z "$digits" ] || [ "$digits" != "${digits%%[!0-9]*}" ]; then
