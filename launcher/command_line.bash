@@ -290,6 +290,8 @@ page_of() {
     while [ $# -gt 0 ]; do
         if [ "$page" != ulfm ] || ! is_command "$1"; then
             refuse_with_usage "$(usage_of "$page")" "unrecognized subcommand '$1'"
+            # the command `help` has no help of its own
+            [ "$page" != help ] || text=${text%$'\n\n'*}$'\n'
             return
         fi
         page=$1
