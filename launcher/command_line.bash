@@ -213,21 +213,21 @@ take_flag() {
 
 # A long option is met, with the words behind it. Fails where the line is decided by it.
 take_long() {
-    local name=${1%%=*} value_given=
-    [ "$name" = "$1" ] || value_given=yes
-    local given=${1#*=}
+    local name=$1 given='' value_given=''
+    case $1 in *=*) name=${1%%=*} given=${1#*=} value_given=yes ;; esac
     shift
-    case " $(options_of "$command") " in
-        *" $name "*) ;;
-        *) take_pending; refuse_option "$name" "$@"; return 1 ;;
-    esac
-    case $name in
-        ranks | rounds | fail)
+    case $command:$name in
+        race:ranks | race:rounds | race:fail)
             take_pending || return
             pending=$name value=$given has_value=$value_given
             [ -z "$has_value" ] || take_pending
             ;;
-        *) take_flag "$name" "$given" "$value_given" ;;
+        ulfm:help | ulfm:version | run:steps | run:help | check:help | race:help) take_flag "$name" "$given" "$value_given" ;;
+        *)
+            take_pending
+            refuse_option "$name" "$@"
+            return 1
+            ;;
     esac
 }
 
@@ -321,6 +321,7 @@ is_text() {
     local two=$'[\xc2-\xdf][\x80-\xbf]' three=$'\xe0[\xa0-\xbf][\x80-\xbf]|[\xe1-\xec\xee\xef][\x80-\xbf][\x80-\xbf]|\xed[\x80-\x9f][\x80-\xbf]'
     local four=$'\xf0[\x90-\xbf][\x80-\xbf][\x80-\xbf]|[\xf1-\xf3][\x80-\xbf][\x80-\xbf][\x80-\xbf]|\xf4[\x80-\x8f][\x80-\xbf][\x80-\xbf]'
     for word; do
+        [[ $word == *[$'\x80'-$'\xff']* ]] || continue
         word=${word//[$'\x01'-$'\x7f']/}
         [[ $word =~ ^($two|$three|$four)*$ ]] || return 1
     done
