@@ -22,7 +22,7 @@ unsafe impl Send for StepLog {}
 impl StepLog {
     /// No step.
     #[inline(always)]
-    pub fn new() -> StepLog
+    pub(crate) fn new() -> StepLog
         ensures { result.items ≡ [] }
     {
         StepLog {}
@@ -30,7 +30,7 @@ impl StepLog {
 
     /// One step more.
     #[inline(always)]
-    pub fn and(&self, _last: &Last, _load: &bool) -> StepLog
+    pub(crate) fn and(&self, _last: &Last, _load: &bool) -> StepLog
         ensures { result.items ≡ self.now.items ++ (_last.now, _load.now) ∷ [] }
     {
         StepLog {}
