@@ -85,6 +85,27 @@ pub asked_member : (group declared : List ℕ) (others : Bool) (at : ℕ) → Is
 asked_member group declared false at asked = asked.1
 asked_member group declared true at asked = has_at group at 0 asked.0
 
+-- where somebody is asked about there is a place
+pub asked_within : (group declared : List ℕ) (others : Bool) (at : ℕ) → IsAsked group declared others at → IsWithin group declared others at
+asked_within group declared false at asked = omega (arith, asked.0)
+asked_within group declared true at asked = omega (arith, asked.0)
+
+pub turned_off : (b : Bool) → not b ≡ true → b ≡ false
+turned_off false is = refl
+turned_off true is = absurd (cc is)
+
+pub turned_on : (b : Bool) → not b ≡ false → b ≡ true
+turned_on true is = refl
+turned_on false is = absurd (cc is)
+
+-- before the first of the others stand all declared members
+pub others_first : (group declared : List ℕ) → asked_before group declared true 0 ≡ filter (has group) declared
+others_first group declared = append-nil (filter (has group) declared)
+
+-- they are no more than all
+pub listed_few : (group declared : List ℕ) → length (filter (has group) declared) ≤ length (in_order group declared)
+listed_few group declared = omega (arith, length-append (filter (has group) declared) (without group declared))
+
 -- of the ranks up to a place, one more passes a test
 passes_next : (p : ℕ → Bool) (xs : List ℕ) (at : ℕ) → at < length xs → p (slice_index xs at) ≡ true → filter p (take (at + 1) xs) ≡ filter p (take at xs) ++ slice_index xs at ∷ []
 passes_next p xs at below is = filter_more p xs at 0 below ∙ ap (λ b. filter p (take at xs) ++ cond b (slice_index xs at ∷ []) []) is

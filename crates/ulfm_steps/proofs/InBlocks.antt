@@ -1,5 +1,6 @@
 -- The members of blocks, what is known of them later, and what both say.
 use Rattle.std.proofs.Common.{◌≡◌, ◌⊎◌, inl, inr, ℕ, zero, suc, ◌+◌, ◌-◌, ◌*◌, ◌^◌, ◌≤◌, ◌<◌, if◌then◌else◌, Bool, true, false, List, [], ◌∷◌, length, take, drop, Option, Some, None, IfSome, is_some, nat_lt, refl, ap, sym, ◌∙◌, subst, arith}
+use Rattle.std.specs.Prelude.{Result}
 use Rattle.std.specs.List.{slice_index}
 use Rattle.std.proofs.lemmas.Bool.Decides.{nat_tests}
 use Rattle.std.proofs.lemmas.List.{length-take-le, length-drop}
@@ -10,7 +11,7 @@ use Rattle.ulfm_laws.specs.{declared.summary.Summary.{Summary}}
 use Rattle.ulfm_model.specs.declared.{block.Side.{Side}, block.Side.TheVariants.{Front, Back}, place.Place.TheVariants.{Slot as SlotAt}, limits.Limits.{Limits}}
 use Rattle.ulfm_model.specs.{Blocks.{IsBlock, IsBlockWithin, IsSide, IsSummed, block_of, block_word, width}, History.{History, IsLegal}, Words.{MayOpen}}
 use Rattle.ulfm_model.proofs.{Blocks.{width_is, width_power, width_wide}, Groups.{members_few}, Lists.{none_of}, Summed.{summed_later, summed_none}}
-use Rattle.ulfm_words.specs.{Blocks.{Says}, Steps.{Sight}, declared.step.Site.{Site}}
+use Rattle.ulfm_words.specs.{Blocks.{Caches, Says}, Steps.{Name, Sight}, declared.step.Site.{Site}}
 use Rattle.ulfm_words.proofs.Ranks.{spawns_below}
 use Rattle.ulfm_steps.specs.{Blocks.{AreOf, AtBlock, Tells, begins_at, block_at, blocks_cost, blocks_left, cost_behind, cost_of, first_of, next_of, peeks_left, site_of, starts_at, unread_cost, has_back, is_whole, said_at}, Rounds.{IsRoundOf}, Turns.{TakesAt}}
 use Rattle.ulfm_steps.specs.declared.{blocks.ReadBlocks.{ReadBlocks}, blocks.RoundBlocks.{RoundBlocks}}
@@ -166,6 +167,19 @@ pub takes_member : {P : Type 0} (g : List ℕ) (r : ReadBlocks P) (before after 
 takes_member {P} g r before after old new lt takes =
     let is : nat_lt r.read r.width ≡ true = grind (arith, nat_tests) in
     subst (λ b. TakesAt false (if b then Site.Place (SlotAt r.comm r.round (next_of g r)) else Site.Block (block_at r.comm r.round r.side)) b before after old new) (sym is) takes
+
+-- .. and where all of them were read
+pub takes_cache : {P : Type 0} (meld : P → P → P) (alone : Bool) (name : Name) (g : List ℕ) (r : ReadBlocks P) (word before after : ℕ) (old : Sight P) (result : Result (Unit {0}) ℕ) (new : Sight P) → r.width ≤ r.read → after + 1 ≤ before
+    → Caches meld alone name (block_at r.comm r.round r.side) word old result new → TakesAt false (site_of g r) (nat_lt r.read r.width) before after old new
+takes_cache {P} meld alone name g r word before after old result new le fewer caches =
+    let is : nat_lt r.read r.width ≡ false = grind (arith, nat_tests) in
+    subst (λ b. TakesAt false (if b then Site.Place (SlotAt r.comm r.round (next_of g r)) else Site.Block (block_at r.comm r.round r.side)) b before after old new) (sym is)
+    (record { one = λ _. record { steps = caches.steps; word = _; last = caches.last }; some = omega (arith, caches.steps); turns = omega (arith, caches.steps, fewer) })
+
+-- the cost of the block that comes next
+pub next_cost : {P : Type 0} (side : Side) (b : RoundBlocks P) (all : Summary P) (n : ℕ) → (side ≡ Back → is_some b.front ≡ true) → is_whole (known_with b side all) n ≡ false → cost_behind b side n ≡ width n + 1
+next_cost Front b all n before more = let next = next_by Front b all n before more in rw (next.2, next.1) refl
+next_cost Back b all n before more = let next = next_by Back b all n before more in absurd (let none = next.1 in cc none)
 
 -- a peek and the readings of both blocks make two steps for each member at most, and two more
 pub peek_most : (n : ℕ) (side : Side) → 0 < n → peeks_left n side + blocks_cost n ≤ 2 * n + 2

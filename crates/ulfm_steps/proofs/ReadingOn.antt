@@ -1,5 +1,6 @@
 -- Reading on in the list of failures.
 use Rattle.std.proofs.Common.{◌≡◌, ◌⊎◌, inl, inr, ℕ, ◌+◌, ◌<◌, ◌≤◌, ◌==◌, Bool, true, false, cond, List, [], ◌∷◌, ◌++◌, length, filter, take, Some, None, slice_get, refl, ap, ap₂, sym, ◌∙◌, arith, length-append}
+use Rattle.std.specs.Prelude.{Result, Ok, Err, is_ok, IsOk, if◌then◌else◌}
 use Rattle.std.proofs.lemmas.Bool.{eqb-false}
 use Rattle.std.proofs.lemmas.List.{take-append-le}
 use Rattle.std.proofs.lemmas.List.Elements.{filter-append}
@@ -12,6 +13,11 @@ use Rattle.ulfm_model.proofs.{Histories.{failures_begin}, Lists.{in_list, length
 use Rattle.ulfm_steps.specs.ReadsOn.{AtFailure, MayReadOn, ReadsOn}
 use Rattle.ulfm_steps.specs.declared.read_on.ReadOn.{ReadOn}
 use Rattle.ulfm_steps.proofs.Looking.{whole_found}
+
+-- a push that succeeds
+pub put_behind : {X E : Type 0} (old new : List X) (x : X) (r : Result (Unit {0}) E) → new ≡ (if is_ok r then old ++ x ∷ [] else old) → IsOk r → new ≡ old ++ x ∷ []
+put_behind old new x (Ok done) is ok = is
+put_behind old new x (Err fault) is ok = absurd (cc ok)
 
 -- the first elements of a longer list
 pub take_begins : {X : Type 0} (n : ℕ) (a b : List X) → IsPrefix a b → n ≤ length a → take n b ≡ take n a

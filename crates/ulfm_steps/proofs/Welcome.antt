@@ -1,14 +1,14 @@
 -- What an intruder lets in may come at any time.
-use Rattle.std.proofs.Common.{◌≡◌, ℕ, suc, ◌<◌, ◌==◌, ◌&&◌, Bool, true, false, nat_lt, List, [], ◌∷◌, ◌||◌, Some, slice_get, refl, ap, sym, subst, arith}
+use Rattle.std.proofs.Common.{◌≡◌, ℕ, suc, ◌<◌, ◌==◌, ◌&&◌, Bool, true, false, nat_lt, List, [], ◌∷◌, ◌||◌, Option, Some, slice_get, refl, ap, sym, subst, arith}
 use Rattle.std.specs.Prelude.{MatchBool}
 use Rattle.std.proofs.lemmas.Bool.{and_parts, eqb-true}
 use Rattle.std.proofs.lemmas.Bool.Decides.{nat_tests}
 use mathlib.Core.List.{IsPrefix}
-use Rattle.ulfm_model.specs.declared.{contribution.Contribution.{Contribution}, contribution.Slot.TheVariants.{Given}, event.Caller.{Caller}, event.Entry.{Entry}, event.Event.{Event}, event.Event.TheVariants.{Settle, Arrive, Revoke}, limits.Limits.{Limits}}
+use Rattle.ulfm_model.specs.declared.{contribution.Contribution.{Contribution}, contribution.Slot.TheVariants.{Given}, event.Caller.{Caller}, event.Entry.{Entry}, event.Event.{Event}, event.Event.TheVariants.{Settle, Arrive, Revoke}, limits.Limits.{Limits}, place.Place.{Place}}
 use Rattle.ulfm_model.specs.{History.{History, IsPlace, failures, first_ranks, has}, Runs.{Did}}
-use Rattle.ulfm_model.proofs.Groups.{first_has}
-use Rattle.ulfm_words.specs.{Places.{IsCell}, Steps.{IsAdded}, Tries.{MayPut, MayCome, MayEnd}}
-use Rattle.ulfm_words.proofs.{Growing.{prefix_push}, Trails.{did_prefix}}
+use Rattle.ulfm_model.proofs.{Groups.{first_has}, Lists.{prefix_trans}}
+use Rattle.ulfm_words.specs.{Places.{IsCell}, Steps.{IsAdded, Loses, MaySet, Wins}, Tries.{MayPut, MayCome, MayEnd}, declared.step.Step.{Step}}
+use Rattle.ulfm_words.proofs.{Growing.{prefix_push}, Trails.{added_after, did_prefix, did_wait}}
 use Rattle.ulfm_steps.specs.{Appends.{AppendIs, MayAppend}, Intrusions.{is_welcome}}
 use Rattle.ulfm_steps.specs.declared.{append.Appended.{Appended}, append.Appended.TheVariants.{Won, Found, Full}, item.Item.{Item}, item.Item.TheVariants.{Failure}}
 use Rattle.ulfm_steps.proofs.{Appending.{failure_stands}, Reading.{member_place, world_round}}
@@ -16,6 +16,30 @@ use Rattle.ulfm_steps.proofs.{Appending.{failure_stands}, Reading.{member_place,
 -- where others may come, any growth is theirs
 pub grown : {P : Type 0} (old new : History P) → IsPrefix old new → Did false [] old new
 grown old new begins = record { since = begins.0; goes_on = begins.1; stands = tt; quiet = λ never. absurd (cc never) }
+
+-- what came where nobody else did is what came where others might
+pub unalone : {P : Type 0} (alone : Bool) (own : List (Entry P)) (old new : History P) → Did alone own old new → Did false own old new
+unalone alone own old new did = record { since = did.since; goes_on = did.goes_on; stands = did.stands; quiet = λ never. absurd (cc never) }
+
+-- others' events came before an exchange that was won
+pub wins_before : {P : Type 0} (pack : P → ℕ) (unpack : ℕ → Option P) (alone : Bool) (s : Step) (x y z : History P) → Did false [] x y → Wins pack unpack alone s y z → Wins pack unpack false s x z
+wins_before pack unpack alone s x y z did wins =
+    let added = wins.added in
+    record {
+      entry = wins.entry;
+      is_entry = wins.is_entry;
+      added = added_after false wins.entry x y z did (record { before = added.before; did = unalone alone [] y added.before added.did; is = added.is });
+      stands = wins.stands;
+    }
+
+-- .. or lost
+pub loses_before : {P : Type 0} (pack : P → ℕ) (alone : Bool) (place : Place) (w : ℕ) (x y z : History P) → Did false [] x y → Loses pack alone place w y z → Loses pack false place w x z
+loses_before pack alone place w x y z did loses = record { some = loses.some; stands = loses.stands; did = did_wait false [] x y z did (unalone alone [] y z loses.did) }
+
+-- what may be set may be set later
+pub sets_later : {P : Type 0} (meld : P → P → P) (pack : P → ℕ) (unpack : ℕ → Option P) (limits : Limits) (seen longer : History P) (s : Step) → IsPrefix seen longer → MaySet meld pack unpack limits seen s → MaySet meld pack unpack limits longer s
+sets_later meld pack unpack limits seen longer s begins may =
+    record { entry = may.entry; is_entry = may.is_entry; word = may.word; legal = λ more further. may.legal more (prefix_trans seen longer more begins further) }
 
 pub lt_of : (m n : ℕ) → nat_lt m n ≡ true → m < n
 lt_of m n e = grind (arith, nat_tests)

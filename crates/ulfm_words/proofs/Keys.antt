@@ -1,9 +1,10 @@
 -- Two places have two keys, all below the size of the row.
-use Rattle.std.proofs.Common.{◌≡◌, ℕ, ◌+◌, ◌*◌, ◌<◌, refl, sym, ◌∙◌, subst, arith}
+use Rattle.std.proofs.Common.{◌≡◌, ℕ, ◌+◌, ◌*◌, ◌<◌, List, refl, sym, ◌∙◌, subst, arith}
+use Rattle.std.proofs.Math.Nat.{mul-le-mul_right}
 use Rattle.std.proofs.lemmas.Nat.{mul-add-lt}
-use Rattle.ulfm_model.specs.declared.{limits.Limits.{Limits}, place.Place.{Place}, place.Place.TheVariants.{List as ListAt, Comm as CommAt, Revoked as RevokedAt, Slot as SlotAt, Arrival as ArrivalAt}}
-use Rattle.ulfm_model.specs.Words.{size_of}
-use Rattle.ulfm_words.specs.{Places.{IsWithin, cell_in, key_in}, Rows.{heads_of, lines_of}}
+use Rattle.ulfm_model.specs.declared.{block.Block.{Block}, limits.Limits.{Limits}, place.Place.{Place}, place.Place.TheVariants.{List as ListAt, Comm as CommAt, Revoked as RevokedAt, Slot as SlotAt, Arrival as ArrivalAt}}
+use Rattle.ulfm_model.specs.{Blocks.{IsBlockWithin}, Words.{MayOpen, size_of}}
+use Rattle.ulfm_words.specs.{Places.{IsWithin, cell_in, key_in}, Rows.{Filled, heads_of, lines_of}}
 use Rattle.ulfm_words.proofs.Numbering.{IsNumbering, cells, digits, number_in, number_lt, one_number}
 
 cell_lt : (limits : Limits) (line c r : ℕ) → line < 2 * limits.rounds → c < limits.comms → r < limits.ranks → cell_in limits line c r < 2 * cells limits
@@ -52,3 +53,11 @@ one_key limits p q a b e = one_number limits (slots limits) (arrivals limits) (n
 -- the row has the words that come first, and those of all lines
 pub row_size : (limits : Limits) → heads_of limits + lines_of limits * limits.ranks ≡ size_of limits
 row_size limits = omega arith
+
+-- a block's place is small, in a row of which contracts see this
+pub block_small : (limits : Limits) (words : List ℕ) (seen : Filled) (b : Block) → (let r : Filled = record { limits = limits; words = words } in r) ≡ seen → MayOpen limits → IsBlockWithin seen.limits b → b.round * limits.comms + b.comm < 1048576
+block_small limits words seen b is may within =
+    let here : IsBlockWithin limits b = subst (λ (r : Filled). IsBlockWithin r.limits b) (sym is) within in
+    let row = mul-add-lt b.round limits.comms b.comm limits.rounds here.round here.comm in
+    let all = mul-le-mul_right limits.rounds may.in_range.comms in
+    omega (arith, row, all, may.in_range.rounds)

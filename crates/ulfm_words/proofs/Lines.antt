@@ -5,14 +5,14 @@ use Rattle.std.specs.declared.alloc.AllocError.{AllocError}
 use Rattle.std.proofs.Math.ListN.{length-set}
 use Rattle.std.proofs.Math.Nat.{div-add-mod, mod-lt, mul-le-mul_right}
 use Rattle.std.proofs.lemmas.Grind.{common_steps}
-use Rattle.std.proofs.lemmas.List.{ext_get_or, get_or_append_left, get_or_default, get_or-append-add, get_or-replicate, length-replicate, replicate-append-replicate, set-append_right, take_all}
+use Rattle.std.proofs.lemmas.List.{ext_get_or, get_or_append_left, get_or_default, get_or-append-add, get_or-replicate, length-replicate, replicate-append-replicate, set-append_left, set-append_right, take_all}
 use Rattle.std.proofs.lemmas.List.Folds.{sum_by-replicate}
 use Rattle.std.proofs.lemmas.List.FromFn.{get_or-map-range_with_len, length-map-range_with_len}
 use Rattle.std.proofs.lemmas.List.Sums.{count_by-le-length, sum_by-set}
 use Rattle.std.proofs.lemmas.Nat.{div-mul-add, mod-mul-add, mul-add-lt}
 use Rattle.ulfm_model.specs.declared.{limits.Limits.{Limits}, place.Place.{Place}}
 use Rattle.ulfm_model.specs.Words.{MayOpen, size_of}
-use Rattle.ulfm_words.specs.declared.row.Seat.TheVariants.{Cell}
+use Rattle.ulfm_words.specs.declared.row.Seat.TheVariants.{Cell, Head}
 use Rattle.ulfm_words.specs.{Places.{key_in}, Rows.{AreLines, HasSeat, IsRow, cells_of, heads_of, is_made, lines_of, row_of, word_in}}
 use Rattle.ulfm_words.proofs.Keys.{row_size}
 
@@ -87,8 +87,8 @@ pub more_room : (ranks : ℕ) (starts words : List ℕ) (a b : ℕ) → AreLines
 more_room ranks starts words a b are more =
     record { some = are.some; zeros = are.zeros; made = are.made; below = are.below; own = are.own; past = are.past; room = omega (arith, are.room, more); few = are.few }
 
--- where a line isn't made, there is room for it, and its place is small
-pub room_left : (ranks : ℕ) (starts words : List ℕ) (room i : ℕ) → AreLines ranks starts words room → i < length starts → slice_index starts i ≡ 0 → (length words + ranks ≤ room) × (length words < 4294967296)
+-- where a line isn't made, there is room for it, and its places are small
+pub room_left : (ranks : ℕ) (starts words : List ℕ) (room i : ℕ) → AreLines ranks starts words room → i < length starts → slice_index starts i ≡ 0 → (length words + ranks ≤ room) × (length words + ranks < 4294967296)
 room_left ranks starts words room i are lt none =
     let one_more = count_more starts i 1 lt none (λ e. absurd (omega (arith, e))) in
     let most = count_by-le-length is_made (slice_set starts i 1) in
@@ -166,6 +166,10 @@ module _ (ranks : ℕ) (starts words : List ℕ) (room : ℕ) (are : AreLines ra
   past_more j (inl here) set = omega (arith, there j here, first)
   past_more j (inr other) set = omega (arith, same_line j other, are.past j (λ z. set (same_line j other ∙ z)))
 
+  -- where it begins isn't 0
+  pub made_some : slice_index (slice_set starts i (length words)) i ≢ 0
+  made_some none = absurd (omega (arith, none, made_there, some))
+
   pub lines_more : AreLines ranks (slice_set starts i (length words)) (words ++ replicate ranks 0) room
   lines_more =
       let lines : length (slice_set starts i (length words)) ≡ length starts = length-set starts i (length words) in
@@ -213,6 +217,20 @@ module _ (ranks : ℕ) (starts words : List ℕ) (room : ℕ) (are : AreLines ra
       cells_are ranks starts (slice_set words here w) (slice_set (cells_of ranks starts words) (line * ranks + rank) w) (length-set (cells_of ranks starts words) (line * ranks + rank) w ∙ cells_length ranks starts words) (λ k k_lt.
       read k k_lt (same_or_not k (line * ranks + rank)))
 
+  -- .. and no line begins elsewhere by it
+  pub lines_set : AreLines ranks starts (slice_set words here w) room
+  lines_set =
+      record {
+        some = are.some;
+        zeros = λ i small. get_or-set_other words here i w 0 (λ same. absurd (omega (arith, same, past, small))) ∙ are.zeros i small;
+        made = length-set words here w ∙ are.made;
+        below = λ i. omega (arith, are.below i, length-set words here w);
+        own = are.own;
+        past = are.past;
+        room = are.room;
+        few = are.few;
+      }
+
 -- the first words and the lines together are the row
 module _ (limits : Limits) (heads starts words : List ℕ) (room : ℕ) (is : IsRow limits heads starts words room) where
   row_cell : (line rank : ℕ) → line < length starts → rank < limits.ranks → slice_index (row_of limits.ranks heads starts words) (heads_of limits + (line * limits.ranks + rank)) ≡ slice_index words (slice_index starts line + rank)
@@ -232,6 +250,29 @@ module _ (limits : Limits) (heads starts words : List ℕ) (room : ℕ) (is : Is
   set_after cells cell w =
       let later : heads_of limits + cell - heads_of limits ≡ cell = omega arith in
       set-append_right heads cells (heads_of limits) (heads_of limits + cell) w is.first (omega arith) ∙ ap (λ i. heads ++ slice_set cells i w) later
+
+  -- the word that was read where no line is, is that of the place
+  pub head_read : (p : Place) (i w : ℕ) → HasSeat limits p (Head i) → w ≡ slice_index_or heads i w → w ≡ slice_index (row_of limits.ranks heads starts words) (key_in limits p)
+  head_read p i w seat read =
+      let here : i < length heads = omega (arith, seat.1, is.first) in
+      read
+      ∙ (sym (get_or_default heads i 0 w here) ∙ (sym (get_or_append_left heads (cells_of limits.ranks starts words) 0 i here) ∙ ap (slice_index (row_of limits.ranks heads starts words)) seat.0))
+
+  -- a word is set there
+  pub head_put : (p : Place) (i w : ℕ) → HasSeat limits p (Head i) → row_of limits.ranks (slice_set heads i w) starts words ≡ slice_set (row_of limits.ranks heads starts words) (key_in limits p) w
+  head_put p i w seat =
+      let here : i < length heads = omega (arith, seat.1, is.first) in
+      sym (set-append_left heads (cells_of limits.ranks starts words) i w here) ∙ ap (λ k. slice_set (row_of limits.ranks heads starts words) k w) seat.0
+
+  pub head_stays : (i w : ℕ) → IsRow limits (slice_set heads i w) starts words room
+  head_stays i w = record { first = length-set heads i w ∙ is.first; lines = is.lines; made = is.made }
+
+  -- the row is one still, with a word set in a line that was made
+  pub cell_stays : (made filled : List ℕ) (cap : ℕ) (p : Place) (line rank start w : ℕ) → AreLines limits.ranks made filled cap → length made ≡ length starts → slice_index made line ≢ 0
+      → HasSeat limits p (Cell line rank) → start ≡ slice_index made line → IsRow limits heads made (slice_set filled (start + rank) w) cap
+  cell_stays made filled cap p line rank start w are lines some seat start_is =
+      let line_lt : line < length made = rw (lines, is.lines) seat.1 in
+      record { first = is.first; lines = lines ∙ is.lines; made = rw start_is (lines_set limits.ranks made filled cap are line rank w line_lt seat.2 some) }
 
   -- a word is set in a line of the row that was made
   pub cell_put : (made filled : List ℕ) (cap : ℕ) (p : Place) (line rank start w : ℕ) → AreLines limits.ranks made filled cap → cells_of limits.ranks made filled ≡ cells_of limits.ranks starts words → length made ≡ length starts → slice_index made line ≢ 0

@@ -7,6 +7,10 @@ use Rattle.ulfm_words.specs.declared.step.Step.{Step}
 use Rattle.ulfm_words.specs.{Entries.{entry_by, entry_of, put_if, put_of}, Steps.{IsAdded, MaySet, Wins}, Tries.{MayDeclare, MayPut, MayMake, MayCome, MayEnd, entry}}
 use Rattle.ulfm_words.proofs.{Reading.{nothing, unlisted, not_made}, SlotWords.{slot_back}}
 
+-- the parts of a communicator's word
+pub made_parts : (c k : ℕ) → k < 4096 → ((1 + c * 4096 + k - 1) / 4096 ≡ c) × ((1 + c * 4096 + k - 1) % 4096 ≡ k)
+made_parts c k small = (omega (arith, small), omega (arith, small))
+
 module _ {P : Type 0} (meld : P → P → P) (pack : P → ℕ) (unpack : ℕ → Option P) (limits : Limits) (seen : History P) (by : Caller) where
   pub may_declare : (i r : ℕ) → MayDeclare meld limits seen i r → MaySet meld pack unpack limits seen (record { place = ListAt i; word = r + 1; by = by })
   may_declare i r may =
@@ -21,7 +25,7 @@ module _ {P : Type 0} (meld : P → P → P) (pack : P → ℕ) (unpack : ℕ �
   may_make j c k small may =
       record {
         entry = entry by (Spawn j c k);
-        is_entry = let first : (1 + c * 4096 + k - 1) / 4096 ≡ c = omega (arith, small) in let second : (1 + c * 4096 + k - 1) % 4096 ≡ k = omega (arith, small) in rw (first, second) refl;
+        is_entry = let parts = made_parts c k small in rw (parts.0, parts.1) refl;
         word = refl;
         legal = λ more begins legal none. (may more begins legal (not_made meld pack limits more j 0 (sym none) refl), refl);
       }

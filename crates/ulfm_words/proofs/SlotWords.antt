@@ -252,6 +252,13 @@ module _ {P : Type 0} (unpack : ℕ → Option P) where
       let same : mask_of (payload_in w) ≡ mask = same_mask (mask_of (payload_in w)) mask (mod-eq_of_lt fits ∙ sym bits) in
       read_at w 2 first last tag ∙ ap (λ m. given_of (known_in w) (acked_in w) (Some (Ctx m))) same
 
+  -- so it is with whatever is read as the word is
+  pub exactly_of : (w : ℕ) (o : Option (Slot P)) → o ≡ slot_in unpack w → IsSome o ↔ IsSlotWord unpack w
+  exactly_of w o is = subst (λ (x : Option (Slot P)). IsSome x ↔ IsSlotWord unpack w) (sym is) (slot_exactly unpack w)
+
+  pub one_word_of : (pack : P → ℕ) (w : ℕ) (o : Option (Slot P)) → o ≡ slot_in unpack w → IfSome o (λ s. (IsFlag s → IsExact pack unpack) → slot_word pack s ≡ w)
+  one_word_of pack w o is = subst (λ (x : Option (Slot P)). IfSome x (λ s. (IsFlag s → IsExact pack unpack) → slot_word pack s ≡ w)) (sym is) (one_word unpack pack w)
+
 -- a flag of 32 bits is its own word
 pub flags_exact : IsExact (λ x. x.bits) flag_unpack
 flags_exact payload x lt e =

@@ -7,6 +7,7 @@ pub mod plain;
 mod row;
 pub mod sets;
 pub mod step;
+mod step_log;
 pub mod summaries;
 pub mod words;
 
@@ -14,5 +15,6 @@ pub use loads::{load_arrival, load_comm, load_failure, load_revocation, load_sai
 pub use plain::{PlainPass, PlainTold, PlainWords, Trail};
 pub use sets::{put_slot, set_arrival, set_comm, set_failure, set_revocation, set_slot};
 pub use step::{Last, Site, Step};
+pub use step_log::StepLog;
 pub use summaries::{block_word, read_block, read_slot, slot_word};
 pub use words::{OpenWords, Words};

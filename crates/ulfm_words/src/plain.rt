@@ -9,8 +9,8 @@ ghost use Rattle.ulfm_words.specs.Steps.{IsOf, IsNew, Loads, MaySet, Sets};
 
 use crate::row::Row;
 use crate::step::{Last, Site, Step};
+use crate::step_log::StepLog;
 use crate::words::{OpenWords, Words};
-use http_server::Log;
 use std::alloc::{AllocError, Allocator, Global};
 use std::marker::{Model, PhantomData};
 use ulfm_laws::meld::Packed;
@@ -127,7 +127,7 @@ pub(crate) struct Setting {
 #[derive(Drop)]
 pub struct Trail {
     count: u64,
-    pub log: Log<Last, bool>,
+    pub log: StepLog,
     ghost counted: { count ≡ length log.items % 2 ^ 64 },
 }
 
@@ -138,7 +138,7 @@ impl Trail {
     {
         Trail {
             count: 0,
-            log: Log::new(),
+            log: StepLog::new(),
         }
     }
 

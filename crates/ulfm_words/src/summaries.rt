@@ -175,6 +175,14 @@ pub fn read_slot<P: Packed>(word: u64) -> Option<Slot<P>>
     ensures exactly { IsSome result ↔ IsSlotWord P.unpack word }
     ensures one_word { IfSome result (λ s. (IsFlag s → IsExact P.pack P.unpack) → word_of_slot P.pack s ≡ word) }
 {
+    slot_from(word)
+}
+
+// What stands in a slot with this word, if it is a slot's.
+#[inline(always)]
+fn slot_from<P: Packed>(word: u64) -> Option<Slot<P>>
+    ensures { result ≡ slot_in P.unpack word }
+{
     if word % 2 != 1 || word >= 1 << 57 {
         return None;
     }

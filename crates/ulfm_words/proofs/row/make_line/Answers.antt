@@ -1,6 +1,7 @@
 use Rattle.std.proofs.Common.{◌≡◌, ◌++◌, arith, length, vec_capacity}
+use Rattle.std.proofs.Math.ListN.{length-set}
 use Rattle.std.specs.Prelude.{replicate}
-use Rattle.ulfm_words.proofs.Lines.{cells_kept, grown, more_room, lines_more, room_left}
+use Rattle.ulfm_words.proofs.Lines.{cells_kept, grown, made_some, more_room, lines_more, room_left}
 use Rattle.ulfm_words.proofs.row.make_line.Goals as goal
 use Rattle.ulfm_words.proofs.row.make_line.Goals.{After-resize}
 
@@ -20,3 +21,19 @@ returns-clause-are g c =
 pub returns-clause-cells : goal.returns-clause-cells
 returns-clause-cells g c =
     rw (end g c, longer g c) (cells_kept c.args.ranks c.args.starts.now.items c.args.words.now.items (vec_capacity c.args.words.now) c.requires.are c.args.line c.requires.line c.requires.unmade)
+
+pub returns-clause-made : goal.returns-clause-made
+returns-clause-made g c = rw (end g c) (made_some c.args.ranks c.args.starts.now.items c.args.words.now.items (vec_capacity c.args.words.now) c.requires.are c.args.line c.requires.line c.requires.unmade)
+
+pub returns-clause-lines : goal.returns-clause-lines
+returns-clause-lines g c = length-set c.args.starts.now.items c.args.line c.len.result
+
+pub overflow_cast-len : goal.overflow_cast-len
+overflow_cast-len g c =
+    let left = room_left c.args.ranks c.args.starts.now.items c.args.words.now.items (vec_capacity c.args.words.now) c.args.line c.requires.are c.requires.line c.requires.unmade in
+    omega (arith, left.1, c.len.ensures, c.args.words.now.ok.0)
+
+pub overflow_add-len : goal.overflow_add-len
+overflow_add-len g c =
+    let left = room_left c.args.ranks c.args.starts.now.items c.args.words.now.items (vec_capacity c.args.words.now) c.args.line c.requires.are c.requires.line c.requires.unmade in
+    omega (arith, left.1, c.len-2.ensures, c.args.words.now.ok.0)

@@ -1,8 +1,9 @@
-use Rattle.std.proofs.Common.{◌≡◌, ◌-◌, ◌∙◌, refl, length, ap, subst, sym, arith, false, rules}
+use Rattle.std.proofs.Common.{◌≡◌, ℕ, ◌+◌, ◌-◌, ◌≤◌, ◌∙◌, refl, length, ap, subst, sym, arith, false, nat_lt}
 use Rattle.ulfm_model.proofs.Summed.{summed_none}
+use Rattle.ulfm_words.specs.Steps.{Goes}
 use Rattle.ulfm_words.proofs.Trails.{did_prefix}
-use Rattle.ulfm_steps.specs.Blocks.{AreOf, Tells, is_whole}
-use Rattle.ulfm_steps.proofs.InBlocks.{apart_lt, are_with, few_members, is_block, known_with, next_by, within_of}
+use Rattle.ulfm_steps.specs.{Blocks.{AreOf, Tells, blocks_left, is_whole, site_of}, Turns.{TakesAt}}
+use Rattle.ulfm_steps.proofs.InBlocks.{apart_lt, are_with, few_members, is_block, known_with, next_by, next_cost, takes_cache, within_of}
 use Rattle.ulfm_steps.proofs.blocks.ReadBlocks.cache.Goals as goal
 use Rattle.ulfm_steps.proofs.blocks.ReadBlocks.cache.Goals.{Joined-self, in-Front, in-Back}
 
@@ -35,6 +36,17 @@ known g c =
     let new = (g.W.Words.sight c.cache.new.pass).seen in
     are_with g.P.Meld.meld old new c.args.group.now c.args.self.now (did_prefix g.W.Words.alone _ old new c.cache.ensures.did) c.requires.may.at c.requires.all
 
+-- it is one step, which makes no event
+went : (g : _) (c : Joined-self g) → Goes g.P.Meld.meld g.W.Words.alone (g.W.Words.name c.args.words.now) 1 (g.W.Words.sight c.args.pass.now) (g.W.Words.sight c.cache.new.pass)
+went g c = let e = c.cache.ensures in record { of = e.of; did = e.did; cached = e.cached; onward = omega (arith, e.steps); steps = omega (arith, e.steps) }
+
+took : (g : _) (c : Joined-self g) (after : ℕ) → after + 1 ≤ blocks_left (length c.args.group.now) c.args.self.now
+    → TakesAt false (site_of c.args.group.now c.args.self.now) (nat_lt c.args.self.now.read c.args.self.now.width) (blocks_left (length c.args.group.now) c.args.self.now) after (g.W.Words.sight c.args.pass.now) (g.W.Words.sight c.cache.new.pass)
+took g c after fewer =
+    let r = c.args.self.now in
+    takes_cache g.P.Meld.meld g.W.Words.alone (g.W.Words.name c.args.words.now) c.args.group.now r _ (blocks_left (length c.args.group.now) r) after (g.W.Words.sight c.args.pass.now) _ (g.W.Words.sight c.cache.new.pass)
+    (omega (arith, c.requires.all, c.requires.may.at.wide)) fewer c.cache.ensures
+
 pub returns-in-Some : goal.returns-in-Some
 returns-in-Some g c =
     let at = (goal.at.returns-in-Some g c).Joined-self in
@@ -45,12 +57,12 @@ returns-in-Some g c =
     let is = blocks_are g at in
     let tells = c.all.ensures.tells new r.comm r.round group refl (rw is (known g at)) in
     record {
-      goes = search rules;
-      takes = search rules;
-      comm = search rules;
-      round = search rules;
+      goes = went g at;
+      takes = took g at 0 (omega arith);
+      comm = ap (λ x. x.comm) is;
+      round = ap (λ x. x.round) is;
       tells = rw is (subst (Tells meld new r.comm r.round group) c.in-Some.is tells);
-      ends = search rules;
+      ends = λ _. refl;
     }
 
 pub returns : goal.returns
@@ -63,11 +75,12 @@ returns g c =
     let is = blocks_are g at in
     let whole : is_whole (known_with r.blocks r.side r.all) (length group) ≡ false = subst (λ b. is_whole b (length group) ≡ false) (ap (λ x. x.blocks) is) (sym c.in_default.ensures.whole) in
     let next = next_by r.side r.blocks r.all (length group) c.requires.may.at.front whole in
+    let behind = next_cost r.side r.blocks r.all (length group) c.requires.may.at.front whole in
     record {
-      goes = search rules;
-      takes = search rules;
-      comm = search rules;
-      round = search rules;
+      goes = went g at;
+      takes = took g at _ (omega (arith, behind));
+      comm = ap (λ x. x.comm) is;
+      round = ap (λ x. x.round) is;
       tells = rw (is, c.unit-self.ensures) (record {
         are = known g at;
         unknown = next.1;
@@ -78,5 +91,5 @@ returns g c =
         within = omega arith;
         read = summed_none meld new r.comm r.round;
       });
-      ends = search rules;
+      ends = λ no. absurd (cc no);
     }

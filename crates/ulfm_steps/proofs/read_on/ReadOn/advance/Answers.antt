@@ -1,8 +1,8 @@
-use Rattle.std.proofs.Common.{◌≡◌, ◌≤◌, [], length, vec_len, refl, arith, rules}
-use Rattle.ulfm_model.specs.History.{failures}
+use Rattle.std.proofs.Common.{◌≡◌, ◌-◌, ◌≤◌, true, [], length, vec_len, refl, ap, arith}
+use Rattle.ulfm_model.specs.{History.{failures}, declared.place.Place.TheVariants.{List as ListAt}}
 use Rattle.ulfm_model.proofs.Lists.{length_prefix, prefix_trans}
-use Rattle.ulfm_words.proofs.{Ranks.{failures_le}, Trails.{did_prefix, did_wait}}
-use Rattle.ulfm_steps.proofs.ReadingOn.{fewer_found, may_read_on_after}
+use Rattle.ulfm_words.proofs.{Growing.{prefix_self}, Ranks.{failures_le}, Trails.{did_none, did_prefix, did_wait}}
+use Rattle.ulfm_steps.proofs.{ReadingOn.{fewer_found, may_read_on_after}, Turning.{takes_on}}
 use Rattle.ulfm_steps.proofs.read_on.ReadOn.advance.Goals as goal
 use Rattle.ulfm_steps.proofs.read_on.ReadOn.advance.Goals.{After-step}
 
@@ -12,8 +12,48 @@ few g c =
     let h = (g.W.Words.sight c.step.new.pass).seen in
     let long = length_prefix c.step.new.seen.items (failures h) c.step.ensures.begins in
     let all = failures_le g.P.Meld.meld (g.W.Words.name c.args.words.now).limits h c.step.ensures.goes.of.legal in
-    let size : vec_len c.step.new.seen ≡ length c.step.new.seen.items = search rules in
-    omega (arith, long, all, size)
+    omega (arith, long, all, c.step.new.seen.ok.0)
+
+pub loop-self-init : goal.loop-self-init
+loop-self-init g c =
+    record {
+      of = c.requires.of;
+      did = did_none g.W.Words.alone (g.W.Words.sight c.args.pass.now).seen;
+      cached = prefix_self _;
+      may = c.requires.may;
+      at = c.requires.at;
+      more = c.requires.more;
+      goes_on = prefix_self _;
+      steps = refl;
+      onward = omega arith;
+      first = λ _. refl;
+      room = c.requires.room;
+      kept = omega arith;
+    }
+
+pub returns-then-not-whole-clause-takes : goal.returns-then-not-whole-clause-takes
+returns-then-not-whole-clause-takes g c =
+    let i = c.loop-self.invariant in
+    let e = c.step.ensures in
+    let ranks = (g.W.Words.name c.args.words.now).limits.ranks in
+    let start = c.args.seen.now in
+    let now = c.loop-self.seen in
+    let all = few g (goal.at.returns-then-not-whole-clause-takes g c).After-step in
+    let most : vec_len now ≤ ranks = omega (arith, all, e.further) in
+    takes_on c.args.whole (ListAt (length start.items)) (ListAt (length now.items)) true true (ranks - length start.items) (ranks - length now.items) (ranks - length c.step.new.seen.items)
+    (g.W.Words.sight c.args.pass.now) (g.W.Words.sight c.loop-self.pass) (g.W.Words.sight c.step.new.pass)
+    (λ single.
+    let same : length now.items ≡ length start.items = omega (arith, i.first single, i.steps, start.ok.0, now.ok.0) in
+    (omega (arith, i.first single), ap (λ n. ListAt n) same, refl))
+    i.onward (omega (arith, i.steps, i.onward, most, start.ok.0, now.ok.0)) e.takes
+
+pub returns-then-not-whole-clause-further : goal.returns-then-not-whole-clause-further
+returns-then-not-whole-clause-further g c =
+    let e = c.step.ensures in
+    omega (arith, c.loop-self.invariant.steps, (e.takes.one refl).steps, e.further)
+
+pub returns-then-not-whole-clause-goes_on : goal.returns-then-not-whole-clause-goes_on
+returns-then-not-whole-clause-goes_on g c = prefix_trans c.args.seen.now.items c.loop-self.seen.items c.step.new.seen.items c.loop-self.invariant.goes_on c.step.ensures.goes_on
 
 pub returns-then-not-whole-clause-goes : goal.returns-then-not-whole-clause-goes
 returns-then-not-whole-clause-goes g c =

@@ -1,11 +1,10 @@
 use Rattle.std.proofs.Common.{◌≡◌, ◌<◌, ◌+◌, ◌-◌, cond, [], ◌∷◌, ◌++◌, length, slice_get, refl, ap, sym, ◌∙◌, arith, rules, length-append}
-use Rattle.std.proofs.lemmas.Grind.{common_steps}
 use mathlib.Core.List.{IsPrefix}
 use Rattle.ulfm_model.specs.History.{failures, has}
 use Rattle.ulfm_model.specs.declared.place.Place.TheVariants.{List as ListAt}
 use Rattle.ulfm_model.proofs.{Histories.{failures_begin}, Lists.{prefix_trans}}
 use Rattle.ulfm_words.proofs.{Ranks.{failures_le}, Trails.{did_prefix}}
-use Rattle.ulfm_steps.proofs.{Looking.{more_found}, ReadingOn.{list_goes_on, no_end, rank_further}, Turning.{takes_load}}
+use Rattle.ulfm_steps.proofs.{Looking.{more_found}, ReadingOn.{list_goes_on, no_end, put_behind, rank_further}, Turning.{takes_load}}
 use Rattle.ulfm_steps.proofs.read_on.ReadOn.step.Goals as goal
 use Rattle.ulfm_steps.proofs.read_on.ReadOn.step.Goals.{After-len, After-load_failure, After-push}
 
@@ -15,14 +14,12 @@ room_left g c =
     let h = (g.W.Words.sight c.args.pass.now).seen in
     let below = list_goes_on c.args.group.now c.args.count c.args.self.now c.args.seen.now.items (failures h) c.requires.may c.requires.at c.requires.more in
     let few = failures_le g.P.Meld.meld (g.W.Words.name c.args.words.now).limits h c.requires.of.legal in
-    let size = c.len.ensures in
-    grind (arith, common_steps, below, few, size)
+    omega (arith, below, few, c.len.ensures, c.args.seen.now.ok.0)
 
 pub overflow_cast-len : goal.overflow_cast-len
 overflow_cast-len g c =
     let left = room_left g c in
-    let ranks = c.requires.of.may_open.in_range.ranks in
-    search rules
+    omega (arith, left, c.requires.of.may_open.in_range.ranks)
 
 pub load_failure-requires-clause-within : goal.load_failure-requires-clause-within
 load_failure-requires-clause-within g c = room_left g (goal.at.load_failure-requires-clause-within g c).After-len
@@ -30,7 +27,7 @@ load_failure-requires-clause-within g c = room_left g (goal.at.load_failure-requ
 -- the load was of the place past what was seen
 loaded : (g : _) (c : After-load_failure g) → slice_get (failures (g.W.Words.sight c.load_failure.new.pass).seen) (length c.args.seen.now.items) ≡ c.load_failure.result
 loaded g c =
-    let size : length c.args.seen.now.items ≡ c.len.result = search rules in
+    let size : length c.args.seen.now.items ≡ c.len.result = omega (arith, c.len.ensures, c.args.seen.now.ok.0) in
     ap (slice_get (failures (g.W.Words.sight c.load_failure.new.pass).seen)) size ∙ sym c.load_failure.ensures.rank
 
 grown : (g : _) (c : After-load_failure g) → IsPrefix (failures (g.W.Words.sight c.args.pass.now).seen) (failures (g.W.Words.sight c.load_failure.new.pass).seen)
@@ -47,7 +44,9 @@ unreachable-requires g c =
 
 -- the rank was put behind what was seen
 pushed : (g : _) (c : After-push g) → c.push.new.self.items ≡ c.args.seen.now.items ++ c.in-Some.rank ∷ []
-pushed g c = let left = room_left g (goal.at.After-push g c).After-len in grind (arith, common_steps, left)
+pushed g c =
+    let left = room_left g (goal.at.After-push g c).After-len in
+    put_behind c.args.seen.now.items c.push.new.self.items c.in-Some.rank c.push.result c.push.ensures.items (c.push.ensures.succeeds (omega (arith, left, c.requires.room, c.len.ensures)))
 
 pub returns-clause-at : goal.returns-clause-at
 returns-clause-at g c =
@@ -61,7 +60,7 @@ returns-clause-at g c =
 pub returns-clause-further : goal.returns-clause-further
 returns-clause-further g c =
     let new = pushed g (goal.at.returns-clause-further g c).After-push in
-    grind (arith, common_steps, ap length new, length-append c.args.seen.now.items (c.in-Some.rank ∷ []))
+    omega (arith, ap length new, length-append c.args.seen.now.items (c.in-Some.rank ∷ []), c.args.seen.now.ok.0, c.push.new.self.ok.0)
 
 pub returns-clause-goes_on : goal.returns-clause-goes_on
 returns-clause-goes_on g c = (c.in-Some.rank ∷ [], sym (pushed g (goal.at.returns-clause-goes_on g c).After-push))
@@ -79,7 +78,7 @@ returns-clause-takes g c =
     let all = goal.at.returns-clause-takes g c in
     let limits = (g.W.Words.name c.args.words.now).limits in
     let left = room_left g all.After-len in
-    let size : c.len.result ≡ length c.args.seen.now.items = search rules in
+    let size : c.len.result ≡ length c.args.seen.now.items = omega (arith, c.len.ensures, c.args.seen.now.ok.0) in
     let longer = ap length (pushed g all.After-push) ∙ length-append c.args.seen.now.items (c.in-Some.rank ∷ []) in
     takes_load g.P.Meld.meld g.P.Packed.pack g.W.Words.alone (g.W.Words.name c.args.words.now) (ListAt c.len.result) (g.W.Words.sight c.args.pass.now) (g.W.Words.sight c.load_failure.new.pass)
     (ListAt (length c.args.seen.now.items)) (limits.ranks - length c.args.seen.now.items) (limits.ranks - length c.push.new.self.items) c.load_failure.ensures.loads (ap (λ i. ListAt i) size)

@@ -1,5 +1,5 @@
-use Rattle.std.proofs.Common.{rules}
+use Rattle.std.proofs.Common.{refl}
 use Rattle.ulfm_steps.proofs.read_round.ReadRound.new.Goals as goal
 
 pub returns : goal.returns
-returns g c = search rules steps 400000
+returns g c = rw c.unit.ensures refl
