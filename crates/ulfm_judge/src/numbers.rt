@@ -184,7 +184,6 @@ fn made_by<P: Copy>(entry: &Entry<P>) -> Option<(u16, u16)>
 }
 
 /// Notes a further failure, if one more event declares it.
-#[tactic(auto, using(crate::proofs::Counting::before_later, crate::proofs::Counting::before_push))]
 fn note_failure<P: Copy, A: Allocator + Copy>(
     ranks: &mut Vec<u16, A>,
     numbers: &mut Vec<u64, A>,
@@ -209,7 +208,6 @@ fn note_failure<P: Copy, A: Allocator + Copy>(
 }
 
 /// Notes a further communicator, if one more event makes it.
-#[tactic(auto, using(crate::proofs::Counting::before_later, crate::proofs::Counting::before_push))]
 fn note_spawn<P: Copy, A: Allocator + Copy>(
     made: &mut Vec<(u16, u16), A>,
     numbers: &mut Vec<u64, A>,
