@@ -1,7 +1,7 @@
 -- What is kept of a round that has decided holds from then on.
 use Rattle.std.proofs.Common.{◌≡◌, ◌<◌, ◌≤◌, ◌-◌, ◌||◌, ℕ, zero, suc, Bool, true, false, List, [], ◌∷◌, ◌++◌, append-nil, length, length-append, length-drop, map, not, take, drop, filter, filter_map, nat_le, nat_lt, Option, Some, None, is_some, if◌then◌else◌, refl, sym, ap, ap₂, ◌∙◌, subst, arith}
 use Rattle.std.specs.Map.{lookup}
-use Rattle.std.specs.Prelude.{Err, Ok, OnErr, OnOk, Result}
+use Rattle.std.specs.Prelude.{Err, IfOk, IsErr, Ok, OnErr, OnOk, Result}
 use Rattle.std.specs.{HashMap.{HashMap, IsUnchanged, Updates, get}, List.{AllByRecursion, list_all, list_any}}
 use Rattle.std.proofs.lemmas.Bool.{and_parts, leb-true, le-leb, lt-ltb, ltb-true}
 use Rattle.std.proofs.lemmas.List.{take-append-drop}
@@ -225,3 +225,8 @@ are_done_later {P} {A} meld rounds slots later failures more longer groups extra
 pub ok_anyway : {X E T : Type 0} (result : Result X E) → T → OnOk result T
 ok_anyway (Ok x) t = t
 ok_anyway (Err e) t = tt
+
+-- an error has no value, of which anything would be asked
+pub no_value : {X E : Type 0} (Asked : X → Type 0) (result : Result X E) → IsErr result → IfOk result Asked
+no_value Asked (Ok x) is = absurd (cc is)
+no_value Asked (Err e) is = tt

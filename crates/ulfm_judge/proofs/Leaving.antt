@@ -130,6 +130,18 @@ no_record now r s own none is found = let same : r ≡ s = cc is in let gone : N
 pub all_and : (a b d l x : Bool) → a ≡ true → b ≡ true → d ≡ true → x ≡ l → x ≡ (a && (b && (d && l)))
 all_and a b d l x one two three is = is ∙ (true_and d l three ∙ (true_and b (d && l) two ∙ true_and a (b && (d && l)) one))
 
+-- one of the tests fails
+pub first_fails : (a b : Bool) → a ≡ false → false ≡ (a && b)
+first_fails a b fails = sym (ap (λ x. x && b) fails)
+
+pub second_fails : (a b c : Bool) → b ≡ false → false ≡ (a && (b && c))
+second_fails true b c fails = first_fails b c fails
+second_fails false b c fails = refl
+
+pub third_fails : (a b c d : Bool) → c ≡ false → false ≡ (a && (b && (c && d)))
+third_fails true b c d fails = second_fails b c d fails
+third_fails false b c d fails = refl
+
 -- what follows where a call went well
 pub on_ok : {X E : Type 0} (result : Result X E) (Q R : Type 0) → (Q → R) → OnOk result Q → OnOk result R
 on_ok (Ok x) Q R goes q = goes q

@@ -6,7 +6,7 @@ use Rattle.std.specs.Prelude.{nat_lt}
 use Rattle.std.proofs.lemmas.Bool.{eq-eqb, eqb-true, le-ltb, lt-ltb, ne_eqb}
 use Rattle.std.proofs.lemmas.List.{get_or-map, length-map}
 use Rattle.std.proofs.lemmas.List.Sums.{position_or_len_is}
-use Rattle.std.proofs.lemmas.Option.{get_or_from_slice_get, slice_get_within}
+use Rattle.std.proofs.lemmas.Option.{get_or_from_slice_get, slice_get_past, slice_get_read, slice_get_within}
 use Rattle.ulfm_model.specs.declared.event.Caller.{Caller}
 use Rattle.ulfm_model.specs.History.{first_ranks}
 use Rattle.ulfm_model.proofs.Groups.{first_at, first_length}
@@ -155,6 +155,23 @@ module _ {P A : Type 0} where
       go : (o : Option (OpenCall P A)) → slice_get calls (seat_of by) ≡ o → option_and_then (λ (u : OpenCall P A). cond u.is_open (Some (seat_of by)) None) o ≡ Some i → Stood calls by i
       go None there is = absurd (cc is)
       go (Some u) there is = at_call u there u.is_open refl is
+
+  -- a call that is under way at its caller's place
+  pub stands_there : (calls : List (OpenCall P A)) (by : Caller) (i : ℕ) (u : OpenCall P A) → i ≡ seat_of by → i < length calls → u ≡ get_or calls i u → u.is_open ≡ true → Some i ≡ place_by calls by
+  stands_there calls by i u at within is holds =
+      let there : slice_get calls (seat_of by) ≡ Some u = ap (slice_get calls) (sym at) ∙ slice_get_read calls (length calls) i u refl within is in
+      ap Some at ∙ sym (ap (option_and_then (λ (v : OpenCall P A). cond v.is_open (Some (seat_of by)) None)) there ∙ ap (λ b. cond b (Some (seat_of by)) None) holds)
+
+  -- none is where the one there has ended
+  pub stands_ended : (calls : List (OpenCall P A)) (by : Caller) (i : ℕ) (u : OpenCall P A) → i ≡ seat_of by → i < length calls → u ≡ get_or calls i u → u.is_open ≡ false → None ≡ place_by calls by
+  stands_ended calls by i u at within is shut =
+      let there : slice_get calls (seat_of by) ≡ Some u = ap (slice_get calls) (sym at) ∙ slice_get_read calls (length calls) i u refl within is in
+      sym (ap (option_and_then (λ (v : OpenCall P A). cond v.is_open (Some (seat_of by)) None)) there ∙ ap (λ b. cond b (Some (seat_of by)) None) shut)
+
+  -- nor behind the last place
+  pub stands_nowhere : (calls : List (OpenCall P A)) (by : Caller) (i : ℕ) → i ≡ seat_of by → length calls ≤ i → None ≡ place_by calls by
+  stands_nowhere calls by i at past =
+      sym (ap (option_and_then (λ (v : OpenCall P A). cond v.is_open (Some (seat_of by)) None)) (ap (slice_get calls) (sym at) ∙ slice_get_past calls i past))
 
   pub is_open_at : (calls : List (OpenCall P A)) (by : Caller) (i : ℕ) (d : OpenCall P A) → place_by calls by ≡ Some i → (get_or calls i d).is_open ≡ true
   is_open_at calls by i d is = let s = stood calls by i is in ap (λ (u : OpenCall P A). u.is_open) (get_or_from_slice_get calls i s.call d s.there) ∙ s.is_open

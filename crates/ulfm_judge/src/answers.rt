@@ -1,10 +1,11 @@
 //! Whether a reply is an answer to a caller's call, at a point.
-ghost use Rattle.std.specs.Prelude.{◌≡◌, IfOk, filter, length};
+ghost use Rattle.std.specs.Prelude.{◌≡◌, ◌&&◌, IfOk, filter, length, max, min};
 ghost use Rattle.ulfm_model.specs.History.{has};
 ghost use Rattle.ulfm_model.specs.Answers.{comm_of, refusal_of};
 ghost use Rattle.ulfm_model.specs.Records.{held_at};
 ghost use Rattle.ulfm_record.specs.Kept.{record_of};
-ghost use Rattle.ulfm_judge.specs.ReplyTests.{by_record_test, listed_in, looked_test, replied_test, same_ranks, self_failed_test, starts_test};
+ghost use Rattle.ulfm_judge.specs.ReplyTests.{acked_test, barrier_start_test, by_record_test, group_test, listed_in, looked_test};
+ghost use Rattle.ulfm_judge.specs.ReplyTests.{replied_test, same_ranks, self_failed_test, start_test, starts_test};
 ghost use Rattle.ulfm_judge.specs.Seen.{failed_in};
 ghost use Rattle.ulfm_judge.specs.Telling.{seen_at};
 
@@ -84,6 +85,73 @@ fn count_found<P: Meld, A: Allocator + Copy + Drop>(
     }
 }
 
+/// Whether a query of the failed group is answered so, which is of all that were declared then.
+fn is_failed_reply<P: Meld, A: Allocator + Copy + Drop>(
+    view: &View<P, A>,
+    comm: u16,
+    reply: &Reply<P>,
+) -> bool
+    ensures { let seen = seen_at view.now.numbers.now view.now.point in
+        result ≡ (same_ranks seen.failures view.now.look.now && group_test (length (failed_in seen comm)) reply.now) }
+{
+    let all = found_all(view);
+    let count = count_failed(view.numbers, view.point, comm);
+    all && is_group_reply(count, reply)
+}
+
+/// Whether an acknowledgement of so many failures is answered so, at a look that found all.
+fn is_ack_reply<P: Meld, A: Allocator + Copy + Drop>(
+    view: &View<P, A>,
+    x: &HeldComm<A>,
+    comm: u16,
+    count: u16,
+    reply: &Reply<P>,
+) -> bool
+    ensures { let seen = seen_at view.now.numbers.now view.now.point in let acked = max x.now.acked (min count (length (failed_in seen comm))) in
+        result ≡ (same_ranks seen.failures view.now.look.now && acked_test acked reply.now) }
+{
+    let all = found_all(view);
+    let known = count_failed(view.numbers, view.point, comm);
+    let acked = usize::from(x.acked).max(usize::from(count).min(known));
+    all && is_acked_reply(acked, reply)
+}
+
+/// Whether the start of an agree or of a shrink is answered so, by what the tables say of its round.
+fn is_offer_reply<P: Packed, A: Allocator + Copy + Drop>(
+    view: &View<P, A>,
+    events: &[Event<P>],
+    rank: u16,
+    x: &HeldComm<A>,
+    offer: Offer<P>,
+    reply: &Reply<P>,
+) -> bool
+    ensures { let stood = (seen_at view.now.numbers.now view.now.point).slots (x.now.comm, x.now.next_agreement, rank) in
+        result ≡ start_test P.pack events.now stood (length (filter (has x.now.group) view.now.look.now)) rank x.now offer reply.now }
+{
+    let stood = view
+        .numbers
+        .slot_at((x.comm, x.next_agreement, rank), view.point);
+    let known = count_found(view.numbers, view.look, x.comm, &x.group);
+    is_start_reply(events, stood, known, rank, x, offer, reply)
+}
+
+/// Whether the start of a barrier is answered so, by what the tables say of its round.
+fn is_arrival_reply<P: Meld, A: Allocator + Copy + Drop>(
+    view: &View<P, A>,
+    events: &[Event<P>],
+    rank: u16,
+    x: &HeldComm<A>,
+    reply: &Reply<P>,
+) -> bool
+    ensures { let arrived = (seen_at view.now.numbers.now view.now.point).arrived (x.now.comm, x.now.next_barrier, rank) in
+        result ≡ barrier_start_test arrived events.now rank x.now reply.now }
+{
+    let arrived = view
+        .numbers
+        .has_arrived_at((x.comm, x.next_barrier, rank), view.point);
+    is_barrier_start_reply(arrived, events, rank, x, reply)
+}
+
 /// Whether a call that the record doesn't refuse is answered so.
 fn is_reply_on<P: Packed, A: Allocator + Copy + Drop>(
     alloc: A,
@@ -101,38 +169,16 @@ fn is_reply_on<P: Packed, A: Allocator + Copy + Drop>(
 {
     match *asked {
         Call::Fail { .. } => Ok(false),
-        Call::GetFailed { comm, .. } => {
-            let all = found_all(view);
-            let count = count_failed(view.numbers, view.point, comm);
-            Ok(all && is_group_reply(count, reply))
-        }
-        Call::Ack { comm, count, .. } => {
-            let all = found_all(view);
-            let known = count_failed(view.numbers, view.point, comm);
-            let acked = usize::from(x.acked).max(usize::from(count).min(known));
-            Ok(all && is_acked_reply(acked, reply))
-        }
+        Call::GetFailed { comm, .. } => Ok(is_failed_reply(view, comm, reply)),
+        Call::Ack { comm, count, .. } => Ok(is_ack_reply(view, x, comm, count, reply)),
         Call::Agree { value, .. } => {
-            let stood = view
-                .numbers
-                .slot_at((x.comm, x.next_agreement, rank), view.point);
-            let known = count_found(view.numbers, view.look, x.comm, &x.group);
-            Ok(is_start_reply(events, stood, known, rank, x, Offer::Flag(value), reply))
+            Ok(is_offer_reply(view, events, rank, x, Offer::Flag(value), reply))
         }
         Call::Shrink { .. } => {
-            let stood = view
-                .numbers
-                .slot_at((x.comm, x.next_agreement, rank), view.point);
-            let known = count_found(view.numbers, view.look, x.comm, &x.group);
             let free = free_ids(held);
-            Ok(is_start_reply(events, stood, known, rank, x, Offer::Ctx(free), reply))
+            Ok(is_offer_reply(view, events, rank, x, Offer::Ctx(free), reply))
         }
-        Call::Barrier { .. } => {
-            let arrived = view
-                .numbers
-                .has_arrived_at((x.comm, x.next_barrier, rank), view.point);
-            Ok(is_barrier_start_reply(arrived, events, rank, x, reply))
-        }
+        Call::Barrier { .. } => Ok(is_arrival_reply(view, events, rank, x, reply)),
         Call::Poll { .. } => { is_poll_reply(alloc, limits, view, rank, x, x.request, reply) },
         Call::Revoke { comm, .. } => {
             let revoked = view.numbers.is_revoked_at(comm, view.point);

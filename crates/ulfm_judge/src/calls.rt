@@ -59,8 +59,8 @@ pub(crate) fn place_by<P: Meld, A: Allocator>(calls: &[OpenCall<P, A>], by: Call
 {
     let seat = seat_of(by);
     match calls.get(seat) {
-        Some(u) if u.is_open => Some(seat),
-        _ => None,
+        Some(u) => { if u.is_open { Some(seat) } else { None } }
+        None => None,
     }
 }
 

@@ -184,7 +184,6 @@ fn made_by<P: Copy>(entry: &Entry<P>) -> Option<(u16, u16)>
 }
 
 /// Notes a further failure, if one more event declares it.
-#[tactic(auto, using(crate::proofs::Counting::before_later, crate::proofs::Counting::before_push))]
 fn note_failure<P: Copy, A: Allocator + Copy>(
     ranks: &mut Vec<u16, A>,
     numbers: &mut Vec<u64, A>,
@@ -209,7 +208,6 @@ fn note_failure<P: Copy, A: Allocator + Copy>(
 }
 
 /// Notes a further communicator, if one more event makes it.
-#[tactic(auto, using(crate::proofs::Counting::before_later, crate::proofs::Counting::before_push))]
 fn note_spawn<P: Copy, A: Allocator + Copy>(
     made: &mut Vec<(u16, u16), A>,
     numbers: &mut Vec<u64, A>,
@@ -286,13 +284,13 @@ fn note_all<P: Copy, A: Allocator + Copy + Drop>(
     ensures failed_before { AreBefore number failed_at.old.items → OnOk result (AreBefore (number + 1) failed_at.new.items) }
     ensures spawned_before { AreBefore number spawned_at.old.items → OnOk result (AreBefore (number + 1) spawned_at.new.items) }
 {
+    note_group(alloc, groups, failures, made)?;
     note_slot(slots, number, entry)?;
     note_first(arrivals, number, arrival_by(entry))?;
     note_first(revocations, number, revoked_by(entry))?;
     note_first(declared, number, declared_by(entry))?;
     note_failure(failures, failed_at, groups, number, entry)?;
-    note_spawn(spawns, spawned_at, number, entry)?;
-    note_group(alloc, groups, failures, made)
+    note_spawn(spawns, spawned_at, number, entry)
 }
 
 /// The first so many ranks of a list, or all of it.

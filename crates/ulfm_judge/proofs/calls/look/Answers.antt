@@ -11,6 +11,9 @@ pub returns-in_default : goal.returns-in_default
 returns-in_default g c = λ h us group known are.
     no_call g.P.Meld.meld c.args.limits h c.args.records.now c.args.calls.now us are group c.args.rank c.args.count (sym c.place_by.ensures.at ∙ c.in_default.is)
 
+pub bounds-calls-i : goal.bounds-calls-i
+bounds-calls-i g c = rw c.in-Some.is at c.place_by.ensures.within
+
 pub returns-then-not-is_due : goal.returns-then-not-is_due
 returns-then-not-is_due g c = λ h us group known are.
     let old = traced_of c.args.limits h c.args.records.now us in

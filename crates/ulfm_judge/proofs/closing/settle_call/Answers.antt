@@ -8,8 +8,12 @@ use Rattle.ulfm_record.specs.{declared.record.RankRecord.{RankRecord}, Kept.{rec
 use Rattle.ulfm_record.proofs.Places.{find_no_place, find_place}
 use Rattle.ulfm_trace_model.specs.Traces.{taken_in}
 use Rattle.ulfm_judge.specs.Kept.{traced_of, under_of}
+use Rattle.ulfm_judge.proofs.Lasting.{no_value}
 use Rattle.ulfm_judge.proofs.Leaving.{none_changed, on_ok, one_changed}
 use Rattle.ulfm_judge.proofs.closing.settle_call.Goals as goal
+
+pub returns-in_default-place_of_rank-clause-numbers : goal.returns-in_default-place_of_rank-clause-numbers
+returns-in_default-place_of_rank-clause-numbers g c = refl
 
 pub returns-in_default-place_of_rank-clause-left : goal.returns-in_default-place_of_rank-clause-left
 returns-in_default-place_of_rank-clause-left g c = λ h tells.
@@ -17,6 +21,9 @@ returns-in_default-place_of_rank-clause-left g c = λ h tells.
     let none = find_no_place (record_of c.args.limits) (λ (x : Record). x.number == c.in-Rank.rank) c.args.records.now (sym c.place_of_rank.ensures.at ∙ c.in_default-place_of_rank.is) in
     rw c.in-Rank.is
     (none_changed (record_of c.args.limits) (λ (x : Record). x.number) c.in-Rank.rank (taken_in now (under_of c.args.u.now) c.args.point c.args.reply) c.args.records.now none)
+
+pub bounds-records-j : goal.bounds-records-j
+bounds-records-j g c = rw c.in-Some.is at c.place_of_rank.ensures.within
 
 pub leave-requires : goal.leave-requires
 leave-requires g c = λ x starts holds.
@@ -50,3 +57,6 @@ returns-clause-left g c = λ h tells.
 pub returns-in_err-seen-clause-numbers : goal.returns-in_err-seen-clause-numbers
 returns-in_err-seen-clause-numbers g c =
     map-set_same (λ (own : RankRecord g.row.A.Denot). own.number) c.args.records.now c.in-Some.j _ c.index-records-j.result refl
+
+pub returns-in_err-seen-clause-left : goal.returns-in_err-seen-clause-left
+returns-in_err-seen-clause-left g c = λ h tells. no_value _ c.from_residual.result c.from_residual.ensures.0

@@ -11,6 +11,9 @@ returns-in_default g c = λ us are.
     let none = are c.args.by ∙ kept_nowhere c.args.calls.now c.args.by (sym c.place_by.ensures.at ∙ c.in_default.is) in
     subst (λ (next : List (Under g.row.P.Denot)). AreCalls c.args.calls.now next) (change_nobody c.args.by (with_event c.args.event) us none) are
 
+pub bounds-calls-i : goal.bounds-calls-i
+bounds-calls-i g c = rw c.in-Some.is at c.place_by.ensures.within
+
 pub returns-else-is_owned : goal.returns-else-is_owned
 returns-else-is_owned g c = λ us are.
     let u = under_of (slice_index_or c.args.calls.now c.in-Some.i c.index-calls-i.result) in

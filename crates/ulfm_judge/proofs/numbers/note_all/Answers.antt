@@ -1,31 +1,139 @@
-use Rattle.std.proofs.Common.{List, ℕ, nat_eq, sym, subst, ◌∙◌}
+use Rattle.std.proofs.Common.{List, ℕ, map, nat_eq, sym, ap, subst, ◌∙◌}
 use Rattle.std.proofs.lemmas.Bool.{eqb-true}
-use Rattle.std.specs.Prelude.{OnOk}
-use Rattle.std.specs.HashMap.{get}
+use Rattle.std.specs.{HashMap.{get}}
 use Rattle.ulfm_model.specs.{History.{same_place, says}}
 use Rattle.ulfm_model.specs.declared.event.Entry.{Entry}
-use Rattle.ulfm_judge.specs.Failed.{AreFailed}
-use Rattle.ulfm_judge.proofs.{Lasting.{ok_anyway}, Leaving.{written}, Tabling.{noted, place_is}}
+use Rattle.ulfm_judge.specs.{Failed.{AreFailed, members_of}}
+use Rattle.ulfm_judge.proofs.{Lasting.{no_value, ok_anyway}, Leaving.{written}, Tabling.{noted, place_is}}
 use Rattle.ulfm_judge.proofs.numbers.note_all.Goals as goal
 
-pub returns-clause-failed : goal.returns-clause-failed
-returns-clause-failed g c = λ are.
-    let declared = c.in_ok-note_failure.ensures.failed (subst (AreFailed c.args.failures.now.items) (sym c.deref_mut.ensures.value) are) in
-    let written_back = written c.args.groups.now.len c.note_failure.new.groups c.args.groups.now.items (c.note_failure.auto.groups ∙ c.deref_mut.ensures.len) in
-    let here = subst (AreFailed c.deref.result.now) (sym written_back) (subst (λ (fs : List ℕ). AreFailed fs c.note_failure.new.groups) (sym c.deref.ensures.value) declared) in
-    subst (λ (fs : List ℕ). OnOk c.note_group.result (AreFailed fs c.note_group.new.groups.items)) c.deref.ensures.value (c.note_group.ensures.failed here)
+-- an error promises nothing
+pub returns-in_err-note_group : goal.returns-in_err-note_group
+returns-in_err-note_group g c = record {
+  slots = λ h tells count. no_value _ c.from_residual.result c.from_residual.ensures.0;
+  arrivals = λ h tells count. no_value _ c.from_residual.result c.from_residual.ensures.0;
+  revocations = λ h tells count. no_value _ c.from_residual.result c.from_residual.ensures.0;
+  declared = λ h tells count. no_value _ c.from_residual.result c.from_residual.ensures.0;
+  failures = λ h tells count. no_value _ c.from_residual.result c.from_residual.ensures.0;
+  spawns = λ h tells count. no_value _ c.from_residual.result c.from_residual.ensures.0;
+  kept = no_value _ c.from_residual.result c.from_residual.ensures.0;
+  longer = no_value _ c.from_residual.result c.from_residual.ensures.0;
+  members = no_value _ c.from_residual.result c.from_residual.ensures.0;
+  failed = λ are. no_value _ c.from_residual.result c.from_residual.ensures.0;
+  failed_before = λ are. no_value _ c.from_residual.result c.from_residual.ensures.0;
+  spawned_before = λ are. no_value _ c.from_residual.result c.from_residual.ensures.0;
+}
 
-pub returns-clause-arrivals : goal.returns-clause-arrivals
-returns-clause-arrivals g c = λ h tells count.
-    let given = λ (e : Entry g.row.P.Denot). (says e.event).arrives in
-    ok_anyway c.note_group.result (noted same_place place_is given h c.args.entry.now (get same_place c.args.arrivals.now) (get same_place c.note_first.new.table) c.args.number c.arrival_by.result c.arrival_by.ensures c.in_ok-note_first.ensures tells count)
+-- an error promises nothing
+pub returns-in_err-note_slot : goal.returns-in_err-note_slot
+returns-in_err-note_slot g c = record {
+  slots = λ h tells count. no_value _ c.from_residual-in_err-note_slot.result c.from_residual-in_err-note_slot.ensures.0;
+  arrivals = λ h tells count. no_value _ c.from_residual-in_err-note_slot.result c.from_residual-in_err-note_slot.ensures.0;
+  revocations = λ h tells count. no_value _ c.from_residual-in_err-note_slot.result c.from_residual-in_err-note_slot.ensures.0;
+  declared = λ h tells count. no_value _ c.from_residual-in_err-note_slot.result c.from_residual-in_err-note_slot.ensures.0;
+  failures = λ h tells count. no_value _ c.from_residual-in_err-note_slot.result c.from_residual-in_err-note_slot.ensures.0;
+  spawns = λ h tells count. no_value _ c.from_residual-in_err-note_slot.result c.from_residual-in_err-note_slot.ensures.0;
+  kept = no_value _ c.from_residual-in_err-note_slot.result c.from_residual-in_err-note_slot.ensures.0;
+  longer = no_value _ c.from_residual-in_err-note_slot.result c.from_residual-in_err-note_slot.ensures.0;
+  members = no_value _ c.from_residual-in_err-note_slot.result c.from_residual-in_err-note_slot.ensures.0;
+  failed = λ are. no_value _ c.from_residual-in_err-note_slot.result c.from_residual-in_err-note_slot.ensures.0;
+  failed_before = λ are. no_value _ c.from_residual-in_err-note_slot.result c.from_residual-in_err-note_slot.ensures.0;
+  spawned_before = λ are. no_value _ c.from_residual-in_err-note_slot.result c.from_residual-in_err-note_slot.ensures.0;
+}
 
-pub returns-clause-revocations : goal.returns-clause-revocations
-returns-clause-revocations g c = λ h tells count.
-    let given = λ (e : Entry g.row.P.Denot). (says e.event).revokes in
-    ok_anyway c.note_group.result (noted nat_eq eqb-true given h c.args.entry.now (get nat_eq c.args.revocations.now) (get nat_eq c.note_first-2.new.table) c.args.number c.revoked_by.result c.revoked_by.ensures c.in_ok-note_first-2.ensures tells count)
+-- an error promises nothing
+pub returns-in_err-note_first : goal.returns-in_err-note_first
+returns-in_err-note_first g c = record {
+  slots = λ h tells count. no_value _ c.from_residual-in_err-note_first.result c.from_residual-in_err-note_first.ensures.0;
+  arrivals = λ h tells count. no_value _ c.from_residual-in_err-note_first.result c.from_residual-in_err-note_first.ensures.0;
+  revocations = λ h tells count. no_value _ c.from_residual-in_err-note_first.result c.from_residual-in_err-note_first.ensures.0;
+  declared = λ h tells count. no_value _ c.from_residual-in_err-note_first.result c.from_residual-in_err-note_first.ensures.0;
+  failures = λ h tells count. no_value _ c.from_residual-in_err-note_first.result c.from_residual-in_err-note_first.ensures.0;
+  spawns = λ h tells count. no_value _ c.from_residual-in_err-note_first.result c.from_residual-in_err-note_first.ensures.0;
+  kept = no_value _ c.from_residual-in_err-note_first.result c.from_residual-in_err-note_first.ensures.0;
+  longer = no_value _ c.from_residual-in_err-note_first.result c.from_residual-in_err-note_first.ensures.0;
+  members = no_value _ c.from_residual-in_err-note_first.result c.from_residual-in_err-note_first.ensures.0;
+  failed = λ are. no_value _ c.from_residual-in_err-note_first.result c.from_residual-in_err-note_first.ensures.0;
+  failed_before = λ are. no_value _ c.from_residual-in_err-note_first.result c.from_residual-in_err-note_first.ensures.0;
+  spawned_before = λ are. no_value _ c.from_residual-in_err-note_first.result c.from_residual-in_err-note_first.ensures.0;
+}
 
-pub returns-clause-declared : goal.returns-clause-declared
-returns-clause-declared g c = λ h tells count.
-    let given = λ (e : Entry g.row.P.Denot). (says e.event).declares in
-    ok_anyway c.note_group.result (noted nat_eq eqb-true given h c.args.entry.now (get nat_eq c.args.declared.now) (get nat_eq c.note_first-3.new.table) c.args.number c.declared_by.result c.declared_by.ensures c.in_ok-note_first-3.ensures tells count)
+-- an error promises nothing
+pub returns-in_err-note_first-2 : goal.returns-in_err-note_first-2
+returns-in_err-note_first-2 g c = record {
+  slots = λ h tells count. no_value _ c.from_residual-in_err-note_first-2.result c.from_residual-in_err-note_first-2.ensures.0;
+  arrivals = λ h tells count. no_value _ c.from_residual-in_err-note_first-2.result c.from_residual-in_err-note_first-2.ensures.0;
+  revocations = λ h tells count. no_value _ c.from_residual-in_err-note_first-2.result c.from_residual-in_err-note_first-2.ensures.0;
+  declared = λ h tells count. no_value _ c.from_residual-in_err-note_first-2.result c.from_residual-in_err-note_first-2.ensures.0;
+  failures = λ h tells count. no_value _ c.from_residual-in_err-note_first-2.result c.from_residual-in_err-note_first-2.ensures.0;
+  spawns = λ h tells count. no_value _ c.from_residual-in_err-note_first-2.result c.from_residual-in_err-note_first-2.ensures.0;
+  kept = no_value _ c.from_residual-in_err-note_first-2.result c.from_residual-in_err-note_first-2.ensures.0;
+  longer = no_value _ c.from_residual-in_err-note_first-2.result c.from_residual-in_err-note_first-2.ensures.0;
+  members = no_value _ c.from_residual-in_err-note_first-2.result c.from_residual-in_err-note_first-2.ensures.0;
+  failed = λ are. no_value _ c.from_residual-in_err-note_first-2.result c.from_residual-in_err-note_first-2.ensures.0;
+  failed_before = λ are. no_value _ c.from_residual-in_err-note_first-2.result c.from_residual-in_err-note_first-2.ensures.0;
+  spawned_before = λ are. no_value _ c.from_residual-in_err-note_first-2.result c.from_residual-in_err-note_first-2.ensures.0;
+}
+
+-- an error promises nothing
+pub returns-in_err-note_first-3 : goal.returns-in_err-note_first-3
+returns-in_err-note_first-3 g c = record {
+  slots = λ h tells count. no_value _ c.from_residual-in_err-note_first-3.result c.from_residual-in_err-note_first-3.ensures.0;
+  arrivals = λ h tells count. no_value _ c.from_residual-in_err-note_first-3.result c.from_residual-in_err-note_first-3.ensures.0;
+  revocations = λ h tells count. no_value _ c.from_residual-in_err-note_first-3.result c.from_residual-in_err-note_first-3.ensures.0;
+  declared = λ h tells count. no_value _ c.from_residual-in_err-note_first-3.result c.from_residual-in_err-note_first-3.ensures.0;
+  failures = λ h tells count. no_value _ c.from_residual-in_err-note_first-3.result c.from_residual-in_err-note_first-3.ensures.0;
+  spawns = λ h tells count. no_value _ c.from_residual-in_err-note_first-3.result c.from_residual-in_err-note_first-3.ensures.0;
+  kept = no_value _ c.from_residual-in_err-note_first-3.result c.from_residual-in_err-note_first-3.ensures.0;
+  longer = no_value _ c.from_residual-in_err-note_first-3.result c.from_residual-in_err-note_first-3.ensures.0;
+  members = no_value _ c.from_residual-in_err-note_first-3.result c.from_residual-in_err-note_first-3.ensures.0;
+  failed = λ are. no_value _ c.from_residual-in_err-note_first-3.result c.from_residual-in_err-note_first-3.ensures.0;
+  failed_before = λ are. no_value _ c.from_residual-in_err-note_first-3.result c.from_residual-in_err-note_first-3.ensures.0;
+  spawned_before = λ are. no_value _ c.from_residual-in_err-note_first-3.result c.from_residual-in_err-note_first-3.ensures.0;
+}
+
+-- an error promises nothing
+pub returns-in_err-note_failure : goal.returns-in_err-note_failure
+returns-in_err-note_failure g c = record {
+  slots = λ h tells count. no_value _ c.from_residual-in_err-note_failure.result c.from_residual-in_err-note_failure.ensures.0;
+  arrivals = λ h tells count. no_value _ c.from_residual-in_err-note_failure.result c.from_residual-in_err-note_failure.ensures.0;
+  revocations = λ h tells count. no_value _ c.from_residual-in_err-note_failure.result c.from_residual-in_err-note_failure.ensures.0;
+  declared = λ h tells count. no_value _ c.from_residual-in_err-note_failure.result c.from_residual-in_err-note_failure.ensures.0;
+  failures = λ h tells count. no_value _ c.from_residual-in_err-note_failure.result c.from_residual-in_err-note_failure.ensures.0;
+  spawns = λ h tells count. no_value _ c.from_residual-in_err-note_failure.result c.from_residual-in_err-note_failure.ensures.0;
+  kept = no_value _ c.from_residual-in_err-note_failure.result c.from_residual-in_err-note_failure.ensures.0;
+  longer = no_value _ c.from_residual-in_err-note_failure.result c.from_residual-in_err-note_failure.ensures.0;
+  members = no_value _ c.from_residual-in_err-note_failure.result c.from_residual-in_err-note_failure.ensures.0;
+  failed = λ are. no_value _ c.from_residual-in_err-note_failure.result c.from_residual-in_err-note_failure.ensures.0;
+  failed_before = λ are. no_value _ c.from_residual-in_err-note_failure.result c.from_residual-in_err-note_failure.ensures.0;
+  spawned_before = λ are. no_value _ c.from_residual-in_err-note_failure.result c.from_residual-in_err-note_failure.ensures.0;
+}
+
+pub returns : goal.returns
+returns g c =
+    let grouped = c.note_group.new.groups in
+    let noted_last = c.note_spawn.result in
+    let written_back = written grouped.len c.note_failure.new.groups grouped.items (c.note_failure.auto.groups ∙ c.deref_mut.ensures.len) in
+    let arrives = λ (e : Entry g.row.P.Denot). (says e.event).arrives in
+    let revokes = λ (e : Entry g.row.P.Denot). (says e.event).revokes in
+    let declares = λ (e : Entry g.row.P.Denot). (says e.event).declares in
+    record {
+      slots = λ h tells count. ok_anyway noted_last (c.in_ok-note_slot.ensures.told h tells count);
+      arrivals = λ h tells count.
+          ok_anyway noted_last (noted same_place place_is arrives h c.args.entry.now (get same_place c.args.arrivals.now) (get same_place c.note_first.new.table) c.args.number c.arrival_by.result c.arrival_by.ensures c.in_ok-note_first.ensures tells count);
+      revocations = λ h tells count.
+          ok_anyway noted_last (noted nat_eq eqb-true revokes h c.args.entry.now (get nat_eq c.args.revocations.now) (get nat_eq c.note_first-2.new.table) c.args.number c.revoked_by.result c.revoked_by.ensures c.in_ok-note_first-2.ensures tells count);
+      declared = λ h tells count.
+          ok_anyway noted_last (noted nat_eq eqb-true declares h c.args.entry.now (get nat_eq c.args.declared.now) (get nat_eq c.note_first-3.new.table) c.args.number c.declared_by.result c.declared_by.ensures c.in_ok-note_first-3.ensures tells count);
+      failures = λ h tells count. ok_anyway noted_last (c.in_ok-note_failure.ensures.told h tells count);
+      spawns = λ h tells count. c.note_spawn.ensures.told h tells count;
+      kept = ok_anyway noted_last c.in_ok-note_slot.ensures.kept;
+      longer = ok_anyway noted_last c.in_ok-note_failure.ensures.longer;
+      members = ok_anyway noted_last (ap (map members_of) written_back ∙ (c.note_failure.ensures.members ∙ (ap (map members_of) c.deref_mut.ensures.value ∙ c.in_ok-note_group.ensures.members)));
+      failed = λ are.
+          let here = c.in_ok-note_group.ensures.failed (subst (λ (fs : List ℕ). AreFailed fs c.args.groups.now.items) (sym c.deref.ensures.value) are) in
+          let before = subst (AreFailed c.args.failures.now.items) (sym c.deref_mut.ensures.value) (subst (λ (fs : List ℕ). AreFailed fs grouped.items) c.deref.ensures.value here) in
+          ok_anyway noted_last (subst (AreFailed c.note_failure.new.ranks.items) (sym written_back) (c.in_ok-note_failure.ensures.failed before));
+      failed_before = λ are. ok_anyway noted_last (c.in_ok-note_failure.ensures.before are);
+      spawned_before = λ are. c.note_spawn.ensures.before are;
+    }
