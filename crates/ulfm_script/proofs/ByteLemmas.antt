@@ -83,6 +83,14 @@ some_pending xs s e h k =
     let lt : s < length xs = omega arith in
     rw (z, drop-cons xs s 0 lt, add-one) refl
 
+-- a buffer with a byte left keeps what is to be taken, and is not empty
+pub already_filled : (xs : List ℕ) (s e : ℕ) (known : Option (List ℕ)) → s < e → e ≤ length xs
+    → Keeps (prepend_known (slice_range xs s e) known) (prepend_known (slice_range xs s e) known)
+    × (slice_range xs s e ≡ [] → IsAtEnd (prepend_known (slice_range xs s e) known))
+already_filled xs s e known h k =
+    let some = some_pending xs s e h k in
+    (keeps_start (prepend_known (slice_range xs s e) known), λ none. cc)
+
 -- what is pending of a small buffer is little
 pub few_pending : (xs : List ℕ) (s e most : ℕ) → e ≤ length xs → length xs ≤ most → length (slice_range xs s e) ≤ most
 few_pending xs s e most h k = omega (arith, length-take (e - s) (drop s xs))

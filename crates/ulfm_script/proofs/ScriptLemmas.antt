@@ -48,15 +48,7 @@ kept_header lang line = elim (cases_lt 64 (length line)) [
   | inr short ↦ ap (header_at lang) (take_all 65 line (omega arith))
 ]
 
--- a line over 64 bytes is no header
-pub long_header : (lang : Language) (line : List ℕ) → 64 < length line → header_at lang line ≡ Err Long
-long_header lang line h = rw (lt-ltb 64 (length line) h) refl
-
--- a line that is not too long gives what its words give
-pub short_header : (lang : Language) (line : List ℕ) → length line ≤ 64 → header_at lang line ≡ header_of lang.kind line
-short_header lang line h = rw (le-ltb 64 (length line) h) refl
-
--- the same of an item, within the lines that a script may have
+-- a line that is not too long, within the lines that a script may have, gives what its words give
 pub plain_item : (lang : Language) (number : ℕ) (line : List ℕ) → length line ≤ 64 → number ≤ 100000 → item_at lang number line ≡ lang.read line
 plain_item lang number line h k = rw (le-ltb 64 (length line) h, le-ltb 100000 number k) refl
 
