@@ -3,8 +3,8 @@ use Rattle.std.proofs.Common.{◌≡◌, ◌⊎◌, ℕ, Bool, true, false, ◌=
 use Rattle.std.proofs.lemmas.{Bool.{ne_eqb, lt-ltb, le-ltb, cases_lt}, List.{append-nil, take_all, length-take}}
 use Rattle.ulfm_model.specs.declared.limits.Limits.{Limits}
 use Rattle.ulfm_script.specs.declared.line_kind.LineKind.{LineKind}
-use Rattle.ulfm_script.specs.declared.line_kind.LineKind.TheVariants.{Cut, Header, Long}
-use Rattle.ulfm_script.specs.{Buffers.{HasNoNewline}, Headers.{header_of}, Scripts.{Asked, Language, Script, asked_by, asked_last, asked_then, header_at, item_at, lines_from, no_lines, rest_from, script_by, script_of, stopped, with_header, without_header}, Written.{Begins}}
+use Rattle.ulfm_script.specs.declared.line_kind.LineKind.TheVariants.{Cut, Header}
+use Rattle.ulfm_script.specs.{Buffers.{HasNoNewline}, Scripts.{Asked, Language, Script, asked_by, asked_last, asked_then, header_at, item_at, lines_from, no_lines, rest_from, script_by, script_of, stopped, with_header, without_header}, Written.{Begins}}
 
 -- what a text asks for whose first line has this number
 abbrev pub asked_from : (lang : Language) → ℕ → List ℕ → Asked lang.Item
