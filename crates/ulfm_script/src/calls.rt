@@ -68,6 +68,7 @@ fn find_verb(word: &[u8]) -> Option<Verb>
 }
 
 /// The word of a verb.
+#[inline(always)]
 fn verb_word(verb: Verb) -> &'static [u8]
     ensures { result.now ≡ verb_word verb }
 {
@@ -79,6 +80,7 @@ fn verb_word(verb: Verb) -> &'static [u8]
     }
 }
 
+#[inline(always)]
 fn plain_word(plain: Plain) -> &'static [u8]
     ensures { result.now ≡ plain_word plain }
 {

@@ -217,6 +217,7 @@ fn print_place<A: Allocator>(text: &mut Vec<u8, A>, rank: u16, comm: u16) -> Res
 }
 
 /// A number behind a space.
+#[inline(always)]
 pub(crate) fn print_behind<A: Allocator>(
     text: &mut Vec<u8, A>,
     number: u16,
