@@ -41,11 +41,24 @@ pub fn print_line<A: Allocator>(
         }
         Line::Replied { by, point, reply } => {
             print_by(text, b"reply ", by)?;
-            print_point(text, point)?;
-            text.push(b' ')?;
-            print_some_reply(text, reply, group, last)
+            print_replied(text, point, reply, group, last)
         }
     }
+}
+
+/// A reply behind its point.
+fn print_replied<A: Allocator>(
+    text: &mut Vec<u8, A>,
+    point: u32,
+    reply: Option<Reply<FlagAnd>>,
+    group: &[u16],
+    last: &mut LastGroup<A>,
+) -> Result<(), AllocError>
+    ensures { OnOk result (text.new.items ≡ text.old.items ++ (decimal point ++ 32 ∷ some_reply_text group.now reply)) }
+{
+    print_point(text, point)?;
+    text.push(b' ')?;
+    print_some_reply(text, reply, group, last)
 }
 
 /// A number behind its label.
