@@ -8,4 +8,5 @@ pub mod RankLemmas
 pub mod ReadLemmas
 pub mod ReplyLemmas
 pub mod StepsSpelled
+pub mod Tables
 pub mod Taking

@@ -80,6 +80,10 @@ unfoldable pub shrunk_reply : Option (List ℕ) → Field SomeReply
 shrunk_reply text =
     both comm_field (both (labelled (codes "context")) (label_field (codes "members"))) text >>= λ x. listing (made x.0.0 x.0.1.0) x.1
 
+-- a reply of one word, and nothing behind it
+abbrev pub word_reply : List ℕ → Option (List ℕ) → Field SomeReply
+word_reply word fields = over fields >>= λ last. alone (λ one. one) (plain_of word)
+
 -- a reply's first word, and the text behind it
 abbrev pub reply_from : List ℕ × Option (List ℕ) → Field SomeReply
 reply_from first =
@@ -88,7 +92,7 @@ reply_from first =
     else (if bytes_eq first.0 (codes "failed") then failed_reply first.1
     else (if bytes_eq first.0 (codes "acked") then acked_reply first.1
     else (if bytes_eq first.0 (codes "refused") then refused_reply first.1
-    else (over first.1 >>= λ last. alone (λ one. one) (plain_of first.0))))))
+    else word_reply first.0 first.1))))
 
 -- a reply
 unfoldable pub some_reply_of : Option (List ℕ) → Field SomeReply

@@ -4,7 +4,7 @@ ghost use Rattle.ulfm_script.specs.Words.{rest_at};
 ghost use Rattle.ulfm_lines.specs.EventReading.{arrive_event, event_of, fail_event, mark_event, marked, revoke_event, settle_event, settled, spawn_event};
 
 use crate::fields::{
-    comm_field, labelled, number_field, offer_field, over, place_field, rank_field,
+    comm_field, is_word, labelled, number_field, offer_field, over, place_field, rank_field,
 };
 use ulfm_laws::{Acked, FlagAnd, Known};
 use ulfm_model::contribution::{Contribution, MarkCount, Offer};
@@ -18,17 +18,17 @@ pub(crate) fn read_event(text: Option<&[u8]>) -> Result<Option<Event<FlagAnd>>, 
     ensures { result ≡ event_of (rest_at text.entry) }
 {
     let (verb, fields) = next_word(text)?;
-    if verb == b"fail".as_slice() {
+    if is_word(verb, b"fail") {
         read_fail(fields)
-    } else if verb == b"settle".as_slice() {
+    } else if is_word(verb, b"settle") {
         read_settle(fields)
-    } else if verb == b"mark".as_slice() {
+    } else if is_word(verb, b"mark") {
         read_mark(fields)
-    } else if verb == b"arrive".as_slice() {
+    } else if is_word(verb, b"arrive") {
         read_arrive(fields)
-    } else if verb == b"revoke".as_slice() {
+    } else if is_word(verb, b"revoke") {
         read_revoke(fields)
-    } else if verb == b"spawn".as_slice() {
+    } else if is_word(verb, b"spawn") {
         read_spawn(fields)
     } else {
         Err(LineKind::Words)

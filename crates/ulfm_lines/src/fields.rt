@@ -1,5 +1,6 @@
 //! The fields of a trace's line, read one after another, each with the text behind it.
 ghost use Rattle.std.specs.Prelude.{◌≡◌};
+ghost use Rattle.std.specs.Str.{bytes_eq};
 ghost use Rattle.ulfm_script.specs.Words.{Gives, rest_at};
 ghost use Rattle.ulfm_lines.specs.Fields.{at_field, caller_field, caller_of, comm_field, error_field, error_of, flag_field, flag_mask, label_field, labelled, number_field, offer_field, offer_of, over, place_field, point_field, rank_field};
 
@@ -10,6 +11,13 @@ use ulfm_script::LineKind;
 use ulfm_script::words::{
     LAST_COMM, LAST_RANK, next_word, read_flag, read_number, read_number_to, read_point,
 };
+
+/// Whether a word is this text.
+pub(crate) fn is_word(word: &[u8], text: &[u8]) -> bool
+    ensures { result ≡ bytes_eq word.now text.now }
+{
+    word == text
+}
 
 #[tactic(auto, unfolding(crate::specs::Fields::rank_field))]
 pub(crate) fn rank_field(text: Option<&[u8]>) -> Result<(u16, Option<&[u8]>), LineKind>
@@ -60,7 +68,7 @@ pub(crate) fn flag_field(text: Option<&[u8]>) -> Result<(FlagAnd, Option<&[u8]>)
 fn read_caller(word: &[u8]) -> Result<Caller, LineKind>
     ensures { result ≡ caller_of word.now }
 {
-    if word == b"-".as_slice() {
+    if is_word(word, b"-") {
         return Ok(Caller::Outside);
     }
     let rank = read_number_to(LAST_RANK, word)?;
@@ -126,9 +134,9 @@ fn mask_of(flag: FlagAnd) -> CtxMask
 fn read_offer(label: &[u8], flag: FlagAnd) -> Result<Offer<FlagAnd>, LineKind>
     ensures { result ≡ offer_of label.now flag }
 {
-    if label == b"flag".as_slice() {
+    if is_word(label, b"flag") {
         Ok(Offer::Flag(flag))
-    } else if label == b"ctx".as_slice() {
+    } else if is_word(label, b"ctx") {
         Ok(Offer::Ctx(mask_of(flag)))
     } else {
         Err(LineKind::Words)
@@ -150,9 +158,9 @@ pub(crate) fn offer_field(text: Option<&[u8]>) -> Result<(Offer<FlagAnd>, Option
 fn read_error(word: &[u8]) -> Result<bool, LineKind>
     ensures { result ≡ error_of word.now }
 {
-    if word == b"raised".as_slice() {
+    if is_word(word, b"raised") {
         Ok(true)
-    } else if word == b"clean".as_slice() {
+    } else if is_word(word, b"clean") {
         Ok(false)
     } else {
         Err(LineKind::Words)

@@ -1,6 +1,8 @@
 //! The lines of a trace, printed.
-ghost use Rattle.std.specs.Prelude.{◌≡◌, ◌++◌, ◌∷◌, OnOk};
-ghost use Rattle.ulfm_lines.specs.LineTexts.{caller_text, event_text, given_text, line_text, mark_text, offer_text, place_text, settle_text, some_event_text, some_reply_text, two_text};
+ghost use Rattle.std.specs.Prelude.{◌≡◌, ◌++◌, ◌∷◌, [], OnOk};
+ghost use Rattle.std.specs.Fmt.{decimal};
+ghost use Rattle.ulfm_script.specs.Digits.{flag_text};
+ghost use Rattle.ulfm_lines.specs.LineTexts.{caller_text, event_text, given_text, line_text, offer_text, place_text, some_event_text, some_reply_text};
 
 use std::alloc::{AllocError, Allocator};
 use ulfm_laws::FlagAnd;
@@ -30,32 +32,63 @@ pub fn print_line<A: Allocator>(
             print_call(text, &call)
         }
         Line::Looked { rank, failures } => {
-            text.extend_from_slice(b"look ")?;
-            print_two(text, rank, failures)
+            print_labelled(text, b"look ", rank)?;
+            print_behind(text, failures)
         }
         Line::Happened { by, event } => {
-            text.extend_from_slice(b"event ")?;
-            print_caller(text, by)?;
-            text.push(b' ')?;
+            print_by(text, b"event ", by)?;
             print_some_event(text, event)
         }
         Line::Replied { by, point, reply } => {
-            text.extend_from_slice(b"reply ")?;
-            print_caller(text, by)?;
-            text.push(b' ')?;
-            print_point(text, point)?;
-            text.push(b' ')?;
-            print_some_reply(text, reply, group, last)
+            print_by(text, b"reply ", by)?;
+            print_replied(text, point, reply, group, last)
         }
     }
 }
 
-fn print_two<A: Allocator>(text: &mut Vec<u8, A>, a: u16, b: u16) -> Result<(), AllocError>
-    ensures { OnOk result (text.new.items ≡ text.old.items ++ two_text a b) }
+/// A reply behind its point.
+fn print_replied<A: Allocator>(
+    text: &mut Vec<u8, A>,
+    point: u32,
+    reply: Option<Reply<FlagAnd>>,
+    group: &[u16],
+    last: &mut LastGroup<A>,
+) -> Result<(), AllocError>
+    ensures { OnOk result (text.new.items ≡ text.old.items ++ (decimal point ++ 32 ∷ some_reply_text group.now reply)) }
 {
-    print_number(text, a)?;
+    print_point(text, point)?;
     text.push(b' ')?;
-    print_number(text, b)
+    print_some_reply(text, reply, group, last)
+}
+
+/// A number behind its label.
+fn print_labelled<A: Allocator>(
+    text: &mut Vec<u8, A>,
+    label: &[u8],
+    number: u16,
+) -> Result<(), AllocError>
+    ensures { OnOk result (text.new.items ≡ text.old.items ++ (label.now ++ decimal number)) }
+{
+    text.extend_from_slice(label)?;
+    print_number(text, number)
+}
+
+/// A number behind a space.
+fn print_behind<A: Allocator>(text: &mut Vec<u8, A>, number: u16) -> Result<(), AllocError>
+    ensures { OnOk result (text.new.items ≡ text.old.items ++ 32 ∷ decimal number) }
+{
+    text.push(b' ')?;
+    print_number(text, number)
+}
+
+/// A caller behind its label, and a space.
+fn print_by<A: Allocator>(text: &mut Vec<u8, A>, label: &[u8], by: Caller) -> Result<(), AllocError>
+    ensures { OnOk result (text.new.items ≡ text.old.items ++ (label.now ++ (caller_text by ++ 32 ∷ []))) }
+{
+    text.extend_from_slice(label)?;
+    print_caller(text, by)?;
+    text.push(b' ')?;
+    Ok(())
 }
 
 fn print_caller<A: Allocator>(text: &mut Vec<u8, A>, by: Caller) -> Result<(), AllocError>
@@ -97,18 +130,14 @@ fn print_event<A: Allocator>(text: &mut Vec<u8, A>, event: Event<FlagAnd>) -> Re
     ensures { OnOk result (text.new.items ≡ text.old.items ++ event_text event) }
 {
     match event {
-        Event::Fail { rank } => {
-            text.extend_from_slice(b"fail ")?;
-            print_number(text, rank)
-        }
+        Event::Fail { rank } => print_labelled(text, b"fail ", rank),
         Event::Settle {
             comm,
             round,
             rank,
             given,
         } => {
-            text.extend_from_slice(b"settle ")?;
-            print_place(text, comm, round, rank)?;
+            print_place(text, b"settle ", comm, round, rank)?;
             print_given(text, given)
         }
         Event::Mark {
@@ -117,42 +146,32 @@ fn print_event<A: Allocator>(text: &mut Vec<u8, A>, event: Event<FlagAnd>) -> Re
             rank,
             known,
         } => {
-            text.extend_from_slice(b"mark ")?;
-            print_place(text, comm, round, rank)?;
-            text.extend_from_slice(b" known ")?;
-            print_number(text, known.known.count)
+            print_place(text, b"mark ", comm, round, rank)?;
+            print_labelled(text, b" known ", known.known.count)
         }
-        Event::Arrive { comm, round, rank } => {
-            text.extend_from_slice(b"arrive ")?;
-            print_place(text, comm, round, rank)
-        }
-        Event::Revoke { comm } => {
-            text.extend_from_slice(b"revoke ")?;
-            print_number(text, comm)
-        }
+        Event::Arrive { comm, round, rank } => print_place(text, b"arrive ", comm, round, rank),
+        Event::Revoke { comm } => print_labelled(text, b"revoke ", comm),
         Event::Spawn {
             comm,
             parent,
             round,
-        } => {
-            text.extend_from_slice(b"spawn ")?;
-            print_place(text, comm, parent, round)
-        }
+        } => print_place(text, b"spawn ", comm, parent, round),
     }
 }
 
-/// Three numbers.
+/// Three numbers behind their label.
 fn print_place<A: Allocator>(
     text: &mut Vec<u8, A>,
+    label: &[u8],
     a: u16,
     b: u16,
     c: u16,
 ) -> Result<(), AllocError>
-    ensures { OnOk result (text.new.items ≡ text.old.items ++ place_text a b c) }
+    ensures { OnOk result (text.new.items ≡ text.old.items ++ (label.now ++ place_text a b c)) }
 {
-    print_number(text, a)?;
-    text.push(b' ')?;
-    print_two(text, b, c)
+    print_labelled(text, label, a)?;
+    print_behind(text, b)?;
+    print_behind(text, c)
 }
 
 /// What a rank contributes, behind its place.
@@ -164,23 +183,27 @@ fn print_given<A: Allocator>(
 {
     text.push(b' ')?;
     print_offer(text, given.offer)?;
-    text.extend_from_slice(b" known ")?;
-    print_number(text, given.known.count)?;
-    text.extend_from_slice(b" acked ")?;
-    print_number(text, given.acked.count)
+    print_labelled(text, b" known ", given.known.count)?;
+    print_labelled(text, b" acked ", given.acked.count)
 }
 
 fn print_offer<A: Allocator>(text: &mut Vec<u8, A>, offer: Offer<FlagAnd>) -> Result<(), AllocError>
     ensures { OnOk result (text.new.items ≡ text.old.items ++ offer_text offer) }
 {
     match offer {
-        Offer::Flag(flag) => {
-            text.extend_from_slice(b"flag ")?;
-            text.extend_from_slice(&flag_digits(flag))
-        }
-        Offer::Ctx(mask) => {
-            text.extend_from_slice(b"ctx ")?;
-            text.extend_from_slice(&flag_digits(FlagAnd { bits: mask.bits }))
-        }
+        Offer::Flag(flag) => print_flag(text, b"flag ", flag),
+        Offer::Ctx(mask) => print_flag(text, b"ctx ", FlagAnd { bits: mask.bits }),
     }
+}
+
+/// A flag behind its label.
+fn print_flag<A: Allocator>(
+    text: &mut Vec<u8, A>,
+    label: &[u8],
+    flag: FlagAnd,
+) -> Result<(), AllocError>
+    ensures { OnOk result (text.new.items ≡ text.old.items ++ (label.now ++ flag_text flag)) }
+{
+    text.extend_from_slice(label)?;
+    text.extend_from_slice(&flag_digits(flag))
 }

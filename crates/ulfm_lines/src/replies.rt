@@ -4,10 +4,10 @@ ghost use Rattle.std.specs.Str.{bytes_eq};
 ghost use Rattle.ulfm_model.specs.Answers.{printed};
 ghost use Rattle.ulfm_script.specs.Words.{Gives, rest_at};
 ghost use Rattle.ulfm_lines.specs.Fields.{at_field};
-ghost use Rattle.ulfm_lines.specs.LineReading.{acked_reply, agreed_reply, failed_reply, made, plain_of, refusal_field, refusal_of, refused_reply, shrunk_reply, some_reply_of};
+ghost use Rattle.ulfm_lines.specs.LineReading.{acked_reply, agreed_reply, failed_reply, made, plain_of, refusal_field, refusal_of, refused_reply, shrunk_reply, some_reply_of, word_reply};
 
 use crate::fields::{
-    comm_field, error_field, flag_field, label_field, labelled, number_field, over,
+    comm_field, error_field, flag_field, is_word, label_field, labelled, number_field, over,
 };
 use ulfm_laws::FlagAnd;
 use ulfm_model::{Refusal, Reply, refusal_number};
@@ -22,21 +22,31 @@ pub(crate) fn read_reply(
     ensures { Gives at_field result (some_reply_of (rest_at text.entry)) }
 {
     let (word, fields) = next_word(text)?;
-    if word == b"agreed".as_slice() {
+    if is_word(word, b"agreed") {
         read_agreed(fields)
-    } else if word == b"shrunk".as_slice() {
+    } else if is_word(word, b"shrunk") {
         read_shrunk(fields)
-    } else if word == b"failed".as_slice() {
+    } else if is_word(word, b"failed") {
         read_failed(fields)
-    } else if word == b"acked".as_slice() {
+    } else if is_word(word, b"acked") {
         read_acked(fields)
-    } else if word == b"refused".as_slice() {
+    } else if is_word(word, b"refused") {
         read_refused(fields)
     } else {
-        over(fields)?;
-        let reply = read_plain(word)?;
-        Ok((Some(reply), None))
+        read_alone(word, fields)
     }
+}
+
+/// A reply of one word, and nothing behind it.
+fn read_alone<'a>(
+    word: &[u8],
+    fields: Option<&'a [u8]>,
+) -> Result<(Option<Reply<FlagAnd>>, Option<&'a [u8]>), LineKind>
+    ensures { Gives at_field result (word_reply word.now (rest_at fields.entry)) }
+{
+    over(fields)?;
+    let reply = read_plain(word)?;
+    Ok((Some(reply), None))
 }
 
 #[tactic(auto, unfolding(crate::specs::LineReading::agreed_reply))]
@@ -92,7 +102,7 @@ fn read_failed(text: Option<&[u8]>) -> Result<(Option<Reply<FlagAnd>>, Option<&[
         return Err(LineKind::Words);
     };
     let reply = Some(Reply::FailedGroup { count: 0 });
-    if ranks == b"none".as_slice() {
+    if is_word(ranks, b"none") {
         return Ok((reply, None));
     }
     Ok((reply, Some(ranks)))
@@ -138,37 +148,28 @@ fn is_named(refusal: Refusal, number: u16, name: &[u8]) -> bool
 fn read_refusal(number: u16, name: &[u8]) -> Result<Refusal, LineKind>
     ensures { result ≡ refusal_of number name.now }
 {
-    if is_named(Refusal::SelfFailed, number, name) {
-        Ok(Refusal::SelfFailed)
-    } else if is_named(Refusal::NoSuchComm, number, name) {
-        Ok(Refusal::NoSuchComm)
-    } else if is_named(Refusal::Busy, number, name) {
-        Ok(Refusal::Busy)
-    } else if is_named(Refusal::ShrinkOpen, number, name) {
-        Ok(Refusal::ShrinkOpen)
-    } else if is_named(Refusal::RoundsUsedUp, number, name) {
-        Ok(Refusal::RoundsUsedUp)
-    } else if is_named(Refusal::Idle, number, name) {
-        Ok(Refusal::Idle)
-    } else if is_named(Refusal::Mismatch, number, name) {
-        Ok(Refusal::Mismatch)
-    } else if is_named(Refusal::NoContext, number, name) {
-        Ok(Refusal::NoContext)
-    } else if is_named(Refusal::NoRoom, number, name) {
-        Ok(Refusal::NoRoom)
-    } else if is_named(Refusal::IsRevoked, number, name) {
-        Ok(Refusal::IsRevoked)
-    } else if is_named(Refusal::ProcFailed, number, name) {
-        Ok(Refusal::ProcFailed)
-    } else if is_named(Refusal::WorldKept, number, name) {
-        Ok(Refusal::WorldKept)
-    } else if is_named(Refusal::NoSuchRank, number, name) {
-        Ok(Refusal::NoSuchRank)
-    } else if is_named(Refusal::Twice, number, name) {
-        Ok(Refusal::Twice)
-    } else {
-        Err(LineKind::Words)
+    let refusals = [
+        Refusal::SelfFailed,
+        Refusal::NoSuchComm,
+        Refusal::Busy,
+        Refusal::ShrinkOpen,
+        Refusal::RoundsUsedUp,
+        Refusal::Idle,
+        Refusal::Mismatch,
+        Refusal::NoContext,
+        Refusal::NoRoom,
+        Refusal::IsRevoked,
+        Refusal::ProcFailed,
+        Refusal::WorldKept,
+        Refusal::NoSuchRank,
+        Refusal::Twice,
+    ];
+    for refusal in &refusals {
+        if is_named(*refusal, number, name) {
+            return Ok(*refusal);
+        }
     }
+    Err(LineKind::Words)
 }
 
 /// The replies of one word.
@@ -176,25 +177,25 @@ fn read_refusal(number: u16, name: &[u8]) -> Result<Refusal, LineKind>
 fn read_plain(word: &[u8]) -> Result<Reply<FlagAnd>, LineKind>
     ensures { result ≡ plain_of word.now }
 {
-    if word == b"started".as_slice() {
+    if is_word(word, b"started") {
         Ok(Reply::Started)
-    } else if word == b"pending".as_slice() {
+    } else if is_word(word, b"pending") {
         Ok(Reply::Pending)
-    } else if word == b"done".as_slice() {
+    } else if is_word(word, b"done") {
         Ok(Reply::Done)
-    } else if word == b"declared".as_slice() {
+    } else if is_word(word, b"declared") {
         Ok(Reply::Declared)
-    } else if word == b"already-failed".as_slice() {
+    } else if is_word(word, b"already-failed") {
         Ok(Reply::AlreadyFailed)
-    } else if word == b"revoked".as_slice() {
+    } else if is_word(word, b"revoked") {
         Ok(Reply::Revoked)
-    } else if word == b"already-revoked".as_slice() {
+    } else if is_word(word, b"already-revoked") {
         Ok(Reply::AlreadyRevoked)
-    } else if word == b"yes".as_slice() {
+    } else if is_word(word, b"yes") {
         Ok(Reply::Standing { revoked: true })
-    } else if word == b"no".as_slice() {
+    } else if is_word(word, b"no") {
         Ok(Reply::Standing { revoked: false })
-    } else if word == b"freed".as_slice() {
+    } else if is_word(word, b"freed") {
         Ok(Reply::Freed)
     } else {
         Err(LineKind::Words)

@@ -3,6 +3,7 @@ ghost use Rattle.std.specs.Prelude.{◌≡◌, Ok, IfOk};
 ghost use Rattle.ulfm_script.specs.Words.{rest_at};
 ghost use Rattle.ulfm_lines.specs.StepLines.{ScriptStep, SpellsStep, asked_of, before_of, failed_of, finished_of, step_line_of, stepped_of};
 
+use crate::fields::is_word;
 use crate::step_name::read_step_name;
 use ulfm_laws::FlagAnd;
 use ulfm_script::words::{LAST_RANK, one_word, read_number, read_number_to, split_word, two_words};
@@ -28,15 +29,15 @@ fn parse_step_line(line: &[u8]) -> Result<StepLine<FlagAnd>, LineKind>
     ensures { result ≡ step_line_of line.now }
 {
     let (verb, fields) = split_word(line);
-    if verb == b"call".as_slice() {
+    if is_word(verb, b"call") {
         read_asked(fields)
-    } else if verb == b"step".as_slice() {
+    } else if is_word(verb, b"step") {
         read_stepped(fields)
-    } else if verb == b"before".as_slice() {
+    } else if is_word(verb, b"before") {
         read_before(fields)
-    } else if verb == b"finish".as_slice() {
+    } else if is_word(verb, b"finish") {
         read_finished(fields)
-    } else if verb == b"fail".as_slice() {
+    } else if is_word(verb, b"fail") {
         read_failed(fields)
     } else {
         Err(LineKind::Verb)
@@ -55,7 +56,7 @@ fn read_asked(fields: Option<&[u8]>) -> Result<StepLine<FlagAnd>, LineKind>
     if verb.is_empty() {
         return Err(LineKind::Words);
     }
-    if verb == b"fail".as_slice() {
+    if is_word(verb, b"fail") {
         return Err(LineKind::Verb);
     }
     let call = read_call(text)?;

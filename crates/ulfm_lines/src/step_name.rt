@@ -39,31 +39,24 @@ pub fn read_step_name(word: &[u8]) -> Result<StepName, LineKind>
 fn parse_name(word: &[u8]) -> Result<StepName, LineKind>
     ensures { result ≡ name_of word.now }
 {
-    if word == step_word(StepName::List) {
-        Ok(StepName::List)
-    } else if word == step_word(StepName::Settle) {
-        Ok(StepName::Settle)
-    } else if word == step_word(StepName::Block) {
-        Ok(StepName::Block)
-    } else if word == step_word(StepName::Mark) {
-        Ok(StepName::Mark)
-    } else if word == step_word(StepName::Slot) {
-        Ok(StepName::Slot)
-    } else if word == step_word(StepName::Cache) {
-        Ok(StepName::Cache)
-    } else if word == step_word(StepName::Comm) {
-        Ok(StepName::Comm)
-    } else if word == step_word(StepName::Spawn) {
-        Ok(StepName::Spawn)
-    } else if word == step_word(StepName::Arrive) {
-        Ok(StepName::Arrive)
-    } else if word == step_word(StepName::Arrival) {
-        Ok(StepName::Arrival)
-    } else if word == step_word(StepName::Revoke) {
-        Ok(StepName::Revoke)
-    } else if word == step_word(StepName::Revocation) {
-        Ok(StepName::Revocation)
-    } else {
-        Err(LineKind::Step)
+    let names = [
+        StepName::List,
+        StepName::Settle,
+        StepName::Block,
+        StepName::Mark,
+        StepName::Slot,
+        StepName::Cache,
+        StepName::Comm,
+        StepName::Spawn,
+        StepName::Arrive,
+        StepName::Arrival,
+        StepName::Revoke,
+        StepName::Revocation,
+    ];
+    for name in &names {
+        if word == step_word(*name) {
+            return Ok(*name);
+        }
     }
+    Err(LineKind::Step)
 }

@@ -7,7 +7,7 @@ ghost use Rattle.ulfm_lines.specs.LineTexts.{TraceLine};
 ghost use Rattle.ulfm_lines.specs.Telling.{ListsRanks, Tells};
 
 use crate::events::read_event;
-use crate::fields::{caller_field, number_field, over, point_field, rank_field};
+use crate::fields::{caller_field, is_word, number_field, over, point_field, rank_field};
 use crate::replies::read_reply;
 use std::alloc::{AllocError, Allocator};
 use ulfm_laws::FlagAnd;
@@ -106,13 +106,13 @@ fn read_head(line: &[u8]) -> Result<(Line<FlagAnd>, Option<&[u8]>), LineKind>
     ensures { Gives at_field result (line_head line.now) }
 {
     let (verb, fields) = split_word(line);
-    if verb == b"call".as_slice() {
+    if is_word(verb, b"call") {
         read_called(fields)
-    } else if verb == b"look".as_slice() {
+    } else if is_word(verb, b"look") {
         read_looked(fields)
-    } else if verb == b"event".as_slice() {
+    } else if is_word(verb, b"event") {
         read_happened(fields)
-    } else if verb == b"reply".as_slice() {
+    } else if is_word(verb, b"reply") {
         read_replied(fields)
     } else {
         Err(LineKind::Words)

@@ -83,6 +83,14 @@ some_pending xs s e h k =
     let lt : s < length xs = omega arith in
     rw (z, drop-cons xs s 0 lt, add-one) refl
 
+-- a buffer with a byte left keeps what is to be taken, and is not empty
+pub already_filled : (xs : List ℕ) (s e : ℕ) (known : Option (List ℕ)) → s < e → e ≤ length xs
+    → Keeps (prepend_known (slice_range xs s e) known) (prepend_known (slice_range xs s e) known)
+    × (slice_range xs s e ≡ [] → IsAtEnd (prepend_known (slice_range xs s e) known))
+already_filled xs s e known h k =
+    let some = some_pending xs s e h k in
+    (keeps_start (prepend_known (slice_range xs s e) known), λ none. cc)
+
 -- what is pending of a small buffer is little
 pub few_pending : (xs : List ℕ) (s e most : ℕ) → e ≤ length xs → length xs ≤ most → length (slice_range xs s e) ≤ most
 few_pending xs s e most h k = omega (arith, length-take (e - s) (drop s xs))
@@ -98,6 +106,23 @@ filled xs ys s e n (Some us) (Some vs) h k =
 pub at_end : (bytes : List ℕ) (new : Option (List ℕ)) → bytes ≡ [] → IsAtEnd new → IsAtEnd (prepend_known bytes new)
 at_end bytes None e h = tt
 at_end bytes (Some us) e h = rw e h
+
+-- a buffer that was read into, with room: nothing is pending then only at the reader's end
+pub read_into : (xs zs buf : List ℕ) (s e n : ℕ) (old new : Option (List ℕ)) → e ≤ s → zs ≡ buf → n ≤ length buf → 0 < length buf
+    → Consumes old new (take n buf) × (n ≡ 0 → 0 < length buf → IsAtEnd new)
+    → Keeps (prepend_known (slice_range xs s e) old) (prepend_known (slice_range zs 0 n) new)
+    × (slice_range zs 0 n ≡ [] → IsAtEnd (prepend_known (slice_range zs 0 n) new))
+read_into xs zs buf s e n old new h same fits room read =
+    let none_read : slice_range zs 0 n ≡ [] → n ≡ 0 =
+    λ none. omega (arith, ap length none, ap length same, length-take (n - 0) (drop 0 zs), length-drop 0 zs) in
+    (rw same (filled xs buf s e n old new h read.0), λ none. at_end (slice_range zs 0 n) new none (read.1 (none_read none) room))
+
+-- an empty buffer that was written over, and a reader that kept what it had
+pub kept_empty : (xs zs : List ℕ) (s e : ℕ) (old new : Option (List ℕ)) → e ≤ s → Keeps old new
+    → Keeps (prepend_known (slice_range xs s e) old) (prepend_known (slice_range zs s e) new)
+kept_empty xs zs s e None new h k = tt
+kept_empty xs zs s e (Some us) None h k = absurd k
+kept_empty xs zs s e (Some us) (Some vs) h k = rw (none_pending xs s e h, none_pending zs s e h) k
 
 -- the first pending byte is taken
 pub takes_one : (xs : List ℕ) (s e : ℕ) (known : Option (List ℕ)) → s < e → e ≤ length xs → Consumes (prepend_known (slice_range xs s e) known) (prepend_known (slice_range xs (s + 1) e) known) (get_or xs s 0 ∷ [])

@@ -7,4 +7,5 @@ pub mod Powers
 pub mod RunLemmas
 pub mod ScriptLemmas
 pub mod Spelled
+pub mod VerbLemmas
 pub mod WordLemmas

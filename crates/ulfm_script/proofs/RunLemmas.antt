@@ -1,9 +1,10 @@
 -- Runs, line after line, of any kind of script.
 use Rattle.std.proofs.Common.{◌≡◌, ℕ, ◌+◌, ◌<◌, ◌≤◌, List, [], ◌∷◌, ◌++◌, length, length-append, take, Option, Some, None, Result, Ok, Err, refl, sym, ap, subst, ◌∙◌, append_assoc, arith, inl, inr}
-use Rattle.std.specs.{Prelude.{◌⊎◌, IfOk, IsErrAnd}, Io.KnownBytes.{Appends, Consumes, IsAtEnd, Keeps, prepend_known}}
+use Rattle.std.specs.{Prelude.{◌⊎◌, IfOk, IsErrAnd, if◌then◌else◌, nat_lt}, Io.KnownBytes.{Appends, Consumes, IsAtEnd, Keeps, prepend_known}}
 use Rattle.std.proofs.KnownBytes.{prepend_known-nil}
 use Rattle.std.proofs.lemmas.List.{append-nil}
 use Rattle.ulfm_model.specs.declared.limits.Limits.{Limits}
+use Rattle.ulfm_script.specs.declared.header_kind.HeaderKind.{HeaderKind}
 use Rattle.ulfm_script.specs.declared.line_kind.LineKind.{LineKind}
 use Rattle.ulfm_script.specs.declared.line_kind.LineKind.TheVariants.{Cut, Header, Long}
 use Rattle.ulfm_script.specs.declared.fault.RunFault.{RunFault}
@@ -12,7 +13,7 @@ use Rattle.ulfm_script.specs.{Buffers.{Drains, HasNoNewline, IsOfLine, Puts, Tak
 use Rattle.ulfm_script.specs.Ends.{Claim, EndsAlone, EndsThrough, EndsUpTo, FindsFault, HasFault, HasRunAll, IsOpened, IsTextOf, Known, Opens, PrintsAll, PrintsFrom, PrintsSome, RunEnd, RunsAll, RunsLine, Stage, StopsInLine, StopsInOutput, TakesItem}
 use Rattle.ulfm_script.specs.Scripts.{Asked, Language, Script, asked_last, asked_then, header_at, item_at, script_of, stopped, without_header}
 use Rattle.ulfm_script.proofs.ByteLemmas.{appends_start, appends_then, consumes_keeps, consumes_start, consumes_then, end_behind, taken_of_reader}
-use Rattle.ulfm_script.proofs.ScriptLemmas.{BeginsWith, Comes, asked_from, before_last, comes_cut, comes_end, comes_fault, comes_first, comes_on, comes_unopened, ended_script, going, kept_header, line_comes, long_header, no_header, plain_item, script_begins, short_header}
+use Rattle.ulfm_script.proofs.ScriptLemmas.{BeginsWith, Comes, asked_from, before_last, comes_cut, comes_end, comes_fault, comes_first, comes_on, comes_unopened, ended_script, going, kept_header, line_comes, no_header, plain_item, script_begins}
 
 -- a text that begins with what was taken
 text_of : (a b : Option (List ℕ)) (done : List ℕ) → Consumes a b done → (rest : List ℕ) × IsTextOf a (done ++ rest)
@@ -382,14 +383,11 @@ unopened_line lang a b line kind free q h =
     ((line ++ 10 ∷ []) ++ x.0, x.1, comes_unopened lang line x.0 kind free h)
 
 -- what the first line gives, by what is kept of it
-pub header_read : (lang : Language) (line kept shown : List ℕ) (read : Result Limits LineKind) → kept ≡ take 65 line → length kept ≤ 64
-    → shown ≡ kept → read ≡ header_of lang.kind shown → header_at lang line ≡ read
-header_read lang line kept shown read e short same h =
-    sym (kept_header lang line) ∙ ap (header_at lang) (sym e) ∙ short_header lang kept short ∙ ap (header_of lang.kind) (sym same) ∙ sym h
-
--- a line of which more than 64 bytes are kept is no header
-pub header_long : (lang : Language) (line kept : List ℕ) → kept ≡ take 65 line → 64 < length kept → header_at lang line ≡ Err Long
-header_long lang line kept e long = sym (kept_header lang line) ∙ ap (header_at lang) (sym e) ∙ long_header lang kept long
+pub header_given : (lang : Language) (kind : HeaderKind) (line kept shown : List ℕ) (read : Result Limits LineKind) → kept ≡ take 65 line → shown ≡ kept
+    → kind ≡ lang.kind → read ≡ (if nat_lt 64 (length shown) then Err Long else header_of kind shown) → header_at lang line ≡ read
+header_given lang kind line kept shown read e same k h =
+    sym (kept_header lang line) ∙ ap (header_at lang) (sym e) ∙ ap (header_at lang) (sym same)
+    ∙ sym (subst (λ (x : HeaderKind). read ≡ (if nat_lt 64 (length shown) then Err Long else header_of x shown)) k h)
 
 -- a fault that is handed on
 pub handed_on : {T : Type 0} (r : Result T RunFault) (fault : RunFault) → IsErrAnd r (λ e. e ≡ fault) → r ≡ Err fault

@@ -3,8 +3,8 @@ use Rattle.std.proofs.Common.{◌≡◌, ◌⊎◌, ℕ, Bool, true, false, ◌=
 use Rattle.std.proofs.lemmas.{Bool.{ne_eqb, lt-ltb, le-ltb, cases_lt}, List.{append-nil, take_all, length-take}}
 use Rattle.ulfm_model.specs.declared.limits.Limits.{Limits}
 use Rattle.ulfm_script.specs.declared.line_kind.LineKind.{LineKind}
-use Rattle.ulfm_script.specs.declared.line_kind.LineKind.TheVariants.{Cut, Header, Long}
-use Rattle.ulfm_script.specs.{Buffers.{HasNoNewline}, Headers.{header_of}, Scripts.{Asked, Language, Script, asked_by, asked_last, asked_then, header_at, item_at, lines_from, no_lines, rest_from, script_by, script_of, stopped, with_header, without_header}, Written.{Begins}}
+use Rattle.ulfm_script.specs.declared.line_kind.LineKind.TheVariants.{Cut, Header}
+use Rattle.ulfm_script.specs.{Buffers.{HasNoNewline}, Scripts.{Asked, Language, Script, asked_by, asked_last, asked_then, header_at, item_at, lines_from, no_lines, rest_from, script_by, script_of, stopped, with_header, without_header}, Written.{Begins}}
 
 -- what a text asks for whose first line has this number
 abbrev pub asked_from : (lang : Language) → ℕ → List ℕ → Asked lang.Item
@@ -48,15 +48,7 @@ kept_header lang line = elim (cases_lt 64 (length line)) [
   | inr short ↦ ap (header_at lang) (take_all 65 line (omega arith))
 ]
 
--- a line over 64 bytes is no header
-pub long_header : (lang : Language) (line : List ℕ) → 64 < length line → header_at lang line ≡ Err Long
-long_header lang line h = rw (lt-ltb 64 (length line) h) refl
-
--- a line that is not too long gives what its words give
-pub short_header : (lang : Language) (line : List ℕ) → length line ≤ 64 → header_at lang line ≡ header_of lang.kind line
-short_header lang line h = rw (le-ltb 64 (length line) h) refl
-
--- the same of an item, within the lines that a script may have
+-- a line that is not too long, within the lines that a script may have, gives what its words give
 pub plain_item : (lang : Language) (number : ℕ) (line : List ℕ) → length line ≤ 64 → number ≤ 100000 → item_at lang number line ≡ lang.read line
 plain_item lang number line h k = rw (le-ltb 64 (length line) h, le-ltb 100000 number k) refl
 

@@ -8,5 +8,6 @@ pub mod Runs
 pub mod Scripts
 pub mod Spelling
 pub mod Steps
+pub mod Verbs
 pub mod Words
 pub mod Written

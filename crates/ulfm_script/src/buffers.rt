@@ -56,7 +56,6 @@ impl<A: Allocator> Input<A> {
     }
 
     /// Reads where no byte is left to take. Any error of the reader is a fault, of whatever kind.
-    #[tactic(auto, using(crate::proofs::ByteLemmas::filled, crate::proofs::ByteLemmas::none_pending))]
     fn fill<R: Read>(&mut self, reader: &mut R) -> Result<(), RunFault>
         ensures { Fills (unread R.remaining self.old reader.old) (unread R.remaining self.new reader.new) (pending self.new) result }
     {

@@ -1,6 +1,7 @@
 //! The calls of a script, line by line.
-ghost use Rattle.std.specs.Prelude.{◌≡◌, Ok, IfOk};
-ghost use Rattle.ulfm_script.specs.Calls.{ScriptCall, call_of, place_of, fail_of, ack_of, agree_of};
+ghost use Rattle.std.specs.Prelude.{◌≡◌, ℕ, List, Option, Ok, IfOk};
+ghost use Rattle.ulfm_script.specs.Calls.{ScriptCall, call_from, call_of, place_of, fail_of, ack_of, agree_of, plain_of};
+ghost use Rattle.ulfm_script.specs.Verbs.{call_at, found_call, plain_word, verb_call, verb_word};
 ghost use Rattle.ulfm_script.specs.Spelling.{Spells};
 ghost use Rattle.ulfm_script.specs.Words.{rest_at};
 
@@ -35,36 +36,118 @@ pub fn read_call(line: &[u8]) -> Result<Call<FlagAnd>, LineKind>
 fn parse_call(line: &[u8]) -> Result<Call<FlagAnd>, LineKind>
     ensures { result ≡ call_of line.now }
 {
-    let (verb, fields) = split_word(line);
-    if verb == b"fail".as_slice() {
-        read_fail(fields)
-    } else if verb == b"get".as_slice() {
-        let (rank, comm) = read_place(fields)?;
-        Ok(Call::GetFailed { rank, comm })
-    } else if verb == b"ack".as_slice() {
-        read_ack(fields)
-    } else if verb == b"agree".as_slice() {
-        read_agree(fields)
-    } else if verb == b"shrink".as_slice() {
-        let (rank, comm) = read_place(fields)?;
-        Ok(Call::Shrink { rank, comm })
-    } else if verb == b"barrier".as_slice() {
-        let (rank, comm) = read_place(fields)?;
-        Ok(Call::Barrier { rank, comm })
-    } else if verb == b"poll".as_slice() {
-        let (rank, comm) = read_place(fields)?;
-        Ok(Call::Poll { rank, comm })
-    } else if verb == b"revoke".as_slice() {
-        let (rank, comm) = read_place(fields)?;
-        Ok(Call::Revoke { rank, comm })
-    } else if verb == b"isrevoked".as_slice() {
-        let (rank, comm) = read_place(fields)?;
-        Ok(Call::IsRevoked { rank, comm })
-    } else if verb == b"free".as_slice() {
-        let (rank, comm) = read_place(fields)?;
-        Ok(Call::Free { rank, comm })
-    } else {
-        Err(LineKind::Verb)
+    let (word, fields) = split_word(line);
+    match find_verb(word) {
+        Some(verb) => read_fields(verb, fields),
+        None => Err(LineKind::Verb),
+    }
+}
+
+/// The verb that a word spells.
+fn find_verb(word: &[u8]) -> Option<Verb>
+    ensures { (rest : Option (List ℕ)) → found_call result rest ≡ call_from (word.now, rest) }
+{
+    let verbs = [
+        Verb::Fail,
+        Verb::Plain(Plain::GetFailed),
+        Verb::Ack,
+        Verb::Agree,
+        Verb::Plain(Plain::Shrink),
+        Verb::Plain(Plain::Barrier),
+        Verb::Plain(Plain::Poll),
+        Verb::Plain(Plain::Revoke),
+        Verb::Plain(Plain::IsRevoked),
+        Verb::Plain(Plain::Free),
+    ];
+    for verb in &verbs {
+        if word == verb_word(*verb) {
+            return Some(*verb);
+        }
+    }
+    None
+}
+
+/// The word of a verb.
+#[inline(always)]
+fn verb_word(verb: Verb) -> &'static [u8]
+    ensures { result.now ≡ verb_word verb }
+{
+    match verb {
+        Verb::Fail => b"fail",
+        Verb::Ack => b"ack",
+        Verb::Agree => b"agree",
+        Verb::Plain(plain) => plain_word(plain),
+    }
+}
+
+#[inline(always)]
+fn plain_word(plain: Plain) -> &'static [u8]
+    ensures { result.now ≡ plain_word plain }
+{
+    match plain {
+        Plain::GetFailed => b"get",
+        Plain::Shrink => b"shrink",
+        Plain::Barrier => b"barrier",
+        Plain::Poll => b"poll",
+        Plain::Revoke => b"revoke",
+        Plain::IsRevoked => b"isrevoked",
+        Plain::Free => b"free",
+    }
+}
+
+/// The call of a verb, by its fields.
+fn read_fields(verb: Verb, fields: Option<&[u8]>) -> Result<Call<FlagAnd>, LineKind>
+    ensures { result ≡ verb_call verb (rest_at fields.entry) }
+{
+    match verb {
+        Verb::Fail => read_fail(fields),
+        Verb::Ack => read_ack(fields),
+        Verb::Agree => read_agree(fields),
+        Verb::Plain(plain) => read_plain(plain, fields),
+    }
+}
+
+/// What the first word of a line asks for.
+#[derive(Clone, Copy)]
+enum Verb {
+    Fail,
+    Ack,
+    Agree,
+    Plain(Plain),
+}
+
+/// The calls that name a rank and a communicator, and nothing else.
+#[derive(Clone, Copy)]
+enum Plain {
+    GetFailed,
+    Shrink,
+    Barrier,
+    Poll,
+    Revoke,
+    IsRevoked,
+    Free,
+}
+
+/// A plain call, by its fields.
+fn read_plain(plain: Plain, fields: Option<&[u8]>) -> Result<Call<FlagAnd>, LineKind>
+    ensures { result ≡ plain_of (call_at plain) (rest_at fields.entry) }
+{
+    let (rank, comm) = read_place(fields)?;
+    Ok(plain_call(plain, rank, comm))
+}
+
+/// A plain call of a rank on a communicator.
+fn plain_call(plain: Plain, rank: u16, comm: u16) -> Call<FlagAnd>
+    ensures { result ≡ call_at plain rank comm }
+{
+    match plain {
+        Plain::GetFailed => Call::GetFailed { rank, comm },
+        Plain::Shrink => Call::Shrink { rank, comm },
+        Plain::Barrier => Call::Barrier { rank, comm },
+        Plain::Poll => Call::Poll { rank, comm },
+        Plain::Revoke => Call::Revoke { rank, comm },
+        Plain::IsRevoked => Call::IsRevoked { rank, comm },
+        Plain::Free => Call::Free { rank, comm },
     }
 }
 

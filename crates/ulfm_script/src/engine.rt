@@ -1,19 +1,24 @@
 //! The engine that runs the text of a script, over anything that runs its lines.
-ghost use Rattle.std.specs.Prelude.{◌≡◌, ℕ, List, [], IfOk};
+ghost use Rattle.std.specs.Prelude.{◌≡◌, ℕ, List, [], length, nat_lt, Err, IfOk, if◌then◌else◌};
 ghost use Rattle.std.specs.Io.KnownBytes.{Appends};
 ghost use Rattle.ulfm_model.specs.declared.limits.Limits.{Limits};
+ghost use Rattle.ulfm_model.specs.Words.{MayOpen};
 ghost use Rattle.ulfm_script.specs.Buffers.{pending, waiting, unread};
-ghost use Rattle.ulfm_script.specs.Ends.{EndsAlone, EndsThrough, EndsUpTo, HasRunAll, Opens, RunsLine, ended};
+ghost use Rattle.ulfm_script.specs.Ends.{EndsAlone, EndsThrough, EndsUpTo, HasRunAll, IsOpened, Known, Opens, RunsLine, ended};
+ghost use Rattle.ulfm_script.specs.Headers.{header_of};
 ghost use Rattle.ulfm_script.specs.Scripts.{item_at};
 ghost use Rattle.ulfm_script.specs.Written.{Holds};
+ghost use Rattle.ulfm_script.specs.declared.line_kind.LineKind.TheVariants.{Long};
 
 use crate::buffers::{Input, LineEnd, Output};
 use crate::fault::RunFault;
 use crate::header::read_header;
+use crate::header_kind::HeaderKind;
 use crate::interpreter::Interpreter;
 use crate::line_kind::LineKind;
 use std::alloc::Allocator;
 use std::io::{Read, Write};
+use ulfm_model::Limits;
 
 /// The most bytes that a line may have, without its newline.
 const LONGEST: usize = 64;
@@ -111,17 +116,38 @@ fn run_lines<M: Interpreter<A>, A: Allocator + Copy, R: Read, W: Write>(
 {
     let mut line = Vec::with_capacity(alloc, LONGEST + 1)?;
     let mut machine: M = open_machine(alloc, plan, reader, input, &mut line)?;
+    run_opened(reader, writer, input, output, &mut machine, &mut line)?;
+    Ok(machine)
+}
+
+/// Runs the lines behind the first on a machine that was opened by it.
+fn run_opened<M: Interpreter<A>, A: Allocator + Copy, R: Read, W: Write>(
+    reader: &mut R,
+    writer: &mut W,
+    input: &mut Input<A>,
+    output: &mut Output<A>,
+    machine: &mut M,
+    line: &mut Vec<u8, A>,
+) -> Result<(), RunFault>
+    requires empty { waiting output.old ≡ [] }
+    requires opened { (plan : M.Plan) × (known : Known) × IsOpened M.lang (M.HasRun plan machine.old) known
+        (unread R.remaining input.old reader.old) (M.text machine.old) }
+    ensures { (plan : M.Plan) (known : Known) → IsOpened M.lang (M.HasRun plan machine.old) known (unread R.remaining input.old reader.old)
+        (M.text machine.old) → EndsUpTo M.lang known (R.remaining reader.new) (pending input.new) (W.contents writer.old) (W.contents writer.new)
+        (waiting output.new) result × IfOk result (λ done. HasRunAll M.lang (M.HasRun plan machine.new) known
+        (Holds (W.contents writer.old) (W.contents writer.new) (waiting output.new))) }
+{
     output.put(writer, machine.text())?;
     'lines: for number in 2..LAST_LINE + 2 {
-        match input.read_line(reader, &mut line, LONGEST + 1)? {
-            LineEnd::Done => return Ok(machine),
+        match input.read_line(reader, line, LONGEST + 1)? {
+            LineEnd::Done => return Ok(()),
             LineEnd::Cut => {
                 let kind = LineKind::Cut;
                 return Err(RunFault::Line { number, kind });
             }
             LineEnd::Newline => {}
         }
-        run_line(writer, output, &mut machine, number, &line)?;
+        run_line(writer, output, machine, number, line)?;
     }
     unreachable!()
 }
@@ -137,22 +163,31 @@ fn open_machine<M: Interpreter<A>, A: Allocator + Copy, R: Read>(
     ensures { Opens M.lang (M.HasRun plan) M.text (unread R.remaining input.old reader.old) (unread R.remaining input.new reader.new)
         (pending input.new) result }
 {
-    let number = 1;
-    let kind = match input.read_line(reader, line, LONGEST + 1)? {
-        LineEnd::Done => LineKind::Header,
-        LineEnd::Cut => LineKind::Cut,
-        LineEnd::Newline => {
-            if line.len() > LONGEST {
-                LineKind::Long
-            } else {
-                match read_header(M::kind(), line) {
-                    Ok(limits) => return Ok(M::open(alloc, limits, plan)?),
-                    Err(kind) => kind,
-                }
-            }
+    match input.read_line(reader, line, LONGEST + 1)? {
+        LineEnd::Done => {
+            let kind = LineKind::Header;
+            Err(RunFault::Line { number: 1, kind })
         }
-    };
-    Err(RunFault::Line { number, kind })
+        LineEnd::Cut => {
+            let kind = LineKind::Cut;
+            Err(RunFault::Line { number: 1, kind })
+        }
+        LineEnd::Newline => match first_limits(M::kind(), line) {
+            Ok(limits) => Ok(M::open(alloc, limits, plan)?),
+            Err(kind) => Err(RunFault::Line { number: 1, kind }),
+        },
+    }
+}
+
+/// The limits that a first line gives, or its fault.
+fn first_limits(kind: HeaderKind, line: &[u8]) -> Result<Limits, LineKind>
+    ensures exact { result ≡ (if nat_lt 64 (length line.now) then Err Long else header_of kind line.now) }
+    ensures opens { IfOk result (λ limits. MayOpen limits) }
+{
+    if line.len() > LONGEST {
+        return Err(LineKind::Long);
+    }
+    read_header(kind, line)
 }
 
 /// Runs one line.

@@ -7,7 +7,7 @@ ghost use Rattle.ulfm_script.specs.Words.{rest_at};
 
 use crate::header_kind::HeaderKind;
 use crate::line_kind::LineKind;
-use crate::printing::print_number;
+use crate::printing::{print_behind, print_labelled};
 use crate::words::{four_words, read_number, split_word};
 use std::alloc::{AllocError, Allocator};
 use ulfm_model::Limits;
@@ -69,10 +69,7 @@ pub fn print_header<A: Allocator>(
     ensures { OnOk result (text.new.items ≡ text.old.items ++ header_text kind limits) }
 {
     text.extend_from_slice(kind.word())?;
-    text.extend_from_slice(b" 1 ")?;
-    print_number(text, limits.ranks)?;
-    text.push(b' ')?;
-    print_number(text, limits.comms)?;
-    text.push(b' ')?;
-    print_number(text, limits.rounds)
+    print_labelled(text, b" 1 ", limits.ranks)?;
+    print_behind(text, limits.comms)?;
+    print_behind(text, limits.rounds)
 }

@@ -1,8 +1,9 @@
 //! The lines that replies and calls are printed as.
-ghost use Rattle.std.specs.Prelude.{◌≡◌, ◌++◌, [], OnOk};
+ghost use Rattle.std.specs.Prelude.{◌≡◌, ◌++◌, ◌∷◌, [], OnOk};
+ghost use Rattle.ulfm_script.specs.Digits.{flag_text};
 ghost use Rattle.std.specs.Fmt.{decimal};
 ghost use Rattle.ulfm_script.specs.Spelling.{call_text, fields_text, on_comm_text, verb_text};
-ghost use Rattle.ulfm_script.specs.Printed.{acked_text, agreed_text, failed_text, ranks_text, refused_text, reply_text, shrunk_text, standing_text};
+ghost use Rattle.ulfm_script.specs.Printed.{acked_text, agreed_text, error_text, failed_text, ranks_text, refused_text, reply_text, shrunk_text, standing_text};
 
 use crate::last_group::LastGroup;
 use crate::words::flag_digits;
@@ -24,26 +25,29 @@ pub fn print_reply<A: Allocator>(
 ) -> Result<(), AllocError>
     ensures ok { OnOk result (text.new.items ≡ text.old.items ++ reply_text group.now reply.now) }
 {
-    match *reply {
-        Reply::Started => text.extend_from_slice(b"started"),
-        Reply::Pending => text.extend_from_slice(b"pending"),
+    let word: &[u8] = match *reply {
         Reply::Agreed {
             value,
             failed,
             raised,
-        } => print_agreed(text, value, failed, raised),
-        Reply::Shrunk { comm, context, .. } => print_shrunk(text, comm, context, group, last),
-        Reply::Done => text.extend_from_slice(b"done"),
-        Reply::FailedGroup { .. } => print_group(text, group, last),
-        Reply::Acked { count } => print_acked(text, count),
-        Reply::Declared => text.extend_from_slice(b"declared"),
-        Reply::AlreadyFailed => text.extend_from_slice(b"already-failed"),
-        Reply::Revoked => text.extend_from_slice(b"revoked"),
-        Reply::AlreadyRevoked => text.extend_from_slice(b"already-revoked"),
-        Reply::Standing { revoked } => print_standing(text, revoked),
-        Reply::Freed => text.extend_from_slice(b"freed"),
-        Reply::Refused(refusal) => print_refusal(text, refusal),
-    }
+        } => return print_agreed(text, value, failed, raised),
+        Reply::Shrunk { comm, context, .. } => {
+            return print_shrunk(text, comm, context, group, last);
+        }
+        Reply::FailedGroup { .. } => return print_group(text, group, last),
+        Reply::Acked { count } => return print_acked(text, count),
+        Reply::Refused(refusal) => return print_refusal(text, refusal),
+        Reply::Standing { revoked } => standing(revoked),
+        Reply::Started => b"started",
+        Reply::Pending => b"pending",
+        Reply::Done => b"done",
+        Reply::Declared => b"declared",
+        Reply::AlreadyFailed => b"already-failed",
+        Reply::Revoked => b"revoked",
+        Reply::AlreadyRevoked => b"already-revoked",
+        Reply::Freed => b"freed",
+    };
+    text.extend_from_slice(word)
 }
 
 /// Appends a number in decimal. After an error nothing is said of the text.
@@ -76,8 +80,7 @@ pub(crate) fn print_ranks<A: Allocator>(
     ensures { OnOk result (text.new.items ≡ text.old.items ++ ranks_text group.now) }
 {
     for rank in group {
-        text.push(b' ')?;
-        print_number(text, *rank)?;
+        print_behind(text, *rank)?;
     }
     Ok(())
 }
@@ -104,15 +107,16 @@ fn print_agreed<A: Allocator>(
 ) -> Result<(), AllocError>
     ensures { OnOk result (text.new.items ≡ text.old.items ++ agreed_text value failed raised) }
 {
-    text.extend_from_slice(b"agreed ")?;
-    text.extend_from_slice(&flag_digits(value))?;
-    text.extend_from_slice(b" failed ")?;
-    print_number(text, failed)?;
-    if raised {
-        text.extend_from_slice(b" raised")
-    } else {
-        text.extend_from_slice(b" clean")
-    }
+    print_flag(text, b"agreed ", value)?;
+    print_labelled(text, b" failed ", failed)?;
+    text.extend_from_slice(error(raised))
+}
+
+/// Whether an agree raises an error.
+fn error(raised: bool) -> &'static [u8]
+    ensures { result.now ≡ error_text raised }
+{
+    if raised { b" raised" } else { b" clean" }
 }
 
 fn print_shrunk<A: Allocator>(
@@ -124,10 +128,8 @@ fn print_shrunk<A: Allocator>(
 ) -> Result<(), AllocError>
     ensures { OnOk result (text.new.items ≡ text.old.items ++ shrunk_text comm context group.now) }
 {
-    text.extend_from_slice(b"shrunk ")?;
-    print_number(text, comm)?;
-    text.extend_from_slice(b" context ")?;
-    print_number(text, u16::from(context))?;
+    print_labelled(text, b"shrunk ", comm)?;
+    print_labelled(text, b" context ", u16::from(context))?;
     text.extend_from_slice(b" members")?;
     last.put(text, group)
 }
@@ -135,25 +137,20 @@ fn print_shrunk<A: Allocator>(
 fn print_acked<A: Allocator>(text: &mut Vec<u8, A>, count: u16) -> Result<(), AllocError>
     ensures { OnOk result (text.new.items ≡ text.old.items ++ acked_text count) }
 {
-    text.extend_from_slice(b"acked ")?;
-    print_number(text, count)
+    print_labelled(text, b"acked ", count)
 }
 
-fn print_standing<A: Allocator>(text: &mut Vec<u8, A>, revoked: bool) -> Result<(), AllocError>
-    ensures { OnOk result (text.new.items ≡ text.old.items ++ standing_text revoked) }
+/// Whether a communicator is revoked.
+fn standing(revoked: bool) -> &'static [u8]
+    ensures { result.now ≡ standing_text revoked }
 {
-    if revoked {
-        text.extend_from_slice(b"yes")
-    } else {
-        text.extend_from_slice(b"no")
-    }
+    if revoked { b"yes" } else { b"no" }
 }
 
 fn print_refusal<A: Allocator>(text: &mut Vec<u8, A>, refusal: Refusal) -> Result<(), AllocError>
     ensures { OnOk result (text.new.items ≡ text.old.items ++ refused_text refusal) }
 {
-    text.extend_from_slice(b"refused ")?;
-    print_number(text, u16::from(refusal_number(refusal)))?;
+    print_labelled(text, b"refused ", u16::from(refusal_number(refusal)))?;
     text.push(b' ')?;
     text.extend_from_slice(refusal.name().as_bytes())
 }
@@ -195,21 +192,19 @@ fn print_fields<A: Allocator>(text: &mut Vec<u8, A>, call: &Call<FlagAnd>) -> Re
         Call::Fail { rank } => print_number(text, rank),
         Call::Ack { rank, comm, count } => {
             print_place(text, rank, comm)?;
-            text.push(b' ')?;
-            print_number(text, count)
+            print_behind(text, count)
         }
         Call::Agree { rank, comm, value } => {
             print_place(text, rank, comm)?;
-            text.push(b' ')?;
-            text.extend_from_slice(&flag_digits(value))
+            print_flag(text, b" ", value)
         }
-        Call::GetFailed { rank, comm } => print_place(text, rank, comm),
-        Call::Shrink { rank, comm } => print_place(text, rank, comm),
-        Call::Barrier { rank, comm } => print_place(text, rank, comm),
-        Call::Poll { rank, comm } => print_place(text, rank, comm),
-        Call::Revoke { rank, comm } => print_place(text, rank, comm),
-        Call::IsRevoked { rank, comm } => print_place(text, rank, comm),
-        Call::Free { rank, comm } => print_place(text, rank, comm),
+        Call::GetFailed { rank, comm }
+        | Call::Shrink { rank, comm }
+        | Call::Barrier { rank, comm }
+        | Call::Poll { rank, comm }
+        | Call::Revoke { rank, comm }
+        | Call::IsRevoked { rank, comm }
+        | Call::Free { rank, comm } => print_place(text, rank, comm),
     }
 }
 
@@ -218,6 +213,41 @@ fn print_place<A: Allocator>(text: &mut Vec<u8, A>, rank: u16, comm: u16) -> Res
     ensures { OnOk result (text.new.items ≡ text.old.items ++ on_comm_text rank comm []) }
 {
     print_number(text, rank)?;
+    print_behind(text, comm)
+}
+
+/// A number behind a space.
+#[inline(always)]
+pub(crate) fn print_behind<A: Allocator>(
+    text: &mut Vec<u8, A>,
+    number: u16,
+) -> Result<(), AllocError>
+    ensures { OnOk result (text.new.items ≡ text.old.items ++ 32 ∷ decimal number) }
+{
     text.push(b' ')?;
-    print_number(text, comm)
+    print_number(text, number)
+}
+
+/// A number behind its label.
+pub(crate) fn print_labelled<A: Allocator>(
+    text: &mut Vec<u8, A>,
+    label: &[u8],
+    number: u16,
+) -> Result<(), AllocError>
+    ensures { OnOk result (text.new.items ≡ text.old.items ++ (label.now ++ decimal number)) }
+{
+    text.extend_from_slice(label)?;
+    print_number(text, number)
+}
+
+/// A flag behind its label.
+fn print_flag<A: Allocator>(
+    text: &mut Vec<u8, A>,
+    label: &[u8],
+    flag: FlagAnd,
+) -> Result<(), AllocError>
+    ensures { OnOk result (text.new.items ≡ text.old.items ++ (label.now ++ flag_text flag)) }
+{
+    text.extend_from_slice(label)?;
+    text.extend_from_slice(&flag_digits(flag))
 }

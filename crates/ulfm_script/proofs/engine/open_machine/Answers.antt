@@ -1,12 +1,10 @@
-use Rattle.std.proofs.Common.{arith, refl, ◌<◌, ◌≤◌, length, Ok, Err, []}
+use Rattle.std.proofs.Common.{refl, Ok, Err, []}
 use Rattle.ulfm_script.specs.Buffers.{pending, unread}
 use Rattle.ulfm_script.specs.declared.fault.RunFault.TheVariants.{Memory}
-use Rattle.ulfm_script.specs.declared.line_kind.LineKind.TheVariants.{Long}
 use Rattle.ulfm_script.proofs.ByteLemmas.{keeps_nothing}
-use Rattle.ulfm_script.proofs.RunLemmas.{handed_on, header_long, header_read, unopened_line, unopened_machine, unopened_read, whole_text}
+use Rattle.ulfm_script.proofs.RunLemmas.{handed_on, header_given, unopened_line, unopened_machine, unopened_read, whole_text}
 use Rattle.ulfm_script.proofs.ScriptLemmas.{header_cut, no_header}
 use Rattle.ulfm_script.proofs.engine.open_machine.Goals as goal
-use Rattle.ulfm_script.proofs.engine.open_machine.Goals.{in-Done, in-Cut, in-Newline+then-len-gt-LONGEST, in-Newline+else-len-gt-LONGEST+in-Err}
 
 pub returns-in_err-read_line : goal.returns-in_err-read_line
 returns-in_err-read_line g c =
@@ -23,36 +21,38 @@ returns-in_err-open-in-Ok g c =
     (unopened_machine g.M.Interpreter.lang (g.M.Interpreter.HasRun c.args.plan) g.M.Interpreter.text (unread k c.args.input.now c.args.reader.now) (unread k c.read_line.new.self c.read_line.new.reader)
     (pending c.read_line.new.self) e.0 e.1 e.3)
 
-pub returns-in-Ok : goal.returns-in-Ok
-returns-in-Ok g c =
+pub returns-in_ok-open-in-Ok : goal.returns-in_ok-open-in-Ok
+returns-in_ok-open-in-Ok g c =
     let e = rw c.in-Newline.is at c.in_ok-read_line.ensures in
-    let short : length c.read_line.new.line.items ≤ 64 = omega (arith, c.len.ensures, c.if-len-gt-LONGEST.false, c.read_line.new.line.ok.0) in
     record {
       line = e.0;
       limits = c.in-Ok.limits;
       free = e.1;
-      header = header_read g.M.Interpreter.lang e.0 c.read_line.new.line.items c.deref.result.now (Ok c.in-Ok.limits) e.2 short c.deref.ensures.value (rw c.kind.ensures at c.in-Ok.ensures.exact);
+      header = header_given g.M.Interpreter.lang c.kind.result e.0 c.read_line.new.line.items c.deref.result.now (Ok c.in-Ok.limits) e.2 c.deref.ensures.value c.kind.ensures c.in-Ok.ensures.exact;
       taken = e.3;
       new_one = c.in_ok-open-in-Ok.ensures;
     }
 
-pub returns : goal.returns
-returns g c =
+pub returns-in-Done : goal.returns-in-Done
+returns-in-Done g c =
     let a = unread g.R.Read.remaining c.args.input.now c.args.reader.now in
     let b = unread g.R.Read.remaining c.read_line.new.self c.read_line.new.reader in
-    elim c.match-branch-2.branch [
-      | in-Done w ↦ (let e = rw w.in-Done.is at c.in_ok-read_line.ensures in ([], whole_text a b [] (keeps_nothing a b e.0) e.1, refl, rw w.kind-is (no_header g.M.Interpreter.lang)))
-      | in-Cut w ↦ (let e = rw w.in-Cut.is at c.in_ok-read_line.ensures in (e.0, whole_text a b e.0 e.3 e.4, refl, rw w.kind-is (header_cut g.M.Interpreter.lang e.0 e.1 e.2)))
-      | in-Newline+then-len-gt-LONGEST w ↦ (
-          let e = rw w.in-Newline.is at c.in_ok-read_line.ensures in
-          let long : 64 < length c.read_line.new.line.items = omega (arith, w.len.ensures, w.if-len-gt-LONGEST.true, c.read_line.new.line.ok.0) in
-          let u = unopened_line g.M.Interpreter.lang a b e.0 Long e.1 e.3 (header_long g.M.Interpreter.lang e.0 c.read_line.new.line.items e.2 long) in
-          (u.0, u.1, refl, rw w.kind-is u.2)
-          )
-      | in-Newline+else-len-gt-LONGEST+in-Err w ↦ (
-          let e = rw w.in-Newline.is at c.in_ok-read_line.ensures in
-          let short : length c.read_line.new.line.items ≤ 64 = omega (arith, w.len.ensures, w.if-len-gt-LONGEST.false, c.read_line.new.line.ok.0) in
-          let u = unopened_line g.M.Interpreter.lang a b e.0 w.in-Err.kind e.1 e.3 (header_read g.M.Interpreter.lang e.0 c.read_line.new.line.items w.deref.result.now (Err w.in-Err.kind) e.2 short w.deref.ensures.value (rw w.kind.ensures at w.in-Err.ensures.exact)) in
-          (u.0, u.1, refl, rw w.kind-is u.2)
-          )
-    ]
+    let e = rw c.in-Done.is at c.in_ok-read_line.ensures in
+    ([], whole_text a b [] (keeps_nothing a b e.0) e.1, refl, no_header g.M.Interpreter.lang)
+
+pub returns-in-Cut : goal.returns-in-Cut
+returns-in-Cut g c =
+    let a = unread g.R.Read.remaining c.args.input.now c.args.reader.now in
+    let b = unread g.R.Read.remaining c.read_line.new.self c.read_line.new.reader in
+    let e = rw c.in-Cut.is at c.in_ok-read_line.ensures in
+    (e.0, whole_text a b e.0 e.3 e.4, refl, header_cut g.M.Interpreter.lang e.0 e.1 e.2)
+
+pub returns-in-Err : goal.returns-in-Err
+returns-in-Err g c =
+    let a = unread g.R.Read.remaining c.args.input.now c.args.reader.now in
+    let b = unread g.R.Read.remaining c.read_line.new.self c.read_line.new.reader in
+    let e = rw c.in-Newline.is at c.in_ok-read_line.ensures in
+    let kind = c.in-Err.kind in
+    let h = header_given g.M.Interpreter.lang c.kind.result e.0 c.read_line.new.line.items c.deref.result.now (Err kind) e.2 c.deref.ensures.value c.kind.ensures c.in-Err.ensures.exact in
+    let u = unopened_line g.M.Interpreter.lang a b e.0 kind e.1 e.3 h in
+    (u.0, u.1, refl, u.2)

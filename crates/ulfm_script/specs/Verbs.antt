@@ -1,0 +1,49 @@
+-- Verbs as a reader of lines tells them apart, and their words.
+use Rattle.std.specs.Prelude.{ℕ, List, codes, Option, Some, None, Result, Err}
+use Rattle.ulfm_model.specs.declared.call.Call.TheVariants as call
+use Rattle.ulfm_script.specs.Calls.{ScriptCall, ack_of, agree_of, fail_of, plain_of}
+use Rattle.ulfm_script.specs.declared.calls.Plain.{Plain}
+use Rattle.ulfm_script.specs.declared.calls.Plain.TheVariants as plain
+use Rattle.ulfm_script.specs.declared.calls.Verb.{Verb}
+use Rattle.ulfm_script.specs.declared.calls.Verb.TheVariants as verb
+use Rattle.ulfm_script.specs.declared.line_kind.LineKind.{LineKind}
+use Rattle.ulfm_script.specs.declared.line_kind.LineKind.TheVariants as line_kind
+
+-- the call of a verb with a rank and a communicator, and nothing else
+abbrev pub call_at : Plain → ℕ → ℕ → ScriptCall
+call_at plain.GetFailed rank comm = call.GetFailed rank comm
+call_at plain.Shrink rank comm = call.Shrink rank comm
+call_at plain.Barrier rank comm = call.Barrier rank comm
+call_at plain.Poll rank comm = call.Poll rank comm
+call_at plain.Revoke rank comm = call.Revoke rank comm
+call_at plain.IsRevoked rank comm = call.IsRevoked rank comm
+call_at plain.Free rank comm = call.Free rank comm
+
+-- the word of such a verb
+abbrev pub plain_word : Plain → List ℕ
+plain_word plain.GetFailed = codes "get"
+plain_word plain.Shrink = codes "shrink"
+plain_word plain.Barrier = codes "barrier"
+plain_word plain.Poll = codes "poll"
+plain_word plain.Revoke = codes "revoke"
+plain_word plain.IsRevoked = codes "isrevoked"
+plain_word plain.Free = codes "free"
+
+-- the word of a verb
+abbrev pub verb_word : Verb → List ℕ
+verb_word verb.Fail = codes "fail"
+verb_word verb.Ack = codes "ack"
+verb_word verb.Agree = codes "agree"
+verb_word (verb.Plain name) = plain_word name
+
+-- the call of a verb, by its fields
+abbrev pub verb_call : Verb → Option (List ℕ) → Result ScriptCall LineKind
+verb_call verb.Fail fields = fail_of fields
+verb_call verb.Ack fields = ack_of fields
+verb_call verb.Agree fields = agree_of fields
+verb_call (verb.Plain name) fields = plain_of (call_at name) fields
+
+-- the call of a verb that was found, or the fault that there is none
+abbrev pub found_call : Option Verb → Option (List ℕ) → Result ScriptCall LineKind
+found_call None fields = Err line_kind.Verb
+found_call (Some found) fields = verb_call found fields
