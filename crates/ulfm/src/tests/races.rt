@@ -1,5 +1,7 @@
 //! Races through the program.
-use crate::tests::{require, run_in, told};
+use crate::program::answer;
+use crate::tests::{require, told};
+use linked_list_allocator::LocalHeap;
 use std::alloc::Global;
 use std::sync::Wait;
 use std::test::Fail;
@@ -146,7 +148,7 @@ fn bad_races(rt: HostRuntime) -> Result<(), Fail> {
     Ok(())
 }
 
-/// A writer that fails, takes nothing or can't be flushed is told, and so is memory that is refused to the lines.
+/// A writer that takes nothing or can't be flushed is told.
 #[test]
 fn races_that_fail(rt: HostRuntime) -> Result<(), Fail> {
     let words = ["ulfm", "race", "--ranks", "2", "--rounds", "1"];
@@ -157,7 +159,29 @@ fn races_that_fail(rt: HostRuntime) -> Result<(), Fail> {
         assert_eq!(rt; errors.as_slice(), b"ulfm: write failed\n".as_slice());
         assert_eq!(rt; status, 3);
     }
-    let (output, status) = run_in(&rt, rt.alloc(), 32, &words, b"")?;
+    Ok(())
+}
+
+/// Memory that is refused to the lines of a race is told.
+#[test]
+fn lines_are_refused_memory(rt: HostRuntime) -> Result<(), Fail> {
+    let alloc = rt.alloc();
+    let words = ["ulfm", "race", "--ranks", "2", "--rounds", "1"];
+    let heap = LocalHeap::new(alloc, 32)?;
+    let mut input = b"".as_slice();
+    let mut output = Vec::new(alloc);
+    let mut errors = Vec::new(alloc);
+    let status = answer(
+        &rt,
+        &heap,
+        alloc,
+        &words,
+        &mut input,
+        &mut output,
+        &mut errors,
+        false,
+    );
+    assert_eq!(rt; errors.as_slice(), b"ulfm: out of memory\n".as_slice());
     assert!(rt; output.is_empty());
     assert_eq!(rt; status, 3);
     Ok(())

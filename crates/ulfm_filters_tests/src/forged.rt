@@ -1,8 +1,9 @@
-//! Input that nobody meant: lines, headers and traces that are cut, too long or forged, through the program.
-use crate::tests::steps::{CHECK, TRACE_ROWS, row_of};
-use crate::tests::{RUN, require, require_answer};
+//! Input that nobody meant: lines, headers and traces that are cut, too long or forged.
+use crate::filtered::require_answer;
 use std::alloc::Global;
 use std::test::Fail;
+use ulfm_filters::Filter;
+use ulfm_worked_rows::traces::TRACE_JUDGED_A;
 
 /// What stands behind the header, and the fault of line 2 that it has.
 const FAULTS: [(&[u8], &str); 13] = [
@@ -37,7 +38,12 @@ fn forged_lines(rt: HostRuntime) -> Result<(), Fail> {
         let mut script = Vec::from_slice(rt.alloc(), b"ulfm 1 3 1 4\n")?;
         script.extend_from_slice(line)?;
         let fault = format!(in rt.alloc(); "ulfm: line 2: {kind}\n")?;
-        require_answer(&rt, rt.alloc(), &RUN, &script, (b"", fault.as_bytes(), 1))?;
+        require_answer(
+            rt.alloc(),
+            Filter::Calls,
+            &script,
+            (b"", fault.as_bytes(), 1),
+        )?;
     }
     Ok(())
 }
@@ -53,7 +59,7 @@ fn unknown_numbers(rt: HostRuntime) -> Result<(), Fail> {
         ),
     ];
     for (script, wanted) in rows {
-        require_answer(&rt, rt.alloc(), &RUN, script, (wanted, b"", 0))?;
+        require_answer(rt.alloc(), Filter::Calls, script, (wanted, b"", 0))?;
     }
     Ok(())
 }
@@ -72,7 +78,7 @@ fn forged_headers(rt: HostRuntime) -> Result<(), Fail> {
         (b"ulfm 1 1023 1 2048\n", b"", 0),
     ];
     for (header, fault, ends) in rows {
-        require_answer(&rt, rt.alloc(), &RUN, header, (b"", fault, ends))?;
+        require_answer(rt.alloc(), Filter::Calls, header, (b"", fault, ends))?;
     }
     Ok(())
 }
@@ -152,17 +158,11 @@ const FORGED: [(usize, Change, &str); 9] = [
 
 #[test]
 fn forged_traces(rt: HostRuntime) -> Result<(), Fail> {
-    let row = row_of(&TRACE_ROWS, "trace_judged_a")?;
     for (number, change, wanted) in FORGED {
-        let trace = changed(rt.alloc(), row.script, number, change)?;
+        let trace = changed(rt.alloc(), TRACE_JUDGED_A.script, number, change)?;
         let verdict = format!(in rt.alloc(); "illegal line {wanted}\n")?;
-        require_answer(
-            &rt,
-            rt.alloc(),
-            &CHECK,
-            &trace,
-            (verdict.as_bytes(), b"", 1),
-        )?;
+        let wanted = (verdict.as_bytes(), b"".as_slice(), 1);
+        require_answer(rt.alloc(), Filter::Check, &trace, wanted)?;
     }
     Ok(())
 }
@@ -170,13 +170,13 @@ fn forged_traces(rt: HostRuntime) -> Result<(), Fail> {
 /// The first lines of a legal trace are one, from the header alone on.
 #[test]
 fn first_lines_are_legal(rt: HostRuntime) -> Result<(), Fail> {
-    let row = row_of(&TRACE_ROWS, "trace_judged_a")?;
     let mut trace = Vec::new(rt.alloc());
     let mut count = 0u32;
-    for line in row.script.lines() {
+    for line in TRACE_JUDGED_A.script.lines() {
         put_line(&mut trace, line.as_bytes())?;
         count = count.wrapping_add(1);
-        require_answer(&rt, rt.alloc(), &CHECK, &trace, (b"legal\n", b"", 0))?;
+        require_answer(rt.alloc(), Filter::Check, &trace, (b"legal\n", b"", 0))?;
     }
-    require(count == 22)
+    assert_eq!(rt; count, 22);
+    Ok(())
 }
