@@ -157,13 +157,16 @@ module _ {P A : Type 0} where
       go (Some u) there is = at_call u there u.is_open refl is
 
   -- a call that is under way at its caller's place
-  pub stands_there : (calls : List (OpenCall P A)) (by : Caller) (i : ℕ) (u : OpenCall P A) → i ≡ seat_of by → i < length calls → u ≡ get_or calls i u → u.is_open ≡ true → Some i ≡ place_by calls by
+  pub stands_there : (calls : List (OpenCall P A)) (by : Caller) (i : ℕ) (u : OpenCall P A) → i ≡ seat_of by → i < length calls → u ≡ get_or calls i u
+      → u.is_open ≡ true → Some i ≡ place_by calls by
   stands_there calls by i u at within is holds =
       let there : slice_get calls (seat_of by) ≡ Some u = ap (slice_get calls) (sym at) ∙ slice_get_read calls (length calls) i u refl within is in
-      ap Some at ∙ sym (ap (option_and_then (λ (v : OpenCall P A). cond v.is_open (Some (seat_of by)) None)) there ∙ ap (λ b. cond b (Some (seat_of by)) None) holds)
+      ap Some at
+      ∙ sym (ap (option_and_then (λ (v : OpenCall P A). cond v.is_open (Some (seat_of by)) None)) there ∙ ap (λ b. cond b (Some (seat_of by)) None) holds)
 
   -- none is where the one there has ended
-  pub stands_ended : (calls : List (OpenCall P A)) (by : Caller) (i : ℕ) (u : OpenCall P A) → i ≡ seat_of by → i < length calls → u ≡ get_or calls i u → u.is_open ≡ false → None ≡ place_by calls by
+  pub stands_ended : (calls : List (OpenCall P A)) (by : Caller) (i : ℕ) (u : OpenCall P A) → i ≡ seat_of by → i < length calls → u ≡ get_or calls i u
+      → u.is_open ≡ false → None ≡ place_by calls by
   stands_ended calls by i u at within is shut =
       let there : slice_get calls (seat_of by) ≡ Some u = ap (slice_get calls) (sym at) ∙ slice_get_read calls (length calls) i u refl within is in
       sym (ap (option_and_then (λ (v : OpenCall P A). cond v.is_open (Some (seat_of by)) None)) there ∙ ap (λ b. cond b (Some (seat_of by)) None) shut)

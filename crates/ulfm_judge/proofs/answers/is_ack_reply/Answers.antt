@@ -8,7 +8,8 @@ use Rattle.ulfm_judge.proofs.Deciding.{true_and}
 use Rattle.ulfm_judge.proofs.answers.is_ack_reply.Goals as goal
 
 -- the greater of what was acknowledged and of the lesser of two counts
-acked_is : {P : Type 0} (reply : Reply P) (all : Bool) (own count known first second third least most : ℕ) → first ≡ own → second ≡ count → third ≡ known → least ≡ min second third → most ≡ max first least → all ≡ true
+acked_is : {P : Type 0} (reply : Reply P) (all : Bool) (own count known first second third least most : ℕ) → first ≡ own → second ≡ count → third ≡ known
+    → least ≡ min second third → most ≡ max first least → all ≡ true
     → acked_test most reply ≡ (all && acked_test (max own (min count known)) reply)
 acked_is reply all own count known first second third least most is_own is_count is_known is_least is_most found =
     let few : least ≡ min count known = is_least ∙ ap₂ min is_count is_known in
@@ -19,7 +20,8 @@ pub returns-then-all : goal.returns-then-all
 returns-then-all g c =
     let own = c.from.ensures ∙ ap (λ (y : Held). y.acked) c.x.view_is in
     let all = sym c.found_all-all.ensures ∙ c.if-all.true in
-    c.is_acked_reply.ensures ∙ acked_is c.args.reply.now _ _ _ _ _ _ _ _ _ own c.from-2.ensures c.count_failed-known.ensures c.min.ensures c.max-acked.ensures all
+    c.is_acked_reply.ensures
+    ∙ acked_is c.args.reply.now _ _ _ _ _ _ _ _ _ own c.from-2.ensures c.count_failed-known.ensures c.min.ensures c.max-acked.ensures all
 
 pub returns-else-all : goal.returns-else-all
 returns-else-all g c =

@@ -17,7 +17,10 @@ returns-then-numbers-point g c = record {
 }
 
 pub returns-in_err-answers : goal.returns-in_err-answers
-returns-in_err-answers g c = record { told = λ h tells. no_value _ c.from_residual.result c.from_residual.ensures.0; fits = λ may. no_value _ c.from_residual.result c.from_residual.ensures.0 }
+returns-in_err-answers g c = record {
+  told = λ h tells. no_value _ c.from_residual.result c.from_residual.ensures.0;
+  fits = λ may. no_value _ c.from_residual.result c.from_residual.ensures.0;
+}
 
 pub returns-then-answers : goal.returns-then-answers
 returns-then-answers g c = record {
@@ -25,7 +28,10 @@ returns-then-answers g c = record {
       let since = le-leb c.args.u.now.begun c.args.point (omega (arith, c.if-point-u.false)) in
       let by_now = le-leb c.args.point (length h) (omega (arith, c.if-numbers-point.false, tells.count)) in
       let answers = sym (c.in_ok-answers.ensures.told h tells) ∙ c.if-answers.true in
-      let lists = c.lists-lists.ensures ∙ ap₂ (λ (s : Seen g.row.P.Denot) (n : ℕ). same_ranks c.args.group.now (listed_in s n c.args.reply.now)) (seen_same c.args.limits.ranks c.args.numbers.now h tells c.args.point) c.comm_of.ensures in
+      let seen = seen_same c.args.limits.ranks c.args.numbers.now h tells c.args.point in
+      let lists =
+      c.lists-lists.ensures
+      ∙ ap₂ (λ (s : Seen g.row.P.Denot) (n : ℕ). same_ranks c.args.group.now (listed_in s n c.args.reply.now)) seen c.comm_of.ensures in
       all_and _ _ _ _ _ since by_now answers lists;
   fits = λ may yes. c.in_ok-answers.ensures.fits may c.if-answers.true;
 }

@@ -43,7 +43,10 @@ pub settle_call-requires-clause-fits : goal.settle_call-requires-clause-fits
 settle_call-requires-clause-fits g c = c.in_ok-may_reply.ensures.fits c.requires.may c.if-not-branch.false
 
 pub returns-in_err-settle_call : goal.returns-in_err-settle_call
-returns-in_err-settle_call g c = record { numbers = c.settle_call.ensures.numbers; taken = λ h us tells_it are. no_value _ c.from_residual-in_err-settle_call.result c.from_residual-in_err-settle_call.ensures.0 }
+returns-in_err-settle_call g c = record {
+  numbers = c.settle_call.ensures.numbers;
+  taken = λ h us tells_it are. no_value _ c.from_residual-in_err-settle_call.result c.from_residual-in_err-settle_call.ensures.0;
+}
 
 pub returns-clause-numbers : goal.returns-clause-numbers
 returns-clause-numbers g c = c.settle_call.ensures.numbers

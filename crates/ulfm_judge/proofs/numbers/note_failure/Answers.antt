@@ -56,9 +56,11 @@ returns g c =
     let pushed = c.in_ok-push.ensures.items in
     record {
       told = λ h tells count.
-          lists_grow declares ranks c.push.new.self.items numbers c.push-2.new.self.items h c.args.entry.now c.in-Some.rank c.args.number somebody count pushed c.in_ok-push-2.ensures.items tells;
+          lists_grow declares ranks c.push.new.self.items numbers c.push-2.new.self.items h c.args.entry.now c.in-Some.rank c.args.number somebody count pushed
+          c.in_ok-push-2.ensures.items tells;
       before = λ are. subst (AreBefore (c.args.number + 1)) (sym c.in_ok-push-2.ensures.items) (before_push c.args.number numbers are);
       longer = pushed ∙ sym (ap (λ o. ranks ++ cons_option o []) somebody);
       members = c.declare_in_all.ensures.members;
-      failed = λ are. subst (λ (fs : List ℕ). AreFailed fs groups) (sym pushed) (c.in_ok-declare_in_all.ensures.failed ranks (omega (arith, c.len.ensures)) are);
+      failed = λ are.
+          subst (λ (fs : List ℕ). AreFailed fs groups) (sym pushed) (c.in_ok-declare_in_all.ensures.failed ranks (omega (arith, c.len.ensures)) are);
     }
