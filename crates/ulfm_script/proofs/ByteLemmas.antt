@@ -186,3 +186,16 @@ pub keeps_nothing : (a b : Option (List ℕ)) → Keeps a b → Consumes a b []
 keeps_nothing None b h = tt
 keeps_nothing (Some us) None h = absurd h
 keeps_nothing (Some us) (Some vs) h = sym h
+
+-- nothing was kept of what was taken, so nothing was taken
+pub none_taken : (a b c : Option (List ℕ)) (kept done : List ℕ) (n : ℕ) → kept ≡ take n done → length kept ≡ 0 → 0 < n → Consumes a b done → Keeps b c
+    → Keeps a c
+none_taken None b c kept done n e none some h k = tt
+none_taken (Some us) None c kept done n e none some h k = absurd h
+none_taken (Some us) (Some vs) None kept done n e none some h k = absurd k
+none_taken (Some us) (Some vs) (Some ws) kept [] n e none some h k = k ∙ sym h
+none_taken (Some us) (Some vs) (Some ws) kept (x ∷ xs) n e none some h k = absurd (omega (arith, ap length e, length-take n (x ∷ xs)))
+
+-- nothing is kept of nothing
+pub none_kept : (kept : List ℕ) (n : ℕ) → kept ≡ [] → kept ≡ take n []
+none_kept kept n e = e ∙ sym (take_all n [] (omega arith))

@@ -1,9 +1,24 @@
 use Rattle.std.proofs.Common.{vec_len, arith, ◌∷◌, [], ◌++◌, ◌∙◌, sym}
-use Rattle.std.proofs.lemmas.Bool.{eqb-false}
+use Rattle.std.proofs.lemmas.Bool.{eqb-false, eqb-true}
 use Rattle.ulfm_script.specs.Buffers.{pending, unread}
-use Rattle.ulfm_script.proofs.ByteLemmas.{consumes_keeps, consumes_then, no_newline_push, kept_more, kept_full, some_kept, failed_line}
+use Rattle.ulfm_script.proofs.ByteLemmas.{consumes_keeps, consumes_start, consumes_then, none_kept, none_taken, no_newline_push, kept_more, kept_full, some_kept, failed_line}
 use Rattle.ulfm_script.proofs.buffers.Input.read_line.Goals as goal
 use Rattle.ulfm_script.proofs.buffers.Input.read_line.Goals.{then-len-kept+else-is_err, else-len-kept}
+
+pub bytes-init : goal.bytes-init
+bytes-init g c =
+    ([], tt, none_kept c.clear.new.self.items c.args.kept c.clear.ensures.items, consumes_start (unread g.R.Read.remaining c.args.self.now c.args.reader.now))
+
+pub returns-then-is_empty : goal.returns-then-is_empty
+returns-then-is_empty g c =
+    let k = g.R.Read.remaining in
+    let i = c.bytes.invariant in
+    let e = rw c.in-Ok-None.field-0-is at c.in-Ok-None.ensures in
+    let empty = eqb-true (vec_len c.bytes.line) 0 (sym c.is_empty.ensures ∙ c.if-is_empty.true) in
+    (none_taken (unread k c.args.self.now c.args.reader.now) (unread k c.bytes.self c.bytes.reader) (unread k c.next_byte.new.self c.next_byte.new.reader) c.bytes.line.items i.0 c.args.kept i.2 (omega (arith, empty, c.bytes.line.ok.0)) c.requires i.3 e.0, e.1)
+
+pub returns : goal.returns
+returns g c = let i = c.bytes.invariant in (i.0, i.1, i.3)
 
 pub returns-in-Err : goal.returns-in-Err
 returns-in-Err g c =
