@@ -35,7 +35,7 @@ failure_stands h i r a e = get_map (λ x. Failure x) (failures h) i r e
 pub comm_stands : {P : Type 0} (h : History P) (i p k a b : ℕ) → made_at h (i + 1) ≡ Some (p, k) → slice_get (items (Comm a b) h) i ≡ Some (Comm p k)
 comm_stands h i p k a b e = get_map (λ made. Comm made.0 made.1) (spawns h) i (p, k) (sym (next_made h i) ∙ e)
 
--- .. of an end
+-- .. where nothing stands
 pub no_failure : {P : Type 0} (h : History P) (i a : ℕ) → slice_get (failures h) i ≡ None → slice_get (items (Failure a) h) i ≡ None
 no_failure h i a e = no_map (λ x. Failure x) (failures h) i e
 

@@ -27,6 +27,17 @@ pub members_next : (group declared : List ℕ) (n : ℕ) → n < length declared
 members_next group declared n lt =
     ap (filter (has group)) (take_one_more declared n 0 lt) ∙ (filter-append (has group) (take n declared) (slice_index declared n ∷ []) ∙ filter_one (has group (slice_index declared n)) (members_in group declared n) (slice_index declared n))
 
+-- .. with a member there
+pub member_next : (group declared : List ℕ) (n : ℕ) → n < length declared → IsTrue (has group (slice_index declared n)) → members_in group declared (n + 1) ≡ members_in group declared n ++ slice_index declared n ∷ []
+member_next group declared n lt member = members_next group declared n lt ∙ ap (λ b. cond b (members_in group declared n ++ slice_index declared n ∷ []) (members_in group declared n)) member
+
+-- .. which is counted
+pub counted_next : (group declared : List ℕ) (n next known : ℕ) → n < length declared → IsTrue (has group (slice_index declared n)) → members_in group declared next ≡ members_in group declared (n + 1) → known ≡ length (members_in group declared n)
+    → known + 1 ≡ length (members_in group declared next)
+counted_next group declared n next known lt member none counted =
+    let more : members_in group declared next ≡ members_in group declared n ++ slice_index declared n ∷ [] = none ∙ member_next group declared n lt member in
+    omega (arith, counted, ap length more, length-append (members_in group declared n) (slice_index declared n ∷ []))
+
 few_passing : (p : ℕ → Bool) (xs : List ℕ) (n : ℕ) → length (filter p (take n xs)) ≤ n
 few_passing p xs zero = omega arith
 few_passing p [] (suc n) = omega arith

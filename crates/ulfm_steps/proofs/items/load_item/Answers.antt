@@ -5,9 +5,6 @@ use Rattle.ulfm_steps.proofs.items.load_item.Goals as goal
 pub load_failure-requires-clause-within : goal.load_failure-requires-clause-within
 load_failure-requires-clause-within g c = rw c.in-Failure.is at c.requires.within
 
-pub overflow_add-index : goal.overflow_add-index
-overflow_add-index g c = let lt = rw c.in-Comm.is at c.requires.within in omega (arith, lt, c.requires.of.may_open.in_range.comms)
-
 pub load_comm-requires-clause-within : goal.load_comm-requires-clause-within
 load_comm-requires-clause-within g c = let lt = rw c.in-Comm.is at c.requires.within in omega (arith, lt)
 

@@ -79,7 +79,7 @@ before g c =
           (subst (λ b. list_all (has_arrived (g.W.Words.sight c.args.pass.now).seen a.comm a.round) (asked_before group declared b a.next) ≡ true) (turned_on a.others w.if-not-self.false) c.requires.at.arrived)
     ]
 
--- how many stand before, and no more loads were made
+-- no fewer stand before it than before the machine's own place
 passed : (g : _) (c : Joined-not-self g) → length (asked_before c.args.group.now c.args.declared.now c.args.self.others c.args.self.next) ≤ length (asked_before c.args.group.now c.args.declared.now true c.if-not-self.start)
 passed g c =
     let a = c.args.self in
@@ -94,6 +94,7 @@ passed g c =
       | else-not-self w ↦ let same = ap (λ b. length (asked_before group declared b a.next)) (turned_on a.others w.if-not-self.false) in rw w.start-is (omega (arith, same))
     ]
 
+-- .. and no more than there are in all
 left : (g : _) (c : Joined-not-self g) → length (asked_before c.args.group.now c.args.declared.now true c.if-not-self.start) ≤ length (in_order c.args.group.now c.args.declared.now)
 left g c =
     let a = c.args.self in
@@ -106,6 +107,7 @@ left g c =
           let same = ap (λ b. length (asked_before group declared b a.next)) (turned_on a.others w.if-not-self.false) in rw w.start-is (omega (arith, fewer, same))
     ]
 
+-- one load was made for each in between, at most
 went : (g : _) (c : Joined-not-self g)
     → Goes g.P.Meld.meld g.W.Words.alone (g.W.Words.name c.args.words.now) (length (asked_before c.args.group.now c.args.declared.now true c.if-not-self.start) - length (asked_before c.args.group.now c.args.declared.now c.args.self.others c.args.self.next))
     (g.W.Words.sight c.args.pass.now) (g.W.Words.sight c.if-not-self.pass)
@@ -131,6 +133,7 @@ stepped g c =
       | else-not-self w ↦ inr (rw w.start-is (subst (λ b. IsAsked c.args.group.now c.args.declared.now b a.next) (turned_on a.others w.if-not-self.false) c.requires.at.asked))
     ]
 
+-- .. so that there was a step either way
 some_step : (a b d : ℕ) (X : Type 0) → (a < b) ⊎ X → a ≤ b → b ≤ d → (X → b < d) → a < d
 some_step a b d X (inl lt) le on more = omega (arith, lt, on)
 some_step a b d X (inr x) le on more = omega (arith, le, more x)

@@ -13,6 +13,3 @@ overflow_mul-result g c = omega (arith, block_small c.self.inside.limits _ c.arg
 
 pub overflow_mul-result-in-Back : goal.overflow_mul-result-in-Back
 overflow_mul-result-in-Back g c = omega (arith, block_small c.self.inside.limits _ c.args.self.now c.args.block c.self.view_is c.self.invariant.0 c.requires)
-
-pub overflow_add-result : goal.overflow_add-result
-overflow_add-result g c = omega (arith, block_small c.self.inside.limits _ c.args.self.now c.args.block c.self.view_is c.self.invariant.0 c.requires)
