@@ -1,9 +1,10 @@
-use Rattle.std.proofs.Common.{◌≡◌, slice_set, ap, sym, subst, ◌∙◌, arith}
+use Rattle.std.proofs.Common.{◌≡◌, [], append-nil, slice_set, ap, sym, subst, ◌∙◌, arith}
+use Rattle.std.proofs.lemmas.{List.{set-get_or}, Result.{IfOk-from_err}}
 use Rattle.ulfm_model.specs.declared.event.Caller.TheVariants.{Rank}
 use Rattle.ulfm_model.specs.declared.refusal.Refusal.TheVariants.{OutOfMemory}
 use Rattle.ulfm_model.specs.declared.reply.Reply.TheVariants.{Refused}
 use Rattle.ulfm_model.specs.Answers.{traits_of}
-use Rattle.ulfm_comm.specs.{Counts.{records_of}, Jobs.{StepsBy}}
+use Rattle.ulfm_comm.specs.{Counts.{records_of}, Jobs.{IsJob, StepsBy}}
 use Rattle.ulfm_comm.proofs.{Jobs.{at_error, ranked_fits, ranked_missing}, Others.{by_rank, mine, other_about, other_begins, other_job, other_made, other_polls, other_step, out_polls}}
 use Rattle.ulfm_comm.proofs.job.call_by.Goals as goal
 use Rattle.ulfm_comm.proofs.job.call_by.Goals.{After-call-reply, In-Shrunk}
@@ -12,6 +13,31 @@ pub returns-then-rank-ranks-clause-step : goal.returns-then-rank-ranks-clause-st
 returns-then-rank-ranks-clause-step g c =
     ranked_missing g.P.Meld.meld g.W.Words.alone (g.W.Words.name c.args.world.now.words) (g.W.Words.sight c.args.pass.now) c.args.ranks.now c.requires.job c.args.asked c.rank_of-rank.result
     (by_rank c.args.asked c.requires.other ∙ ap Rank (sym c.rank_of-rank.ensures)) c.if-rank-ranks.true
+
+pub returns-then-rank-ranks-clause-job : goal.returns-then-rank-ranks-clause-job
+returns-then-rank-ranks-clause-job g c = c.requires.job
+
+pub returns-then-rank-ranks-clause-begins : goal.returns-then-rank-ranks-clause-begins
+returns-then-rank-ranks-clause-begins g c = ([], append-nil _)
+
+pub returns-then-rank-ranks-clause-about : goal.returns-then-rank-ranks-clause-about
+returns-then-rank-ranks-clause-about g c = tt
+
+pub returns-then-rank-ranks-clause-memory : goal.returns-then-rank-ranks-clause-memory
+returns-then-rank-ranks-clause-memory g c = tt
+
+pub returns-in_err-make_room_for-clause-job : goal.returns-in_err-make_room_for-clause-job
+returns-in_err-make_room_for-clause-job g c =
+    subst (λ rs. IsJob g.P.Meld.meld (g.W.Words.name c.args.world.now.words) (g.W.Words.sight c.args.pass.now) (records_of rs)) (sym (set-get_or c.args.ranks.now c.rank_of-rank.result c.index-ranks-rank.result)) c.requires.job
+
+pub returns-in_err-make_room_for-clause-begins : goal.returns-in_err-make_room_for-clause-begins
+returns-in_err-make_room_for-clause-begins g c = ([], append-nil _)
+
+pub returns-in_err-make_room_for-clause-memory : goal.returns-in_err-make_room_for-clause-memory
+returns-in_err-make_room_for-clause-memory g c = at_error c.from_residual.result c.in_err-make_room_for.ensures.memory
+
+pub call-reply-requires-clause-of : goal.call-reply-requires-clause-of
+call-reply-requires-clause-of g c = c.requires.job.of
 
 pub call-reply-requires-clause-fits : goal.call-reply-requires-clause-fits
 call-reply-requires-clause-fits g c =
@@ -79,3 +105,15 @@ returns-in_default g c =
       about = other_about g.P.Meld.meld g.W.Words.alone (g.W.Words.name c.args.world.now.words) (g.W.Words.sight c.args.pass.now) c.args.ranks.now c.requires.job c.args.asked c.requires.other c.rank_of-rank.result c.index-ranks-rank.result c.rank_of-rank.ensures (omega (arith, c.if-rank-ranks.false)) c.call-reply.new.self (g.W.Words.sight c.call-reply.new.pass) c.call-reply.result c.call-reply.ensures.ends kept (traits_of c.args.asked).comm c.make_room_for.new.found.items c.in_default.not-Shrunk c.in_default.not-Refused;
       memory = tt;
     }
+
+pub returns-in_err-make_room_for-clause-step : goal.returns-in_err-make_room_for-clause-step
+returns-in_err-make_room_for-clause-step g c = IfOk-from_err c.from_residual.result _ c.from_residual.ensures.0
+
+pub returns-in_err-make_room_for-clause-about : goal.returns-in_err-make_room_for-clause-about
+returns-in_err-make_room_for-clause-about g c = IfOk-from_err c.from_residual.result _ c.from_residual.ensures.0
+
+pub returns-in_err-put_members-in-Shrunk-clause-step : goal.returns-in_err-put_members-in-Shrunk-clause-step
+returns-in_err-put_members-in-Shrunk-clause-step g c = IfOk-from_err c.from_residual-in_err-put_members-in-Shrunk.result _ c.from_residual-in_err-put_members-in-Shrunk.ensures.0
+
+pub returns-in_err-put_members-in-Shrunk-clause-about : goal.returns-in_err-put_members-in-Shrunk-clause-about
+returns-in_err-put_members-in-Shrunk-clause-about g c = IfOk-from_err c.from_residual-in_err-put_members-in-Shrunk.result _ c.from_residual-in_err-put_members-in-Shrunk.ensures.0

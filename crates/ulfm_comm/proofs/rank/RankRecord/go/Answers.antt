@@ -1,9 +1,46 @@
-use Rattle.std.proofs.Common.{rules, [], ◌∙◌, arith, ap, inl, refl, subst, sym}
+use Rattle.std.proofs.Common.{rules, [], ◌∙◌, ◌≡◌, arith, ap, inl, refl, subst, sym, Bool, true, false, ℕ, List, IsTrue}
+use Rattle.std.proofs.lemmas.Bool.{false≢true}
+use Rattle.ulfm_model.specs.declared.{call.Call.{Call}, reply.Reply.{Reply}}
+use Rattle.ulfm_model.specs.Records.{Record}
+use Rattle.ulfm_words.specs.Steps.{Name, Sight}
+use Rattle.ulfm_steps.specs.declared.arrivals.Missing.{Missing}
+use Rattle.ulfm_comm.specs.{Barrier.{AnswersEarly, IsChecking}, Phase.{is_checking}}
+use Rattle.ulfm_comm.specs.declared.{phases.phase.Next.{Next}, phases.phase.Next.TheVariants.{Ends}, phases.phase.Phase.{Phase}}
+use Rattle.ulfm_comm.specs.declared.phases.phase.Phase.TheVariants.{Checking, Over, Waiting}
 use Rattle.ulfm_model.specs.{declared.reply.Reply.TheVariants.{Standing}, History.{is_revoked}, Terms.{comm_of}}
 use Rattle.ulfm_words.proofs.Trails.{did_none}
 use Rattle.ulfm_comm.specs.{Look.{HasLooked}, Phase.{Answered, StillStands, Stands}}
 use Rattle.ulfm_comm.proofs.{AlsoLeft.{also_ends}, Exchange.{asked_answered, asked_below, walks_none}}
 use Rattle.ulfm_comm.proofs.rank.RankRecord.go.Goals as goal
+
+-- whether a call is over
+abbrev is_over : {P : Type 0} → Phase P → Bool
+is_over Over = true
+is_over _ = false
+
+-- whether a barrier's poll reads who has arrived
+abbrev is_waiting : {P : Type 0} → Phase P → Bool
+is_waiting (Waiting arrivals) = true
+is_waiting _ = false
+
+-- a call stands in one phase
+elsewhere : {P : Type 0} (test : Phase P → Bool) (phase here there : Phase P) → phase ≡ here → test here ≡ false → phase ≡ there → test there ≡ true → ⊥
+elsewhere test phase here there is unlike at alike = false≢true (sym unlike ∙ (ap test (sym is ∙ at) ∙ alike))
+
+-- where it stands is said of that phase
+still : {P : Type 0} (meld : P → P → P) (name : Name) (asked : Call P) (group : List ℕ) (own : Record) (now : Sight P) (phase here : Phase P) → phase ≡ here → StillStands meld name asked phase group own now
+    → StillStands meld name asked here group own now
+still meld name asked group own now phase here is stands = subst (λ at. StillStands meld name asked at group own now) is stands
+
+-- who is missing, in the last phase of a barrier's poll; this value in any other
+abbrev missing_in : {P : Type 0} → Missing → Phase P → Missing
+missing_in known (Checking missing) = missing
+missing_in known _ = known
+
+-- the reply that a call ends with; this one where it goes on
+abbrev ended : {P : Type 0} → Reply P → Next P → Reply P
+ended known (Ends reply) = reply
+ended known _ = known
 
 pub returns-in-Over-clause-turn : goal.returns-in-Over-clause-turn
 returns-in-Over-clause-turn g c =
@@ -97,3 +134,170 @@ returns-in-Waiting-clause-checks g c =
     λ arrivals is which ends alone only old before u.
     c.go_waiting.ensures.checks which ends c.args.group.now.items alone only old before
     (subst (λ phase. Stands g.P.Meld.meld alone (g.W.Words.name c.args.world.now.words) old before (record { asked = c.args.asked.now; phase = phase; group = c.args.group.now.items }) c.args.self.now (g.W.Words.sight c.args.pass.now)) c.in-Waiting.is u)
+
+pub go_begun-requires-clause-stands : goal.go_begun-requires-clause-stands
+go_begun-requires-clause-stands g c = (c.args.group.now.items, still g.P.Meld.meld (g.W.Words.name c.args.world.now.words) c.args.asked.now c.args.group.now.items c.args.self.now (g.W.Words.sight c.args.pass.now) c.args.phase _ c.in-Begun.is c.requires.stands)
+
+pub go_looking-requires-clause-stands : goal.go_looking-requires-clause-stands
+go_looking-requires-clause-stands g c = (c.args.group.now.items, still g.P.Meld.meld (g.W.Words.name c.args.world.now.words) c.args.asked.now c.args.group.now.items c.args.self.now (g.W.Words.sight c.args.pass.now) c.args.phase _ c.in-Looking.is c.requires.stands)
+
+pub go_settling-requires-clause-stands : goal.go_settling-requires-clause-stands
+go_settling-requires-clause-stands g c = (c.args.group.now.items, still g.P.Meld.meld (g.W.Words.name c.args.world.now.words) c.args.asked.now c.args.group.now.items c.args.self.now (g.W.Words.sight c.args.pass.now) c.args.phase _ c.in-Settling.is c.requires.stands)
+
+pub go_arriving-requires-clause-stands : goal.go_arriving-requires-clause-stands
+go_arriving-requires-clause-stands g c = (c.args.group.now.items, still g.P.Meld.meld (g.W.Words.name c.args.world.now.words) c.args.asked.now c.args.group.now.items c.args.self.now (g.W.Words.sight c.args.pass.now) c.args.phase _ c.in-Arriving.is c.requires.stands)
+
+pub go_revoking-requires-clause-stands : goal.go_revoking-requires-clause-stands
+go_revoking-requires-clause-stands g c = (c.args.group.now.items, still g.P.Meld.meld (g.W.Words.name c.args.world.now.words) c.args.asked.now c.args.group.now.items c.args.self.now (g.W.Words.sight c.args.pass.now) c.args.phase _ c.in-Revoking.is c.requires.stands)
+
+pub go_peeking-requires-clause-stands : goal.go_peeking-requires-clause-stands
+go_peeking-requires-clause-stands g c = still g.P.Meld.meld (g.W.Words.name c.args.world.now.words) c.args.asked.now c.args.group.now.items c.args.self.now (g.W.Words.sight c.args.pass.now) c.args.phase _ c.in-Peeking.is c.requires.stands
+
+pub go_marking-requires-clause-stands : goal.go_marking-requires-clause-stands
+go_marking-requires-clause-stands g c = (c.args.group.now.items, still g.P.Meld.meld (g.W.Words.name c.args.world.now.words) c.args.asked.now c.args.group.now.items c.args.self.now (g.W.Words.sight c.args.pass.now) c.args.phase _ c.in-Marking.is c.requires.stands)
+
+pub go_reading-requires-clause-stands : goal.go_reading-requires-clause-stands
+go_reading-requires-clause-stands g c = still g.P.Meld.meld (g.W.Words.name c.args.world.now.words) c.args.asked.now c.args.group.now.items c.args.self.now (g.W.Words.sight c.args.pass.now) c.args.phase _ c.in-Reading.is c.requires.stands
+
+pub go_reading_on-requires-clause-stands : goal.go_reading_on-requires-clause-stands
+go_reading_on-requires-clause-stands g c = still g.P.Meld.meld (g.W.Words.name c.args.world.now.words) c.args.asked.now c.args.group.now.items c.args.self.now (g.W.Words.sight c.args.pass.now) c.args.phase _ c.in-ReadingOn.is c.requires.stands
+
+pub go_spawning-requires-clause-stands : goal.go_spawning-requires-clause-stands
+go_spawning-requires-clause-stands g c = still g.P.Meld.meld (g.W.Words.name c.args.world.now.words) c.args.asked.now c.args.group.now.items c.args.self.now (g.W.Words.sight c.args.pass.now) c.args.phase _ c.in-Spawning.is c.requires.stands
+
+pub go_waiting-requires-clause-stands : goal.go_waiting-requires-clause-stands
+go_waiting-requires-clause-stands g c = (c.args.group.now.items, still g.P.Meld.meld (g.W.Words.name c.args.world.now.words) c.args.asked.now c.args.group.now.items c.args.self.now (g.W.Words.sight c.args.pass.now) c.args.phase _ c.in-Waiting.is c.requires.stands)
+
+pub go_checking-requires-clause-stands : goal.go_checking-requires-clause-stands
+go_checking-requires-clause-stands g c = (c.args.group.now.items, still g.P.Meld.meld (g.W.Words.name c.args.world.now.words) c.args.asked.now c.args.group.now.items c.args.self.now (g.W.Words.sight c.args.pass.now) c.args.phase _ c.in-Checking.is c.requires.stands)
+
+pub returns-in-Over-clause-over : goal.returns-in-Over-clause-over
+returns-in-Over-clause-over g c = λ at. (refl, refl)
+
+pub returns-in-Begun-clause-over : goal.returns-in-Begun-clause-over
+returns-in-Begun-clause-over g c = λ at. absurd (elsewhere is_over _ _ _ c.in-Begun.is refl at refl)
+
+pub returns-in-Looking-clause-over : goal.returns-in-Looking-clause-over
+returns-in-Looking-clause-over g c = λ at. absurd (elsewhere is_over _ _ _ c.in-Looking.is refl at refl)
+
+pub returns-in-Settling-clause-over : goal.returns-in-Settling-clause-over
+returns-in-Settling-clause-over g c = λ at. absurd (elsewhere is_over _ _ _ c.in-Settling.is refl at refl)
+
+pub returns-in-Arriving-clause-over : goal.returns-in-Arriving-clause-over
+returns-in-Arriving-clause-over g c = λ at. absurd (elsewhere is_over _ _ _ c.in-Arriving.is refl at refl)
+
+pub returns-in-Revoking-clause-over : goal.returns-in-Revoking-clause-over
+returns-in-Revoking-clause-over g c = λ at. absurd (elsewhere is_over _ _ _ c.in-Revoking.is refl at refl)
+
+pub returns-in-Asking-clause-over : goal.returns-in-Asking-clause-over
+returns-in-Asking-clause-over g c = λ at. absurd (elsewhere is_over _ _ _ c.in-Asking.is refl at refl)
+
+pub returns-in-Peeking-clause-over : goal.returns-in-Peeking-clause-over
+returns-in-Peeking-clause-over g c = λ at. absurd (elsewhere is_over _ _ _ c.in-Peeking.is refl at refl)
+
+pub returns-in-Marking-clause-over : goal.returns-in-Marking-clause-over
+returns-in-Marking-clause-over g c = λ at. absurd (elsewhere is_over _ _ _ c.in-Marking.is refl at refl)
+
+pub returns-in-Reading-clause-over : goal.returns-in-Reading-clause-over
+returns-in-Reading-clause-over g c = λ at. absurd (elsewhere is_over _ _ _ c.in-Reading.is refl at refl)
+
+pub returns-in-ReadingOn-clause-over : goal.returns-in-ReadingOn-clause-over
+returns-in-ReadingOn-clause-over g c = λ at. absurd (elsewhere is_over _ _ _ c.in-ReadingOn.is refl at refl)
+
+pub returns-in-Spawning-clause-over : goal.returns-in-Spawning-clause-over
+returns-in-Spawning-clause-over g c = λ at. absurd (elsewhere is_over _ _ _ c.in-Spawning.is refl at refl)
+
+pub returns-in-Waiting-clause-over : goal.returns-in-Waiting-clause-over
+returns-in-Waiting-clause-over g c = λ at. absurd (elsewhere is_over _ _ _ c.in-Waiting.is refl at refl)
+
+pub returns-in-Checking-clause-over : goal.returns-in-Checking-clause-over
+returns-in-Checking-clause-over g c = λ at. absurd (elsewhere is_over _ _ _ c.in-Checking.is refl at refl)
+
+pub returns-in-Over-clause-checks : goal.returns-in-Over-clause-checks
+returns-in-Over-clause-checks g c = λ arrivals at. absurd (elsewhere is_waiting _ _ _ c.in-Over.is refl at refl)
+
+pub returns-in-Begun-clause-checks : goal.returns-in-Begun-clause-checks
+returns-in-Begun-clause-checks g c = λ arrivals at. absurd (elsewhere is_waiting _ _ _ c.in-Begun.is refl at refl)
+
+pub returns-in-Looking-clause-checks : goal.returns-in-Looking-clause-checks
+returns-in-Looking-clause-checks g c = λ arrivals at. absurd (elsewhere is_waiting _ _ _ c.in-Looking.is refl at refl)
+
+pub returns-in-Settling-clause-checks : goal.returns-in-Settling-clause-checks
+returns-in-Settling-clause-checks g c = λ arrivals at. absurd (elsewhere is_waiting _ _ _ c.in-Settling.is refl at refl)
+
+pub returns-in-Arriving-clause-checks : goal.returns-in-Arriving-clause-checks
+returns-in-Arriving-clause-checks g c = λ arrivals at. absurd (elsewhere is_waiting _ _ _ c.in-Arriving.is refl at refl)
+
+pub returns-in-Revoking-clause-checks : goal.returns-in-Revoking-clause-checks
+returns-in-Revoking-clause-checks g c = λ arrivals at. absurd (elsewhere is_waiting _ _ _ c.in-Revoking.is refl at refl)
+
+pub returns-in-Asking-clause-checks : goal.returns-in-Asking-clause-checks
+returns-in-Asking-clause-checks g c = λ arrivals at. absurd (elsewhere is_waiting _ _ _ c.in-Asking.is refl at refl)
+
+pub returns-in-Peeking-clause-checks : goal.returns-in-Peeking-clause-checks
+returns-in-Peeking-clause-checks g c = λ arrivals at. absurd (elsewhere is_waiting _ _ _ c.in-Peeking.is refl at refl)
+
+pub returns-in-Marking-clause-checks : goal.returns-in-Marking-clause-checks
+returns-in-Marking-clause-checks g c = λ arrivals at. absurd (elsewhere is_waiting _ _ _ c.in-Marking.is refl at refl)
+
+pub returns-in-Reading-clause-checks : goal.returns-in-Reading-clause-checks
+returns-in-Reading-clause-checks g c = λ arrivals at. absurd (elsewhere is_waiting _ _ _ c.in-Reading.is refl at refl)
+
+pub returns-in-ReadingOn-clause-checks : goal.returns-in-ReadingOn-clause-checks
+returns-in-ReadingOn-clause-checks g c = λ arrivals at. absurd (elsewhere is_waiting _ _ _ c.in-ReadingOn.is refl at refl)
+
+pub returns-in-Spawning-clause-checks : goal.returns-in-Spawning-clause-checks
+returns-in-Spawning-clause-checks g c = λ arrivals at. absurd (elsewhere is_waiting _ _ _ c.in-Spawning.is refl at refl)
+
+pub returns-in-Checking-clause-checks : goal.returns-in-Checking-clause-checks
+returns-in-Checking-clause-checks g c = λ arrivals at. absurd (elsewhere is_waiting _ _ _ c.in-Checking.is refl at refl)
+
+pub returns-in-Over-clause-early : goal.returns-in-Over-clause-early
+returns-in-Over-clause-early g c = λ missing at. absurd (elsewhere is_checking _ _ _ c.in-Over.is refl at refl)
+
+pub returns-in-Begun-clause-early : goal.returns-in-Begun-clause-early
+returns-in-Begun-clause-early g c = λ missing at. absurd (elsewhere is_checking _ _ _ c.in-Begun.is refl at refl)
+
+pub returns-in-Looking-clause-early : goal.returns-in-Looking-clause-early
+returns-in-Looking-clause-early g c = λ missing at. absurd (elsewhere is_checking _ _ _ c.in-Looking.is refl at refl)
+
+pub returns-in-Settling-clause-early : goal.returns-in-Settling-clause-early
+returns-in-Settling-clause-early g c = λ missing at. absurd (elsewhere is_checking _ _ _ c.in-Settling.is refl at refl)
+
+pub returns-in-Arriving-clause-early : goal.returns-in-Arriving-clause-early
+returns-in-Arriving-clause-early g c = λ missing at. absurd (elsewhere is_checking _ _ _ c.in-Arriving.is refl at refl)
+
+pub returns-in-Revoking-clause-early : goal.returns-in-Revoking-clause-early
+returns-in-Revoking-clause-early g c = λ missing at. absurd (elsewhere is_checking _ _ _ c.in-Revoking.is refl at refl)
+
+pub returns-in-Asking-clause-early : goal.returns-in-Asking-clause-early
+returns-in-Asking-clause-early g c = λ missing at. absurd (elsewhere is_checking _ _ _ c.in-Asking.is refl at refl)
+
+pub returns-in-Peeking-clause-early : goal.returns-in-Peeking-clause-early
+returns-in-Peeking-clause-early g c = λ missing at. absurd (elsewhere is_checking _ _ _ c.in-Peeking.is refl at refl)
+
+pub returns-in-Marking-clause-early : goal.returns-in-Marking-clause-early
+returns-in-Marking-clause-early g c = λ missing at. absurd (elsewhere is_checking _ _ _ c.in-Marking.is refl at refl)
+
+pub returns-in-Reading-clause-early : goal.returns-in-Reading-clause-early
+returns-in-Reading-clause-early g c = λ missing at. absurd (elsewhere is_checking _ _ _ c.in-Reading.is refl at refl)
+
+pub returns-in-ReadingOn-clause-early : goal.returns-in-ReadingOn-clause-early
+returns-in-ReadingOn-clause-early g c = λ missing at. absurd (elsewhere is_checking _ _ _ c.in-ReadingOn.is refl at refl)
+
+pub returns-in-Spawning-clause-early : goal.returns-in-Spawning-clause-early
+returns-in-Spawning-clause-early g c = λ missing at. absurd (elsewhere is_checking _ _ _ c.in-Spawning.is refl at refl)
+
+pub returns-in-Waiting-clause-early : goal.returns-in-Waiting-clause-early
+returns-in-Waiting-clause-early g c = λ missing at. absurd (elsewhere is_checking _ _ _ c.in-Waiting.is refl at refl)
+
+pub returns-in-Checking-clause-early : goal.returns-in-Checking-clause-early
+returns-in-Checking-clause-early g c =
+    λ missing at reply ends alone only old before fits polls earlier checking.
+    let name = g.W.Words.name c.args.world.now.words in
+    let same : c.in-Checking.missing ≡ missing = ap (missing_in missing) (sym c.in-Checking.is ∙ at) in
+    let replied : c.go_checking.result ≡ reply = ap (ended reply) ends in
+    subst (λ r. AnswersEarly g.P.Meld.meld name.limits alone c.args.asked.now missing earlier old before.seen r c.go_checking.new.self) replied
+    (subst (λ m. IsChecking g.P.Meld.meld name.limits alone (comm_of c.args.asked.now) m earlier old before.seen c.args.self.now (g.W.Words.sight c.args.pass.now).seen
+    → AnswersEarly g.P.Meld.meld name.limits alone c.args.asked.now m earlier old before.seen c.go_checking.result c.go_checking.new.self) same
+    (c.go_checking.ensures.early alone only old before fits polls earlier) checking)

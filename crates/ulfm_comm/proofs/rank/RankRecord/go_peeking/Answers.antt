@@ -1,4 +1,5 @@
-use Rattle.std.proofs.Common.{rules, ◌≡◌, ℕ, List, Some, true, false, [], length, refl, ap, sym, ◌∙◌, arith}
+use Rattle.std.proofs.lemmas.Bool.{false≢true}
+use Rattle.std.proofs.Common.{◌≡◌, ◌+◌, ◌<◌, ◌≤◌, ℕ, List, Some, true, false, [], length, refl, ap, sym, ◌∙◌, arith}
 use Rattle.ulfm_model.specs.{Blocks.{IsSummed}, Records.{Held, Record, held_at}, Terms.{comm_of}}
 use Rattle.ulfm_steps.specs.Blocks.{is_whole}
 use Rattle.ulfm_comm.specs.{Phase.{IsFurther, IsPast, Turns}, Step.{TakesTurn}, StepsLeft.{FewerLeft, Spends, steps_left}}
@@ -8,6 +9,10 @@ use Rattle.ulfm_comm.proofs.AlsoLeft.{also_peeks_on, also_peeks_over, also_whole
 use Rattle.ulfm_comm.proofs.{Peeking.{peek_any, peek_ends, peek_few, peek_goes, peek_may, peek_named, peek_unread}, StepsLeft.{below_more, peeks_fewer, peeks_on, peeks_over, peeks_past, peeks_spend}}
 use Rattle.ulfm_comm.proofs.rank.RankRecord.go_peeking.Goals as goal
 use Rattle.ulfm_comm.proofs.rank.RankRecord.go_peeking.Goals.{After-deref, After-advance, After-len-members, In-Some}
+
+-- a step was made, so that fewer are left
+fewer : (after left now most : ℕ) → after + left ≤ now + most → now < after → left < most
+fewer after left now most few made = omega arith
 
 -- the members that the code reads
 members : (g : _) (c : After-deref g) → c.deref.result.now ≡ c.held_comm-x.result.now.group
@@ -68,7 +73,7 @@ returns-then-not-advance g c =
     let takes = c.if-not-advance.ensures.takes in
     let after = g.W.Words.sight c.advance.new.pass in
     let left = peeks_on (g.W.Words.name c.args.world.now.words).limits c.args.self.now c.args.asked.now c.held_comm-x.result.now (held g (goal.at.returns-then-not-advance g c).After-deref) c.args.shrinks c.deref.result.now (members g (goal.at.returns-then-not-advance g c).After-deref) c.args.peek c.advance.new.self (g.W.Words.sight c.args.pass.now).steps after.steps takes.turns in
-    peeks g (goal.at.returns-then-not-advance g c).After-advance _ _ _ (λ single. omega (arith, left, takes.some)) left (search rules) (search rules) (search rules)
+    peeks g (goal.at.returns-then-not-advance g c).After-advance _ _ _ (λ single. fewer after.steps (steps_left (g.W.Words.name c.args.world.now.words).limits c.args.self.now c.args.asked.now (Peeking c.advance.new.self c.args.shrinks)) (g.W.Words.sight c.args.pass.now).steps (steps_left (g.W.Words.name c.args.world.now.words).limits c.args.self.now c.args.asked.now (Peeking c.args.peek c.args.shrinks)) left takes.some) left (λ whole. absurd (false≢true (sym c.if-not-advance.true ∙ c.advance.ensures.ends whole))) refl refl
     (λ all. also_peeks_on (g.W.Words.name c.args.world.now.words).limits c.args.self.now c.args.asked.now c.held_comm-x.result.now (held g (goal.at.returns-then-not-advance g c).After-deref) c.args.shrinks c.deref.result.now (members g (goal.at.returns-then-not-advance g c).After-deref) c.args.peek c.advance.new.self (g.W.Words.sight c.args.pass.now) after c.advance.ensures.comm c.advance.ensures.round c.advance.ensures.front c.advance.ensures.kept all c.advance.ensures.goes.cached takes.some takes.turns) (λ alone only old before stands.
     peek_goes g.P.Meld.meld (g.W.Words.name c.args.world.now.words) c.args.asked.now c.args.peek c.args.shrinks c.args.group.now.items c.args.self.now (g.W.Words.sight c.args.pass.now) c.requires.of
     c.held_comm-x.result.now c.comm_of.result c.held_comm-x.ensures c.comm_of.ensures c.deref.result.now (members g (goal.at.returns-then-not-advance g c).After-deref) alone old before stands
@@ -82,7 +87,7 @@ unread-requires-clause-peeked g c =
       stands.1,
       peek_unread g.P.Meld.meld (g.W.Words.name c.args.world.now.words) c.args.asked.now c.args.peek c.args.shrinks c.args.group.now.items c.args.self.now (g.W.Words.sight c.args.pass.now) c.requires.of
           c.held_comm-x.result.now c.comm_of.result c.held_comm-x.ensures c.comm_of.ensures c.deref.result.now (members g (goal.at.unread-requires-clause-peeked g c).After-deref) false stands.0 stands.1 stands.2
-          g.W.Words.alone (λ here. absurd (cc here)) (g.W.Words.sight c.advance.new.pass) c.advance.ensures.goes.of c.advance.ensures.goes.did c.advance.ensures.goes.onward c.advance.new.self c.advance.ensures.comm c.advance.ensures.round c.advance.ensures.are here,
+          g.W.Words.alone (λ here. absurd (false≢true here)) (g.W.Words.sight c.advance.new.pass) c.advance.ensures.goes.of c.advance.ensures.goes.did c.advance.ensures.goes.onward c.advance.new.self c.advance.ensures.comm c.advance.ensures.round c.advance.ensures.are here,
     )
 
 pub returns-in-None : goal.returns-in-None
@@ -93,8 +98,8 @@ returns-in-None g c =
     peeks g (goal.at.returns-in-None g c).After-advance _ _ _
     (λ single. peeks_past (g.W.Words.name c.args.world.now.words).limits c.args.self.now c.args.asked.now c.held_comm-x.result.now (held g (goal.at.returns-in-None g c).After-deref) c.args.shrinks c.deref.result.now (members g (goal.at.returns-in-None g c).After-deref) c.args.peek _ c.unread.ensures.nearer)
     (peeks_over (g.W.Words.name c.args.world.now.words).limits c.args.self.now c.args.asked.now c.held_comm-x.result.now (held g (goal.at.returns-in-None g c).After-deref) c.args.shrinks c.deref.result.now (members g (goal.at.returns-in-None g c).After-deref) c.args.peek _ (g.W.Words.sight c.args.pass.now).steps after.steps c.unread.ensures.nearer (omega (arith, takes.turns)))
-    (λ whole. c.unread.ensures.further) (search rules) c.unread.ensures.past
-    (λ all. let whole = also_whole (g.W.Words.name c.args.world.now.words).limits c.args.self.now c.args.asked.now c.held_comm-x.result.now (held g (goal.at.returns-in-None g c).After-deref) c.args.shrinks c.deref.result.now (members g (goal.at.returns-in-None g c).After-deref) c.args.peek c.advance.new.self (g.W.Words.sight c.args.pass.now) after c.advance.ensures.comm c.advance.ensures.round c.advance.ensures.front c.advance.ensures.kept all (c.advance.ensures.back c.if-not-advance.false) in absurd (cc (whole, here))) (λ alone only old before stands.
+    (λ whole. c.unread.ensures.further) refl c.unread.ensures.past
+    (λ all. let whole = also_whole (g.W.Words.name c.args.world.now.words).limits c.args.self.now c.args.asked.now c.held_comm-x.result.now (held g (goal.at.returns-in-None g c).After-deref) c.args.shrinks c.deref.result.now (members g (goal.at.returns-in-None g c).After-deref) c.args.peek c.advance.new.self (g.W.Words.sight c.args.pass.now) after c.advance.ensures.comm c.advance.ensures.round c.advance.ensures.front c.advance.ensures.kept all (c.advance.ensures.back c.if-not-advance.false) in absurd (false≢true (sym here ∙ whole))) (λ alone only old before stands.
     c.unread.ensures.turns c.args.group.now.items alone old before
     (peek_unread g.P.Meld.meld (g.W.Words.name c.args.world.now.words) c.args.asked.now c.args.peek c.args.shrinks c.args.group.now.items c.args.self.now (g.W.Words.sight c.args.pass.now) c.requires.of
     c.held_comm-x.result.now c.comm_of.result c.held_comm-x.ensures c.comm_of.ensures c.deref.result.now (members g (goal.at.returns-in-None g c).After-deref) alone old before stands
@@ -111,7 +116,7 @@ decided-requires-clause-read g c =
       stands.1,
       peek_ends g.P.Meld.meld (g.W.Words.name c.args.world.now.words) c.args.asked.now c.args.peek c.args.shrinks c.args.group.now.items c.args.self.now (g.W.Words.sight c.args.pass.now) c.requires.of
           c.held_comm-x.result.now c.comm_of.result c.held_comm-x.ensures c.comm_of.ensures c.deref.result.now (members g (goal.at.decided-requires-clause-read g c).After-deref) false stands.0 stands.1 stands.2
-          g.W.Words.alone (λ here. absurd (cc here)) (g.W.Words.sight c.advance.new.pass) c.advance.ensures.goes.of c.advance.ensures.goes.did c.advance.ensures.goes.onward c.advance.new.self c.advance.ensures.comm c.advance.ensures.round c.advance.ensures.are c.in-Some.all (said g (goal.at.decided-requires-clause-read g c).In-Some),
+          g.W.Words.alone (λ here. absurd (false≢true here)) (g.W.Words.sight c.advance.new.pass) c.advance.ensures.goes.of c.advance.ensures.goes.did c.advance.ensures.goes.onward c.advance.new.self c.advance.ensures.comm c.advance.ensures.round c.advance.ensures.are c.in-Some.all (said g (goal.at.decided-requires-clause-read g c).In-Some),
     )
 
 pub returns-in-Some : goal.returns-in-Some

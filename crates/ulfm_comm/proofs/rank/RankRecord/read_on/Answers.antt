@@ -1,4 +1,4 @@
-use Rattle.std.proofs.Common.{◌+◌, ◌<◌, ◌≡◌, length, None, Some, ap, sym, ◌∙◌, subst, arith}
+use Rattle.std.proofs.Common.{◌+◌, ◌<◌, ◌≤◌, ◌≡◌, vec_capacity, length, None, Some, ap, sym, ◌∙◌, subst, arith}
 use Rattle.std.specs.List.{position}
 use mathlib.Core.List.{IsPrefix}
 use Rattle.ulfm_model.specs.History.{failures}
@@ -78,3 +78,14 @@ returns-clause-done g c = c.advance.ensures.done
 
 pub index-requires : goal.index-requires
 index-requires g c = subst (λ n. c.in-Some.i < n) c.deref.ensures.len (position_below (is_of c.args.comm) c.deref.result.now c.in-Some.i (sym c.place_of.ensures ∙ c.in-Some.is))
+
+pub advance-requires-clause-of : goal.advance-requires-clause-of
+advance-requires-clause-of g c = c.requires.of
+
+pub advance-requires-clause-more : goal.advance-requires-clause-more
+advance-requires-clause-more g c = c.requires.more
+
+pub advance-requires-clause-room : goal.advance-requires-clause-room
+advance-requires-clause-room g c =
+    let ranks = ap (λ (own : Record). own.limits.ranks) c.self.view_is ∙ ap (λ l. l.ranks) c.requires.limits in
+    subst (λ n. n ≤ vec_capacity c.self.inside.seen) ranks c.self.invariant.room.room
