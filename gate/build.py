@@ -130,10 +130,14 @@ def main():
     if build.kept and tasks:
         say(f"{len(build.kept)} of {count} crates were proved before, and are kept: going on with the others")
 
+    told = [""]
+
     def tell(done, running):
         left = minutes_left(tasks, build.begun)
-        if running:
-            say(f"crate {len(build.kept) + done + 1} of {count}: proving {', '.join(running)}; about {left} minutes left")
+        text = f"crate {len(build.kept) + done + 1} of {count}: proving {', '.join(running)}; about {left} minutes left"
+        if text != told[-1]:
+            say(text)
+        told.append(text)
 
     try:
         lost = in_lanes(tasks, lambda: bool(build.failed), tell)

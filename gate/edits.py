@@ -215,7 +215,7 @@ class Run:
         unknown = [it for it in names if it not in self.crates.by_name]
         if unknown:
             sys.exit(f"edits: there is no crate {', '.join(unknown)}")
-        self.known, self.begun, self.over, self.told = Known(self.crates), {}, False, ""
+        self.known, self.begun, self.over, self.told, self.told_at = Known(self.crates), {}, False, "", 0
         self.commit = git(root, "rev-parse", "HEAD")
         trials = {it: Trial(self, it) for it in names or self.crates.by_name}
         self.trials = {it: trial for it, trial in trials.items() if trial.edits or trial.failed}
@@ -269,12 +269,13 @@ class Run:
         return self.sums(build)
 
     def tell(self, tasks, done):
+        """Says how far the run is, twice a minute at the most."""
         tried = sum(len(it.refused) + len(it.failed) for it in self.trials.values())
         whole = sum(len(it.edits) for it in self.trials.values())
         text = f"edits: {tried} of {whole} edits, {done} of {len(tasks)} builds and crates; about {minutes_left(tasks, self.begun)} minutes left"
-        if text != self.told:
+        if text != self.told and time.monotonic() > self.told_at + 30:
             print(text, flush=True)
-        self.told = text
+            self.told, self.told_at = text, time.monotonic()
 
     def sums(self, build):
         trials = self.trials.values()

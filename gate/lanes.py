@@ -39,8 +39,8 @@ class Task:
 
 def in_lanes(tasks, is_over=lambda: False, tell=lambda done, running: None):
     """Runs tasks side by side, each once those that it waits for are done. The one with the dearest chain gets half of the processors, where there are
-    as many free, since all wait for it in the end; each other one gets one, and more where processors would idle.
-    Gives the keys of those that were not begun: what they wait for failed, or it was over before."""
+    as many free, since all wait for it in the end; each other one gets one, and more where processors would idle. About once a second `tell` gets how
+    many are done and which run. Gives the keys of those that were not begun: what they wait for failed, or it was over before."""
     with ThreadPoolExecutor(processors()) as pool:
         try:
             return run_all(tasks, pool, is_over, tell)
@@ -62,21 +62,21 @@ def run_all(tasks, pool, is_over, tell):
             wanted = processors() // 2 if tasks[key].chain == max(unfinished) > 0 else 1
             jobs = max(1, min(idle, MOST_JOBS, max(wanted, idle // (len(ready) - at))))
             running[pool.submit(left.pop(key).work, jobs)] = key, jobs
-            tell(len(done), [it for it, _ in running.values()])
         if not running:
             return list(left)
+        tell(len(done), [it for it, _ in running.values()])
         for it in wait(running, timeout=1, return_when=FIRST_COMPLETED).done:
             key, _ = running.pop(it)
             tasks[key].result = it.result()
             if tasks[key].result:
                 done.add(key)
-            tell(len(done), [it for it, _ in running.values()])
 
 
 def minutes_left(tasks, begun):
     """How many minutes the tasks that aren't done take by their costs, on the processors that there are. `begun` has when each began that runs."""
     left = {it: task.cost for it, task in tasks.items() if task.result is None}
-    for key, since in begun.items():
+    # (others add to what runs)
+    for key, since in list(begun.items()):
         left[key] = max(left.get(key, 0) - (time.monotonic() - since), 0)
     chains = {}
     for key in reversed(list(tasks)):
