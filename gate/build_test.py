@@ -80,7 +80,8 @@ def builds_all(copy, crates, names):
     expect(not early, f"begun before what they stand on: {early}")
     beside = any(one[0] == two[0] == "begin" for one, two in zip(lines, lines[1:]))
     expect(beside or len(os.sched_getaffinity(0)) == 1, "no crate is built beside another")
-    expect(len(re.findall(rf"^ulfm: crate \d+ of {len(names)}: proving .*; about \d+ minutes left$", printed, re.M)) >= len(names) // 4, f"it isn't said how far it is: {printed}")
+    told = re.findall(rf"^ulfm: crate \d+ of {len(names)}: proving .*; about \d+ minutes left$", printed, re.M)
+    expect(len(told) >= len(names) // 4, f"it isn't said how far it is: {printed}")
     expect(os.path.isfile(f"{copy.root}/crates/ulfm/out/ulfm"), "the program doesn't stay")
     status, printed, begun = copy.build()
     expect(status == 0 and not begun, f"what is built is asked for again: {begun}")
@@ -111,7 +112,8 @@ def goes_on(copy, names):
 
 def tells_what_failed(copy):
     status, printed, begun = copy.build(FAILS="ulfm_words")
-    expect(status == 3 and "no proof of ulfm_words" in printed and "ulfm_words could not be proved and built" in printed, f"a crate that isn't proved isn't named: {printed}")
+    is_named = "no proof of ulfm_words" in printed and "ulfm_words could not be proved and built" in printed
+    expect(status == 3 and is_named, f"a crate that isn't proved isn't named: {printed}")
     expect("ulfm_steps" not in begun, "what stands on a crate that failed is begun")
 
 
