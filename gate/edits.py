@@ -263,7 +263,7 @@ class Run:
         if timer:
             timer.daemon = True
             timer.start()
-        in_lanes(tasks, self.is_over, lambda done, running: self.tell(tasks, done))
+        in_lanes(tasks, self.is_over, lambda done, running: self.tell(tasks, done), self.end)
         if timer:
             timer.cancel()
         return self.sums(build)

@@ -37,16 +37,17 @@ class Task:
     result: object = None
 
 
-def in_lanes(tasks, is_over=lambda: False, tell=lambda done, running: None):
+def in_lanes(tasks, is_over=lambda: False, tell=lambda done, running: None, end=end_all):
     """Runs tasks side by side, each once those that it waits for are done. The one with the dearest chain gets half of the processors, where there are
     as many free, since all wait for it in the end; each other one gets one, and more where processors would idle. About once a second `tell` gets how
-    many are done and which run. Gives the keys of those that were not begun: what they wait for failed, or it was over before."""
+    many are done and which run. Where it is interrupted, `end` is called, which ends what runs. Gives the keys of those that were not begun: what they
+    wait for failed, or it was over before."""
     with ThreadPoolExecutor(processors()) as pool:
         try:
             return run_all(tasks, pool, is_over, tell)
         except BaseException:
             # (the pool waits for what runs)
-            end_all()
+            end()
             raise
 
 
