@@ -100,7 +100,7 @@ def goes_on(copy, names):
     command = copy.start(TAKES="0.4")
     while len(copy.ended()) < 5:
         time.sleep(0.05)
-    os.killpg(command.pid, signal.SIGINT)
+    os.killpg(command.pid, signal.SIGTERM)
     _, printed = command.communicate(timeout=60)
     expect(command.returncode == 130, f"an interrupted build ends with {command.returncode}: {printed}")
     expect("Traceback" not in printed, f"an interrupted build tells of its insides: {printed}")

@@ -165,6 +165,20 @@ def tests_edits(root):
     expect(status == 1 and "unproved could not be proved" in printed, "an edit of a crate that isn't proved passes", printed)
 
 
+def tests_end(root):
+    """A signal ends a run at once, and no room is left."""
+    os.mkdir(f"{root}/rooms")
+    surroundings = {**os.environ, "XDG_CACHE_HOME": f"{root}/none", "TMPDIR": f"{root}/rooms"}
+    how = {"cwd": root, "stdout": subprocess.PIPE, "stderr": subprocess.STDOUT, "text": True, "env": surroundings}
+    command = subprocess.Popen([sys.executable, f"{HERE}/edits.py", "together", "mixed"], **how)
+    command.stdout.readline()
+    time.sleep(3)
+    command.terminate()
+    printed, _ = command.communicate(timeout=60)
+    expect(command.returncode == 130 and "Traceback" not in printed, f"a run that is ended ends with {command.returncode}", printed)
+    expect(not os.listdir(f"{root}/rooms"), f"rooms are left: {os.listdir(f'{root}/rooms')}", printed)
+
+
 def tests_fall_back(root):
     """Where nothing can be read of what is said of functions, each edit is tried by the toolchain's own command."""
     shutil.rmtree(f"{root}/kept")
@@ -187,6 +201,7 @@ def main():
         lay(root, "run_tests", {}, FAILING)
         tests_proofs(root)
         tests_edits(root)
+        tests_end(root)
         tests_fall_back(root)
     print("gate_test: ok")
 
