@@ -4,6 +4,7 @@
 A crate is begun once those that it names are built, and first those with the dearest chain of others behind them. What was proved stays in
 each crate's out/: a build that was interrupted goes on there, and says so.
 """
+import functools
 import hashlib
 import os
 import subprocess
@@ -19,6 +20,7 @@ HERE = os.path.dirname(os.path.dirname(os.path.abspath(__file__)))
 PROGRAM = "ulfm"
 
 
+@functools.cache
 def toolchain():
     """What the toolchain says of itself."""
     return subprocess.run(["rt", "version"], capture_output=True, text=True).stdout.strip()
@@ -26,30 +28,24 @@ def toolchain():
 
 def sum_of(crates, name, more=""):
     """A sum of all that a crate's proof is made from: its sources, those of the crates below it, their lines, and the toolchain."""
-    made = hashlib.sha256(f"{toolchain_said()}\n{more}".encode())
+    made = hashlib.sha256(f"{toolchain()}\n{more}".encode())
     for it in crates.lowest_first([name]):
         made.update(own_sum(crates, it))
     return made.hexdigest()
 
 
-def own_sum(crates, name, known={}):
+def own_sum(crates, name):
     """A sum of a crate's line and of its files but those of out/ and must-fail/."""
     folder = crates.folder(name)
-    if folder not in known:
+    if name not in crates.sums:
         made = hashlib.sha256(crates.by_name[name].line.encode())
         for at, folders, files in os.walk(folder):
             folders[:] = sorted(it for it in folders if at != folder or it not in LEFT_OUT)
             for file in sorted(files):
                 with open(f"{at}/{file}", "rb") as it:
                     made.update(f"\n{at.removeprefix(folder)}/{file} {hashlib.sha256(it.read()).hexdigest()}".encode())
-        known[folder] = made.digest()
-    return known[folder]
-
-
-def toolchain_said(known=[]):
-    if not known:
-        known.append(toolchain())
-    return known[0]
+        crates.sums[name] = made.digest()
+    return crates.sums[name]
 
 
 class Build:
@@ -90,7 +86,8 @@ class Build:
             is_program = self.crates.is_program(name)
             given = f"{room.folder}/stdin" if is_program and os.path.isfile(f"{room.folder}/stdin") else None
             words = ["run", "--jobs", str(jobs), "--", *arguments(room.folder)] if is_program else ["lib", "--jobs", str(jobs)]
-            made = sum_of(self.crates, name)
+            # (of what is there now, which may have changed since the build began)
+            made = sum_of(Crates(self.crates.root), name)
             status, said = room.run(*words, given=given)
         del self.begun[name]
         with open(f"{self.crates.folder(name)}/out/build.log", "w", encoding="utf-8") as it:

@@ -22,7 +22,8 @@ class Crates:
     """All crates of a repository, by name."""
 
     def __init__(self, root):
-        self.root = root
+        # (the sums of what was read of each crate: another `Crates` reads anew)
+        self.root, self.sums = root, {}
         lines = {}
         for line in read(f"{root}/crates.txt").splitlines():
             head, colon, _ = line.partition("#")[0].partition(":")

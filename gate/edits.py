@@ -48,8 +48,8 @@ class Known:
             # (where nothing can be kept, each edit is tried)
             self.folder = tempfile.mkdtemp(prefix="ulfm-gate-")
 
-    def file(self, crate, edit):
-        return f"{self.folder}/{sum_of(self.crates, crate, f'{RULES} {hashlib.sha256(edit.text.encode()).hexdigest()}')}"
+    def file(self, crate, edit, crates=None):
+        return f"{self.folder}/{sum_of(crates or self.crates, crate, f'{RULES} {hashlib.sha256(edit.text.encode()).hexdigest()}')}"
 
     def get(self, crate, edit):
         try:
@@ -58,7 +58,9 @@ class Known:
             return None
 
     def keep(self, crate, edit, text):
-        write(self.file(crate, edit), text)
+        """Keeps that an edit was refused, unless a source has changed since the run began."""
+        if self.file(crate, edit, Crates(self.crates.root)) == self.file(crate, edit):
+            write(self.file(crate, edit), text)
 
     def last_passed(self):
         """The last commit whose edits passed."""
