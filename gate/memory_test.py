@@ -1,8 +1,9 @@
 #!/usr/bin/env python3
-"""Holds the built program to its memory: a line of a gigabyte, and runs whose memory is refused.
+"""Holds the built program to its memory: a line of a gigabyte, an output of a hundred megabytes, and runs whose memory is refused.
 
 A line of 1,000,000,000 letters, in a script of calls, a script of steps and a trace, is found too long within 32 MB in all, with nothing printed but
-what the lines before print. And each allocation of a run is refused in turn, by a `malloc` of this test that is loaded before the C library's:
+what the lines before print. A script whose replies list a thousand failed ranks again and again prints more than 32 MB several times over, within 32 MB
+in all: what it prints isn't kept. And each allocation of a run is refused in turn, by a `malloc` of this test that is loaded before the C library's:
 that one alone, and with all behind it; of scripts, a trace and a race of threads. Each such run ends within a minute, tells that it is out of memory and
 has printed a beginning of its output, of a verdict or a race nothing; or, where one alone was refused, it had asked for less and prints all. The last
 run is one in which none is refused.
@@ -24,6 +25,8 @@ LONG = (
     ("run --steps", ["run", "--steps"], b"ulfm-steps 1 3 1 4\n", b"ulfm-trace 1 3 1 4\n", b"ulfm: line 2: long\n", 1),
     ("check", ["check"], b"ulfm-trace 1 3 1 4\n", b"illegal line 2 text\n", b"", 1),
 )
+LISTED = 1000
+LISTS = 30_000
 RACE = b"round 0 agreed fffffff8 failed 0 clean\nround 1 agreed fffffff1 failed 0 clean\nshrunk 1 context 1 members 0 1 2\n"
 REFUSED = (
     *((["run"], f"{name}.ulfm") for name in ("one_rank", "shrinks_keep_order", "acknowledgements_count", "refusals_in_order")),
@@ -90,6 +93,27 @@ def long_line(words, header, output, errors, status):
     return None if is_read else "didn't read its line"
 
 
+def long_output():
+    """What is wrong with a run that prints much, or None."""
+    script = f"ulfm 1 {LISTED + 1} 1 1\n" + "".join(f"fail {rank}\n" for rank in range(LISTED)) + f"get {LISTED} 0\n" * LISTS
+    lines = [(b"declared\n", LISTED), (f"failed {' '.join(str(rank) for rank in range(LISTED))}\n".encode(), LISTS)]
+    with tempfile.TemporaryFile() as text, tempfile.TemporaryFile() as err:
+        text.write(script.encode()), text.seek(0)
+        limit = lambda: resource.setrlimit(resource.RLIMIT_DATA, (MOST, MOST))
+        process = subprocess.Popen([PROGRAM, "run"], stdin=text, stdout=subprocess.PIPE, stderr=err, preexec_fn=limit)
+        is_same = all(process.stdout.read(len(line)) == line for line, count in lines for _ in range(count)) and process.stdout.read() == b""
+        process.stdout.close()
+        _, ended, used = os.wait4(process.pid, 0)
+        process.returncode = os.waitstatus_to_exitcode(ended)
+        err.seek(0)
+        said = (err.read(), process.returncode)
+    if said != (b"", 0):
+        return f"ends as {said}"
+    if used.ru_maxrss * 1024 > MOST:
+        return f"held {used.ru_maxrss} KB"
+    return None if is_same else "prints something else"
+
+
 def ran(library, words, text, first, last):
     """A run in which these allocations are refused: how it ended, and whether the first of them was asked for."""
     told, tell = os.pipe()
@@ -139,6 +163,7 @@ def refusing_library(folder):
 
 def main():
     faults = {f"a long line in {name}": long_line(*row) for name, *row in LONG}
+    faults["a long output"] = long_output()
     with tempfile.TemporaryDirectory() as folder:
         library = refusing_library(folder)
         for words, name in REFUSED:

@@ -7,7 +7,7 @@ use Rattle.std.specs.{List.{cons_option}, Option.{option_map}}
 use Rattle.std.specs.Prelude.{Vec, map, unwrap_or}
 use Rattle.ulfm_model.specs.declared.event.Entry.{Entry}
 use Rattle.ulfm_model.specs.{History.{History, failures, first_ranks, members, same_place, says, spawns}, Terms.{put_at}}
-use Rattle.ulfm_model.proofs.Histories.{members_made, members_same, members_stay, spawns_push}
+use Rattle.ulfm_model.proofs.Histories.{members_made, members_same, members_stay, slot_first, spawns_push}
 use Rattle.ulfm_history.proofs.Walks.{members_missing}
 use Rattle.ulfm_judge.specs.declared.numbers.Numbers.{Numbers}
 use Rattle.ulfm_judge.specs.{Failed.{members_of}, Groups.{group_at, items_of}, Seen.{Seen, made_in, seen_of}, Telling.{Tells, TellsGroups, seen_at}}
@@ -16,7 +16,7 @@ use Rattle.ulfm_judge.proofs.Tabling.{first_by, given_at, passing_at}
 
 module _ {P A : Type 0} {g : _} (ranks : ℕ) (numbers : Numbers P A g) (h : History P) (tells : Tells ranks numbers h) (point : ℕ) where
   slots_same : (at : ℕ × ℕ × ℕ) → (seen_at numbers point).slots at ≡ (seen_of ranks (take point h)).slots at
-  slots_same at = ap (by_then point) (tells.slots at) ∙ sym (first_by (λ (e : Entry P). put_at at (says e.event).settles) point h)
+  slots_same at = ap (by_then point) (tells.slots at) ∙ sym (slot_first (take point h) (at.0) (at.1) (at.2) ∙ first_by (λ (e : Entry P). put_at at (says e.event).settles) point h)
 
   arrived_same : (at : ℕ × ℕ × ℕ) → (seen_at numbers point).arrived at ≡ (seen_of ranks (take point h)).arrived at
   arrived_same at = ap (before_then point) (tells.arrivals at) ∙ sym (passing_at (λ (e : Entry P). (says e.event).arrives) (λ x. same_place x at) point h)

@@ -4,6 +4,7 @@ use Rattle.std.specs.Option.{option_and_then}
 use Rattle.ulfm_model.specs.declared.{event.Caller.{Caller}, limits.Limits.{Limits}, reply.Reply.{Reply}}
 use Rattle.ulfm_model.specs.{Answers.{comm_of, traits_of}, History.{History}, Records.{Held, Record, held_at}}
 use Rattle.ulfm_record.specs.{declared.record.RankRecord.{RankRecord}, Kept.{FitsNext, record_of}}
+use Rattle.ulfm_trace_model.specs.declared.line.Line.{Line}
 use Rattle.ulfm_trace_model.specs.Traces.{Traced, Under, caller_of, record_of as record_at, same_caller}
 use Rattle.ulfm_judge.specs.declared.calls.OpenCall.{OpenCall}
 
@@ -19,6 +20,11 @@ traced_of limits history records calls = record { limits = limits; history = his
 abbrev pub seat_of : Caller → ℕ
 seat_of Caller.Outside = 0
 seat_of (Caller.Rank r) = r + 1
+
+-- how many places a line needs: up to that of the caller whose call begins
+abbrev pub needed_by : {P : Type 0} → Line P → ℕ
+needed_by (Line.Called asked) = seat_of (traits_of asked).by + 1
+needed_by _ = 0
 
 -- a call, where it is under way
 abbrev pub open_at : {P A : Type 0} → OpenCall P A → Option (Under P)

@@ -1,5 +1,5 @@
 -- What a judge stands for.
-use Rattle.std.specs.Prelude.{◌≡◌}
+use Rattle.std.specs.Prelude.{◌≡◌, ℕ, length}
 use Rattle.ulfm_trace_model.specs.Traces.{Traced}
 use Rattle.ulfm_judge.specs.declared.judge.Judge.{Judge}
 use Rattle.ulfm_judge.specs.{Kept.{AreCalls, traced_of}, Telling.{Tells}}
@@ -9,3 +9,7 @@ use Rattle.ulfm_judge.specs.{Kept.{AreCalls, traced_of}, Telling.{Tells}}
 abbrev pub Stands : {P A : Type 0} {g : _} → Judge P A g → Traced P → Type 0
 Stands judge now =
     Tells judge.limits.ranks judge.numbers now.history × AreCalls judge.calls.items now.calls × (now ≡ traced_of judge.limits now.history judge.records.items now.calls)
+
+-- how many places for calls a judge has
+abbrev pub places : {P A : Type 0} {g : _} → Judge P A g → ℕ
+places judge = length judge.calls.items

@@ -1,6 +1,6 @@
 //! The calls under way, each at its caller's place: lines that begin one, and looks.
-ghost use Rattle.std.specs.Prelude.{◌≡◌, ◌<◌, ◌≤◌, ◌==◌, IfOk, IfSome, List, OnOk, ℕ, find, length, map, position, take};
-ghost use Rattle.ulfm_judge.specs.Kept.{AreCalls, GoesWith, place_by, seat_of, traced_of};
+ghost use Rattle.std.specs.Prelude.{◌≡◌, ◌<◌, ◌≤◌, ◌==◌, IfOk, IfSome, List, OnOk, ℕ, find, length, map, max, position, take};
+ghost use Rattle.ulfm_judge.specs.Kept.{AreCalls, GoesWith, needed_by, place_by, seat_of, traced_of};
 ghost use Rattle.ulfm_judge.specs.Tests.{due_test};
 ghost use Rattle.ulfm_model.specs.Answers.{traits_of};
 ghost use Rattle.ulfm_model.specs.History.{History, failures, first_ranks};
@@ -72,6 +72,7 @@ fn make_room<P: Meld, A: Allocator + Copy + Drop>(
     asked: Call<P>,
 ) -> Result<(), AllocError>
     ensures room { OnOk result (count ≤ length calls.new.items) }
+    ensures few { length calls.new.items ≤ max (length calls.old.items) count }
     ensures same { (us : List (Under P)) → AreCalls calls.old.items us → AreCalls calls.new.items us }
 {
     'room: for _place in calls.len()..count {
@@ -93,7 +94,8 @@ pub(crate) fn begin<P: Meld, A: Allocator + Copy + Drop>(
     calls: &mut Vec<OpenCall<P, A>, A>,
     asked: Call<P>,
 ) -> Result<Option<Why>, AllocError>
-    ensures { (limits : Limits) (h : History P) (records : List (RankRecord A)) (us : List (Under P)) (group : List ℕ) → count ≡ length h
+    ensures few { length calls.new.items ≤ max (length calls.old.items) (needed_by (Line.Called asked)) }
+    ensures taken { (limits : Limits) (h : History P) (records : List (RankRecord A)) (us : List (Under P)) (group : List ℕ) → count ≡ length h
         → AreCalls calls.old.items us → let old = traced_of limits h records us in
         IfOk result (GoesWith calls.new.items (λ next. Takes P.meld old group (Line.Called asked) (traced_of limits h records next))) }
 {

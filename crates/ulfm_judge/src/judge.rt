@@ -1,6 +1,6 @@
 //! The judge of traces.
-ghost use Rattle.std.specs.Prelude.{◌≡◌, IfOk, List, ℕ, map};
-ghost use Rattle.ulfm_judge.specs.Kept.{AreCalls, GoesWith, traced_of};
+ghost use Rattle.std.specs.Prelude.{◌≡◌, ◌≤◌, IfOk, List, ℕ, length, map, max};
+ghost use Rattle.ulfm_judge.specs.Kept.{AreCalls, GoesWith, needed_by, traced_of};
 ghost use Rattle.ulfm_judge.specs.Telling.{Goes, Tells};
 ghost use Rattle.ulfm_model.specs.History.{History, first_ranks};
 ghost use Rattle.ulfm_model.specs.Words.{MayOpen};
@@ -21,7 +21,8 @@ use ulfm_record::record::RankRecord;
 use ulfm_trace_model::line::{Line, Why};
 
 /// Judges the lines of a trace one after another. Of what happened it keeps when, by what was said, and no history: what a line takes
-/// grows with the members of its communicator, with the communicators and with the failures, and not with the lines before it.
+/// grows with the members of its communicator, with the communicators and with the failures, and not with the lines before it. For calls
+/// it has a place for the outside and for each rank up to the greatest whose call began, however many calls there were.
 #[derive(Drop)]
 pub struct Judge<P: Meld, A: Allocator> {
     alloc: A,
@@ -99,6 +100,7 @@ fn take_line<P: Packed, A: Allocator + Copy + Drop>(
     requires may { MayOpen limits }
     requires numbers { map (λ own. own.number) records.old ≡ first_ranks limits.ranks }
     ensures numbers { map (λ own. own.number) records.new ≡ map (λ own. own.number) records.old }
+    ensures few { length calls.new.items ≤ max (length calls.old.items) (needed_by line.now) }
     ensures taken { (h : History P) (us : List (Under P)) → Tells limits.ranks numbers.old h → AreCalls calls.old.items us
         → let old = traced_of limits h records.old us in
         IfOk result (Goes limits numbers.new records.new calls.new.items (Takes P.meld old group.now line.now)) }
@@ -120,12 +122,13 @@ fn take_line<P: Packed, A: Allocator + Copy + Drop>(
 }
 
 impl<P: Packed, A: Allocator + Copy + Drop> Judge<P, A> {
-    ghost use Rattle.ulfm_judge.specs.Standing.{Stands};
+    ghost use Rattle.ulfm_judge.specs.Standing.{Stands, places};
 
     /// A judge of a trace behind a header with these limits: nothing was said yet.
     pub fn open(alloc: A, limits: Limits) -> Result<Judge<P, A>, AllocError>
         requires { MayOpen limits }
-        ensures { IfOk result (λ judge. Stands judge (nothing limits)) }
+        ensures stands { IfOk result (λ judge. Stands judge (nothing limits)) }
+        ensures none { IfOk result (λ judge. places judge ≡ 0) }
     {
         let records = new_records(alloc, limits)?;
         let numbers = Numbers::new(alloc, limits.ranks)?;
@@ -142,7 +145,8 @@ impl<P: Packed, A: Allocator + Copy + Drop> Judge<P, A> {
     /// or nothing where it may. A line that may not come changes nothing. After an error, which is want of memory, part of the line
     /// may be taken in: such a judge is to be used no more.
     pub fn take(&mut self, line: &Line<P>, group: &[u16]) -> Result<Option<Why>, AllocError>
-        ensures { (now : Traced P) → Stands self.old now
+        ensures few { places self.new ≤ max (places self.old) (needed_by line.now) }
+        ensures taken { (now : Traced P) → Stands self.old now
             → IfOk result (λ why. (next : Traced P) × Takes P.meld now group.now line.now next why × Stands self.new next) }
     {
         take_line(

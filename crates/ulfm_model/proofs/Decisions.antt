@@ -20,8 +20,8 @@ use Rattle.ulfm_model.specs.History.{History, failures, slot}
 use Rattle.ulfm_model.proofs.Says.{put_by, declared_by}
 use Rattle.ulfm_model.specs.History.{Decision, Exists, IsLegal, IsPlace, MayFollow, body_of, contribution_of, decided_by, decision, failed, failed_among, is_decided, known_of, members, round, round_among, union_of}
 use Rattle.ulfm_model.specs.Terms.{lacks_one}
-use Rattle.ulfm_model.proofs.Lists.{first_stays, first_push, none_first, filter_map_same, all_some, each_filter_map, each_filter, filter_map_each, each_from, any_same, any_none, each_always, filter_none, not_in_take, not_in_filter, in_list, get_stays}
-use Rattle.ulfm_model.proofs.Histories.{by_events, stays, exists_push, members_same}
+use Rattle.ulfm_model.proofs.Lists.{none_first, filter_map_same, all_some, each_filter_map, each_filter, filter_map_each, each_from, any_same, any_none, each_always, filter_none, not_in_take, not_in_filter, in_list, get_stays}
+use Rattle.ulfm_model.proofs.Histories.{by_events, stays, exists_push, members_same, slot_first, slot_push, slot_remains}
 
 module _ {P : Type 0} (meld : P → P → P) (limits : Limits) where
   abbrev ranks : ℕ
@@ -104,9 +104,9 @@ module _ {P : Type 0} (meld : P → P → P) (limits : Limits) where
     where
       before : (w : History P) (e : Entry P) (c k r : ℕ) (s : Slot P) → ((c k r : ℕ) (s : Slot P) → slot w c k r ≡ Some s → Stands w c k r s) → MayFollow meld limits w e.event
           → slot (w ++ e ∷ []) c k r ≡ Some s → (o : Option (Slot P)) → slot w c k r ≡ o → Stands w c k r s
-      before w e c k r s q may is None was = (put_stands w e.event c k r s may (sym (first_push (λ x. put_by c k r x.event) w e was) ∙ is)).1
+      before w e c k r s q may is None was = (put_stands w e.event c k r s may (sym (slot_push w e c k r was) ∙ is)).1
       before w e c k r s q may is (Some t) was =
-          let still = first_stays (λ x. put_by c k r x.event) w (e ∷ []) t was in
+          let still = slot_remains w e c k r t was in
           let same : t ≡ s = cc (still, is) in subst (Stands w c k r) same (q c k r t was)
 
   -- in a legal history no place is settled twice
@@ -123,11 +123,11 @@ module _ {P : Type 0} (meld : P → P → P) (limits : Limits) where
         where
           last : (o : Option (Slot P)) → put_by c k r e.event ≡ o → length (filter_map (λ x. put_by c k r x.event) w ++ cons_option o []) ≤ 1
           last None is = rw (append-nil (filter_map (λ x. put_by c k r x.event) w)) le
-          last (Some s) is = rw (none_first (filter_map (λ x. put_by c k r x.event) w) (put_stands w e.event c k r s may is).0) (omega arith)
+          last (Some s) is = rw (none_first (filter_map (λ x. put_by c k r x.event) w) (sym (slot_first w c k r) ∙ (put_stands w e.event c k r s may is).0)) (omega arith)
 
   -- an event changes nothing of a round whose members are all settled
   settled_push : (h : History P) (e : Entry P) (c k : ℕ) (ms : List ℕ) → list_all (λ r. is_some (slot h c k r)) ms ≡ true → round_among ms (h ++ e ∷ []) c k ≡ round_among ms h c k
-  settled_push h e c k ms all = filter_map_same (slot h c k) (slot (h ++ e ∷ []) c k) (λ r s is. first_stays (λ x. put_by c k r x.event) h (e ∷ []) s is) ms all
+  settled_push h e c k ms all = filter_map_same (slot h c k) (slot (h ++ e ∷ []) c k) (λ r s is. slot_remains h e c k r s is) ms all
 
   -- the rank that an event declares is not in the failed group before it
   newly : (h : History P) (e : Event P) (F : List ℕ) (p : ℕ → Bool) → MayFollow meld limits h e → ((r : ℕ) → has (failures h) r ≡ false → has F r ≡ false) → AllByRecursion (λ r. has F r ≡ false) (filter p (cons_option (declared_by e) []))
@@ -179,7 +179,7 @@ module _ {P : Type 0} (meld : P → P → P) (limits : Limits) where
       let list : round ranks h' c k ≡ round ranks h c k = ap (λ w. round_among w h' c k) same ∙ settled_push h e c k ms all in
       let fits : AllByRecursion (Fits (length F)) (round ranks h c k) = each_filter_map (slot h c k) (Fits (length F)) (λ r s is. (slot_stands h legal c k r s is).fits) ms in
       let out : AllByRecursion (λ r. has F r ≡ false) X = newly h e.event F (has ms) may (λ r o. not_in_filter (has ms) (failures h) r o) in (
-        ap (λ w. list_all (λ r. is_some (slot h' c k r)) w) same ∙ all_some (slot h c k) (slot h' c k) (λ r s is. first_stays (λ x. put_by c k r x.event) h (e ∷ []) s is) ms all,
+        ap (λ w. list_all (λ r. is_some (slot h' c k r)) w) same ∙ all_some (slot h c k) (slot h' c k) (λ r s is. slot_remains h e c k r s is) ms all,
         ap₂ (decided_by meld) (failed_push h e c here may) list ∙ decided_more F X (round ranks h c k) fits out,
       )
 

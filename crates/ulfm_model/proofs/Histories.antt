@@ -1,6 +1,6 @@
 -- Legal histories: how they are put together and taken apart, and what no later event changes.
-use Rattle.std.proofs.Common.{◌≡◌, ℕ, true, false, cond, ◌==◌, [], ◌∷◌, ◌++◌, length, Some, refl, ap, sym, ◌∙◌, ◌+◌, Option, None, subst, arith, append_assoc, append-nil, length-append}
-use Rattle.std.specs.List.{cons_option}
+use Rattle.std.proofs.Common.{◌≡◌, ℕ, true, false, cond, ◌==◌, [], ◌∷◌, ◌++◌, length, Some, refl, ap, sym, ◌∙◌, ◌+◌, Option, None, subst, arith, append_assoc, append-nil, length-append, filter_map, slice_get}
+use Rattle.std.specs.{List.{cons_option}, Option.{option_or}}
 use Rattle.std.proofs.lemmas.List.Elements.{filter_map-append}
 use Rattle.std.proofs.lemmas.List.{reverse-reverse}
 use Rattle.std.proofs.lemmas.Bool.{eq-eqb, ne_eqb}
@@ -13,7 +13,7 @@ use Rattle.ulfm_model.specs.History.{History, failures, slot, spawns}
 use Rattle.ulfm_model.proofs.Says.{put_by, declared_by, made_by}
 use Rattle.ulfm_model.specs.History.{Exists, IsLegal, IsLegalAfter, MayFollow, members, members_after, members_by}
 use Rattle.ulfm_model.specs.Terms.{group_among}
-use Rattle.ulfm_model.proofs.Lists.{first_stays, reverse_push}
+use Rattle.ulfm_model.proofs.Lists.{reverse_push}
 
 module _ {P : Type 0} (meld : P → P → P) (limits : Limits) where
   legal_after_push : (before h : History P) (e : Entry P) → IsLegalAfter meld limits before h → MayFollow meld limits (before ++ h) e.event → IsLegalAfter meld limits before (h ++ e ∷ [])
@@ -66,10 +66,47 @@ pub failures_begin : {P : Type 0} (h longer : History P) → IsPrefix h longer �
 failures_begin h longer begins =
     (failures begins.0, sym (filter_map-append (λ e. declared_by e.event) h begins.0) ∙ ap failures begins.1)
 
--- whatever settles a place settles it for good
-pub slot_stays : {P : Type 0} (h longer : History P) (c k r : ℕ) (s : Slot P) → IsPrefix h longer → slot h c k r ≡ Some s → slot longer c k r ≡ Some s
-slot_stays h longer c k r s begins is =
-    subst (λ w. slot w c k r ≡ Some s) begins.1 (first_stays (λ e. put_by c k r e.event) h begins.0 s is)
+module _ {P : Type 0} where
+  -- what events before settle, or else those after
+  pub slot_append : (h more : History P) (c k r : ℕ) → slot (h ++ more) c k r ≡ option_or (slot h c k r) (slot more c k r)
+  slot_append [] more c k r = refl
+  slot_append (e ∷ h) more c k r = go (put_by c k r e.event) (slot_append h more c k r)
+    where
+      go : (o : Option (Slot P)) → slot (h ++ more) c k r ≡ option_or (slot h c k r) (slot more c k r)
+          → option_or o (slot (h ++ more) c k r) ≡ option_or (option_or o (slot h c k r)) (slot more c k r)
+      go None later = later
+      go (Some s) later = refl
+
+  -- it is the first of all that events put there
+  pub slot_first : (h : History P) (c k r : ℕ) → slot h c k r ≡ slice_get (filter_map (λ e. put_by c k r e.event) h) 0
+  slot_first [] c k r = refl
+  slot_first (e ∷ h) c k r = go (put_by c k r e.event) (slot_first h c k r)
+    where
+      go : (o : Option (Slot P)) → slot h c k r ≡ slice_get (filter_map (λ e. put_by c k r e.event) h) 0
+          → option_or o (slot h c k r) ≡ slice_get (cons_option o (filter_map (λ e. put_by c k r e.event) h)) 0
+      go None later = later
+      go (Some s) later = refl
+
+  or_none : (o : Option (Slot P)) → option_or o None ≡ o
+  or_none None = refl
+  or_none (Some s) = refl
+
+  -- at an empty place the next event decides what is settled
+  pub slot_push : (h : History P) (e : Entry P) (c k r : ℕ) → slot h c k r ≡ None → slot (h ++ e ∷ []) c k r ≡ put_by c k r e.event
+  slot_push h e c k r empty = slot_append h (e ∷ []) c k r ∙ (ap (λ o. option_or o (slot (e ∷ []) c k r)) empty ∙ or_none (put_by c k r e.event))
+
+  -- an event that puts nothing at a place leaves it
+  pub slot_kept : (h : History P) (e : Entry P) (c k r : ℕ) → put_by c k r e.event ≡ None → slot (h ++ e ∷ []) c k r ≡ slot h c k r
+  slot_kept h e c k r none = slot_append h (e ∷ []) c k r ∙ (ap (λ o. option_or (slot h c k r) (option_or o None)) none ∙ or_none (slot h c k r))
+
+  -- whatever settles a place settles it for good
+  pub slot_stays : (h longer : History P) (c k r : ℕ) (s : Slot P) → IsPrefix h longer → slot h c k r ≡ Some s → slot longer c k r ≡ Some s
+  slot_stays h longer c k r s begins is =
+      subst (λ w. slot w c k r ≡ Some s) begins.1 (slot_append h begins.0 c k r ∙ ap (λ o. option_or o (slot begins.0 c k r)) is)
+
+  -- .. with one more event
+  pub slot_remains : (h : History P) (e : Entry P) (c k r : ℕ) (s : Slot P) → slot h c k r ≡ Some s → slot (h ++ e ∷ []) c k r ≡ Some s
+  slot_remains h e c k r s is = slot_stays h (h ++ e ∷ []) c k r s (e ∷ [], refl) is
 
 -- an event adds at most one communicator, at the end of the list
 pub spawns_push : {P : Type 0} (h : History P) (e : Entry P) → spawns (h ++ e ∷ []) ≡ spawns h ++ cons_option (made_by e.event) []

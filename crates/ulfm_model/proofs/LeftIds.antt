@@ -20,6 +20,7 @@ use Rattle.ulfm_model.specs.History.{History, has, same_place, slot}
 use Rattle.ulfm_model.specs.{History.{IsLegal, body_of, contribution_of, decision, members}, Records.{Held, all_but, free_ids}}
 use Rattle.ulfm_model.specs.Terms.{IsOwn, contexts_of}
 use Rattle.ulfm_model.proofs.Says.{put_by}
+use Rattle.ulfm_model.proofs.Histories.{slot_first}
 use Rattle.ulfm_model.proofs.Lists.{at_member, each_from, in_list}
 use Rattle.ulfm_model.proofs.Decisions.{settled_once}
 use Rattle.ulfm_model.proofs.FreeIds.{all_but_is}
@@ -100,7 +101,7 @@ module _ {P : Type 0} (meld : P → P → P) where
   -- a contribution that a legal history has in a rank's name stands at the rank's place
   pub own_stands : (limits : Limits) (h : History P) (c k r : ℕ) (given : Contribution P) → IsLegal meld limits h → IsOwn h r (Settle c k r given) → slot h c k r ≡ Some (Given given)
   own_stands limits h c k r given legal own =
-      first_of_one (λ e. put_by c k r e.event) h _ (Given given) own here (settled_once meld limits h legal c k r)
+      slot_first h c k r ∙ first_of_one (λ e. put_by c k r e.event) h _ (Given given) own here (settled_once meld limits h legal c k r)
     where
       here : put_by c k r (Settle c k r given) ≡ Some (Given given)
       here =

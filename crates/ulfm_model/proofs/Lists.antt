@@ -20,24 +20,6 @@ is_some_of None e = absurd cc
 is_some_of (Some y) e = (y, refl)
 
 module _ {X Y : Type 0} where
-  -- the first value that f keeps is the first of every longer list
-  pub first_stays : (f : X → Option Y) (xs ys : List X) (y : Y) → slice_get (filter_map f xs) 0 ≡ Some y → slice_get (filter_map f (xs ++ ys)) 0 ≡ Some y
-  first_stays f [] ys y e = absurd cc
-  first_stays f (x ∷ xs) ys y e =
-      elim (f x) as (λ o. slice_get (cons_option o (filter_map f xs)) 0 ≡ Some y → slice_get (cons_option o (filter_map f (xs ++ ys))) 0 ≡ Some y)
-      [ None ↦ first_stays f xs ys y | Some z ↦ λ e. e ] e
-
-  -- while f keeps nothing, the next element decides which value is first
-  pub first_push : (f : X → Option Y) (xs : List X) (x : X) → slice_get (filter_map f xs) 0 ≡ None → slice_get (filter_map f (xs ++ x ∷ [])) 0 ≡ f x
-  first_push f [] x e = last (f x)
-    where
-      last : (o : Option Y) → slice_get (cons_option o []) 0 ≡ o
-      last None = refl
-      last (Some z) = refl
-  first_push f (w ∷ xs) x e =
-      elim (f w) as (λ o. slice_get (cons_option o (filter_map f xs)) 0 ≡ None → slice_get (cons_option o (filter_map f (xs ++ x ∷ []))) 0 ≡ f x)
-      [ None ↦ first_push f xs x | Some z ↦ λ e. absurd (cc e) ] e
-
   -- g keeps the same list as f, where f keeps each element and g agrees with it
   pub filter_map_same : (f g : X → Option Y) → ((x : X) (y : Y) → f x ≡ Some y → g x ≡ Some y) → (xs : List X) → list_all (λ x. is_some (f x)) xs ≡ true → filter_map g xs ≡ filter_map f xs
   filter_map_same f g same [] all = refl

@@ -20,8 +20,8 @@ use Rattle.ulfm_model.specs.History.{Exists, IsLegal, IsLegalAfter, MayFollow, f
 use Rattle.ulfm_model.specs.Computed.{mark_at, mark_of, marks_of}
 use Rattle.ulfm_model.specs.Terms.{settled_by}
 use Rattle.ulfm_model.proofs.Says.{declared_by, made_by, put_by}
-use Rattle.ulfm_model.proofs.Lists.{distinct_filter, each_always, each_push, first_push, has_at, has_passes, in_list, length-filter-le, none_of}
-use Rattle.ulfm_model.proofs.Histories.{by_events, legal_push, members_stay, slot_stays}
+use Rattle.ulfm_model.proofs.Lists.{distinct_filter, each_always, each_push, has_at, has_passes, in_list, length-filter-le, none_of}
+use Rattle.ulfm_model.proofs.Histories.{by_events, legal_push, members_stay, slot_kept, slot_push, slot_stays}
 use Rattle.ulfm_model.proofs.Spawned.{failures_distinct}
 use Rattle.ulfm_model.proofs.Stable.{mark_stays}
 
@@ -117,11 +117,7 @@ module _ {P : Type 0} (h : History P) (by : Caller) (c k : ℕ) where
   same_push : (w : History P) (n r : ℕ) (rest : List ℕ) → AllByRecursion (λ y. nat_eq r y ≡ false) rest → AreSame w rest → AreSame (w ++ marked_as n r ∷ []) rest
   same_push w n r [] apart same = tt
   same_push w n r (y ∷ rest) apart same = (
-    ap (λ ys. slice_get ys 0)
-        (filter_map-append (λ x. put_by c k y x.event) w (marked_as n r ∷ [])
-        ∙ (ap (λ b. filter_map (λ x. put_by c k y x.event) w ++ cons_option (if b then Some (Marked (mark_at n)) else None) []) (away (c == c) (k == k) (r == y) apart.0)
-        ∙ append-nil (filter_map (λ x. put_by c k y x.event) w)))
-        ∙ same.0,
+    slot_kept w (marked_as n r) c k y (ap (λ b. if b then Some (Marked (mark_at n)) else None) (away (c == c) (k == k) (r == y) apart.0)) ∙ same.0,
     same_push w n r rest apart.1 same.1,
   )
     where
@@ -132,7 +128,7 @@ module _ {P : Type 0} (h : History P) (by : Caller) (c k : ℕ) where
 
   -- a mark settles its member
   settled_now : (w : History P) (n r : ℕ) → slot w c k r ≡ None → slot (w ++ marked_as n r ∷ []) c k r ≡ Some (Marked (mark_at n))
-  settled_now w n r empty = first_push (λ e. put_by c k r e.event) w (marked_as n r) empty ∙ ap (λ b. if b then Some (Marked (mark_at n)) else None) (same_itself c k r)
+  settled_now w n r empty = slot_push w (marked_as n r) c k r empty ∙ ap (λ b. if b then Some (Marked (mark_at n)) else None) (same_itself c k r)
 
   -- after their marks each of these members is settled
   settled_after : (rest : List ℕ) (n : ℕ) (w : History P) → AreSame w rest → IsDistinct nat_eq rest → AllByRecursion (λ r. IsTrue (is_some (slot (w ++ entries_by by (marks_from n rest)) c k r))) rest

@@ -1,5 +1,5 @@
 -- What happens at most once in a legal history.
-use Rattle.std.proofs.Common.{◌≡◌, ℕ, Bool, true, false, ◌||◌, ◌&&◌, ◌==◌, List, [], ◌∷◌, ◌++◌, Option, Some, None, refl, sym, subst, append-nil, filter_map, if◌then◌else◌, nat_eq}
+use Rattle.std.proofs.Common.{◌≡◌, ℕ, Bool, true, false, ◌||◌, ◌&&◌, ◌==◌, List, [], ◌∷◌, ◌++◌, Option, Some, None, refl, sym, ◌∙◌, subst, append-nil, filter_map, if◌then◌else◌, nat_eq}
 use Rattle.std.specs.List.{list_any, cons_option, IsDistinct}
 use Rattle.std.proofs.lemmas.List.Elements.{filter_map-append}
 use Rattle.ulfm_model.specs.declared.contribution.Slot.{Slot}
@@ -9,7 +9,7 @@ use Rattle.ulfm_model.specs.declared.limits.Limits.{Limits}
 use Rattle.ulfm_model.specs.History.{History, IsLegal, MayFollow, failures, has, is_revoked, same_place, says, slot, spawns}
 use Rattle.ulfm_model.specs.Terms.{put_at}
 use Rattle.ulfm_model.specs.Laws.{HappensOnce}
-use Rattle.ulfm_model.proofs.Histories.{by_events}
+use Rattle.ulfm_model.proofs.Histories.{by_events, slot_first}
 use Rattle.ulfm_model.proofs.Lists.{distinct_push, none_distinct, none_first}
 
 module _ {P : Type 0} (place : ℕ × ℕ × ℕ) where
@@ -47,7 +47,7 @@ module _ {P : Type 0} (meld : P → P → P) (limits : Limits) where
 
   no_other : (h : History P) (c k r : ℕ) (place : ℕ × ℕ × ℕ) → (c, k, r) ≡ place → slot h c k r ≡ None → list_any (λ y. same_place y.0 place) (filter_map (λ e. (says e.event).settles) h) ≡ false
   no_other h c k r place same empty =
-      subst (λ place. list_any (λ y. same_place y.0 place) (filter_map (λ e. (says e.event).settles) h) ≡ false) same (unsettled (c, k, r) h (none_first _ empty))
+      subst (λ place. list_any (λ y. same_place y.0 place) (filter_map (λ e. (says e.event).settles) h) ≡ false) same (unsettled (c, k, r) h (none_first _ (sym (slot_first h c k r) ∙ empty)))
 
   settles : (h : History P) (event : Event P) (put : (ℕ × ℕ × ℕ) × Slot P) → MayFollow meld limits h event → (says event).settles ≡ Some put
       → list_any (λ y. same_place y.0 put.0) (filter_map (λ e. (says e.event).settles) h) ≡ false

@@ -20,9 +20,9 @@ use Rattle.ulfm_model.specs.History.{History, failures, has, slot}
 use Rattle.ulfm_model.specs.{History.{IsLegal, MayFollow, body_of, contribution_of, is_decided, members}, Records.{Held}}
 use Rattle.ulfm_model.specs.Terms.{IsOwn}
 use Rattle.ulfm_model.specs.Answers.{IsPending}
-use Rattle.ulfm_model.proofs.Lists.{at_member, first_push, first_stays, has_kept, none_of, some_fails}
+use Rattle.ulfm_model.proofs.Lists.{at_member, has_kept, none_of, some_fails}
 use Rattle.ulfm_model.proofs.Says.{put_by}
-use Rattle.ulfm_model.proofs.Histories.{by_events}
+use Rattle.ulfm_model.proofs.Histories.{by_events, slot_push, slot_remains}
 use Rattle.ulfm_model.proofs.Decisions.{put_stands}
 use Rattle.ulfm_model.proofs.Marking.{same_itself}
 
@@ -35,10 +35,10 @@ module _ {P : Type 0} (meld : P → P → P) (limits : Limits) where
     where
       step : (w : History P) (e : Entry P) (c k r : ℕ) (given : Contribution P) → MayFollow meld limits w e.event → (IsOwn w r (Settle c k r given) → slot w c k r ≡ Some (Given given))
           → IsOwn w r (Settle c k r given) ⊎ (e ≡ record { by = Rank r; event = Settle c k r given }) → slot (w ++ e ∷ []) c k r ≡ Some (Given given)
-      step w e c k r given may q (inl before) = first_stays (λ x. put_by c k r x.event) w (e ∷ []) (Given given) (q before)
+      step w e c k r given may q (inl before) = slot_remains w e c k r (Given given) (q before)
       step w e c k r given may q (inr last) =
           let puts : put_by c k r e.event ≡ Some (Given given) = ap (λ x. put_by c k r x.event) last ∙ ap (λ b. if b then Some (Given given) else None) (same_itself c k r) in
-          first_push (λ x. put_by c k r x.event) w e (put_stands meld limits w e.event c k r (Given given) may puts).0 ∙ puts
+          slot_push w e c k r (put_stands meld limits w e.event c k r (Given given) may puts).0 ∙ puts
 
 -- the bodies that settle a round, combined
 abbrev bodies_of : {P : Type 0} → (P → P → P) → List (Slot P) → Body P

@@ -23,8 +23,7 @@ use Rattle.ulfm_model.specs.History.{IsLegal, IsLegalAfter, failed, members}
 use Rattle.ulfm_model.specs.Computed.{given_at, held_outcome, start_reply}
 use Rattle.ulfm_model.specs.Records.{FitsHeld, Held, Record, free_ids, held_at}
 use Rattle.ulfm_model.specs.Answers.{StartReplies, refusal_of}
-use Rattle.ulfm_model.proofs.Lists.{first_push, has_at, has_filter}
-use Rattle.ulfm_model.proofs.Says.{put_by}
+use Rattle.ulfm_model.proofs.{Histories.{slot_push}, Lists.{has_at, has_filter}}
 use Rattle.ulfm_model.proofs.Decisions.{slot_stands}
 use Rattle.ulfm_model.proofs.Marking.{failed_few, same_itself}
 use Rattle.ulfm_model.proofs.StepsAlone.{IsGood, call_good, view_with}
@@ -79,7 +78,7 @@ module _ {P : Type 0} (meld : P → P → P) (limits : Limits) (h : History P) (
               given = given;
               own = refl;
               stands =
-                  first_push (λ e. put_by x.comm x.next_agreement own.number e.event) h entry was
+                  slot_push h entry x.comm x.next_agreement own.number was
                   ∙ ap (λ b. if b then Some (Given given) else None) (same_itself x.comm x.next_agreement own.number);
               offer_is = refl;
               known = omega (arith, few, small);

@@ -18,8 +18,7 @@ use Rattle.ulfm_model.specs.History.{History, failures, has, has_arrived, is_rev
 use Rattle.ulfm_model.specs.Laws.{Sets, SetsOneWord, HasWords}
 use Rattle.ulfm_model.specs.{History.{IsLegal, IsLegalAfter, MayFollow}, Words.{offer_word, place_of, slot_word, word_at, word_of}}
 use Rattle.ulfm_model.specs.Terms.{word_or_zero}
-use Rattle.ulfm_model.proofs.Histories.{along, by_events, legal_parts, legal_push}
-use Rattle.ulfm_model.proofs.Lists.{first_push}
+use Rattle.ulfm_model.proofs.Histories.{along, by_events, legal_parts, legal_push, slot_kept as slot_same, slot_push}
 use Rattle.ulfm_model.proofs.Says.{arrives_at, declared_by, made_by, put_by, revokes}
 
 at_end : {X : Type 0} (xs : List X) (x : X) → slice_get (xs ++ x ∷ []) (length xs) ≡ Some x
@@ -100,9 +99,7 @@ module _ {P : Type 0} (pack : P → ℕ) (meld : P → P → P) (limits : Limits
 
   slot_word_kept : (event : Event P) (c k r : ℕ) → put_by c k r event ≡ None → word_at pack (after event) (SlotAt c k r) ≡ word_at pack h (SlotAt c k r)
   slot_word_kept event c k r none =
-      let puts = filter_map (λ (x : Entry P). put_by c k r x.event) h in
-      ap (λ ys. word_or_zero (slot_word pack) (slice_get ys 0))
-      (filter_map-append (λ x. put_by c k r x.event) h (record { by = by; event = event } ∷ []) ∙ (ap (λ o. puts ++ cons_option o []) none ∙ append-nil puts))
+      ap (word_or_zero (slot_word pack)) (slot_same h (record { by = by; event = event }) c k r none)
 
   slot_kept : (event : Event P) (c k r : ℕ) → place_of h event ≢ SlotAt c k r → word_at pack (after event) (SlotAt c k r) ≡ word_at pack h (SlotAt c k r)
   slot_kept (Settle comm round rank given) c k r ne =
@@ -150,11 +147,11 @@ module _ {P : Type 0} (pack : P → ℕ) (meld : P → P → P) (limits : Limits
   )
   word_set (Settle c k r given) may = (
     ap (word_or_zero (slot_word pack)) may.1,
-    ap (word_or_zero (slot_word pack)) (first_push (λ x. put_by c k r x.event) h (record { by = by; event = Settle c k r given }) may.1 ∙ ap (λ b. if b then Some (Given given) else None) (itself c k r)),
+    ap (word_or_zero (slot_word pack)) (slot_push h (record { by = by; event = Settle c k r given }) c k r may.1 ∙ ap (λ b. if b then Some (Given given) else None) (itself c k r)),
   )
   word_set (Mark c k r mark) may = (
     ap (word_or_zero (slot_word pack)) may.1,
-    ap (word_or_zero (slot_word pack)) (first_push (λ x. put_by c k r x.event) h (record { by = by; event = Mark c k r mark }) may.1 ∙ ap (λ b. if b then Some (Marked mark) else None) (itself c k r)),
+    ap (word_or_zero (slot_word pack)) (slot_push h (record { by = by; event = Mark c k r mark }) c k r may.1 ∙ ap (λ b. if b then Some (Marked mark) else None) (itself c k r)),
   )
   word_set (Arrive c k r) may = (
     ap (λ b. if b then 1 else 0) may.1,

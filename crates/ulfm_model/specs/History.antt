@@ -1,7 +1,7 @@
 -- Histories, the oldest event first: what they say, what a round decides, and which event may come next.
 use Rattle.std.specs.Prelude.{◌≡◌, ℕ, zero, suc, ◌+◌, ◌-◌, ◌<◌, ◌≤◌, ◌==◌, Bool, not, ◌&&◌, if◌then◌else◌, IsTrue, IsFalse, ⊤}
 use Rattle.std.specs.Prelude.{List, [], ◌∷◌, ◌++◌, length, reverse, map, take, filter, filter_map, slice_get, Option, Some, None, is_some}
-use Rattle.std.specs.{List.{list_any, list_all}, Option.{option_and_then}}
+use Rattle.std.specs.{List.{list_any, list_all}, Option.{option_or}}
 use Rattle.ulfm_laws.specs.{declared.summary.Body.{Body}, declared.ctx_mask.CtxMask.{CtxMask}, Bodies.{body_unit, body_meld}, Combined.{combined}}
 use Rattle.ulfm_model.specs.declared.{contribution.Contribution.{Contribution}, contribution.Offer.{Offer}, contribution.Slot.{Slot}}
 use Rattle.ulfm_model.specs.declared.{event.Caller.{Caller}, event.Entry.{Entry}, event.Event.{Event}, limits.Limits.{Limits}}
@@ -52,9 +52,15 @@ same_place x y = (x.0 == y.0) && (x.1 == y.1) && (x.2 == y.2)
 abbrev pub failures : {P : Type 0} → History P → List ℕ
 failures h = filter_map (λ e. (says e.event).declares) h
 
--- an agreement round, as a finite map: what settles rank r in round k of communicator c, if anything does
+-- what a settlement puts at a place, if it is a settlement of that place
+abbrev pub put_at : {P : Type 0} → ℕ × ℕ × ℕ → Option ((ℕ × ℕ × ℕ) × Slot P) → Option (Slot P)
+put_at place None = None
+put_at place (Some put) = if same_place put.0 place then Some put.1 else None
+
+-- an agreement round, as a finite map: what the first event that settles rank r in round k of communicator c puts there, if one does
 abbrev pub slot : {P : Type 0} → History P → ℕ → ℕ → ℕ → Option (Slot P)
-slot h c k r = slice_get (filter_map (λ e. option_and_then (λ put. if same_place put.0 (c, k, r) then Some put.1 else None) (says e.event).settles) h) 0
+slot [] c k r = None
+slot (e ∷ later) c k r = option_or (put_at (c, k, r) (says e.event).settles) (slot later c k r)
 
 -- whether rank r has arrived in barrier round k of communicator c
 abbrev pub has_arrived : {P : Type 0} → History P → ℕ → ℕ → ℕ → Bool

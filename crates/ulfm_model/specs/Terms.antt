@@ -1,13 +1,9 @@
 -- Short names for terms of the definitions, for clauses and for the statements of lemmas.
 use Rattle.std.specs.Prelude.{ℕ, zero, suc, ◌==◌, Bool, if◌then◌else◌, List, Option, Some, None, find, map, slice_get}
 use Rattle.std.specs.Option.{option_and_then, option_map_or}
-use Rattle.ulfm_model.specs.declared.{call.Call.{Call}, call.Request.{Request}, contribution.Slot.{Slot}, refusal.Refusal.{Refusal}}
-pub use Rattle.ulfm_model.specs.{Answers.{comm_of}, History.{group_among, lacks_one}, Records.{IsOwn, new_held}, Runs.{settled_by, view_of}}
-use Rattle.ulfm_model.specs.{Answers.{traits_of}, History.{History, same_place, spawns}, Records.{Held, Record}, Runs.{State}}
-
--- what a settlement puts at a place, if it is a settlement of that place
-abbrev pub put_at : {P : Type 0} → ℕ × ℕ × ℕ → Option ((ℕ × ℕ × ℕ) × Slot P) → Option (Slot P)
-put_at place put = option_and_then (λ x. if same_place x.0 place then Some x.1 else None) put
+use Rattle.ulfm_model.specs.declared.{call.Call.{Call}, call.Request.{Request}, refusal.Refusal.{Refusal}}
+pub use Rattle.ulfm_model.specs.{Answers.{comm_of}, History.{group_among, lacks_one, put_at}, Records.{IsOwn, new_held}, Runs.{settled_by, view_of}}
+use Rattle.ulfm_model.specs.{Answers.{traits_of}, History.{History, spawns}, Records.{Held, Record}, Runs.{State}}
 
 -- the word of what stands, and 0 where nothing stands
 abbrev pub word_or_zero : {X : Type 0} → (X → ℕ) → Option X → ℕ

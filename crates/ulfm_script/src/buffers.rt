@@ -1,5 +1,5 @@
 //! What stands between a script's lines and the devices: a buffer over a reader, and one over a writer.
-ghost use Rattle.std.specs.Prelude.{◌≡◌, ◌≤◌, ◌<◌, [], length, IfOk};
+ghost use Rattle.std.specs.Prelude.{◌≡◌, ◌+◌, ◌≤◌, ◌<◌, [], length, max, nat_le, IfOk, OnOk};
 ghost use Rattle.ulfm_script.specs.Written.{WritesAll};
 
 use crate::fault::RunFault;
@@ -143,13 +143,24 @@ impl<A: Allocator> Output<A> {
         Ok(Output { bytes })
     }
 
-    /// Puts a text behind what waits, which is written first where there is no room for both. It runs for each line, from two calls: the
-    /// compiler leaves it out of line by itself, at thirty instructions a line.
+    /// Whether so many more bytes may wait.
+    #[inline(always)]
+    fn has_room(&self, count: usize) -> bool
+        ensures { result ≡ nat_le (length (waiting self.now) + count) 8192 }
+    {
+        let waiting = self.bytes.len();
+        waiting <= SIZE && count <= SIZE - waiting
+    }
+
+    /// Puts a text behind what waits, which is written first where there is no room for both: what waits is never more than 8 KB, or than
+    /// one text that is longer. It runs for each line, from two calls: the compiler leaves it out of line by itself, at thirty instructions
+    /// a line.
     #[inline(always)]
     pub(crate) fn put<W: Write>(&mut self, writer: &mut W, text: &[u8]) -> Result<(), RunFault>
-        ensures { Puts (waiting self.old) (W.contents writer.old) text.now (waiting self.new) (W.contents writer.new) result }
+        ensures puts { Puts (waiting self.old) (W.contents writer.old) text.now (waiting self.new) (W.contents writer.new) result }
+        ensures few { OnOk result (length (waiting self.new) ≤ max 8192 (length text.now)) }
     {
-        if self.bytes.capacity() - self.bytes.len() < text.len() {
+        if !self.has_room(text.len()) {
             self.drain(writer)?;
         }
         if self.bytes.extend_from_slice(text).is_err() {

@@ -11,7 +11,7 @@ use mathlib.Core.List.{IsPrefix}
 use Rattle.ulfm_model.specs.declared.{contribution.MarkCount.{MarkCount}, contribution.Slot.{Slot}, contribution.Slot.TheVariants.{Mark as Marked}, event.Caller.TheVariants.{Rank as ByRank}, event.Entry.{Entry}, event.Event.{Event}, event.Event.TheVariants.{Fail, Settle, Mark, Arrive, Revoke, Spawn}, limits.Limits.{Limits}, place.Place.TheVariants.{Slot as SlotAt}}
 use Rattle.ulfm_model.specs.{History.{History, IsLegal, entries_by, failed, failures, has, says, slot}, Runs.{Did}, Words.{MayOpen}}
 use Rattle.ulfm_model.specs.Terms.{settled_by}
-use Rattle.ulfm_model.proofs.{Histories.{failures_begin, legal_parts, slot_stays}, Lists.{distinct_filter, each_always, each_append, each_from, filter_same, get_prefix, is_some_of, length_prefix, not_in_filter, prefix_trans}, Says.{put_by}, Spawned.{failures_distinct}}
+use Rattle.ulfm_model.proofs.{Histories.{failures_begin, legal_parts, slot_kept, slot_stays}, Lists.{distinct_filter, each_always, each_append, each_from, filter_same, get_prefix, is_some_of, length_prefix, not_in_filter, prefix_trans}, Says.{put_by}, Spawned.{failures_distinct}}
 use Rattle.ulfm_words.specs.{Steps.{IsAdded, IsOf, Name, Sight}, Tries.{MayPut, Tries, entry}}
 use Rattle.ulfm_words.proofs.{Growing.{prefix_self}, Ranks.{failures_le}, Trails.{did_added, did_more, did_none, did_prefix, did_quiet, did_wait}}
 use Rattle.ulfm_steps.specs.declared.mark_all.MarkAll.{MarkAll}
@@ -164,7 +164,7 @@ module _ {P : Type 0} (alone : Bool) (number c k : ℕ) where
         others = λ here q out.
             let apart : put_by c k q (Mark c k r mark) ≡ None = ap (λ b. if b then Some (Marked mark) else None) (and_from_right ((c == c) && (k == k)) (r == q) (not_equal q r out)) in
             ap (λ w. slot w c k q) added.is
-            ∙ (ap (λ ys. slice_get ys 0) (filter_map-append (λ x. put_by c k q x.event) added.before (e ∷ []) ∙ (ap (λ o. filter_map (λ x. put_by c k q x.event) added.before ++ cons_option o []) apart ∙ append-nil _))
+            ∙ (slot_kept added.before e c k q apart
             ∙ ap (λ w. slot w c k q) (did_quiet alone old added.before added.did here));
       }
     where

@@ -13,7 +13,7 @@ returns-in_err-put g c =
     λ plan known opened. rw (handed_on c.from_residual.result fault c.from_residual.ensures.1) (
       ended_first m.lang (m.HasRun plan c.args.machine.now) known (k c.args.reader.now) (w c.args.writer.now) (w c.put.new.writer)
           (pending c.args.input.now) (m.text c.args.machine.now) c.text.result.now (waiting c.args.output.now) (waiting c.put.new.self)
-          fault c.requires.empty opened c.in_err-put.ensures,
+          fault c.requires.empty opened c.in_err-put.ensures.puts,
       tt,
     )
 
@@ -26,7 +26,7 @@ lines-init g c =
       omega arith,
       λ plan known opened. goes_first m.lang (m.HasRun plan machine) known (unread k c.args.input.now c.args.reader.now) (w c.args.writer.now)
           (w c.put.new.writer) (m.text machine) (waiting c.args.output.now) (waiting c.put.new.self) (g.met.M.Interpreter.prints plan machine)
-          c.requires.empty opened (rw c.text.ensures at c.in_ok-put.ensures),
+          c.requires.empty opened (rw c.text.ensures at c.in_ok-put.ensures.puts),
     )
 
 pub returns-in_err-read_line : goal.returns-in_err-read_line

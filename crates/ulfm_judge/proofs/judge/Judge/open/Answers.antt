@@ -17,8 +17,8 @@ invariant_of-result-clause-numbered g c =
     sym (map-map (λ (x : Record). x.number) (record_of limits) records)
     ∙ (ap (map (λ (x : Record). x.number)) c.in_ok-records.ensures ∙ (map-map (λ (x : Record). x.number) (new_record limits) (first_ranks limits.ranks) ∙ map_same (first_ranks limits.ranks)))
 
-pub returns : goal.returns
-returns g c =
+pub returns-clause-stands : goal.returns-clause-stands
+returns-clause-stands g c =
     let limits = c.args.limits in
     let begun : List Record → Traced g.row.P.Denot = λ (records : List Record). record { limits = limits; history = []; records = records; calls = [] } in (
       c.in_ok-numbers.ensures,

@@ -6,8 +6,8 @@ use Rattle.ulfm_judge.specs.{Kept.{traced_of}, Telling.{Goes}}
 use Rattle.ulfm_judge.proofs.Leaving.{stands_on, written}
 use Rattle.ulfm_judge.proofs.judge.Judge.take.Goals as goal
 
-pub returns : goal.returns
-returns g c = λ now stands.
+pub returns-clause-taken : goal.returns-clause-taken
+returns-clause-taken g c = λ now stands.
     let kept = c.args.self.now in
     let old = traced_of kept.limits now.history kept.records.items now.calls in
     stands_on g.P.Meld.meld kept.limits c.take_line.new.numbers _ c.take_line.new.calls.items c.args.group.now c.args.line.now c.take_line.result old now stands.2
