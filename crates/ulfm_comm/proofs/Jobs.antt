@@ -139,10 +139,10 @@ module _ {P : Type 0} (meld : P → P → P) (alone : Bool) (name : Name) (befor
 
   module _ (i : ℕ) (d : Ranked) (below : i < length ranks) where
     -- the record of the rank that stands there
-    ranked_own : get_or (records_of ranks) i d.own ≡ (get_or ranks i d).own
+    pub ranked_own : get_or (records_of ranks) i d.own ≡ (get_or ranks i d).own
     ranked_own = get_or-map (λ (r : Ranked). r.own) ranks i d d.own below
 
-    ranked_below : i < length (records_of ranks)
+    pub ranked_below : i < length (records_of ranks)
     ranked_below = omega (arith, below, same_count)
 
     -- it fits what was seen

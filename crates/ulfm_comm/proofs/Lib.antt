@@ -37,3 +37,6 @@ pub mod Typed
 pub mod Agreement
 pub mod Peeking
 pub mod Ready
+pub mod Begins
+pub mod MadeFew
+pub mod Lacking

@@ -1,15 +1,15 @@
 -- A call of a rank among all ranks, any but a query of the failed group.
-use Rattle.std.proofs.Common.{◌≡◌, ℕ, ◌<◌, Bool, true, false, List, get_or, set, length, refl, ap, sym, ◌∙◌, subst, inl, inr, IsTrue, if◌then◌else◌, Option, Some, None}
+use Rattle.std.proofs.Common.{◌≡◌, ℕ, ◌<◌, Bool, false, List, get_or, set, length, refl, ap, sym, ◌∙◌, subst, inl, inr, IsTrue, Some}
 use mathlib.Core.List.{IsPrefix}
 use Rattle.ulfm_model.specs.declared.call.Call.TheVariants as call
-use Rattle.ulfm_model.specs.declared.{call.Call.{Call}, call.Request.{Request}, event.Caller.TheVariants.{Rank}, refusal.Refusal.{Refusal}, reply.Reply.{Reply}}
+use Rattle.ulfm_model.specs.declared.{call.Call.{Call}, event.Caller.TheVariants.{Rank}, refusal.Refusal.{Refusal}, reply.Reply.{Reply}}
 use Rattle.ulfm_model.specs.declared.reply.Reply.TheVariants.{Started, Pending, Agreed, Shrunk, Done, FailedGroup, Acked, Declared, AlreadyFailed, Revoked, AlreadyRevoked, Standing, Freed, Refused}
 use Rattle.ulfm_model.specs.declared.refusal.Refusal.TheVariants.{SelfFailed, NoSuchComm, Busy, ShrinkOpen, RoundsUsedUp, Idle, Mismatch, NoContext, NoRoom, IsRevoked, ProcFailed, WorldKept, NoSuchRank, OutOfMemory, Twice}
-use Rattle.ulfm_model.specs.{Answers.{rank_of, traits_of}, Records.{Held, Record, held_at, is_shrink}, Runs.{IsCall, State}}
-use Rattle.ulfm_model.specs.Terms.{view_of}
+use Rattle.ulfm_model.specs.{Answers.{rank_of, traits_of}, Records.{Held, Record, held_at}, Runs.{IsCall, State}}
+use Rattle.ulfm_model.specs.Terms.{comm_of, view_of}
 use Rattle.ulfm_words.specs.Steps.{Name, Sight}
-use Rattle.ulfm_comm.specs.{Calls.{Calls, EndsAs, EndsReply, wants_memory}, Counts.{Ranked, records_of}, Jobs.{IsAbout, IsJob, IsOther, StepsBy, state_of}}
-use Rattle.ulfm_comm.proofs.{CallRuns.{called_run}, ShrinkHolds.{has_members}, Jobs.{ranked_begins, ranked_job, ranked_number, ranked_step}}
+use Rattle.ulfm_comm.specs.{Calls.{Calls, EndsAs, EndsReply, wants_memory}, Counts.{Ranked, records_of}, Jobs.{IsAbout, IsJob, IsOther, KeepsRecords, PollsShrink, StepsBy, state_of}}
+use Rattle.ulfm_comm.proofs.{CallRuns.{called_run}, Lacking.{keeps_set, polls_shrink}, MadeFew.{IsOfFew, made_few}, ShrinkHolds.{has_members}, Jobs.{ranked_begins, ranked_fits, ranked_job, ranked_number, ranked_step}}
 use Rattle.ulfm_comm.proofs.ReplyKinds.{IsKind, answered_on, replies_kind}
 
 -- a reply that doesn't say that memory ran out
@@ -126,11 +126,6 @@ module _ {P : Type 0} where
   about_none state c group Freed made counted = tt
   about_none state c group (Refused refusal) made counted = tt
 
--- only what polls has a shrink's request
-polls_of : (polls : Bool) (request : Option Request) → IsTrue (is_shrink (if polls then request else None)) → IsTrue polls
-polls_of true request is = refl
-polls_of false request is = absurd (cc is)
-
 module _ {P : Type 0} (meld : P → P → P) (alone : Bool) (name : Name) (before : Sight P) (ranks : List Ranked) (job : IsJob meld name before (records_of ranks)) (asked : Call P) (other : IsOther asked) (i : ℕ) (d : Ranked) (is_rank : i ≡ rank_of asked) (below : i < length ranks) where
   abbrev own : Record
   own = (get_or ranks i d).own
@@ -157,8 +152,12 @@ module _ {P : Type 0} (meld : P → P → P) (alone : Bool) (name : Name) (befor
       pub other_job : IsJob meld name after (records_of (set ranks i left))
       other_job = ranked_job meld alone name before ranks job i d below left after asked ended.0
 
-      pub out_polls : IsTrue (traits_of asked).polls
-      out_polls = polls_of (traits_of asked).polls _ ended.1
+      pub out_polls : PollsShrink (records_of ranks) (rank_of asked) asked
+      out_polls = polls_shrink meld alone name before ranks job asked i d is_rank below ended.1
+
+      -- of its record only what it has seen is new
+      pub other_keeps : KeepsRecords (records_of ranks) (records_of (set ranks i left))
+      other_keeps = keeps_set ranks i d left ended.0.run_out.record_is
 
     module _ (kept : reply ≡ Refused OutOfMemory → ⊥) where
       -- it is a call of the sequential object
@@ -185,13 +184,21 @@ module _ {P : Type 0} (meld : P → P → P) (alone : Bool) (name : Name) (befor
         pub other_polls : IsTrue (traits_of asked).polls
         other_polls = subst (λ a. IsTrue (traits_of a).polls) (sym polled.2) refl
 
+        poll_is : asked ≡ call.Poll own.number polled.1
+        poll_is =
+            let number : polled.0 ≡ own.number = cc (subst (λ a. (traits_of a).by ≡ Rank own.number) polled.2 mine) in polled.2 ∙ ap (λ r. call.Poll r polled.1) number
+
+        poll_made : Calls meld alone name (call.Poll own.number polled.1) own before (Shrunk j context size) new after
+        poll_made = subst (λ r. Calls meld alone name (call.Poll own.number polled.1) own before r new after) is (subst (λ a. Calls meld alone name a own before reply new after) poll_is other_calls)
+
         -- what the rank holds of the new communicator are its members
         pub other_made : (c : ℕ) (group : List ℕ) → ((x : Held) → held_at new j ≡ Some x → group ≡ x.group) → IsAbout (state_of name after (records_of (set ranks i left))) c group reply
-        other_made c group has =
-            let number : polled.0 ≡ own.number = cc (subst (λ a. (traits_of a).by ≡ Rank own.number) polled.2 mine) in
-            let poll : asked ≡ call.Poll own.number polled.1 = polled.2 ∙ ap (λ r. call.Poll r polled.1) number in
-            let calls = subst (λ r. Calls meld alone name (call.Poll own.number polled.1) own before r new after) is (subst (λ a. Calls meld alone name a own before reply new after) poll other_calls) in
-            subst (IsAbout (state_of name after (records_of (set ranks i left))) c group) (sym is) (has_members meld alone name polled.1 own before j context size new after calls group has)
+        other_made c group has = subst (IsAbout (state_of name after (records_of (set ranks i left))) c group) (sym is) (has_members meld alone name polled.1 own before j context size new after poll_made group has)
+
+        -- they are no more than those of its parent
+        pub other_few : (y : Held) → held_at new j ≡ Some y → IsOfFew own (comm_of asked) y
+        other_few y holds =
+            subst (λ a. IsOfFew own (comm_of a) y) (sym poll_is) (made_few meld alone name polled.1 own before j context size new after poll_made (ranked_fits meld alone name before ranks job i d below) y holds)
 
       pub other_about : (c : ℕ) (group : List ℕ) → ((j context size : ℕ) → reply ≡ Shrunk j context size → ⊥) → ((refusal : Refusal) → reply ≡ Refused refusal → ⊥) → IsAbout (state_of name after (records_of (set ranks i left))) c group reply
       other_about c group made answers = about_none (state_of name after (records_of (set ranks i left))) c group reply made (λ count is. counts_none asked count other (subst (IsKind asked) is (other_kind answers)))

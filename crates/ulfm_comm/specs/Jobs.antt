@@ -1,11 +1,12 @@
 -- A world, all its ranks and one pass, in one hand.
-use Rattle.std.specs.Prelude.{◌≡◌, ℕ, ⊤, Bool, List, IsTrue}
+use Rattle.std.specs.Prelude.{◌≡◌, ◌==◌, ◌<◌, ℕ, ⊤, Bool, List, [], Some, IsTrue, length, map}
+use Rattle.std.specs.List.{find}
 use mathlib.Core.List.{IsPrefix}
 use Rattle.ulfm_model.specs.declared.{call.Call.{Call}, reply.Reply.{Reply}}
 use Rattle.ulfm_model.specs.declared.call.Call.TheVariants.{Fail, GetFailed, Ack, Agree, Shrink, Barrier, Poll, Revoke, IsRevoked, Free}
 use Rattle.ulfm_model.specs.declared.reply.Reply.TheVariants.{Started, Pending, Agreed, Shrunk, Done, FailedGroup, Acked, Declared, AlreadyFailed, Revoked}
 use Rattle.ulfm_model.specs.declared.reply.Reply.TheVariants.{AlreadyRevoked, Standing, Freed, Refused}
-use Rattle.ulfm_model.specs.{Answers.{traits_of}, History.{failed, members}, Records.{Record}, Runs.{IsSound, IsStep, State}}
+use Rattle.ulfm_model.specs.{Answers.{polled_by, traits_of}, History.{failed, members}, Records.{Record, is_shrink}, Runs.{IsSound, IsStep, State}}
 use Rattle.ulfm_words.specs.Steps.{IsOf, Name, Sight}
 
 -- the object's state: what the pass has seen, and the ranks' records
@@ -55,3 +56,22 @@ IsOther (Poll rank c) = ⊤
 IsOther (Revoke rank c) = ⊤
 IsOther (IsRevoked rank c) = ⊤
 IsOther (Free rank c) = ⊤
+
+-- a record but for what its rank has seen
+abbrev pub unseen : Record → Record
+unseen own = record own { seen = [] }
+
+-- of each rank's record at most what it has seen is new
+abbrev pub KeepsRecords : List Record → List Record → Type 0
+KeepsRecords old new = map unseen new ≡ map unseen old
+
+-- the rank of this number polls a shrink
+abbrev pub PollsShrink : {P : Type 0} → List Record → ℕ → Call P → Type 0
+PollsShrink records rank asked = (own : Record) × (find (λ x. x.number == rank) records ≡ Some own) × IsTrue (is_shrink (polled_by own asked))
+
+-- What a call may lack memory for, where the caller's vector has this room: a query of the failed group for a group of more ranks; and the
+-- poll of a shrink. No other call lacks memory.
+abbrev pub MayLack : {P : Type 0} → ℕ → State P → Call P → State P → Type 0
+MayLack capacity old (GetFailed rank c) new = capacity < length (failed new.limits.ranks new.history c)
+MayLack {P} capacity old (Poll rank c) new = PollsShrink {P = P} old.records rank (Poll rank c)
+MayLack capacity old asked new = ⊥

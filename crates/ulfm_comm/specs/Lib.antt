@@ -18,3 +18,4 @@ pub mod Agreement
 pub mod Phase
 pub mod Step
 pub mod Counts
+pub mod Begins

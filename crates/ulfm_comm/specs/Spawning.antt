@@ -5,6 +5,7 @@ use Rattle.ulfm_laws.specs.declared.{summary.Body.TheVariants.{Ctx as OfIds}, ct
 use Rattle.ulfm_model.specs.declared.call.Call.TheVariants as call
 use Rattle.ulfm_model.specs.declared.{call.Call.{Call}, event.Caller.TheVariants.{Rank}, event.Event.{Event}, limits.Limits.{Limits}, event.Caller.{Caller}}
 use Rattle.ulfm_model.specs.declared.{event.Event.TheVariants.{Spawn}, place.Place.TheVariants.{Comm as CommAt}}
+use Rattle.ulfm_model.specs.declared.{refusal.Refusal.TheVariants.{NoRoom}, reply.Reply.TheVariants.{Refused}}
 use Rattle.ulfm_model.specs.{History.{History, entries_by, failures, has, without, is_made, spawns}, Records.{Fits, Held, IsLowestId, Record, held_at}}
 use Rattle.ulfm_model.specs.{Runs.{Did}, Terms.{comm_of, contexts_of, new_held, settled_by}, Answers.{closed}}
 use Rattle.ulfm_words.specs.Steps.{IsOf, Name, Sight}
@@ -12,7 +13,7 @@ use Rattle.ulfm_steps.specs.declared.{append.Append.{Append}, item.Item.TheVaria
 use Rattle.ulfm_model.specs.Blocks.{IsSummed}
 use Rattle.ulfm_steps.specs.{Appends.{Passed, room, MayAppend, turns_left}, ReadsOn.{ReadsOn}, Turns.{Takes}}
 use Rattle.ulfm_comm.specs.Polls.{HasMarked}
-use Rattle.ulfm_comm.specs.declared.{phases.phase.Made.{Made}, phases.spawning.Spawned.{Spawned}}
+use Rattle.ulfm_comm.specs.declared.{phases.phase.Made.{Made}, phases.phase.Next.{Next}, phases.phase.Next.TheVariants.{Ends}, phases.spawning.Spawned.{Spawned}}
 use Rattle.ulfm_comm.specs.declared.phases.spawning.Spawned.TheVariants as spawned
 use Rattle.std.specs.List.{AllByRecursion}
 
@@ -130,3 +131,8 @@ pub record HasReached {P : Type 0} (meld : P → P → P) (alone : Bool) (name :
   pub x : Held
   pub decided : IsDecided meld name.limits alone (comm_of asked) made.round made.mask x made.count old before.seen own now.seen
   pub reads : ReadsOn x.group made.count decided.mid.seen own.seen (failures now.seen) reach
+
+-- Where the world has no room for a communicator more, the memory for its members was there before: the vector has them.
+abbrev pub HadMemory : {P : Type 0} → Call P → ℕ → Record → Next P → List ℕ → Type 0
+HadMemory asked reach own next group =
+    next ≡ Ends (Refused NoRoom) → (x : Held) → held_at own (comm_of asked) ≡ Some x → group ≡ without x.group (take reach own.seen)

@@ -1,5 +1,5 @@
 // Groups of ranks, and which of their members are declared.
-ghost use Rattle.std.specs.Prelude.{◌≡◌, ◌++◌, ◌+◌, ◌≤◌, [], IfOk, OnOk, filter, length, vec_len, vec_capacity};
+ghost use Rattle.std.specs.Prelude.{◌≡◌, ◌++◌, ◌+◌, ◌<◌, ◌≤◌, [], IfOk, OnErr, OnOk, filter, length, vec_len, vec_capacity};
 ghost use Rattle.std.specs.List.Sorted.{IsStrictlyIncreasing};
 ghost use Rattle.ulfm_model.specs.History.{has, without};
 
@@ -25,6 +25,7 @@ pub(crate) fn make_room<B: Allocator>(
     requires { IsStrictlyIncreasing group.now }
     ensures kept { found.new.items ≡ found.old.items }
     ensures room { OnOk result (length (filter (has group.now) ranks.now) ≤ vec_capacity found.new) }
+    ensures lacks { OnErr result (vec_capacity found.old < length (filter (has group.now) ranks.now)) }
 {
     if ranks.len() <= found.capacity() {
         return Ok(());

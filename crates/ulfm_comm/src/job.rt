@@ -1,13 +1,14 @@
-ghost use Rattle.std.specs.Prelude.{ℕ, List, ◌⊎◌, ◌≡◌, ◌≤◌, ◌==◌, Some, find, length, vec_capacity, IsTrue, IfOk, OnErr, OnOk, MatchOption, MatchResult};
+ghost use Rattle.std.specs.Prelude.{ℕ, List, ◌≡◌, ◌<◌, ◌≤◌, ◌==◌, Some, find, length, vec_capacity, IsTrue, IfOk, OnErr, OnOk, MatchOption, MatchResult};
 ghost use mathlib.Core.List.{IsPrefix};
-ghost use Rattle.ulfm_model.specs.Answers.{traits_of};
+ghost use Rattle.ulfm_model.specs.Answers.{polled_by, rank_of as rank_in, traits_of};
+ghost use Rattle.ulfm_model.specs.History.{failed};
 ghost use Rattle.ulfm_model.specs.Records.{Held, held_at, is_shrink};
 ghost use Rattle.ulfm_model.specs.Runs.{IsStep, new_state};
-ghost use Rattle.ulfm_model.specs.declared.call.Call.TheVariants.{Fail as FailAsked, GetFailed as GetAsked, Poll as PollAsked};
+ghost use Rattle.ulfm_model.specs.declared.call.Call.TheVariants.{Fail as FailAsked, GetFailed as GetAsked};
 ghost use Rattle.ulfm_model.specs.declared.limits.OpenFault.TheVariants.{OutOfMemory};
 ghost use Rattle.ulfm_model.specs.Terms.{comm_of};
 ghost use Rattle.ulfm_comm.specs.Counts.{records_of};
-ghost use Rattle.ulfm_comm.specs.Jobs.{IsAbout, IsJob, IsOther, StepsBy, state_of};
+ghost use Rattle.ulfm_comm.specs.Jobs.{IsAbout, IsJob, IsOther, KeepsRecords, MayLack, PollsShrink, StepsBy, state_of};
 ghost use Rattle.ulfm_words.specs.Steps.{IsOf};
 
 use crate::rank::Rank;
@@ -104,8 +105,9 @@ where
 
     /// Answers a call. Where nobody else steps, it is one step of the sequential object. A failed group that was asked for is
     /// put into the vector, in the order of the failures, and so are the members of a communicator that a shrink made, in their
-    /// order. Memory alone can be refused, to a query of the failed group and to the poll of a shrink. The group's memory for that
-    /// poll is taken before it, so that its reply isn't lost: after a refusal the call can be made again.
+    /// order. Memory alone can be refused: to a query of the failed group, where the vector has less room than the group has ranks, and to
+    /// the poll of a shrink. The vector's memory for that poll is taken before it, so that its reply isn't lost. After a refusal the vector
+    /// is as it was, and so is each rank, but for what it has seen: the call can be made again.
     ///
     /// ```
     /// let mut group = Vec::new(alloc);
@@ -122,7 +124,9 @@ where
     ) -> Result<Reply<P>, AllocError>
         ensures about { IfOk result (IsAbout self.new (comm_of asked.now) group.new.items) }
         ensures step { IfOk result (λ reply. IsTrue W.alone → IsStep P.meld self.old (traits_of asked.now).by asked.now reply self.new) }
-        ensures memory { OnErr result ((rank : ℕ) × (comm : ℕ) × ((asked.now ≡ GetAsked rank comm) ⊎ (asked.now ≡ PollAsked rank comm))) }
+        ensures memory { OnErr result (MayLack (vec_capacity group.old) self.old asked.now self.new) }
+        ensures kept { OnErr result (KeepsRecords self.old.records self.new.records) }
+        ensures group { OnErr result (group.new.items ≡ group.old.items) }
         ensures begins { IsPrefix self.old.history self.new.history }
     {
         let world = &self.world;
@@ -177,6 +181,9 @@ fn get_by<P: Packed, A: Allocator + Copy, W: Words<P, A>>(
     ensures job { IsJob P.meld (W.name world.now.words) (W.sight pass.new) (records_of ranks.new) }
     ensures begins { IsPrefix (W.sight pass.old).seen (W.sight pass.new).seen }
     ensures about { IfOk result (IsAbout (state_of (W.name world.now.words) (W.sight pass.new) (records_of ranks.new)) comm found.new.items) }
+    ensures memory { OnErr result (vec_capacity found.old < length (failed (W.name world.now.words).limits.ranks (W.sight pass.new).seen comm)) }
+    ensures kept { OnErr result (KeepsRecords (records_of ranks.old) (records_of ranks.new)) }
+    ensures group { OnErr result (found.new.items ≡ found.old.items) }
 {
     if rank as usize >= ranks.len() {
         return Ok(Reply::Refused(Refusal::NoSuchRank));
@@ -199,7 +206,8 @@ fn put_members<P: Packed, A: Allocator>(
     comm: u16,
     found: &mut Vec<u16, A>,
 ) -> Result<(), AllocError>
-    ensures { OnOk result ((x : Held) → held_at own.now.own comm ≡ Some x → found.new.items ≡ x.group) }
+    ensures ok { OnOk result ((x : Held) → held_at own.now.own comm ≡ Some x → found.new.items ≡ x.group) }
+    ensures lacks { OnErr result ((x : Held) × (held_at own.now.own comm ≡ Some x) × (vec_capacity found.old < length x.group)) }
 {
     found.clear();
     match own.members(comm) {
@@ -215,8 +223,8 @@ fn make_room_for<P: Packed, A: Allocator>(
     found: &mut Vec<u16, A>,
 ) -> Result<(), AllocError>
     ensures kept { found.new.items ≡ found.old.items }
-    ensures memory { OnErr result (IsTrue (traits_of asked.now).polls) }
-    ensures room { OnOk result (IsTrue (traits_of asked.now).polls → (x : Held) → held_at own.now.own (traits_of asked.now).comm ≡ Some x
+    ensures memory { OnErr result (IsTrue (is_shrink (polled_by own.now.own asked.now))) }
+    ensures room { OnOk result (IsTrue (traits_of asked.now).polls → (x : Held) → held_at own.now.own (comm_of asked.now) ≡ Some x
         → IsTrue (is_shrink x.request) → length x.group ≤ vec_capacity found.new) }
 {
     let Call::Poll { comm, .. } = *asked else {
@@ -246,7 +254,9 @@ fn call_by<P: Packed, A: Allocator + Copy, W: Words<P, A>>(
     ensures job { IsJob P.meld (W.name world.now.words) (W.sight pass.new) (records_of ranks.new) }
     ensures begins { IsPrefix (W.sight pass.old).seen (W.sight pass.new).seen }
     ensures about { IfOk result (IsAbout (state_of (W.name world.now.words) (W.sight pass.new) (records_of ranks.new)) (traits_of asked).comm found.new.items) }
-    ensures memory { OnErr result (IsTrue (traits_of asked).polls) }
+    ensures memory { OnErr result (PollsShrink (records_of ranks.old) (rank_in asked) asked) }
+    ensures kept { OnErr result (KeepsRecords (records_of ranks.old) (records_of ranks.new)) }
+    ensures group { OnErr result (found.new.items ≡ found.old.items) }
 {
     let rank = rank_of(&asked) as usize;
     if rank >= ranks.len() {

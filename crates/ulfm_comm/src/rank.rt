@@ -273,8 +273,10 @@ impl<P: Packed, A: Allocator> RankRecord<P, A> {
 }
 
 impl<P: Packed, A: Allocator + Copy> RankRecord<P, A> {
-    // Its memory.
-    pub(crate) fn allocator(&self) -> A {
+    // Its memory. Its world may be opened.
+    pub(crate) fn allocator(&self) -> A
+        ensures { MayOpen self.now.limits }
+    {
         *self.seen.allocator()
     }
 

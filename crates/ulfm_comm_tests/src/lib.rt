@@ -10,6 +10,8 @@ mod last_steps;
 #[cfg(test)]
 mod member;
 #[cfg(test)]
+mod memory;
+#[cfg(test)]
 mod play;
 #[cfg(test)]
 mod sizes;

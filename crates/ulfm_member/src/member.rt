@@ -1,12 +1,12 @@
 // A rank of a world, and the pass that it calls with.
-ghost use Rattle.std.specs.Prelude.{◌≡◌, None, Some, IfOk, MatchOption, OnErr, length};
+ghost use Rattle.std.specs.Prelude.{◌≡◌, ◌<◌, Err, None, Some, IfOk, MatchOption, OnErr, length, vec_capacity};
 ghost use Rattle.std.specs.Arc.{arc_value};
 ghost use Rattle.ulfm_model.specs.History.{failed};
 ghost use Rattle.ulfm_model.specs.Records.{Held, held_at};
 ghost use Rattle.ulfm_model.specs.declared.call.Call.TheVariants.{Ack as AckAsked, Agree as AgreeAsked, Barrier as BarrierAsked, Free as FreeAsked};
 ghost use Rattle.ulfm_model.specs.declared.call.Call.TheVariants.{GetFailed as GetAsked, IsRevoked as StandingAsked, Revoke as RevokeAsked};
 ghost use Rattle.ulfm_model.specs.declared.call.Call.TheVariants.{Shrink as ShrinkAsked};
-ghost use Rattle.ulfm_model.specs.declared.reply.Reply.TheVariants.{Acked, Freed, Standing, Started};
+ghost use Rattle.ulfm_model.specs.declared.{refusal.Refusal.TheVariants.{OutOfMemory as NoMemory}, reply.Reply.TheVariants.{Acked, Freed, Standing, Started}};
 ghost use Rattle.ulfm_words.specs.Steps.{Tells};
 ghost use Rattle.ulfm_comm.specs.Calls.{reply_of};
 ghost use Rattle.ulfm_comm.specs.Excludes.{Excludes};
@@ -255,6 +255,7 @@ where
         ensures gets { MemberGets P.meld W.alone (GetAsked self.old.own.number comm) self.old (length found.new.items) result self.new }
         ensures group { IfOk result (λ _. found.new.items ≡ failed self.old.name.limits.ranks self.new.pass.seen comm) }
         ensures kept { OnErr result (found.new.items ≡ found.old.items) }
+        ensures memory { result ≡ Err NoMemory → vec_capacity found.old < length (failed self.old.name.limits.ranks self.new.pass.seen comm) }
     {
         self.rank
             .get_failed(&self.world, &mut self.pass, comm, found)

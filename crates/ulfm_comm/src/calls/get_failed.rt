@@ -1,7 +1,7 @@
-ghost use Rattle.std.specs.Prelude.{◌≡◌, IfOk, OnErr, length};
+ghost use Rattle.std.specs.Prelude.{◌≡◌, ◌<◌, Err, IfOk, OnErr, length, vec_capacity};
 ghost use Rattle.ulfm_model.specs.Records.{Fits};
 ghost use Rattle.ulfm_model.specs.History.{failed};
-ghost use Rattle.ulfm_model.specs.declared.call.Call.TheVariants.{GetFailed as Asked};
+ghost use Rattle.ulfm_model.specs.declared.{call.Call.TheVariants.{GetFailed as Asked}, refusal.Refusal.TheVariants.{OutOfMemory as NoMemory}};
 ghost use Rattle.ulfm_words.specs.Steps.{IsOf};
 ghost use Rattle.ulfm_comm.specs.Calls.{Gets};
 ghost use Rattle.ulfm_comm.specs.Counts.{TakesSteps};
@@ -22,7 +22,7 @@ impl<P: Packed, A: Allocator + Copy> Rank<P, A> {
     /// `MPI_COMM_GET_FAILED`).
     ///
     /// `SelfFailed` where the rank is declared, `NoSuchComm` where it doesn't hold the communicator, `OutOfMemory` where
-    /// the vector has too little room and its growth is refused. After a refusal the vector is as it was.
+    /// the vector has less room than the group has ranks and its growth is refused. After a refusal the vector is as it was.
     ///
     /// ```
     /// // Rank 1 was declared failed before.
@@ -44,6 +44,7 @@ impl<P: Packed, A: Allocator + Copy> Rank<P, A> {
             (length found.new.items) result self.new.own (W.sight pass.new) }
         ensures group { IfOk result (λ _. found.new.items ≡ failed (W.name world.now.words).limits.ranks (W.sight pass.new).seen comm) }
         ensures kept { OnErr result (found.new.items ≡ found.old.items) }
+        ensures memory { result ≡ Err NoMemory → vec_capacity found.old < length (failed (W.name world.now.words).limits.ranks (W.sight pass.new).seen comm) }
         ensures steps { TakesSteps {P = P} (W.name world.now.words).limits (Asked self.old.own.number comm) self.old.own (W.sight pass.old)
             self.new.own self.new.last (W.sight pass.new) }
     {

@@ -1,7 +1,7 @@
 // The further steps of a shrink's poll, once its round is decided: how a rank comes by its communicator.
 ghost use Rattle.std.specs.Prelude.{Bool, ◌≡◌, ◌+◌, ◌-◌, ◌*◌, ◌≤◌, false, true, ◌⊎◌, MatchOption};
 ghost use Rattle.ulfm_model.specs.{Records.{Record}, Terms.{comm_of}};
-ghost use Rattle.ulfm_comm.specs.{Spawning.{HasReached}, Agreement.{HasReadAll}, Phase.{IsMaking, IsPast, NextBelow, NextIs, StillStands}};
+ghost use Rattle.ulfm_comm.specs.{Spawning.{HadMemory, HasReached}, Agreement.{HasReadAll}, Phase.{IsMaking, IsPast, NextBelow, NextIs, StillStands}};
 ghost use Rattle.ulfm_comm.specs.{StepsLeft.{FewerLeft, after_round}, AlsoLeft.{also_after_round, also_in}, Step.{TakesTurn}};
 ghost use Rattle.ulfm_comm.specs.declared.phases.phase.Phase.TheVariants.{ReadingOn as AtReadingOn, Spawning as AtSpawning};
 ghost use Rattle.ulfm_words.specs.Steps.{IsOf, Sight};
@@ -135,6 +135,7 @@ impl<P: Packed, A: Allocator + Copy> RankRecord<P, A> {
         ensures sees { self.new.seen ≡ self.old.seen }
         ensures past { IsPast result }
         ensures makes { IsMaking result }
+        ensures memory { HadMemory asked.now reach self.old result group.new.items }
         ensures nearer { FewerLeft (2 * ((W.name world.now.words).limits.comms - 1) + 1) (W.name world.now.words).limits self.new asked.now result }
         ensures turns { (alone : Bool) (old : Record) (before : Sight P)
             → HasReached P.meld alone (W.name world.now.words) asked.now made reach old before self.old (W.sight pass.now)

@@ -3,7 +3,7 @@ ghost use Rattle.std.specs.Prelude.{◌≡◌, ◌+◌, ◌<◌, ◌≤◌, Bool
 ghost use Rattle.ulfm_model.specs.declared.{event.Caller.TheVariants.{Rank as OfRank}, call.Call.TheVariants.{Poll as AskedPoll}};
 ghost use Rattle.ulfm_model.specs.declared.{refusal.Refusal.TheVariants.{SelfFailed}, reply.Reply.TheVariants.{Refused}};
 ghost use Rattle.ulfm_model.specs.{Answers.{traits_of}, Records.{Fits, Record}, History.{History}, Terms.{comm_of}};
-ghost use Rattle.ulfm_comm.specs.{Bound.{AlsoBounded, also_bound, step_bound}, AlsoLeft.{also_left}, Counts.{CountsStep, TakesSteps}};
+ghost use Rattle.ulfm_comm.specs.{Begins.{loads_again}, Bound.{AlsoBounded, also_bound, step_bound}, AlsoLeft.{also_left}, Counts.{CountsStep, TakesSteps}};
 ghost use Rattle.ulfm_comm.specs.{StepsLeft.{Spends, steps_left}, Step.{TakesTurn, Stepped}, Calls.{EndsReply}, Polls.{PendsIn}};
 ghost use Rattle.ulfm_comm.specs.{Phase.{Answered, next_of, Stands, StillStands, Waits}, Barrier.{AnswersEarly, IsChecking}};
 ghost use Rattle.ulfm_words.specs.Steps.{IsOf, Name, Sight};
@@ -40,10 +40,8 @@ impl<P: Packed, A: Allocator + Copy> RankRecord<P, A> {
         ensures first { result.phase ≡ (if self.now.refused then AtOver else AtBegun) }
         ensures stands { (alone : Bool) (name : Name) (before : Sight P) → IsOf P.meld name before → Fits P.meld name.limits before.seen self.now
             → Stands P.meld alone name self.now before result self.now before }
-        ensures bounded { length self.now.seen < self.now.limits.ranks
-            → steps_left self.now.limits self.now asked result.phase ≤ step_bound self.now.limits self.now asked }
-        ensures also { length self.now.seen < self.now.limits.ranks → 0 < self.now.limits.comms
-            → also_left self.now.limits self.now asked result.phase ≤ also_bound self.now.limits self.now asked 0 }
+        ensures bounded { steps_left self.now.limits self.now asked result.phase ≤ step_bound self.now.limits self.now asked + loads_again self.now }
+        ensures also { also_left self.now.limits self.now asked result.phase ≤ also_bound self.now.limits self.now asked 0 + loads_again self.now }
     {
         Way {
             asked,
@@ -185,8 +183,10 @@ impl<P: Packed, A: Allocator + Copy> RankRecord<P, A> {
 }
 
 impl<P: Packed, A: Allocator + Copy> Rank<P, A> {
-    /// Begins a call of this rank, any but a declaration, to be taken step by step. It is no step. The call makes as many steps as when
-    /// it is made whole, at most: with each step fewer are left.
+    /// Begins a call of this rank, any but a declaration, to be taken step by step. It is no step, and takes no memory. The call makes as
+    /// many steps as when it is made whole, at most: with each step fewer are left. Where the rank has seen all ranks of the world and
+    /// wasn't refused for good, it makes one more, in which its look reads the last of them again. A call that was answered leaves no rank
+    /// so, but one that was given up as it read on for a shrink may.
     ///
     /// ```
     /// let asked = Call::IsRevoked {
@@ -202,10 +202,10 @@ impl<P: Packed, A: Allocator + Copy> Rank<P, A> {
         ensures first { result.way.phase ≡ (if self.now.own.refused then AtOver else AtBegun) }
         ensures stands { (alone : Bool) (name : Name) (before : Sight P) → IsOf P.meld name before → Fits P.meld name.limits before.seen self.now.own
             → Stands P.meld alone name self.now.own before result.way self.now.own before }
-        ensures bounded { length self.now.own.seen < self.now.own.limits.ranks
-            → steps_left self.now.own.limits self.now.own asked result.way.phase ≤ step_bound self.now.own.limits self.now.own asked }
-        ensures also { length self.now.own.seen < self.now.own.limits.ranks → 0 < self.now.own.limits.comms
-            → also_left self.now.own.limits self.now.own asked result.way.phase ≤ also_bound self.now.own.limits self.now.own asked 0 }
+        ensures bounded { steps_left self.now.own.limits self.now.own asked result.way.phase
+            ≤ step_bound self.now.own.limits self.now.own asked + loads_again self.now.own }
+        ensures also { also_left self.now.own.limits self.now.own asked result.way.phase
+            ≤ also_bound self.now.own.limits self.now.own asked 0 + loads_again self.now.own }
         ensures made { result.made ≡ 0 }
     {
         Doing {

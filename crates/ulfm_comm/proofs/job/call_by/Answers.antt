@@ -5,9 +5,9 @@ use Rattle.ulfm_model.specs.declared.refusal.Refusal.TheVariants.{OutOfMemory}
 use Rattle.ulfm_model.specs.declared.reply.Reply.TheVariants.{Refused}
 use Rattle.ulfm_model.specs.Answers.{traits_of}
 use Rattle.ulfm_comm.specs.{Counts.{records_of}, Jobs.{IsJob, StepsBy}}
-use Rattle.ulfm_comm.proofs.{Jobs.{at_error, ranked_fits, ranked_missing}, Others.{by_rank, mine, other_about, other_begins, other_job, other_made, other_polls, other_step, out_polls}}
+use Rattle.ulfm_comm.proofs.{Jobs.{at_error, ranked_fits, ranked_missing}, Lacking.{keeps_same, polls_shrink}, Others.{by_rank, mine, other_about, other_begins, other_few, other_job, other_keeps, other_made, other_polls, other_step, out_polls}}
 use Rattle.ulfm_comm.proofs.job.call_by.Goals as goal
-use Rattle.ulfm_comm.proofs.job.call_by.Goals.{After-call-reply, In-Shrunk}
+use Rattle.ulfm_comm.proofs.job.call_by.Goals.{After-call-reply, After-from_residual-in_err-put_members-in-Shrunk, In-Shrunk}
 
 pub returns-then-rank-ranks-clause-step : goal.returns-then-rank-ranks-clause-step
 returns-then-rank-ranks-clause-step g c =
@@ -34,7 +34,14 @@ pub returns-in_err-make_room_for-clause-begins : goal.returns-in_err-make_room_f
 returns-in_err-make_room_for-clause-begins g c = ([], append-nil _)
 
 pub returns-in_err-make_room_for-clause-memory : goal.returns-in_err-make_room_for-clause-memory
-returns-in_err-make_room_for-clause-memory g c = at_error c.from_residual.result c.in_err-make_room_for.ensures.memory
+returns-in_err-make_room_for-clause-memory g c =
+    at_error c.from_residual.result (polls_shrink g.P.Meld.meld g.W.Words.alone (g.W.Words.name c.args.world.now.words) (g.W.Words.sight c.args.pass.now) c.args.ranks.now c.requires.job c.args.asked c.rank_of-rank.result c.index-ranks-rank.result c.rank_of-rank.ensures (omega (arith, c.if-rank-ranks.false)) c.in_err-make_room_for.ensures.memory)
+
+pub returns-in_err-make_room_for-clause-kept : goal.returns-in_err-make_room_for-clause-kept
+returns-in_err-make_room_for-clause-kept g c = at_error c.from_residual.result (keeps_same c.args.ranks.now c.rank_of-rank.result c.index-ranks-rank.result)
+
+pub returns-in_err-make_room_for-clause-group : goal.returns-in_err-make_room_for-clause-group
+returns-in_err-make_room_for-clause-group g c = at_error c.from_residual.result c.make_room_for.ensures.kept
 
 pub call-reply-requires-clause-of : goal.call-reply-requires-clause-of
 call-reply-requires-clause-of g c = c.requires.job.of
@@ -62,13 +69,15 @@ returns-in-OutOfMemory g c =
       begins = other_begins g.P.Meld.meld g.W.Words.alone (g.W.Words.name c.args.world.now.words) (g.W.Words.sight c.args.pass.now) c.args.ranks.now c.requires.job c.args.asked c.requires.other c.rank_of-rank.result c.index-ranks-rank.result c.rank_of-rank.ensures (omega (arith, c.if-rank-ranks.false)) c.call-reply.new.self (g.W.Words.sight c.call-reply.new.pass) c.call-reply.result c.call-reply.ensures.ends out;
       about = tt;
       memory = out_polls g.P.Meld.meld g.W.Words.alone (g.W.Words.name c.args.world.now.words) (g.W.Words.sight c.args.pass.now) c.args.ranks.now c.requires.job c.args.asked c.requires.other c.rank_of-rank.result c.index-ranks-rank.result c.rank_of-rank.ensures (omega (arith, c.if-rank-ranks.false)) c.call-reply.new.self (g.W.Words.sight c.call-reply.new.pass) c.call-reply.result c.call-reply.ensures.ends out;
+      kept = other_keeps g.P.Meld.meld g.W.Words.alone (g.W.Words.name c.args.world.now.words) (g.W.Words.sight c.args.pass.now) c.args.ranks.now c.requires.job c.args.asked c.requires.other c.rank_of-rank.result c.index-ranks-rank.result c.rank_of-rank.ensures (omega (arith, c.if-rank-ranks.false)) c.call-reply.new.self (g.W.Words.sight c.call-reply.new.pass) c.call-reply.result c.call-reply.ensures.ends out;
+      group = c.make_room_for.ensures.kept;
     }
 
 pub returns-in_default-refusal : goal.returns-in_default-refusal
 returns-in_default-refusal g c =
     let at = (goal.at.returns-in_default-refusal g c).After-call-reply in
     let step = subst (λ r. StepsBy g.P.Meld.meld g.W.Words.alone (g.W.Words.name c.args.world.now.words) c.args.asked (g.W.Words.sight c.args.pass.now) (records_of c.args.ranks.now) r (g.W.Words.sight c.call-reply.new.pass) (records_of (slice_set c.args.ranks.now c.rank_of-rank.result c.call-reply.new.self))) c.in-Refused.is (stepped g at (λ out. c.in_default-refusal.not-OutOfMemory (cc (c.in-Refused.is, out)))) in
-    record { step = step; job = step.job; begins = step.begins; about = tt; memory = tt }
+    record { step = step; job = step.job; begins = step.begins; about = tt; memory = tt; kept = tt; group = tt }
 
 -- where a communicator was made
 made : (g : _) (c : In-Shrunk g) → c.call-reply.result ≡ Refused OutOfMemory → ⊥
@@ -78,8 +87,8 @@ pub returns-in_ok-put_members-in-Shrunk : goal.returns-in_ok-put_members-in-Shru
 returns-in_ok-put_members-in-Shrunk g c =
     let at = goal.at.returns-in_ok-put_members-in-Shrunk g c in
     let step = subst (λ r. StepsBy g.P.Meld.meld g.W.Words.alone (g.W.Words.name c.args.world.now.words) c.args.asked (g.W.Words.sight c.args.pass.now) (records_of c.args.ranks.now) r (g.W.Words.sight c.call-reply.new.pass) (records_of (slice_set c.args.ranks.now c.rank_of-rank.result c.call-reply.new.self))) c.in-Shrunk.is (stepped g at.After-call-reply (made g at.In-Shrunk)) in
-    let about = other_made g.P.Meld.meld g.W.Words.alone (g.W.Words.name c.args.world.now.words) (g.W.Words.sight c.args.pass.now) c.args.ranks.now c.requires.job c.args.asked c.requires.other c.rank_of-rank.result c.index-ranks-rank.result c.rank_of-rank.ensures (omega (arith, c.if-rank-ranks.false)) c.call-reply.new.self (g.W.Words.sight c.call-reply.new.pass) c.call-reply.result c.call-reply.ensures.ends (made g at.In-Shrunk) c.in-Shrunk.comm c.in-Shrunk.context c.in-Shrunk.size c.in-Shrunk.is (traits_of c.args.asked).comm c.put_members.new.found.items c.in_ok-put_members-in-Shrunk.ensures in
-    record { step = step; job = step.job; begins = step.begins; about = rw c.in-Shrunk.is at about; memory = tt }
+    let about = other_made g.P.Meld.meld g.W.Words.alone (g.W.Words.name c.args.world.now.words) (g.W.Words.sight c.args.pass.now) c.args.ranks.now c.requires.job c.args.asked c.requires.other c.rank_of-rank.result c.index-ranks-rank.result c.rank_of-rank.ensures (omega (arith, c.if-rank-ranks.false)) c.call-reply.new.self (g.W.Words.sight c.call-reply.new.pass) c.call-reply.result c.call-reply.ensures.ends (made g at.In-Shrunk) c.in-Shrunk.comm c.in-Shrunk.context c.in-Shrunk.size c.in-Shrunk.is (traits_of c.args.asked).comm c.put_members.new.found.items c.in_ok-put_members-in-Shrunk.ensures.ok in
+    record { step = step; job = step.job; begins = step.begins; about = rw c.in-Shrunk.is at about; memory = tt; kept = tt; group = tt }
 
 pub returns-in_err-put_members-in-Shrunk-clause-job : goal.returns-in_err-put_members-in-Shrunk-clause-job
 returns-in_err-put_members-in-Shrunk-clause-job g c =
@@ -89,10 +98,24 @@ pub returns-in_err-put_members-in-Shrunk-clause-begins : goal.returns-in_err-put
 returns-in_err-put_members-in-Shrunk-clause-begins g c =
     let at = goal.at.returns-in_err-put_members-in-Shrunk-clause-begins g c in (stepped g at.After-call-reply (made g at.In-Shrunk)).begins
 
+-- the members have room, since they are no more than the parent's
+full : (g : _) (c : After-from_residual-in_err-put_members-in-Shrunk g) → ⊥
+full g c =
+    let out : c.call-reply.result ≡ Refused OutOfMemory → ⊥ = λ is. cc (is, c.in-Shrunk.is) in
+    let lacks = c.in_err-put_members-in-Shrunk.ensures.lacks in
+    let parent = other_few g.P.Meld.meld g.W.Words.alone (g.W.Words.name c.args.world.now.words) (g.W.Words.sight c.args.pass.now) c.args.ranks.now c.requires.job c.args.asked c.requires.other c.rank_of-rank.result c.index-ranks-rank.result c.rank_of-rank.ensures (omega (arith, c.if-rank-ranks.false)) c.call-reply.new.self (g.W.Words.sight c.call-reply.new.pass) c.call-reply.result c.call-reply.ensures.ends out c.in-Shrunk.comm c.in-Shrunk.context c.in-Shrunk.size c.in-Shrunk.is lacks.0 lacks.1 in
+    let polls = other_polls g.P.Meld.meld g.W.Words.alone (g.W.Words.name c.args.world.now.words) (g.W.Words.sight c.args.pass.now) c.args.ranks.now c.requires.job c.args.asked c.requires.other c.rank_of-rank.result c.index-ranks-rank.result c.rank_of-rank.ensures (omega (arith, c.if-rank-ranks.false)) c.call-reply.new.self (g.W.Words.sight c.call-reply.new.pass) c.call-reply.result c.call-reply.ensures.ends out c.in-Shrunk.comm c.in-Shrunk.context c.in-Shrunk.size c.in-Shrunk.is in
+    let room = c.in_ok-make_room_for.ensures.room polls parent.x parent.held parent.shrinks in
+    omega (arith, lacks.2, parent.few, room)
+
 pub returns-in_err-put_members-in-Shrunk-clause-memory : goal.returns-in_err-put_members-in-Shrunk-clause-memory
-returns-in_err-put_members-in-Shrunk-clause-memory g c =
-    let at = goal.at.returns-in_err-put_members-in-Shrunk-clause-memory g c in
-    at_error _ (other_polls g.P.Meld.meld g.W.Words.alone (g.W.Words.name c.args.world.now.words) (g.W.Words.sight c.args.pass.now) c.args.ranks.now c.requires.job c.args.asked c.requires.other c.rank_of-rank.result c.index-ranks-rank.result c.rank_of-rank.ensures (omega (arith, c.if-rank-ranks.false)) c.call-reply.new.self (g.W.Words.sight c.call-reply.new.pass) c.call-reply.result c.call-reply.ensures.ends (made g at.In-Shrunk) c.in-Shrunk.comm c.in-Shrunk.context c.in-Shrunk.size c.in-Shrunk.is)
+returns-in_err-put_members-in-Shrunk-clause-memory g c = absurd (full g c)
+
+pub returns-in_err-put_members-in-Shrunk-clause-kept : goal.returns-in_err-put_members-in-Shrunk-clause-kept
+returns-in_err-put_members-in-Shrunk-clause-kept g c = absurd (full g c)
+
+pub returns-in_err-put_members-in-Shrunk-clause-group : goal.returns-in_err-put_members-in-Shrunk-clause-group
+returns-in_err-put_members-in-Shrunk-clause-group g c = absurd (full g c)
 
 pub returns-in_default : goal.returns-in_default
 returns-in_default g c =
@@ -104,6 +127,8 @@ returns-in_default g c =
       begins = step.begins;
       about = other_about g.P.Meld.meld g.W.Words.alone (g.W.Words.name c.args.world.now.words) (g.W.Words.sight c.args.pass.now) c.args.ranks.now c.requires.job c.args.asked c.requires.other c.rank_of-rank.result c.index-ranks-rank.result c.rank_of-rank.ensures (omega (arith, c.if-rank-ranks.false)) c.call-reply.new.self (g.W.Words.sight c.call-reply.new.pass) c.call-reply.result c.call-reply.ensures.ends kept (traits_of c.args.asked).comm c.make_room_for.new.found.items c.in_default.not-Shrunk c.in_default.not-Refused;
       memory = tt;
+      kept = tt;
+      group = tt;
     }
 
 pub returns-in_err-make_room_for-clause-step : goal.returns-in_err-make_room_for-clause-step

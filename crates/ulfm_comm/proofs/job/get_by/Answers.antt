@@ -3,6 +3,8 @@ use Rattle.ulfm_model.specs.declared.call.Call.TheVariants as call
 use Rattle.ulfm_model.specs.declared.reply.Reply.TheVariants.{FailedGroup}
 use Rattle.ulfm_model.specs.History.{members}
 use Rattle.ulfm_model.proofs.Marking.{failed_few}
+use Rattle.std.specs.Prelude.{Err}
+use Rattle.ulfm_comm.proofs.Lacking.{keeps_set}
 use Rattle.ulfm_comm.proofs.Jobs.{ranked_begins, ranked_fits, ranked_job, ranked_missing, ranked_refused, ranked_step}
 use Rattle.ulfm_comm.proofs.job.get_by.Goals as goal
 
@@ -27,7 +29,7 @@ pub returns-in-Ok : goal.returns-in-Ok
 returns-in-Ok g c =
     let answered = ranked_step g.P.Meld.meld g.W.Words.alone (g.W.Words.name c.args.world.now.words) (g.W.Words.sight c.args.pass.now) c.args.ranks.now c.requires c.args.rank c.index-ranks-rank.result (omega (arith, c.if-rank-ranks.false))
     c.get_failed.new.self (g.W.Words.sight c.get_failed.new.pass) (λ r. call.GetFailed r c.args.comm) (FailedGroup (length c.as_slice.result.now)) refl (rw (← c.as_slice.ensures.value) at c.in-Ok.ensures.gets) in
-    record { step = answered; job = answered.job; begins = answered.begins; about = c.in-Ok.ensures.group }
+    record { step = answered; job = answered.job; begins = answered.begins; about = c.in-Ok.ensures.group; memory = tt; kept = tt; group = tt }
 
 pub returns-in-OutOfMemory-clause-job : goal.returns-in-OutOfMemory-clause-job
 returns-in-OutOfMemory-clause-job g c =
@@ -39,8 +41,15 @@ returns-in-OutOfMemory-clause-begins g c =
     ranked_begins g.P.Meld.meld g.W.Words.alone (g.W.Words.name c.args.world.now.words) (g.W.Words.sight c.args.pass.now) c.args.ranks.now c.requires c.args.rank c.index-ranks-rank.result (omega (arith, c.if-rank-ranks.false))
     c.get_failed.new.self (g.W.Words.sight c.get_failed.new.pass) _ (rw c.in-OutOfMemory.is at c.in-Err.ensures.gets)
 
+pub returns-in-OutOfMemory-clause-memory : goal.returns-in-OutOfMemory-clause-memory
+returns-in-OutOfMemory-clause-memory g c = c.in-Err.ensures.memory (ap Err c.in-OutOfMemory.is)
+
+pub returns-in-OutOfMemory-clause-kept : goal.returns-in-OutOfMemory-clause-kept
+returns-in-OutOfMemory-clause-kept g c =
+    let out = rw c.in-OutOfMemory.is at c.in-Err.ensures.gets in keeps_set c.args.ranks.now c.args.rank c.index-ranks-rank.result c.get_failed.new.self out.run_out.record_is
+
 pub returns-in_default : goal.returns-in_default
 returns-in_default g c =
     let refused = ranked_refused g.P.Meld.meld g.W.Words.alone (g.W.Words.name c.args.world.now.words) (g.W.Words.sight c.args.pass.now) c.args.ranks.now c.requires c.args.rank c.index-ranks-rank.result (omega (arith, c.if-rank-ranks.false))
     c.get_failed.new.self (g.W.Words.sight c.get_failed.new.pass) (λ r. call.GetFailed r c.args.comm) c.in-Err.refusal refl c.in_default.not-OutOfMemory c.in-Err.ensures.gets in
-    record { step = refused; job = refused.job; begins = refused.begins; about = tt }
+    record { step = refused; job = refused.job; begins = refused.begins; about = tt; memory = tt; kept = tt; group = tt }

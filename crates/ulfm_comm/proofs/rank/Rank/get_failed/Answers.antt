@@ -1,4 +1,6 @@
-use Rattle.std.proofs.Common.{◌≡◌, length, filter, Some, ap, ap₂, ◌∙◌, sym, subst}
+use Rattle.std.proofs.Common.{◌≡◌, ◌<◌, length, filter, true, Some, ap, ap₂, ◌∙◌, sym, subst, vec_capacity}
+use Rattle.std.specs.Prelude.{Result, Ok, Err, OnErr}
+use Rattle.std.specs.Result.{is_err}
 use Rattle.std.specs.List.Sorted.{IsStrictlyIncreasing}
 use Rattle.ulfm_model.specs.declared.call.Call.TheVariants as call
 use Rattle.ulfm_model.specs.declared.reply.Reply.TheVariants.{FailedGroup}
@@ -47,6 +49,22 @@ put_in-requires-clause-rises g c = subst IsStrictlyIncreasing (sym c.deref-2.ens
 
 pub returns-then-is_err-clause-gets : goal.returns-then-is_err-clause-gets
 returns-then-is_err-clause-gets g c = (counts g (goal.at.returns-then-is_err-clause-gets g c).After-failures).run_out
+
+-- what holds where a result is an error
+err_of : {T E : Type 0} (result : Result T E) (Q : Type 0) → OnErr result Q → is_err result ≡ true → Q
+err_of (Ok x) Q q wrong = absurd (cc wrong)
+err_of (Err e) Q q wrong = q
+
+-- memory is lacked only where the group has no room
+pub returns-then-is_err-clause-memory : goal.returns-then-is_err-clause-memory
+returns-then-is_err-clause-memory g c = λ _.
+    let h = counts g (goal.at.returns-then-is_err-clause-memory g c).After-failures in
+    let both : Some c.held_comm-x.result.now ≡ Some h.x = sym c.held_comm-x.ensures ∙ (ap (λ (r : Ranked). held_at r.own c.args.comm) c.self.view_is ∙ h.held) in
+    let same : c.held_comm-x.result.now ≡ h.x = cc both in
+    let group = c.deref.ensures.value ∙ (ap (λ (y : Held). y.group) c.x.view_is ∙ ap (λ (y : Held). y.group) same) in
+    let number = ap length (ap₂ (λ w v. filter (has w) v) group c.failures.ensures ∙ h.group) in
+    let lacks = err_of c.make_room.result (vec_capacity c.args.found.now < length (filter (has c.deref.result.now) c.failures.result.now)) c.make_room.ensures.lacks (sym c.is_err.ensures.value ∙ c.if-is_err.true) in
+    subst (λ n. vec_capacity c.args.found.now < n) number lacks
 
 -- the vector has the failures in the group that the look found
 found : (g : _) (c : After-put_in g) (h : HasCounted g.P.Meld.meld g.W.Words.alone (g.W.Words.name c.args.world.now.words) c.args.self.now.own.number c.args.comm c.in_ok-counted.field-0 c.args.self.now.own (g.W.Words.sight c.args.pass.now) c.call.new.self.own (g.W.Words.sight c.call.new.pass))

@@ -1,12 +1,12 @@
 use Rattle.std.proofs.Common.{rules}
-use Rattle.ulfm_comm.proofs.{AlsoLeft.{also_first_bound}, StepsLeft.{first_bound}}
+use Rattle.ulfm_comm.proofs.Begins.{begins_few, begins_few_also}
 use Rattle.ulfm_comm.proofs.rank.RankRecord.begin.Goals as goal
 
 pub returns-clause-asked : goal.returns-clause-asked
 returns-clause-asked g c = search rules steps 100000
 
 pub returns-clause-bounded : goal.returns-clause-bounded
-returns-clause-bounded g c = λ more. rw c.first.ensures (first_bound c.args.self.now.limits c.args.self.now c.args.asked more)
+returns-clause-bounded g c = rw c.first.ensures (begins_few c.args.self.now c.args.asked c.allocator.ensures.in_range.some_ranks)
 
 pub returns-clause-also : goal.returns-clause-also
-returns-clause-also g c = λ more some. rw c.first.ensures (also_first_bound c.args.self.now.limits c.args.self.now c.args.asked more some)
+returns-clause-also g c = let range = c.allocator.ensures.in_range in rw c.first.ensures (begins_few_also c.args.self.now c.args.asked range.some_ranks range.some_comms)

@@ -20,6 +20,11 @@ use Rattle.ulfm_comm.proofs.rank.RankRecord.reached.Goals.{After-has_rank}
 among : (g : _) (c : After-has_rank g) → c.has_rank.result ≡ has (take c.args.reach c.args.self.now.seen) c.args.self.now.number
 among g c = c.has_rank.ensures ∙ ap₂ (λ s n. has (take c.args.reach s) n) c.failures.ensures c.number-number.ensures
 
+-- what holds of a result that isn't an error
+ok_of : {T E : Type 0} (result : Result T E) (Q : Type 0) → IfOk result (λ _. Q) → is_err result ≡ false → Q
+ok_of (Ok x) Q q right = q
+ok_of (Err e) Q q right = absurd (cc right)
+
 pub returns-then-has_rank-clause-turns : goal.returns-then-has_rank-clause-turns
 returns-then-has_rank-clause-turns g c = λ alone old before r.
     ends_self_failed g.P.Meld.meld alone (g.W.Words.name c.args.world.now.words) c.args.asked.now c.args.made.round c.args.made.mask r.x c.args.made.count c.args.reach old before c.args.self.now (g.W.Words.sight c.args.pass.now)
@@ -43,10 +48,10 @@ returns-then-limits-eq1-clause-turns g c = λ alone old before r.
     (full_alone g.P.Meld.meld alone name (comm_of c.args.asked.now) c.args.made.round now c.requires.of one) (sym there ∙ c.if-has_rank.false)
     (c.close.ensures ∙ ap (closed c.args.self.now) c.comm_of-comm.ensures)
 
--- what holds of a result that isn't an error
-ok_of : {T E : Type 0} (result : Result T E) (Q : Type 0) → IfOk result (λ _. Q) → is_err result ≡ false → Q
-ok_of (Ok x) Q q right = q
-ok_of (Err e) Q q right = absurd (cc right)
+pub returns-then-limits-eq1-clause-memory : goal.returns-then-limits-eq1-clause-memory
+returns-then-limits-eq1-clause-memory g c = λ is x held.
+    ok_of c.make_room.result ((x : Held) → held_at c.args.self.now c.comm_of-comm.result ≡ Some x → c.make_room.new.group.items ≡ without x.group (take c.args.reach c.args.self.now.seen)) c.make_room.ensures (sym c.is_err.ensures.value ∙ c.if-is_err.false)
+    x (ap (held_at c.args.self.now) c.comm_of-comm.ensures ∙ held)
 
 pub returns-clause-turns : goal.returns-clause-turns
 returns-clause-turns g c = λ alone old before r.
