@@ -1,13 +1,11 @@
 // An agree as a future.
-ghost use Rattle.std.specs.Prelude.{◌≡◌, true, false, IfOk, IfSome, None, Some, Ok};
+ghost use Rattle.std.specs.Prelude.{◌≡◌, true, false, IfOk, None, Some, Ok};
 ghost use Rattle.futures.specs.Task.{Covers, Keeps};
 ghost use Rattle.futures.specs.Poll.{IfReady, OnPending};
 ghost use Rattle.ulfm_model.specs.Records.{Fits};
 ghost use Rattle.ulfm_model.specs.declared.call.Call.TheVariants.{Agree};
-ghost use Rattle.ulfm_words.specs.Steps.{IsOf, Sight};
-ghost use Rattle.ulfm_comm.specs.Counts.{Ranked};
+ghost use Rattle.ulfm_words.specs.Steps.{IsOf};
 ghost use Rattle.ulfm_comm.specs.declared.calls.polled.Polled.TheVariants.{Pending as StillPending};
-ghost use Rattle.ulfm_member.specs.Members.{IsMember};
 ghost use Rattle.ulfm_wait.specs.Turns.{Ends, FutureGives, Pends, TakesTurn, member_of};
 ghost use Rattle.ulfm_wait.specs.Waits.{MemberWaits, TellsAgree};
 
