@@ -1,5 +1,5 @@
 -- Turns of an agree as a future.
-use Rattle.std.proofs.Common.{◌≡◌, ℕ, Bool, true, false, Option, None, Some, Result, Ok, Err, IfOk, IfSome, IsTrue, inl, inr, refl, ap, sym, ◌∙◌, subst, ◌==◌}
+use Rattle.std.proofs.Common.{◌≡◌, ℕ, zero, suc, Bool, true, false, Option, None, Some, Result, Ok, Err, IfOk, IfSome, IsTrue, inl, inr, refl, ap, sym, ◌∙◌, subst, ◌==◌}
 use Rattle.std.specs.Prelude.{find, option_map}
 use Rattle.futures.specs.Poll.{OnPending}
 use Rattle.futures.specs.declared.task.{Poll.{Poll as Given}, Poll.TheVariants.{Pending as StaysPending}}
@@ -14,7 +14,7 @@ use Rattle.ulfm_comm.proofs.CallRuns.{called_run}
 use Rattle.ulfm_member.specs.Members.{IsMember, MemberCalls, MemberPolls, Membership}
 use Rattle.ulfm_rounds.specs.Rounds.{Gave}
 use Rattle.ulfm_rounds.proofs.{Staying.{gave_lasts}, Telling.{agree_opened, find_change, pending_holds}}
-use Rattle.ulfm_wait.specs.{Turns.{AgreeGives, AgreeState, Agreeing, Begins, Ends, FutureGives, HasGiven, IsUnderWay, Pends, StartsAndPolls, TakesTurn, member_of}, Waits.{MemberPollsOn}}
+use Rattle.ulfm_wait.specs.{Turns.{AgreeGives, AgreeState, Agreeing, Begins, Ends, FutureGives, HasGiven, HasPolled, IsUnderWay, MemberPends, Pends, PendsTimes, StartsAndPolls, TakesTurn, member_of}, Waits.{MemberPollsOn}}
 use Rattle.ulfm_wait.proofs.Waiting.{goes_on, is_answer, member_answered, member_pends, member_refused, member_waits, poll_member, same_words, started_on}
 
 -- what isn't pending is an answer
@@ -151,6 +151,33 @@ module _ {P : Type 0} (meld : P → P → P) (alone : Bool) (c : ℕ) (value : P
   opened_ends inside member s started f reply rank pass view is other turn =
       let holds : holding started (member s) ≡ f = ap (λ h. record { agree = agree_is started; held = option_map member h }) (sym is) ∙ view in
       subst (λ f. IsEnding f reply rank pass started) holds (turn_ends started (member s) reply rank pass other turn)
+
+  -- What pending polls of a future left that had started.
+  record IsPolledMore (times : ℕ) (m : Membership P) (new : AgreeState P) : Type 0 where
+    pub left : Membership P
+    pub polls : MemberPends meld alone c times m left
+    pub given : HasGiven c value left
+    pub new_is : new ≡ holding true left
+
+  polls_more : (times : ℕ) (m : Membership P) (new : AgreeState P) → HasGiven c value m → PendsTimes meld alone times (holding true m) new → IsPolledMore times m new
+  polls_more zero m new given is = record { left = m; polls = refl; given = given; new_is = is }
+  polls_more (suc times) m new given (mid, pends, rest) =
+      let more = polls_more times pends.left new pends.given (subst (λ f. PendsTimes meld alone times f new) pends.new_is rest) in
+      record { left = more.left; polls = (pends.left, pends.turn, more.polls); given = more.given; new_is = more.new_is }
+
+  -- Pending polls of a future that isn't started are counted: they made one start, and as many polls of its rank.
+  pub polls_counted : (times : ℕ) (m : Membership P) (new : AgreeState P) → PendsTimes meld alone (suc times) (holding false m) new
+      → HasPolled meld alone (suc times) (agree_is false) m new
+  polls_counted times m new (mid, pends, rest) =
+      let more = polls_more times pends.left new pends.given (subst (λ f. PendsTimes meld alone times f new) pends.new_is rest) in
+      record {
+        mid = pends.turn.mid;
+        starts = pends.turn.starts;
+        left = more.left;
+        polls = (pends.left, pends.turn.polls, more.polls);
+        given = more.given;
+        new_is = more.new_is;
+      }
 
 -- what holds where a poll is pending
 pub on_pending : {A X : Type 0} (result : Given A) → result ≡ StaysPending → X → OnPending result X

@@ -1,5 +1,5 @@
 -- What an agree as a future promises, poll by poll.
-use Rattle.std.specs.Prelude.{◌≡◌, ◌⊎◌, ℕ, Bool, true, Option, None, Some, IfOk, IsTrue, IsSomeAnd, MatchBool, MatchOption, Result, Ok, Err}
+use Rattle.std.specs.Prelude.{◌≡◌, ◌⊎◌, ℕ, zero, suc, Bool, true, Option, None, Some, IfOk, IsTrue, IsSomeAnd, MatchBool, MatchOption, Result, Ok, Err}
 use Rattle.ulfm_model.specs.declared.{call.Call.{Call}, call.Request.{Request}, refusal.Refusal.{Refusal}, reply.Reply.{Reply}}
 use Rattle.ulfm_model.specs.Records.{Held, held_at}
 use Rattle.ulfm_words.specs.Steps.{Name, Sight}
@@ -89,3 +89,25 @@ AgreeGives meld alone agree old result new =
 -- what the future gives: that, of the member that it holds
 abbrev pub FutureGives : {P : Type 0} → (P → P → P) → Bool → AgreeState P → Result (Polled P) Refusal → Ranked → Sight P → Type 0
 FutureGives meld alone f result rank pass = IsSomeAnd f.held (λ m. AgreeGives meld alone f.agree m result (member_of m.name rank pass))
+
+-- so many polls of the future, one behind the other, each pending
+abbrev pub PendsTimes : {P : Type 0} → (P → P → P) → Bool → ℕ → AgreeState P → AgreeState P → Type 0
+PendsTimes meld alone zero old new = new ≡ old
+PendsTimes {P} meld alone (suc times) old new = (mid : AgreeState P) × Pends meld alone old mid × PendsTimes meld alone times mid new
+
+-- so many polls of a member on communicator c, each pending
+abbrev pub MemberPends : {P : Type 0} → (P → P → P) → Bool → ℕ → ℕ → Membership P → Membership P → Type 0
+MemberPends meld alone c zero old new = new ≡ old
+MemberPends {P} meld alone c (suc times) old new =
+    (mid : Membership P) × MemberPolls meld alone c old (Ok Polled.Pending) mid × MemberPends meld alone c times mid new
+
+-- What so many pending polls of the future made, from this member on: one start, and as many polls of its rank; and it holds what these
+-- left, which has given its flag.
+pub record HasPolled {P : Type 0} (meld : P → P → P) (alone : Bool) (times : ℕ) (agree : Agreeing P) (m : Membership P) (new : AgreeState P)
+    : Type 0 where
+  pub mid : Membership P
+  pub starts : MemberCalls meld alone (Call.Agree m.own.number agree.comm agree.value) m Reply.Started mid
+  pub left : Membership P
+  pub polls : MemberPends meld alone agree.comm times mid left
+  pub given : HasGiven agree.comm agree.value left
+  pub new_is : new ≡ record { agree = record agree { started = true }; held = Some left }
