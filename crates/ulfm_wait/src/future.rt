@@ -1,24 +1,31 @@
 // An agree as a future.
-ghost use Rattle.std.specs.Prelude.{◌≡◌, true, false, IfOk, IfSome, IsSomeAnd, Ok};
+ghost use Rattle.std.specs.Prelude.{◌≡◌, true, false, IfOk, None, Some, Ok};
+ghost use Rattle.futures.specs.Task.{Covers, Keeps};
+ghost use Rattle.futures.specs.Poll.{IfReady, OnPending};
 ghost use Rattle.ulfm_model.specs.Records.{Fits};
 ghost use Rattle.ulfm_model.specs.declared.call.Call.TheVariants.{Agree};
 ghost use Rattle.ulfm_words.specs.Steps.{IsOf};
 ghost use Rattle.ulfm_comm.specs.declared.calls.polled.Polled.TheVariants.{Pending as StillPending};
-ghost use Rattle.ulfm_wait.specs.Waits.{FutureGives, StepIs, TellsAgree, Waits};
+ghost use Rattle.ulfm_wait.specs.Turns.{Ends, FutureGives, Pends, TakesTurn, member_of};
+ghost use Rattle.ulfm_wait.specs.Waits.{MemberWaits, TellsAgree};
 
 use futures::Future;
 use futures::task::{Context, Poll};
 use std::alloc::Allocator;
+use std::marker::Model;
 use ulfm_comm::{Polled, Rank, World};
 use ulfm_laws::meld::Packed;
 use ulfm_model::refusal::Refusal;
 use ulfm_words::Words;
 
-/// An agree that starts at its first poll, and polls at that and at each later one. Its output is the pass, the rank and the
-/// reply, which is never `Pending`; a refusal is that of the start or of the last poll.
+/// An agree that starts at its first poll, and polls its rank once at that and at each later one. Its output is the pass, the
+/// rank and the reply, which is never `Pending`; a refusal is that of the start or of the last poll.
 ///
-/// While it is pending it wakes its own waker, so that an executor polls it again; so it does too when it is polled after its
-/// output. It makes no step before its first poll, and no return is promised.
+/// Where its first poll is pending, the rank has contributed its flag, which others see from then on, also where the future
+/// is dropped. While it is pending it keeps the rank and the pass, and wakes its own waker, so that an executor polls it
+/// again; so it does too when it is polled after its output. Its first poll makes the steps of `Rank::iagree` and
+/// `Rank::poll`, each later one those of `Rank::poll`; before the first it makes none, and none after its output. It may be
+/// polled at any time, and no return is promised.
 #[derive(Drop)]
 pub struct AgreeFuture<'a, W: Words<P, A>, P: Packed, A: Allocator> {
     world: &'a World<W, P, A>,
@@ -27,6 +34,21 @@ pub struct AgreeFuture<'a, W: Words<P, A>, P: Packed, A: Allocator> {
     started: bool,
     // Until the output was given.
     held: Option<(W::Pass, Rank<P, A>)>,
+}
+
+impl<'a, W: Words<P, A>, P: Packed, A: Allocator> Model for AgreeFuture<'a, W, P, A> {
+    ghost use Rattle.std.specs.Prelude.{IfSome, option_map};
+    ghost use Rattle.ulfm_wait.specs.Turns.{AgreeState, IsUnderWay, member_of};
+
+    ghost Value = { AgreeState P };
+
+    ghost view = { λ f. record {
+      agree = record { comm = f.comm; value = f.value; started = f.started };
+      held = option_map (λ s. member_of (W.name f.world.now.words) s.1 (W.sight s.0)) f.held;
+    } };
+
+    ghost invariant = { λ f. IfSome f.held (λ s. IsUnderWay P.meld (record { comm = f.comm; value = f.value; started = f.started })
+        (member_of (W.name f.world.now.words) s.1 (W.sight s.0))) };
 }
 
 impl<'a, W: Words<P, A>, P: Packed, A: Allocator + Copy> AgreeFuture<'a, W, P, A> {
@@ -54,9 +76,14 @@ impl<'a, W: Words<P, A>, P: Packed, A: Allocator + Copy> AgreeFuture<'a, W, P, A
     ) -> AgreeFuture<'a, W, P, A>
         requires of { IsOf P.meld (W.name world.now.words) (W.sight pass) }
         requires fits { Fits P.meld (W.name world.now.words).limits (W.sight pass).seen rank.own }
+        ensures fresh { result ≡ record {
+          agree = record { comm = comm; value = value; started = false };
+          held = Some (member_of (W.name world.now.words) rank (W.sight pass));
+        } }
         ensures may { ⟦<AgreeFuture<'a, W, P, A> as Future>⟧.can_poll result }
         ensures gives { (out : _) → ⟦<AgreeFuture<'a, W, P, A> as Future>⟧.gives result out
-            → Waits P.meld W.alone (W.name world.now.words) comm (Agree rank.own.number comm value) rank.own (W.sight pass) out.2 out.1.own (W.sight out.0) }
+            → MemberWaits P.meld W.alone comm (Agree rank.own.number comm value) (member_of (W.name world.now.words) rank (W.sight pass)) out.2
+            (member_of (W.name world.now.words) out.1 (W.sight out.0)) }
         ensures tells { (out : _) → ⟦<AgreeFuture<'a, W, P, A> as Future>⟧.gives result out
             → IfOk out.2 (TellsAgree P.meld (W.name world.now.words).limits (W.sight out.0).seen comm value rank.own) }
     {
@@ -73,16 +100,21 @@ impl<'a, W: Words<P, A>, P: Packed, A: Allocator + Copy> AgreeFuture<'a, W, P, A
 impl<'a, W: Words<P, A>, P: Packed, A: Allocator + Copy> Future for AgreeFuture<'a, W, P, A> {
     type Output = (W::Pass, Rank<P, A>, Result<Polled<P>, Refusal>);
 
-    ghost can_poll = { λ f. IfSome f.held (λ s. IsOf P.meld (W.name f.world.now.words) (W.sight s.0)
-        × Fits P.meld (W.name f.world.now.words).limits (W.sight s.0).seen s.1.own) };
-
-    ghost gives = { λ f out. IsSomeAnd f.held (λ s. FutureGives P.meld W.alone (W.name f.world.now.words) f.comm f.value f.started s.1.own (W.sight s.0)
-        out.2 out.1.own (W.sight out.0)) };
+    ghost gives = { λ f out. FutureGives P.meld W.alone f out.2 out.1 (W.sight out.0) };
 
     fn poll(
         &mut self,
         cx: &mut Context<'_>,
-    ) -> Poll<(W::Pass, Rank<P, A>, Result<Polled<P>, Refusal>)> {
+    ) -> Poll<(W::Pass, Rank<P, A>, Result<Polled<P>, Refusal>)>
+        ensures pends { OnPending result (Pends P.meld W.alone self.old self.new) }
+        ensures ends { IfReady result (λ out. Ends P.meld W.alone self.old out.2 out.1 (W.sight out.0) self.new) }
+        ensures woken { OnPending result (cx.new.is_woken ≡ true) }
+        ensures value { IfReady result (⟦<AgreeFuture<'a, W, P, A> as Future>⟧.gives self.old) }
+        ensures again { OnPending result (⟦<AgreeFuture<'a, W, P, A> as Future>⟧.can_poll self.new) }
+        ensures same { OnPending result ((out : _) → ⟦<AgreeFuture<'a, W, P, A> as Future>⟧.gives self.new out → ⟦<AgreeFuture<'a, W, P, A> as Future>⟧.gives self.old out) }
+        ensures registered { OnPending result (Covers cx.new (λ _. ⊥)) }
+        ensures kept { Keeps cx.old cx.new }
+    {
         let Some((mut pass, mut rank)) = self.held.take() else {
             return cx.yield_now();
         };
@@ -128,8 +160,8 @@ fn step<W: Words<P, A>, P: Packed, A: Allocator + Copy>(
 ) -> Result<Polled<P>, Refusal>
     requires of { IsOf P.meld (W.name world.now.words) (W.sight pass.old) }
     requires fits { Fits P.meld (W.name world.now.words).limits (W.sight pass.old).seen rank.old.own }
-    ensures { StepIs P.meld W.alone (W.name world.now.words) comm value started rank.old.own (W.sight pass.old) result rank.new.own
-        (W.sight pass.new) }
+    ensures { TakesTurn P.meld W.alone (record { comm = comm; value = value; started = started }) (member_of (W.name world.now.words) rank.old (W.sight pass.old))
+        result (member_of (W.name world.now.words) rank.new (W.sight pass.new)) }
 {
     if started {
         return rank.poll(world, pass, comm);

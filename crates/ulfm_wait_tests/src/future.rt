@@ -1,7 +1,9 @@
 // The future of an agree, driven by an executor.
+use futures::Future;
 use futures::executor::block_on;
-use futures::future::join;
+use futures::future::{join, poll_immediate};
 use std::alloc::{AllocGlobal, Global};
+use std::io;
 use std::process::Abort;
 use std::random::RandomSource;
 use std::sync::Wait;
@@ -22,6 +24,9 @@ fn limits(ranks: u16) -> Limits {
         rounds: 2,
     }
 }
+
+/// A member over shared words.
+type BookMember = Member<BookWords<FlagAnd>, FlagAnd, Global>;
 
 /// What two ranks agree on, or one alone.
 const AGREED: Polled<FlagAnd> = Polled::Agreed {
@@ -69,8 +74,8 @@ fn future_agrees_over_plain_words(rt: HostRuntime) -> Result<(), Fail> {
 /// its waker.
 fn agree_in_turn<R: Wait + RandomSource + AllocGlobal + Abort>(
     rt: &R,
-    one: Member<BookWords<FlagAnd>, FlagAnd, Global>,
-    other: Member<BookWords<FlagAnd>, FlagAnd, Global>,
+    one: BookMember,
+    other: BookMember,
 ) -> Result<(), Fail> {
     let (world, rank, pass) = one.into_parts();
     let first = AgreeFuture::new(&world, pass, rank, 0, FlagAnd { bits: 0xff0f_00ff });
@@ -90,4 +95,76 @@ fn futures_wake(rt: HostRuntime) -> Result<(), Fail> {
         return Ok(());
     };
     agree_in_turn(&rt, one, other)
+}
+
+/// What a future gives at one poll, if it gives its output.
+fn polled_once<F: Future, R: Wait + RandomSource + AllocGlobal>(
+    rt: &R,
+    future: &mut F,
+) -> io::Result<Option<F::Output>>
+    requires { F.can_poll future.old }
+{
+    block_on(rt, poll_immediate(future))
+}
+
+/// The future of one rank is polled once, while the other is missing; so the other is answered, before it is polled again.
+fn contribute_at_once<R: Wait + RandomSource + AllocGlobal + Abort>(
+    rt: &R,
+    one: BookMember,
+    mut other: BookMember,
+) -> Result<(), Fail> {
+    let (world, rank, pass) = one.into_parts();
+    let mut future = AgreeFuture::new(&world, pass, rank, 0, FlagAnd { bits: 0xff0f_00ff });
+    assert!(rt; polled_once(rt, &mut future)?.is_none());
+    other.iagree(0, FlagAnd { bits: 0x0000_f0ff })?;
+    assert_eq!(rt; other.poll(0), Ok(AGREED));
+    let ended = polled_once(rt, &mut future)?;
+    assert!(rt; ended.is_some());
+    if let Some((_, _, reply)) = ended {
+        assert_eq!(rt; reply, Ok(AGREED));
+    }
+    // It has given its output.
+    assert!(rt; polled_once(rt, &mut future)?.is_none());
+    Ok(())
+}
+
+#[test]
+fn future_contributes_at_once(rt: HostRuntime) -> Result<(), Fail> {
+    let words: BookWords<FlagAnd> = BookWords::open(rt.alloc(), limits(2))?;
+    let (_, mut members) = ulfm_member::open(rt.alloc(), words)?;
+    let (Some(other), Some(one)) = (members.pop(), members.pop()) else {
+        return Ok(());
+    };
+    contribute_at_once(&rt, one, other)
+}
+
+/// The future of one rank is dropped, after it was polled once or before, and then the other agrees: its reply.
+fn agree_after_drop<R: Wait + RandomSource + AllocGlobal>(
+    rt: &R,
+    one: BookMember,
+    mut other: BookMember,
+    is_polled: bool,
+) -> Result<Polled<FlagAnd>, Fail> {
+    let (world, rank, pass) = one.into_parts();
+    let mut future = AgreeFuture::new(&world, pass, rank, 0, FlagAnd { bits: 0xff0f_00ff });
+    if is_polled {
+        polled_once(rt, &mut future)?;
+    }
+    drop(future);
+    other.iagree(0, FlagAnd { bits: 0x0000_f0ff })?;
+    Ok(other.poll(0)?)
+}
+
+#[test]
+fn future_is_dropped(rt: HostRuntime) -> Result<(), Fail> {
+    for is_polled in [false, true] {
+        let words: BookWords<FlagAnd> = BookWords::open(rt.alloc(), limits(2))?;
+        let (_, mut members) = ulfm_member::open(rt.alloc(), words)?;
+        let (Some(other), Some(one)) = (members.pop(), members.pop()) else {
+            return Ok(());
+        };
+        let expected = if is_polled { AGREED } else { Polled::Pending };
+        assert_eq!(rt; agree_after_drop(&rt, one, other, is_polled)?, expected);
+    }
+    Ok(())
 }

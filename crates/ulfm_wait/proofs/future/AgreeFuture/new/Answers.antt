@@ -1,7 +1,8 @@
-use Rattle.ulfm_wait.proofs.Waiting.{tells_if}
+use Rattle.ulfm_wait.specs.Turns.{member_of}
+use Rattle.ulfm_wait.proofs.Waiting.{member_tells}
 use Rattle.ulfm_wait.proofs.future.AgreeFuture.new.Goals as goal
 
 pub returns-clause-tells : goal.returns-clause-tells
 returns-clause-tells g c out gives =
-    tells_if g.P.Meld.meld g.W.Words.alone (g.W.Words.name c.args.world.now.words) c.args.comm c.args.value c.args.rank.own (g.W.Words.sight c.args.pass) out.2 out.1.own
-    (g.W.Words.sight out.0) gives.run
+    let name = g.W.Words.name c.args.world.now.words in
+    member_tells g.P.Meld.meld g.W.Words.alone c.args.comm c.args.value (member_of name c.args.rank (g.W.Words.sight c.args.pass)) (member_of name out.1 (g.W.Words.sight out.0)) out.2 gives
