@@ -1,5 +1,5 @@
 -- What a trace begins that follows a script: calls that some line spells, and at most one for each line of the script.
-use Rattle.std.proofs.Common.{◌≡◌, ℕ, ◌+◌, ◌-◌, ◌≤◌, ◌&&◌, Bool, true, false, List, [], ◌∷◌, ◌++◌, length, None, Result, Ok, Err, refl, sym, subst, arith, inl, inr, if◌then◌else◌, nat_lt}
+use Rattle.std.proofs.Common.{◌≡◌, ℕ, ◌+◌, ◌-◌, ◌≤◌, ◌&&◌, Bool, true, false, List, [], ◌∷◌, ◌++◌, length, Result, Ok, Err, refl, sym, subst, arith, inl, inr, if◌then◌else◌, nat_lt}
 use Rattle.std.specs.{Prelude.{codes}, Fmt.{decimal}, List.{AllByRecursion}}
 use Rattle.ulfm_laws.specs.declared.flag_and.FlagAnd.{FlagAnd}
 use Rattle.ulfm_model.specs.declared.{call.Call.{Call}, event.Caller.{Caller}, limits.Limits.{Limits}}
@@ -100,23 +100,22 @@ module _ (Prints : Limits → List ScriptStep → List ℕ → Type 0) (Finds : 
       go false true is = absurd (cc is)
       go false false is = is
 
-  -- lines without a fault are steps, and there are at most 100,000 of them with the header
-  pub lines_spell : (number : ℕ) (lines : List (List ℕ)) (rest : List ℕ) → (asked_by (StepLanguage Prints Finds) number lines rest).fault ≡ None
+  -- what lines ask for up to their first fault are steps, and with the header there are at most 100,000
+  pub lines_spell : (number : ℕ) (lines : List (List ℕ)) (rest : List ℕ)
       → AllByRecursion IsStep (asked_by (StepLanguage Prints Finds) number lines rest).items × (length (asked_by (StepLanguage Prints Finds) number lines rest).items ≤ 100001 - number)
-  lines_spell number [] rest none = go rest none
+  lines_spell number [] rest = go rest
     where
-      go : (rest : List ℕ) → (asked_last {X = ScriptStep} number rest).fault ≡ None → AllByRecursion IsStep (asked_last {X = ScriptStep} number rest).items × (length (asked_last {X = ScriptStep} number rest).items ≤ 100001 - number)
-      go [] none = (tt, omega arith)
-      go (x ∷ xs) none = absurd (cc none)
-  lines_spell number (line ∷ lines) rest none =
-      go (item_at (StepLanguage Prints Finds) number line) refl (asked_by (StepLanguage Prints Finds) (number + 1) lines rest) (lines_spell (number + 1) lines rest) none
+      go : (rest : List ℕ) → AllByRecursion IsStep (asked_last {X = ScriptStep} number rest).items × (length (asked_last {X = ScriptStep} number rest).items ≤ 100001 - number)
+      go [] = (tt, omega arith)
+      go (x ∷ xs) = (tt, omega arith)
+  lines_spell number (line ∷ lines) rest =
+      go (item_at (StepLanguage Prints Finds) number line) refl (asked_by (StepLanguage Prints Finds) (number + 1) lines rest) (lines_spell (number + 1) lines rest)
     where
       go : (read : Result ScriptStep LineKind) → item_at (StepLanguage Prints Finds) number line ≡ read → (more : Asked ScriptStep)
-          → (more.fault ≡ None → AllByRecursion IsStep more.items × (length more.items ≤ 100001 - (number + 1))) → (asked_then number read more).fault ≡ None
+          → AllByRecursion IsStep more.items × (length more.items ≤ 100001 - (number + 1))
           → AllByRecursion IsStep (asked_then number read more).items × (length (asked_then number read more).items ≤ 100001 - number)
-      go (Err kind) is more later none = absurd (cc none)
-      go (Ok step) is more later none =
-          let behind = later none in
+      go (Err kind) is more behind = (tt, omega arith)
+      go (Ok step) is more behind =
           let few = behind.1 in
           let before = before_last (StepLanguage Prints Finds) number line step is in
           let spelled = steps_found line (Ok step) (sym (item_read number line step is)) in

@@ -1,5 +1,5 @@
 -- What a run of a step script has written at its end is a legal text.
-use Rattle.std.proofs.Common.{◌≡◌, ℕ, ◌+◌, ◌<◌, ◌≤◌, Bool, true, false, List, [], ◌∷◌, ◌++◌, length, map, nat_le, nat_lt, ◌&&◌, Option, Some, None, Result, Ok, Err, refl, sym, ap, subst, ◌∙◌, append_assoc, arith, inl, inr, if◌then◌else◌}
+use Rattle.std.proofs.Common.{◌≡◌, ◌⊎◌, ℕ, ◌+◌, ◌<◌, ◌≤◌, Bool, true, false, List, [], ◌∷◌, ◌++◌, length, map, nat_le, nat_lt, ◌&&◌, Option, Some, None, Result, Ok, Err, refl, sym, ap, subst, ◌∙◌, append-nil, append_assoc, length-append, arith, inl, inr, if◌then◌else◌}
 use Rattle.std.specs.{Prelude.{codes}, Fmt.{decimal}, List.{AllByRecursion}, Io.KnownBytes.{Appends}}
 use Rattle.std.proofs.lemmas.Bool.{and_parts, leb-true, ltb-true}
 use Rattle.ulfm_laws.specs.{Flags.{flag_meld}, declared.flag_and.FlagAnd.{FlagAnd}}
@@ -7,18 +7,19 @@ use Rattle.ulfm_model.specs.declared.limits.Limits.{Limits}
 use Rattle.ulfm_model.specs.{History.{IsLegal}, Words.{MayOpen, size_of}}
 use Rattle.ulfm_model.proofs.Lists.{each_append}
 use Rattle.ulfm_script.specs.declared.{header_kind.HeaderKind.TheVariants.{Steps, Trace}, line_kind.LineKind.{LineKind}, line_kind.LineKind.TheVariants.{Limits as BadLimits, Long}}
-use Rattle.ulfm_script.specs.{Ends.{Known, PrintsFrom, RunsAll}, Headers.{form_from, header_of, header_text, is_up_to, may_open}, Scripts.{Language, Script, asked_by, header_at, lines_from, no_lines, rest_from, script_by, script_of, with_header}, Words.{word_of}}
+use Rattle.ulfm_script.specs.{Written.{Begins}, Ends.{FindsFault, PrintsAll, PrintsSome, RunEnd, Known, PrintsFrom, RunsAll}, Headers.{form_from, header_of, header_text, is_up_to, may_open}, Scripts.{Language, Script, asked_by, header_at, lines_from, no_lines, rest_from, script_by, script_of, with_header}, Words.{word_of}}
 use Rattle.ulfm_script.proofs.{ScriptLemmas.{lines_step, rest_step}, WordLemmas.{step_found}}
-use Rattle.ulfm_trace_model.specs.declared.{line.Line.{Line}, step_line.StepLine.TheVariants.{Failed}}
+use Rattle.ulfm_trace_model.specs.declared.{line.Line.{Line}, step_line.StepLine.TheVariants.{Called, Failed}}
 use Rattle.ulfm_trace_model.specs.{Traces.{AreLegalAfter, IsLegalTrace, MayCome, Told, after, nothing, said_by}}
 use Rattle.ulfm_trace_model.proofs.{Answered.{replies_answered}, Kept.{kept_along, kept_nothing as nothing_kept, limits_stay}, Parts.{legal_parts, said_append}}
 use Rattle.ulfm_lines.specs.{LineTexts.{TraceLine, line_text, lines_text}, StepLines.{ScriptStep}, Stepped.{IsStep, TraceState}, Telling.{Tells}}
 use Rattle.ulfm_lines.proofs.ReadLemmas.{printed_told}
-use Rattle.ulfm_step_script.specs.{FailingScripts.{FailsSomewhere, FindsOpenBehind, IsDeclaration, LeavesOut, RunsFailing}, StepScripts.{FindsOpenCall, PrintsTrace, RunsSteps, step_scripts, trace_text}}
+use Rattle.ulfm_step_script.specs.{FailingScripts.{failing_scripts, FailsSomewhere, FindsOpenBehind, IsDeclaration, LeavesOut, RunsFailing}, StepScripts.{FindsOpenCall, PrintsTrace, RunsSteps, step_scripts, trace_text}}
 use Rattle.ulfm_trace.specs.{Checks.{Checks}, Texts.{AreTold, IsFirstBad, IsLegalText, TraceLines}}
 use Rattle.ulfm_trace.specs.declared.verdict.{Verdict.{Verdict}, Verdict.TheVariants.{Illegal, Legal}}
 use Rattle.ulfm_trace.proofs.{Beginnings.{one_law}, TextLines.{first_then}}
-use Rattle.ulfm_written.specs.Written.{GotLegal, IsFoundLegal}
+use Rattle.ulfm_written.specs.Written.{GotLegal, IsFoundLegal, IsNoneOrLegal, WroteLegal}
+use Rattle.ulfm_script.specs.declared.fault.RunFault.TheVariants as fault
 use Rattle.ulfm_written.proofs.{Counts.{calls_in, lines_few}, Following.{AllFit, StepLanguage, calls_append, follows_begins, lines_spell, piece_begins}, Lasting.{CalledFits, IsAnswered, Keeps, kept_after, kept_nothing}}
 use Rattle.ulfm_written.proofs.{Short.{Short, header_short, line_short}, Sizes.{events_few}, Tellable.{IsTellable, line_tells, told_group}}
 
@@ -175,14 +176,27 @@ header_opens line limits is =
     let both = opened (may_open a.0) a.0 limits a.2 in
     subst MayOpen both.1 (opens_if a.0 both.0)
 
--- a script of steps with these limits and items, and no fault
-abbrev sound : Limits → List ScriptStep → Script ScriptStep
-sound limits items = record { limits = Some limits; items = items; fault = None }
-
+-- the items of a script of steps in a world of these limits
 record Spells (limits : Limits) (items : List ScriptStep) : Type 0 where
   wide : MayOpen limits
   steps : AllByRecursion IsStep items
   few : length items ≤ 99999
+
+-- each of both parts is one
+each_parts : {X : Type 0} (Q : X → Type 0) (xs ys : List X) → AllByRecursion Q (xs ++ ys) → AllByRecursion Q xs × AllByRecursion Q ys
+each_parts Q [] ys all = (tt, all)
+each_parts Q (x ∷ xs) ys all = let more = each_parts Q xs ys all.1 in ((all.0, more.0), more.1)
+
+-- and so are the first of them
+first_spell : (limits : Limits) (first items : List ScriptStep) → Begins first items → Spells limits items → Spells limits first
+first_spell limits first items begins spells =
+    let all = spells.few in
+    let size : length first + length begins.0 ≡ length items = sym (length-append first begins.0) ∙ ap length begins.1 in
+    record {
+      wide = spells.wide;
+      steps = (each_parts IsStep first begins.0 (subst (AllByRecursion IsStep) (sym begins.1) spells.steps)).0;
+      few = omega (arith, all, size);
+    }
 
 module _ (Prints : Limits → List ScriptStep → List ℕ → Type 0) (Finds : Limits → List ScriptStep → ℕ → LineKind → List ℕ → Type 0) where
   abbrev lang : Language
@@ -195,65 +209,90 @@ module _ (Prints : Limits → List ScriptStep → List ℕ → Type 0) (Finds : 
       go true is = absurd (cc is)
       go false is = header_opens line limits is
 
-  -- a text that has no line has a fault
-  no_fault : (rest : List ℕ) → (no_lines {X = ScriptStep} rest).fault ≡ None → ⊥
-  no_fault [] none = cc none
-  no_fault (x ∷ xs) none = cc none
+  -- a text that has no line has a fault, and no limits
+  no_lines_open : (rest : List ℕ) (limits : Limits) → (no_lines {X = ScriptStep} rest).limits ≡ Some limits → ⊥
+  no_lines_open [] limits is = cc is
+  no_lines_open (x ∷ xs) limits is = cc is
 
-  spells_by : (lines : List (List ℕ)) (rest : List ℕ) (limits : Limits) (items : List ScriptStep) → script_by lang lines rest ≡ sound limits items → Spells limits items
-  spells_by [] rest limits items is = absurd (no_fault rest (ap (λ (s : Script ScriptStep). s.fault) is))
-  spells_by (line ∷ lines) rest limits items is = go (header_at lang line) refl is
+  no_lines_fault : (rest : List ℕ) → (no_lines {X = ScriptStep} rest).fault ≡ None → ⊥
+  no_lines_fault [] none = cc none
+  no_lines_fault (x ∷ xs) none = cc none
+
+  spells_by : (lines : List (List ℕ)) (rest : List ℕ) (limits : Limits) → (script_by lang lines rest).limits ≡ Some limits → Spells limits (script_by lang lines rest).items
+  spells_by [] rest limits is = absurd (no_lines_open rest limits is)
+  spells_by (line ∷ lines) rest limits is = go (header_at lang line) refl is
     where
-      go : (read : Result Limits LineKind) → header_at lang line ≡ read → with_header read (asked_by lang 2 lines rest) ≡ sound limits items → Spells limits items
-      go (Err kind) at is = let none : (with_header {X = ScriptStep} (Err kind) (asked_by lang 2 lines rest)).fault ≡ None = ap (λ (s : Script ScriptStep). s.fault) is in absurd (cc none)
+      go : (read : Result Limits LineKind) → header_at lang line ≡ read → (with_header read (asked_by lang 2 lines rest)).limits ≡ Some limits → Spells limits (with_header read (asked_by lang 2 lines rest)).items
+      go (Err kind) at is = absurd (cc is)
       go (Ok found) at is =
-          let spell = lines_spell Prints Finds 2 lines rest (ap (λ (s : Script ScriptStep). s.fault) is) in
-          let same : (asked_by lang 2 lines rest).items ≡ items = ap (λ (s : Script ScriptStep). s.items) is in
-          let whole : Some found ≡ Some limits = ap (λ (s : Script ScriptStep). s.limits) is in
-          let one : found ≡ limits = cc whole in
-          let few : length (asked_by lang 2 lines rest).items ≤ 99999 = omega (arith, spell.1) in
-          record {
-            wide = subst MayOpen one (header_at_opens line found at);
-            steps = subst (AllByRecursion IsStep) same spell.0;
-            few = subst (λ (xs : List ScriptStep). length xs ≤ 99999) same few;
-          }
+          let spell = lines_spell Prints Finds 2 lines rest in
+          let one : found ≡ limits = cc is in
+          record { wide = subst MayOpen one (header_at_opens line found at); steps = spell.0; few = omega (arith, spell.1) }
 
-  -- a text that has no fault is the script of some limits
-  sound_by : (lines : List (List ℕ)) (rest : List ℕ) → (script_by lang lines rest).fault ≡ None → (limits : Limits) × (script_by lang lines rest ≡ sound limits (script_by lang lines rest).items)
-  sound_by [] rest none = absurd (no_fault rest none)
-  sound_by (line ∷ lines) rest none = go (header_at lang line) none
+  opened_by : (lines : List (List ℕ)) (rest : List ℕ) → (script_by lang lines rest).fault ≡ None → (limits : Limits) × ((script_by lang lines rest).limits ≡ Some limits)
+  opened_by [] rest none = absurd (no_lines_fault rest none)
+  opened_by (line ∷ lines) rest none = go (header_at lang line) none
     where
-      go : (read : Result Limits LineKind) → (with_header read (asked_by lang 2 lines rest)).fault ≡ None
-          → (limits : Limits) × (with_header read (asked_by lang 2 lines rest) ≡ sound limits (with_header read (asked_by lang 2 lines rest)).items)
+      go : (read : Result Limits LineKind) → (with_header read (asked_by lang 2 lines rest)).fault ≡ None → (limits : Limits) × ((with_header read (asked_by lang 2 lines rest)).limits ≡ Some limits)
       go (Err kind) none = absurd (cc none)
-      go (Ok found) none = (found, ap (λ (f : Option (ℕ × LineKind)). record { limits = Some found; items = (asked_by lang 2 lines rest).items; fault = f }) none)
+      go (Ok found) none = (found, refl)
 
-  text_spells : (text : List ℕ) (limits : Limits) (items : List ScriptStep) → script_of lang text ≡ sound limits items → Spells limits items
+  -- the items of a text, where its script has limits
+  text_spells : (text : List ℕ) (limits : Limits) → (script_of lang text).limits ≡ Some limits → Spells limits (script_of lang text).items
   unfolding script_of
-  text_spells text limits items is = spells_by (lines_from [] text) (rest_from [] text) limits items is
+  text_spells text limits is = spells_by (lines_from [] text) (rest_from [] text) limits is
 
-  text_sound : (text : List ℕ) → (script_of lang text).fault ≡ None → (limits : Limits) × (script_of lang text ≡ sound limits (script_of lang text).items)
+  -- it has limits where it has no fault
+  text_opens : (text : List ℕ) → (script_of lang text).fault ≡ None → (limits : Limits) × ((script_of lang text).limits ≡ Some limits)
   unfolding script_of
-  text_sound text none = sound_by (lines_from [] text) (rest_from [] text) none
+  text_opens text none = opened_by (lines_from [] text) (rest_from [] text) none
 
--- what a run has written
-pub written_legal : (known left old new : Known) → RunsSteps known left old new (Ok tt) → GotLegal old new
-written_legal known left old new ended =
-    let run : RunsAll step_scripts known None (Appends old new) = ended.2.0 in
-    let is = text_sound PrintsTrace FindsOpenCall run.text run.faults in
-    let items = (script_of step_scripts run.text).items in
-    let spells = text_spells PrintsTrace FindsOpenCall run.text is.0 items is.1 in
-    let printed : PrintsTrace is.0 items run.out = subst (λ (l : Option Limits). PrintsFrom step_scripts l items run.out) (ap (λ (s : Script ScriptStep). s.limits) is.1) run.printed in
-    let begins = follows_begins (nothing is.0) items printed.0 spells.steps printed.2.follows in
+-- a trace of steps that some lines spell
+trace_legal : (limits : Limits) (items : List ScriptStep) (out : List ℕ) → Spells limits items → PrintsTrace limits items out → IsFoundLegal out
+trace_legal limits items out spells printed =
+    let begins = follows_begins (nothing limits) items printed.0 spells.steps printed.2.follows in
     let few = begins.1 in
     let most = spells.few in
-    let legal = legal_text is.0 spells.wide printed.0 printed.2.legal begins.0 (omega (arith, few, most)) in
-    (run.out, run.told, found_legal run.out (subst IsLegalText (sym printed.3) legal))
+    let legal = legal_text limits spells.wide printed.0 printed.2.legal begins.0 (omega (arith, few, most)) in
+    found_legal out (subst IsLegalText (sym printed.3) legal)
 
--- each of both parts is one
-each_parts : {X : Type 0} (Q : X → Type 0) (xs ys : List X) → AllByRecursion Q (xs ++ ys) → AllByRecursion Q xs × AllByRecursion Q ys
-each_parts Q [] ys all = (tt, all)
-each_parts Q (x ∷ xs) ys all = let more = each_parts Q xs ys all.1 in ((all.0, more.0), more.1)
+-- what the first items of a text print
+first_legal : (text : List ℕ) (o : Option Limits) (first : List ScriptStep) (out : List ℕ) → (script_of step_scripts text).limits ≡ o → Begins first (script_of step_scripts text).items
+    → PrintsFrom step_scripts o first out → IsNoneOrLegal out
+first_legal text None first out is begins printed = inl printed
+first_legal text (Some limits) first out is begins printed =
+    inr (trace_legal limits first out (first_spell limits first (script_of step_scripts text).items begins (text_spells PrintsTrace FindsOpenCall text limits is)) printed)
+
+all_legal : (text out : List ℕ) → PrintsAll step_scripts text out → IsNoneOrLegal out
+all_legal text out printed =
+    let items = (script_of step_scripts text).items in
+    first_legal text (script_of step_scripts text).limits items out refl ([], append-nil items) printed
+
+some_legal : (text out : List ℕ) → PrintsSome step_scripts text out → IsNoneOrLegal out
+some_legal text out (inl none) = inl none
+some_legal text out (inr some) = first_legal text (script_of step_scripts text).limits some.0 out refl some.1 some.2
+
+-- what a run has written
+pub written_legal : (known left old new : Known) (ended : RunEnd) → RunsSteps known left old new ended → WroteLegal old new ended
+written_legal known left old new (Ok done) ends =
+    let run : RunsAll step_scripts known None (Appends old new) = ends.2.0 in
+    let is = text_opens PrintsTrace FindsOpenCall run.text run.faults in
+    let items = (script_of step_scripts run.text).items in
+    let printed : PrintsTrace is.0 items run.out = subst (λ (l : Option Limits). PrintsFrom step_scripts l items run.out) is.1 run.printed in
+    (run.out, run.told, trace_legal is.0 items run.out (text_spells PrintsTrace FindsOpenCall run.text is.0 is.1) printed)
+written_legal known left old new (Err (fault.Line number kind)) ends = go ends.2
+  where
+    go : RunsAll step_scripts known (Some (number, kind)) (Appends old new) ⊎ FindsFault step_scripts known number kind (Appends old new) → WroteLegal old new (Err (fault.Line number kind))
+    go (inl run) = (run.out, run.told, all_legal run.text run.out run.printed)
+    go (inr found) =
+        let finds : FindsOpenCall found.limits (script_of step_scripts found.text).items number kind found.out = found.finds in
+        let spells = text_spells PrintsTrace FindsOpenCall found.text found.limits found.opened in
+        let is = finds.2 in
+        let first = first_spell found.limits is.first (script_of step_scripts found.text).items (Called is.asked ∷ is.behind, sym is.lines_are) spells in
+        (found.out, found.told, inr (trace_legal found.limits is.first found.out first (finds.0, is.now, is.runs, finds.3)))
+written_legal known left old new (Err fault.Memory) ends = let stops = ends.2 in (stops.out, stops.told, all_legal stops.lines stops.out stops.printed)
+written_legal known left old new (Err fault.Read) ends = let stops = ends.2.0 in (stops.out, stops.told, all_legal stops.lines stops.out stops.printed)
+written_legal known left old new (Err fault.Write) ends = let stops = ends.2 in (stops.out, stops.told, some_legal stops.text stops.out stops.printed)
 
 -- a declaration in between begins one call more
 declaration_begins : (limits : Limits) (r : ℕ) (piece : TraceLines) → r < 1024 → IsDeclaration limits r piece → AllFit piece × (calls_in piece ≤ 1)
@@ -276,7 +315,9 @@ failing_begins limits r trace rest lt left fits =
 -- what a run has written in which a rank was declared in between
 pub failing_legal : (rank number : ℕ) (known old new : Known) → rank < 1024 → RunsFailing rank number known old new → GotLegal old new
 failing_legal rank number known old new lt run =
-    let spells = text_spells FailsSomewhere FindsOpenBehind run.text run.limits run.items run.script_is in
+    let limits_are : (script_of failing_scripts run.text).limits ≡ Some run.limits = ap (λ (s : Script ScriptStep). s.limits) run.script_is in
+    let items_are : (script_of failing_scripts run.text).items ≡ run.items = ap (λ (s : Script ScriptStep). s.items) run.script_is in
+    let spells = subst (Spells run.limits) items_are (text_spells FailsSomewhere FindsOpenBehind run.text run.limits limits_are) in
     let failed = run.has_run in
     let begins = follows_begins (nothing run.limits) run.items failed.rest spells.steps failed.follows in
     let all = failing_begins run.limits rank failed.trace failed.rest lt failed.left_out begins.0 in
