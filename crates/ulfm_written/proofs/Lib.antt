@@ -1,0 +1,7 @@
+mod Counts
+mod Following
+mod Lasting
+mod Short
+mod Sizes
+mod Tellable
+mod Whole

@@ -1,0 +1,6 @@
+//! What a run of a step script has written is what the check of a trace finds legal. Each function does nothing: what it ensures is a law.
+#![tactic(auto)]
+
+pub mod laws;
+
+pub use laws::{failing_traces_are_legal, written_traces_are_legal};
