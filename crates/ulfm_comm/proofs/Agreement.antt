@@ -15,7 +15,7 @@ use Rattle.ulfm_steps.specs.declared.{mark_all.MarkAll.{MarkAll}, blocks.ReadBlo
 use Rattle.ulfm_steps.specs.{Blocks.{AreOf, AtBlock, MayReadBlocks, block_at, is_whole, next_of, site_of, starts_at}, Marks.{HasMarked as MarkedOn, IsAt, Marks, MayMarkAll, members_in}, Rounds.{IsMissing, IsRoundOf}, Turns.{IsStepAt}}
 use Rattle.ulfm_model.specs.Blocks.{IsSummed}
 use Rattle.ulfm_steps.proofs.{InBlocks.{are_later, few_members, starts}, Marking.{marks_join, marks_wait, new_members, take_all}}
-use Rattle.ulfm_comm.specs.{Polls.{HasMarked, agreement}, Phase.{Answered, Stands, next_step}, StepsLeft.{MakesStep}, Agreement.{HasReadAll, IsMarking, IsReading, agreed_reply}}
+use Rattle.ulfm_comm.specs.{Polls.{HasMarked}, Requests.{agreement}, Phase.{Answered, Stands, next_step}, StepsLeft.{MakesStep}, Agreement.{HasReadAll, IsMarking, IsReading, agreed_reply}}
 use Rattle.ulfm_comm.specs.declared.phases.phase.Phase.TheVariants.{Marking, Reading}
 use Rattle.ulfm_comm.proofs.{CallRuns.{calls_is}, Holding.{exists_is, group_is, holds, same_held}, AmongOthers.{did_loosely, marks_loosely}}
 use Rattle.ulfm_comm.proofs.Polls.{held_first, later, not_found, not_marked, open_round, poll_agreed, poll_mismatch, poll_pending}

@@ -1,18 +1,18 @@
 -- How many steps a call makes at most beside a load for each failure that its rank has seen more.
-use Rattle.std.proofs.Common.{◌≡◌, ℕ, ◌+◌, ◌-◌, ◌*◌, ◌<◌, ◌≤◌, Bool, true, false, List, [], length, take, min, Option, Some, None, is_some, if◌then◌else◌, refl, ap, sym, ◌∙◌, subst, append-nil, arith}
+use Rattle.std.proofs.Common.{◌≡◌, ℕ, ◌+◌, ◌-◌, ◌*◌, ◌<◌, ◌≤◌, Bool, true, false, List, [], length, take, min, Option, Some, None, IsTrue, is_some, if◌then◌else◌, refl, ap, sym, ◌∙◌, subst, append-nil, arith}
 use Rattle.std.proofs.lemmas.List.{length-take}
 use mathlib.Core.List.{IsPrefix}
 use Rattle.ulfm_model.specs.declared.call.Call.TheVariants as call
 use Rattle.ulfm_model.specs.declared.{block.Block.{Block}, block.Side.{Side}, block.Side.TheVariants.{Front, Back}}
 use Rattle.ulfm_model.specs.declared.{call.Call.{Call}, call.Request.{Request}, call.Request.TheVariants.{Agree, Shrink, Barrier}, limits.Limits.{Limits}, refusal.Refusal.{Refusal}, reply.Reply.{Reply}}
-use Rattle.ulfm_model.specs.{Answers.{refusal_of}, Blocks.{has_block, width}, History.{History, IsLegal, failures}, Records.{Held, Record, held_at}, Terms.{comm_of, request_of}}
+use Rattle.ulfm_model.specs.{Answers.{refusal_of}, Blocks.{has_block, width}, History.{History, IsLegal, failures, has}, Records.{Held, Record, held_at}, Terms.{comm_of, request_of}}
 use Rattle.ulfm_model.proofs.Blocks.{has_block_stays}
 use Rattle.ulfm_words.specs.Steps.{Sight}
 use Rattle.ulfm_steps.specs.{Appends.{turns_left}, Arriving.{arrivals_left, in_order}, Blocks.{FindsSet, block_at, has_back, is_whole, peeks_left}}
 use Rattle.ulfm_steps.specs.declared.{append.Append.{Append}, arrivals.Arrivals.{Arrivals}, arrivals.Missing.{Missing}, blocks.Peek.{Peek}, read_on.ReadOn.{ReadOn}}
 use Rattle.ulfm_steps.proofs.{Arriving.{in_order_few}, InBlocks.{apart_lt, peek_some}}
-use Rattle.ulfm_comm.specs.AlsoLeft.{AlsoFollows, AlsoSpends, FindsSetIn, FindsSetNext, also_after_look, also_after_round, also_behind_look, also_in, also_left, also_polling}
-use Rattle.ulfm_comm.specs.{Bound.{BlocksStand, also_bound, also_call_bound, also_poll_bound}, Look.{Passes}, Phase.{NextBelow}, Polls.{agreement}, StepsLeft.{FewerLeft, Spends, group_of, steps_left}}
+use Rattle.ulfm_comm.specs.AlsoLeft.{AlsoFollows, AlsoLooks, AlsoSpends, AlsoTurns, FindsSetIn, FindsSetNext, also_after_look, also_after_round, also_behind_look, also_in, also_left, also_polling}
+use Rattle.ulfm_comm.specs.{Requests.{BlocksStand}, Bound.{also_bound, also_call_bound, also_poll_bound}, Look.{Passes}, Phase.{NextBelow, is_looking}, Step.{LooksOn}, Requests.{agreement}, StepsLeft.{FewerLeft, Spends, group_of, steps_left}}
 use Rattle.ulfm_comm.specs.declared.{phases.phase.Made.{Made}, phases.phase.Next.{Next}, phases.phase.Next.TheVariants.{Goes, Ends}, phases.phase.Phase.{Phase}}
 use Rattle.ulfm_comm.specs.declared.phases.phase.Phase.TheVariants.{Over, Begun, Looking, Settling, Arriving, Revoking, Asking, Peeking, Marking, Reading, ReadingOn, Spawning, Waiting, Checking}
 use Rattle.ulfm_comm.proofs.StepsLeft.{passes_none, refusal_same}
@@ -44,32 +44,46 @@ module _ {P : Type 0} (limits : Limits) (own new : Record) (seen : List ℕ) (as
       go (call.Free rank c) stand = tt
 
   -- a look that goes on makes as many loads as it finds
-  pub also_looks_on : (now after : Sight P) → IsPrefix now.cached after.cached → length own.seen < limits.ranks → length new.seen < limits.ranks → after.steps + (limits.ranks - length new.seen) ≤ now.steps + (limits.ranks - length own.seen)
-      → BlocksStand own asked now.cached → AlsoSpends (also_left limits own asked Looking) limits asked own now (Goes Looking) new after
-  also_looks_on now after begins more still few stand =
-      record { few = omega (arith, also_after_same, more, still, few); sets = blocks_stay now.cached after.cached begins stand }
+  pub also_looks_on : (now after : Sight P) → length own.seen < limits.ranks → length new.seen < limits.ranks → after.steps + (limits.ranks - length new.seen) ≤ now.steps + (limits.ranks - length own.seen)
+      → AlsoLooks (also_left limits own asked Looking) limits asked own now (Goes Looking) new after
+  also_looks_on now after more still few = record { few = omega (arith, also_after_same, more, still, few); sets = λ stand. tt }
 
   -- one that has ended makes one more, at most
-  pub also_looks_over : (now after : Sight P) → IsPrefix now.cached after.cached → length own.seen < limits.ranks → length new.seen ≤ limits.ranks → after.steps + (limits.ranks - length new.seen - 1) ≤ now.steps + (limits.ranks - length own.seen)
-      → BlocksStand own asked now.cached → (left : Record) (next : Next P) → AlsoFollows limits asked new next left → AlsoSpends (also_left limits own asked Looking) limits asked own now next left after
-  also_looks_over now after begins more within few stand left next follows =
+  pub also_looks_over : (now after : Sight P) → length own.seen < limits.ranks → length new.seen ≤ limits.ranks → after.steps + (limits.ranks - length new.seen - 1) ≤ now.steps + (limits.ranks - length own.seen)
+      → (left : Record) (next : Next P) → AlsoFollows limits asked new next left → AlsoLooks (also_left limits own asked Looking) limits asked own now next left after
+  also_looks_over now after more within few left next follows =
       let rest = follows.few in
       record {
         few = omega (arith, also_after_same, more, within, few, rest, ap length follows.sees);
-        sets = follows.sets after.cached (blocks_stay now.cached after.cached begins stand);
+        sets = λ stand. follows.sets after.cached (blocks_stay after.cached after.cached ([], append-nil after.cached) stand);
       }
 
 -- a call that begins its look, behind what was seen or at the last of all ranks
 module _ {P : Type 0} (limits : Limits) (own resumed : Record) (asked : Call P) (ranks : own.limits.ranks ≡ limits.ranks) (is : resumed ≡ record own { seen = take (own.limits.ranks - 1) own.seen }) where
-  pub also_resumes : (now after : Sight P) (next : Next P) (new : Record) → (BlocksStand resumed asked now.cached → AlsoSpends (also_left limits resumed asked Looking) limits asked resumed now next new after)
-      → BlocksStand own asked now.cached → AlsoSpends (also_left limits own asked Begun) limits asked own now next new after
-  also_resumes now after next new turn stand =
+  -- how much it has seen then
+  resumed_size : length resumed.seen ≡ min (own.limits.ranks - 1) (length own.seen)
+  resumed_size = ap (λ (w : Record). length w.seen) is ∙ length-take (own.limits.ranks - 1) own.seen
+
+  pub also_resumes : (now after : Sight P) (next : Next P) (new : Record) → AlsoLooks (also_left limits resumed asked Looking) limits asked resumed now next new after → AlsoLooks (also_left limits own asked Begun) limits asked own now next new after
+  also_resumes now after next new looks =
       let seen = take (own.limits.ranks - 1) own.seen in
-      let looks = turn (blocks_stay limits own resumed seen asked is now.cached now.cached ([], append-nil now.cached) stand) in
       let few = looks.few in
       let same = also_after_same limits own resumed seen asked is in
-      let size : length resumed.seen ≡ min (own.limits.ranks - 1) (length own.seen) = ap (λ (w : Record). length w.seen) is ∙ length-take (own.limits.ranks - 1) own.seen in
-      record { few = omega (arith, few, same, size, ranks); sets = looks.sets }
+      record {
+        few = omega (arith, few, same, resumed_size, ranks);
+        sets = λ stand. looks.sets (blocks_stay limits own resumed seen asked is after.cached after.cached ([], append-nil after.cached) stand);
+      }
+
+  -- its loads are those of a look that goes on from there
+  pub looks_resumed : 0 < limits.ranks → (now after : Sight P) (next : Next P) (new : Record) → LooksOn limits resumed now next new after → LooksOn limits own now next new after
+  looks_resumed some now after next new looks =
+      let few = looks.few in
+      record {
+        few = omega (arith, few, resumed_size, ranks, some);
+        found = λ more. let found = looks.found (omega (arith, resumed_size, ranks, more)) in omega (arith, found, resumed_size, ranks, more);
+        sees = looks.sees;
+        ends = λ past declared. looks.ends past (subst (λ (w : Record). IsTrue (has new.seen w.number)) (sym is) declared);
+      }
 
 module _ {P : Type 0} (limits : Limits) (own : Record) (asked : Call P) where
   -- a reply after a look
@@ -240,9 +254,16 @@ also_on most limits asked own mid new now between after phase next stood turn =
     let more = last.few in
     record { few = omega (arith, few, more); sets = last.sets }
 
--- a call that has just begun
-pub also_first : {P : Type 0} (limits : Limits) (asked : Call P) (own : Record) (now : Sight P) → BlocksStand own asked now.cached → AlsoSpends (also_left limits own asked Begun) limits asked own now (Goes Begun) own now
-also_first limits asked own now stand = record { few = omega arith; sets = stand }
+-- a call that goes on behind its look
+pub also_first : {P : Type 0} (limits : Limits) (asked : Call P) (own : Record) (now : Sight P) (phase : Phase P) → FindsSetIn own asked now.cached phase → AlsoSpends (also_left limits own asked phase) limits asked own now (Goes phase) own now
+also_first limits asked own now phase all = record { few = omega arith; sets = all }
+
+-- what its turn spends
+pub also_behind : {P : Type 0} (limits : Limits) (asked : Call P) (phase : Phase P) (own : Record) (now : Sight P) (next : Next P) (new : Record) (after : Sight P) → is_looking phase ≡ false → AlsoTurns limits asked phase own now next new after
+    → FindsSetIn own asked now.cached phase → AlsoSpends (also_left limits own asked phase) limits asked own now next new after
+also_behind limits asked Begun own now next new after past turn = absurd (cc past)
+also_behind limits asked Looking own now next new after past turn = absurd (cc past)
+also_behind limits asked _ own now next new after past turn = turn
 
 -- it may make as many steps as its bound says
 also_begun : {P : Type 0} (limits : Limits) (own : Record) (asked : Call P) (f : ℕ) → own.refused ≡ false → length own.seen < limits.ranks → 0 < limits.comms → also_left limits own asked Begun + f ≤ also_bound limits own asked f
@@ -276,10 +297,9 @@ also_begun {P} limits own asked f in_use more some =
     by_refusal false = by_call asked
 
 -- so a call that has ended has made no more
-pub also_ended : {P : Type 0} (limits : Limits) (asked : Call P) (own new : Record) (now after : Sight P) (reply : Reply P) → own.refused ≡ false → length own.seen < limits.ranks → 0 < limits.comms
-    → AlsoSpends (also_left limits own asked Begun) limits asked own now (Ends reply) new after → after.steps ≤ now.steps + also_bound limits own asked (length new.seen - length own.seen)
-also_ended limits asked own new now after reply in_use more some ended =
-    let few = ended.few in
+pub also_ended : {P : Type 0} (limits : Limits) (asked : Call P) (own new : Record) (now after : Sight P) → own.refused ≡ false → length own.seen < limits.ranks → 0 < limits.comms
+    → after.steps + length own.seen ≤ now.steps + also_left limits own asked Begun + length new.seen → after.steps ≤ now.steps + also_bound limits own asked (length new.seen - length own.seen)
+also_ended limits asked own new now after in_use more some few =
     let bound = also_begun limits own asked (length new.seen - length own.seen) in_use more some in
     omega (arith, few, bound)
 

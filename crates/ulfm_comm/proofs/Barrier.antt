@@ -10,7 +10,7 @@ use Rattle.ulfm_words.specs.Steps.{IsOf, Name, Sight}
 use Rattle.ulfm_words.proofs.Trails.{did_none, did_prefix, did_wait}
 use Rattle.ulfm_steps.specs.declared.{arrivals.Arrivals.{Arrivals}, arrivals.Missing.{Missing}, arrivals.Missing.TheVariants.{Nobody, Others, Declared}}
 use Rattle.ulfm_steps.specs.{Arriving.{AtArrival, MissingAre}, Rounds.{IsRoundOf}}
-use Rattle.ulfm_comm.specs.{Barrier.{Awaits, missing_leaves, missing_reply, IsChecking, IsWaiting}, Calls.{Calls, EndsReply}, Ends.{IsEndRun}}
+use Rattle.ulfm_comm.specs.{Barrier.{Awaits, missing_leaves, missing_reply, IsChecking, IsWaiting}, Calls.{Replied, HasReplied}, Ends.{IsEndRun}}
 use Rattle.ulfm_comm.specs.{Polls.{EndsInMissing, IsAgreement}, Phase.{Answered, Stands}}
 use Rattle.ulfm_comm.specs.declared.phases.phase.Phase.TheVariants.{Waiting, Checking}
 use Rattle.ulfm_comm.proofs.{BarrierPolls.{awaited_round, barrier_polled, barrier_waits, calls_missing_at, polls_revoked}, AmongOthers.{did_loosely}}
@@ -118,7 +118,7 @@ module _ {P : Type 0} (meld : P → P → P) (alone : Bool) (name : Name) (c k :
   answers_revoked : is_revoked after.seen c ≡ true → (new : Record) → new ≡ closed own c → Answered meld alone name asked old before (Refused IsRevoked) new after
   answers_revoked is new left =
       record {
-        ends = inr (polls_revoked meld alone name before look after old own fits p.looked c k awaits of onward new (did_wait alone [] p.look earlier after.seen p.waited wait) is left).run;
+        ends = inr (polls_revoked meld alone name before look after old own fits p.looked c k awaits of onward new (did_wait alone [] p.look earlier after.seen p.waited wait) is left);
         pending = no_agreement (Refused IsRevoked) new;
       }
 
@@ -130,7 +130,7 @@ module _ {P : Type 0} (meld : P → P → P) (alone : Bool) (name : Name) (c k :
         pending = no_agreement (missing_reply missing) new;
       }
     where
-      by_missing : (missing : Missing) → Calls meld alone name asked old before (missing_reply missing) new after → EndsReply meld alone name asked old before (missing_reply missing) new after
+      by_missing : (missing : Missing) → Replied meld alone name asked old before (missing_reply missing) new after → HasReplied meld alone name asked old before (missing_reply missing) new after
       by_missing Nobody called = called
       by_missing Others called = called
       by_missing Declared called = called

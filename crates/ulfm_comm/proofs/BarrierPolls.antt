@@ -14,7 +14,7 @@ use Rattle.ulfm_steps.proofs.Arriving.{arrivals_stay}
 use Rattle.ulfm_steps.specs.Rounds.{IsRoundOf}
 use Rattle.ulfm_steps.specs.Arriving.{MissingAre}
 use Rattle.ulfm_steps.specs.declared.arrivals.{Missing.{Missing}, Missing.TheVariants.{Nobody, Others, Declared}}
-use Rattle.ulfm_comm.specs.{Barrier.{Awaits, missing_leaves, missing_reply}, Calls.{Calls}, Ends.{IsEndRun}, Look.{Looked}, Polls.{Polls}}
+use Rattle.ulfm_comm.specs.{Barrier.{Awaits, missing_leaves, missing_reply}, Calls.{Replied}, Ends.{IsEndRun}, Look.{Looked}}
 use Rattle.ulfm_comm.proofs.{CallRuns.{calls_early, calls_is}, Revokes.{standing_before}, Holding.{comm_is, exists_is, group_is, holds}}
 use Rattle.ulfm_comm.proofs.WholeCall.{held_before, replied}
 
@@ -87,15 +87,14 @@ module _ {P : Type 0} (meld : P → P → P) (limits : Limits) (alone : Bool) (b
 module _ {P : Type 0} (meld : P → P → P) (alone : Bool) (name : Name) (before look after : Sight P) (old mid : Record) (fits : Fits meld name.limits before.seen old) (looked : Looked alone before.seen look.seen old mid)
     (c k : ℕ) (a : Awaits meld name.limits look.seen c k mid) (of : IsOf meld name after) (onward : before.steps ≤ after.steps) where
   -- where the communicator is revoked at its end
-  pub polls_revoked : (new : Record) → Did alone [] look.seen after.seen → is_revoked after.seen c ≡ true → new ≡ closed mid c → Polls meld alone name (call.Poll old.number c) old before (Err IsRevoked) new after
+  pub polls_revoked : (new : Record) → Did alone [] look.seen after.seen → is_revoked after.seen c ≡ true → new ≡ closed mid c → Replied meld alone name (call.Poll old.number c) old before (Refused IsRevoked) new after
   polls_revoked new did is left =
-      let called = calls_is meld alone name before after onward (call.Poll old.number c) old (Refused IsRevoked) new of fits (barrier_revoked meld name.limits alone before.seen look.seen old mid looked c k a after.seen did of.legal new is left) in
-      record { of = called.of; fits = called.fits; run = called; memory = λ out. absurd (cc out) }
+      calls_is meld alone name before after onward (call.Poll old.number c) old (Refused IsRevoked) new of fits (barrier_revoked meld name.limits alone before.seen look.seen old mid looked c k a after.seen did of.legal new is left)
 
   -- where it isn't, and somebody was missing before the last load
   calls_waiting_at : (point : History P) (group fs : List ℕ) (missing : Missing) (new : Record) → Did alone [] look.seen point → IsLegal meld name.limits point → Did alone [] point after.seen → is_revoked after.seen c ≡ false
       → group ≡ a.x.group → fs ≡ mid.seen → MissingAre point c k group fs missing → new ≡ missing_leaves mid c missing → (missing_reply {P = P} missing ≡ Pending) ⊎ (missing_reply {P = P} missing ≡ Refused ProcFailed)
-      → Calls meld alone name (call.Poll old.number c) old before (missing_reply missing) new after
+      → Replied meld alone name (call.Poll old.number c) old before (missing_reply missing) new after
   calls_waiting_at point group fs missing new did legal wait standing same seen are left early =
       let found = seen ∙ ap (λ (r : Record). r.seen) looked.record_is in
       calls_early meld alone name before after onward (call.Poll old.number c) old (missing_reply missing) new of fits (record {
@@ -111,7 +110,7 @@ module _ {P : Type 0} (meld : P → P → P) (alone : Bool) (name : Name) (befor
 
   -- the same, by who was missing; where nobody was, nobody is at the end
   pub calls_missing_at : (point : History P) (group fs : List ℕ) (missing : Missing) (new : Record) → Did alone [] look.seen point → IsLegal meld name.limits point → Did alone [] point after.seen → is_revoked after.seen c ≡ false
-      → group ≡ a.x.group → fs ≡ mid.seen → MissingAre point c k group fs missing → new ≡ missing_leaves mid c missing → Calls meld alone name (call.Poll old.number c) old before (missing_reply missing) new after
+      → group ≡ a.x.group → fs ≡ mid.seen → MissingAre point c k group fs missing → new ≡ missing_leaves mid c missing → Replied meld alone name (call.Poll old.number c) old before (missing_reply missing) new after
   calls_missing_at point group fs Nobody new did legal wait standing same seen are left =
       calls_is meld alone name before after onward (call.Poll old.number c) old Done new of fits
       (barrier_waits meld name.limits alone before.seen look.seen old mid looked c k a after.seen (did_wait alone [] look.seen point after.seen did wait) of.legal Nobody new standing

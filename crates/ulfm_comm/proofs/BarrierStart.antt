@@ -8,7 +8,7 @@ use Rattle.ulfm_model.proofs.{Stable.{arrive_stays}}
 use Rattle.ulfm_model.specs.Terms.{tests_of}
 use Rattle.ulfm_words.specs.{Places.{IsCell}, Steps.{IsAdded, IsOf, Name, Sight}, Tries.{MayCome}}
 use Rattle.ulfm_words.proofs.{Growing.{arrival_stays}, Ranks.{place_within}, Trails.{did_added}}
-use Rattle.ulfm_comm.specs.{Calls.{Calls}, Look.{Looked}}
+use Rattle.ulfm_comm.specs.{Calls.{Replied}, Look.{Looked}}
 use Rattle.ulfm_comm.proofs.{CallRuns.{calls_is}, Helds.{change_alike}, Holding.{comm_is, exists_is, group_is, holds}, WholeCall.{held_before, replied}}
 use Rattle.ulfm_comm.proofs.Refusals.{by_tests}
 
@@ -61,7 +61,7 @@ module _ {P : Type 0} (meld : P → P → P) (alone : Bool) (name : Name) (befor
 
   -- the rank has arrived by this call
   pub calls_entered : (new : Record) → IsAdded alone (record { by = Rank mid.number; event = Arrive c x.next_barrier mid.number }) look.seen after.seen → new ≡ with_held mid c (λ y. opened y (Some (Barrier x.next_barrier)))
-      → Calls meld alone name (call.Barrier rank c) old before Started new after
+      → Replied meld alone name (call.Barrier rank c) old before Started new after
   calls_entered new added is =
       calls_is meld alone name before after onward (call.Barrier rank c) old Started new of fits
       (replied meld name.limits alone before.seen look.seen old mid looked after.seen (Arrive x.comm x.next_barrier old.number ∷ []) (call.Barrier rank c) Started new x
@@ -74,7 +74,7 @@ module _ {P : Type 0} (meld : P → P → P) (alone : Bool) (name : Name) (befor
       (λ here polls. absurd (cc polls)))
 
   -- or before
-  pub calls_entered_before : Did alone [] look.seen after.seen → Calls meld alone name (call.Barrier rank c) old before (Refused Twice) mid after
+  pub calls_entered_before : Did alone [] look.seen after.seen → Replied meld alone name (call.Barrier rank c) old before (Refused Twice) mid after
   calls_entered_before did =
       calls_is meld alone name before after onward (call.Barrier rank c) old (Refused Twice) mid of fits
       (replied meld name.limits alone before.seen look.seen old mid looked after.seen [] (call.Barrier rank c) (Refused Twice) mid x did of.legal

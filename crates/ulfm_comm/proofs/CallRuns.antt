@@ -9,7 +9,7 @@ use Rattle.ulfm_model.specs.Terms.{comm_of}
 use Rattle.ulfm_model.proofs.{LeftFits.{fits_seen}, LeftRuns.{call_fits}, Lists.{prefix_trans}, Stable.{fits_stays}}
 use Rattle.ulfm_words.specs.Steps.{IsOf, Name, Sight}
 use Rattle.ulfm_words.proofs.Trails.{did_none, did_prefix, did_quiet, did_wait}
-use Rattle.ulfm_comm.specs.{Calls.{Calls, HadCome, RunsOut}, Ends.{IsEarlyRun, IsEndRun, IsRefusedAgain}, Look.{Looked}}
+use Rattle.ulfm_comm.specs.{Calls.{Calls, HadCome, RanOut, Replied}, Ends.{IsEarlyRun, IsEndRun, IsRefusedAgain}, Look.{Looked}}
 use Rattle.ulfm_comm.proofs.ReplyKinds.{counted_seen}
 use Rattle.ulfm_comm.proofs.WholeCall.{refused_missing, sees_later, self_failed}
 
@@ -96,7 +96,7 @@ module _ {P : Type 0} (meld : P → P → P) (alone : Bool) (name : Name) (asked
 module _ {P : Type 0} (meld : P → P → P) (alone : Bool) (name : Name) (before after : Sight P) (onward : before.steps ≤ after.steps) where
   -- a call with its point at its end
   pub calls_is : (asked : Call P) (old : Record) (reply : Reply P) (new : Record) → IsOf meld name after → Fits meld name.limits before.seen old
-      → IsEndRun meld name.limits alone before.seen after.seen old asked reply new → Calls meld alone name asked old before reply new after
+      → IsEndRun meld name.limits alone before.seen after.seen old asked reply new → Replied meld alone name asked old before reply new after
   calls_is asked old reply new of fits ended =
       record {
         of = of;
@@ -107,7 +107,7 @@ module _ {P : Type 0} (meld : P → P → P) (alone : Bool) (name : Name) (befor
 
   -- the poll of a barrier, with its point where somebody was found missing
   pub calls_early : (asked : Call P) (old : Record) (reply : Reply P) (new : Record) → IsOf meld name after → Fits meld name.limits before.seen old
-      → IsEarlyRun meld name.limits alone before.seen after.seen old asked reply new → Calls meld alone name asked old before reply new after
+      → IsEarlyRun meld name.limits alone before.seen after.seen old asked reply new → Replied meld alone name asked old before reply new after
   calls_early asked old reply new of fits early =
       record {
         of = of;
@@ -118,7 +118,7 @@ module _ {P : Type 0} (meld : P → P → P) (alone : Bool) (name : Name) (befor
 
   -- a rank that its look finds declared
   pub calls_declared : (asked : Call P) (old new : Record) → IsOf meld name after → Fits meld name.limits before.seen old → old.refused ≡ false → Did alone [] before.seen after.seen
-      → IsTrue (has (failures after.seen) old.number) → new ≡ record old { seen = failures after.seen; refused = true } → Calls meld alone name asked old before (Refused SelfFailed) new after
+      → IsTrue (has (failures after.seen) old.number) → new ≡ record old { seen = failures after.seen; refused = true } → Replied meld alone name asked old before (Refused SelfFailed) new after
   calls_declared asked old new of fits in_use did declared is =
       calls_is asked old (Refused SelfFailed) new of fits (self_failed meld name.limits alone before.seen after.seen old after.seen asked new in_use did (did_none alone after.seen) of.legal declared is)
 
@@ -130,14 +130,14 @@ module _ {P : Type 0} (meld : P → P → P) (alone : Bool) (name : Name) (befor
 
   -- a call on a communicator that the rank doesn't hold
   pub calls_missing : (asked : Call P) (old mid : Record) → IsOf meld name after → Fits meld name.limits before.seen old → Looked alone before.seen after.seen old mid → held_at mid (comm_of asked) ≡ None
-      → Calls meld alone name asked old before (Refused NoSuchComm) mid after
+      → Replied meld alone name asked old before (Refused NoSuchComm) mid after
   calls_missing asked old mid of fits looked missing =
       calls_is asked old (Refused NoSuchComm) mid of fits (refused_missing meld name.limits alone before.seen after.seen old mid looked asked mid of.legal missing refl)
 
   -- a call that ran out of memory, of a rank that has then seen so much
   pub runs_out_after : (asked : Call P) (old new : Record) (look : History P) (own : List (Event P)) → IsOf meld name after → Fits meld name.limits before.seen old → Looked alone before.seen look old (record old { seen = failures look })
       → Did alone (entries_by (Rank old.number) own) look after.seen → refusal_of old asked ≡ None → AllByRecursion (MayOwn (failures look) old asked) own → spawns (entries_by (Rank old.number) own) ≡ [] → HadCome meld name.limits after.seen old.number (comm_of asked) (polled_by old asked)
-      → Sees (is_shrink (polled_by old asked)) (failures look) after.seen new.seen → IsPrefix new.seen (failures after.seen) → new ≡ record old { seen = new.seen } → RunsOut meld alone name asked old before new after
+      → Sees (is_shrink (polled_by old asked)) (failures look) after.seen new.seen → IsPrefix new.seen (failures after.seen) → new ≡ record old { seen = new.seen } → RanOut meld alone name asked old before new after
   runs_out_after asked old new look own of fits looked did passed may none come sees begins is =
       let to_look = did_prefix alone [] before.seen look looked.did in
       let to_end = did_prefix alone (entries_by (Rank old.number) own) look after.seen did in

@@ -2,6 +2,7 @@
 use Rattle.std.proofs.Common.{◌≡◌, ℕ, ◌+◌, ◌<◌, ◌≤◌, Bool, true, false, List, [], ◌∷◌, nat_le, is_some, Some, None, Result, Ok, Err, refl, ap, sym, ◌∙◌, subst, arith, inr, IsTrue, MatchBool}
 use Rattle.std.proofs.lemmas.Bool.Decides.{nat_tests}
 use Rattle.std.specs.List.{list_any}
+use mathlib.Core.List.{IsPrefix}
 use Rattle.ulfm_model.specs.declared.call.Call.TheVariants as call
 use Rattle.ulfm_model.specs.declared.{call.Call.{Call}, call.Request.{Request}, call.Request.TheVariants.{Barrier}, contribution.Contribution.{Contribution}, contribution.Offer.{Offer}, contribution.Slot.{Slot}, contribution.Slot.TheVariants.{Given, Mark as Marked}, event.Caller.TheVariants.{Rank}, event.Entry.{Entry}, event.Event.{Event}, event.Event.TheVariants.{Arrive, Revoke, Settle}, limits.Limits.{Limits}, refusal.Refusal.{Refusal}, refusal.Refusal.TheVariants.{Busy, RoundsUsedUp, ShrinkOpen, Twice}, reply.Reply.TheVariants.{Refused, Standing, Started}}
 use Rattle.ulfm_model.specs.{Answers.{CallAdds, Replies, StartReplies, View, first_refusal, opened, refusal_on, traits_of}, History.{History, IsLegal, failures, has_arrived, is_revoked}, Records.{Fits, Held, Record, held_at, is_shrink, with_held}, Runs.{Did}, Words.{MayOpen}}
@@ -10,7 +11,7 @@ use Rattle.ulfm_model.proofs.Stable.{fits_stays}
 use Rattle.ulfm_words.specs.{Places.{IsCell}, Steps.{IsAdded, IsOf, Name, Sight}, Tries.{MayCome, MayEnd}}
 use Rattle.ulfm_words.proofs.Trails.{added_after, did_added, did_after, did_prefix}
 use Rattle.ulfm_record.specs.Kept.{HasNext}
-use Rattle.ulfm_comm.specs.{Calls.{Calls, reply_of}, Phase.{Answered, Stands}, Look.{HasLooked}}
+use Rattle.ulfm_comm.specs.{Calls.{Replied, reply_of}, Phase.{Answered, Stands}, Look.{HasLooked}}
 use Rattle.ulfm_comm.specs.{Exchange.{StartsWith, Settles, start_leaves, start_result}, Step.{Walks}, Revokes.{revoked}}
 use Rattle.ulfm_comm.specs.declared.phases.phase.Phase.TheVariants.{Settling}
 use Rattle.ulfm_comm.proofs.BarrierStart.{barrier_may_come, barrier_within, calls_entered, calls_entered_before}
@@ -104,20 +105,20 @@ pub tried_after : {P : Type 0} (alone won : Bool) (e : _) (x y z : History P) �
 tried_after alone true e x y z did outcome = added_after alone e x y z did outcome
 tried_after alone false e x y z did outcome = did_after alone [] x y z did outcome
 
-module _ {P : Type 0} (meld : P → P → P) (quiet : Bool) (name : Name) (number : ℕ) (old new : Sight P) (of : IsOf meld name new) (one : new.steps ≡ old.steps + 1) where
+module _ {P : Type 0} (meld : P → P → P) (quiet : Bool) (name : Name) (number : ℕ) (old new : Sight P) (of : IsOf meld name new) (one : new.steps ≡ old.steps + 1) (cached : IsPrefix old.cached new.cached) where
   -- one step without an event
   pub walks_none : Did quiet [] old.seen new.seen → Walks meld quiet name number old new
-  walks_none did = record { of = of; own = []; did = did; onward = omega (arith, one) }
+  walks_none did = record { of = of; own = []; did = did; onward = omega (arith, one); cached = cached }
 
   -- one exchange
   pub walks_tried : (won : Bool) (event : Event P) → MatchBool won (IsAdded quiet (record { by = Rank number; event = event }) old.seen new.seen) (Did quiet [] old.seen new.seen) → Walks meld quiet name number old new
-  walks_tried true event outcome = record { of = of; own = event ∷ []; did = did_added quiet _ old.seen new.seen outcome; onward = omega (arith, one) }
+  walks_tried true event outcome = record { of = of; own = event ∷ []; did = did_added quiet _ old.seen new.seen outcome; onward = omega (arith, one); cached = cached }
   walks_tried false event outcome = walks_none outcome
 
   -- the exchange of a contribution
   pub walks_settled : (own : Record) (x : Held) (offer : Offer P) (settled : Result (Unit {0}) (Slot P)) → own.number ≡ number → Settles quiet old.seen new.seen own x offer settled → Walks meld quiet name number old new
   walks_settled own x offer (Ok done) mine gave =
-      record { of = of; own = Settle x.comm x.next_agreement own.number gave.given ∷ []; did = subst (λ n. Did quiet (record { by = Rank n; event = Settle x.comm x.next_agreement own.number gave.given } ∷ []) old.seen new.seen) mine gave.did; onward = omega (arith, one) }
+      record { of = of; own = Settle x.comm x.next_agreement own.number gave.given ∷ []; did = subst (λ n. Did quiet (record { by = Rank n; event = Settle x.comm x.next_agreement own.number gave.given } ∷ []) old.seen new.seen) mine gave.did; onward = omega (arith, one); cached = cached }
   walks_settled own x offer (Err put) mine was = walks_none was.did
 
 -- what holds of an exchange where the words are alone holds among others' steps
@@ -129,7 +130,7 @@ settles_loosely alone quiet only now after own x offer (Err put) was = record { 
 module _ {P : Type 0} (meld : P → P → P) (alone quiet : Bool) (only : IsTrue alone → IsTrue quiet) (name : Name) (asked : Call P) (request : Request) (offer : Offer P) (group : List ℕ) (old : Record) (before : Sight P) (own : Record) (now after : Sight P) (went : now.steps ≤ after.steps)
     (stood : Stands meld alone name old before (record { asked = asked; phase = Settling request offer; group = group }) own now) (x : Held) (held : held_at own (comm_of asked) ≡ Some x) where
   by_exchange : (settled : Result (Unit {0}) (Slot P)) (new : Record) → IsOf meld name after → Settles quiet now.seen after.seen own x offer settled → new ≡ start_leaves own (comm_of asked) request settled
-      → Calls meld alone name asked old before (reply_of (λ _. Started) (start_result settled)) new after
+      → Replied meld alone name asked old before (reply_of (λ _. Started) (start_result settled)) new after
   by_exchange settled new of settles leaves =
       let p = stood.at.0 in
       let same = found_same meld name.limits alone asked old before.seen own now.seen p x held in
@@ -196,7 +197,7 @@ module _ {P : Type 0} (meld : P → P → P) (alone quiet : Bool) (only : IsTrue
 module _ {P : Type 0} (meld : P → P → P) (alone quiet : Bool) (only : IsTrue alone → IsTrue quiet) (name : Name) (c : ℕ) (old : Record) (before : Sight P) (own : Record) (now after : Sight P) (onward : before.steps ≤ after.steps) (fits : Fits meld name.limits before.seen old) (of : IsOf meld name after) where
   revoked_once : (p : HasLooked meld name.limits alone (call.Revoke old.number c) old before.seen own now.seen) (won : Bool)
       → MatchBool won (IsAdded quiet (record { by = Rank own.number; event = Revoke c }) now.seen after.seen) (Did quiet [] now.seen after.seen) → IsTrue (is_revoked after.seen c)
-      → Calls meld alone name (call.Revoke old.number c) old before (revoked won) own after
+      → Replied meld alone name (call.Revoke old.number c) old before (revoked won) own after
   revoked_once p won outcome stands =
       let mine = number_is meld name.limits alone (call.Revoke old.number c) old before.seen own now.seen p in
       let e : Entry P = record { by = Rank old.number; event = Revoke c } in

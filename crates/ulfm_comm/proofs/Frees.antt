@@ -6,13 +6,13 @@ use Rattle.ulfm_model.specs.{Answers.{first_refusal}, Records.{Fits, Held, Recor
 use Rattle.ulfm_model.specs.Terms.{tests_of}
 use Rattle.ulfm_words.specs.Steps.{IsOf, Name, Sight}
 use Rattle.ulfm_words.proofs.Trails.{did_none}
-use Rattle.ulfm_comm.specs.{Calls.{Calls}, Look.{Looked}}
+use Rattle.ulfm_comm.specs.{Calls.{Replied}, Look.{Looked}}
 use Rattle.ulfm_comm.proofs.{CallRuns.{calls_is}, WholeCall.{held_before, replied}, Refusals.{by_tests}}
 
 -- the rank holds all but this one
 pub calls_freed : {P : Type 0} (meld : P → P → P) (alone : Bool) (name : Name) (before after : Sight P) → before.steps ≤ after.steps → (rank c : ℕ) (old mid new : Record) → IsOf meld name after → Fits meld name.limits before.seen old
     → Looked alone before.seen after.seen old mid → (x : Held) → held_at mid c ≡ Some x → first_refusal (tests_of {P = P} old x (call.Free rank c)) ≡ None → new ≡ record mid { held = filter (λ y. not (y.comm == c)) mid.held }
-    → Calls meld alone name (call.Free rank c) old before Freed new after
+    → Replied meld alone name (call.Free rank c) old before Freed new after
 calls_freed {P} meld alone name before after onward rank c old mid new of fits looked x held passed is =
     calls_is meld alone name before after onward (call.Free rank c) old Freed new of fits
     (replied meld name.limits alone before.seen after.seen old mid looked after.seen [] (call.Free rank c) Freed new x (did_none alone after.seen) of.legal

@@ -4,6 +4,7 @@ pub mod Barrier
 pub mod BarrierPolls
 pub mod StepsLeft
 pub mod AlsoLeft
+pub mod Known
 pub mod CallRuns
 pub mod Counts
 pub mod Spawning

@@ -13,7 +13,7 @@ use mathlib.Core.List.{IsPrefix}
 use Rattle.ulfm_model.proofs.{Histories.{failures_begin}, Lists.{length_prefix, prefix_trans}}
 use Rattle.ulfm_steps.proofs.Looking.{full_found}
 use Rattle.ulfm_steps.specs.Looks.{LookIs}
-use Rattle.ulfm_comm.specs.{Calls.{Calls, EndsAs, is_out_of_memory, wants_memory}, Phase.{Answered, Stands}, Look.{HasLooked, JustLooked}}
+use Rattle.ulfm_comm.specs.{Calls.{Replied, RepliedAs, is_out_of_memory, wants_memory}, Phase.{Answered, Stands}, Look.{HasLooked, JustLooked}}
 use Rattle.ulfm_comm.specs.Exchange.{StartsWith}
 use Rattle.ulfm_comm.specs.declared.phases.phase.Phase.TheVariants.{Begun, Looking}
 use Rattle.ulfm_comm.proofs.{Acks.{ack_failed_is, get_failed_is}, CallRuns.{calls_declared, calls_is, calls_missing, looked_fits}, Frees.{calls_freed}}
@@ -54,7 +54,7 @@ tests_same own seen x (call.IsRevoked rank c) = refl
 tests_same own seen x (call.Free rank c) = refl
 
 -- a poll that is refused has no request
-idle_poll : {P : Type 0} (own : Record) (x : Held) (asked : Call P) (refusal : Refusal) → (traits_of asked).polls ≡ true → first_refusal (tests_of own x asked) ≡ Some refusal → x.request ≡ None
+pub idle_poll : {P : Type 0} (own : Record) (x : Held) (asked : Call P) (refusal : Refusal) → (traits_of asked).polls ≡ true → first_refusal (tests_of own x asked) ≡ Some refusal → x.request ≡ None
 idle_poll own x (call.Poll rank c) refusal polls is = by_request x.request is
   where
     by_request : (request : Option Request) → first_refusal ((not (is_some request), Idle) ∷ []) ≡ Some refusal → request ≡ None
@@ -72,9 +72,9 @@ idle_poll own x (call.Free rank c) refusal polls is = absurd (cc polls)
 
 module _ {P : Type 0} (meld : P → P → P) (alone : Bool) (name : Name) (asked : Call P) (old : Record) (before : Sight P) (new : Record) (after : Sight P) where
   -- a reply that isn't pending, and isn't for want of memory
-  pub answered_by : (reply : Reply P) → wants_memory reply ≡ false → (reply ≡ Pending → ⊥) → Calls meld alone name asked old before reply new after → Answered meld alone name asked old before reply new after
+  pub answered_by : (reply : Reply P) → wants_memory reply ≡ false → (reply ≡ Pending → ⊥) → Replied meld alone name asked old before reply new after → Answered meld alone name asked old before reply new after
   answered_by reply none other calls =
-      record { ends = inr (subst (λ b. EndsAs meld alone name asked old before reply b new after) (sym none) calls); pending = λ is. absurd (other is) }
+      record { ends = inr (subst (λ b. RepliedAs meld alone name asked old before reply b new after) (sym none) calls); pending = λ is. absurd (other is) }
 
 module _ {P : Type 0} (meld : P → P → P) (alone : Bool) (name : Name) (asked : Call P) (old : Record) (before : Sight P) (mid : Record) (now : Sight P) (j : JustLooked meld alone name asked old before mid now) (of : IsOf meld name now) where
   pub just_fits : Fits meld name.limits now.seen mid
@@ -202,13 +202,19 @@ begins_looking meld alone name asked old before group own new now of is u =
       );
     }
 
--- a rank that has seen all ranks declared is one of them
-pub has_seen_all : {P : Type 0} (meld : P → P → P) (alone : Bool) (name : Name) (asked : Call P) (own new : Record) (now : Sight P) → IsOf meld name now → Fits meld name.limits now.seen own → own.refused ≡ false
-    → own.number < own.limits.ranks → length own.seen ≡ own.limits.ranks → new ≡ record own { refused = true } → Calls meld alone name asked own now (Refused SelfFailed) new now
-has_seen_all meld alone name asked own new now of fits in_use below full is =
+-- a rank that has seen as many failures as there are ranks has seen them all
+pub full_seen : {P : Type 0} (meld : P → P → P) (name : Name) (own : Record) (now : Sight P) → IsOf meld name now → Fits meld name.limits now.seen own → length own.seen ≡ own.limits.ranks → own.seen ≡ failures now.seen
+full_seen meld name own now of fits full =
     let ranks : own.limits.ranks ≡ name.limits.ranks = ap (λ l. l.ranks) fits.same_limits in
     let few = failures_le meld name.limits now.seen of.legal in
-    let all : own.seen ≡ failures now.seen = full_found own.seen (failures now.seen) fits.seen (omega (arith, few, full, ranks)) in
+    full_found own.seen (failures now.seen) fits.seen (omega (arith, few, full, ranks))
+
+-- a rank that has seen all ranks declared is one of them
+pub has_seen_all : {P : Type 0} (meld : P → P → P) (alone : Bool) (name : Name) (asked : Call P) (own new : Record) (now : Sight P) → IsOf meld name now → Fits meld name.limits now.seen own → own.refused ≡ false
+    → own.number < own.limits.ranks → length own.seen ≡ own.limits.ranks → new ≡ record own { refused = true } → Replied meld alone name asked own now (Refused SelfFailed) new now
+has_seen_all meld alone name asked own new now of fits in_use below full is =
+    let ranks : own.limits.ranks ≡ name.limits.ranks = ap (λ l. l.ranks) fits.same_limits in
+    let all = full_seen meld name own now of fits full in
     let enough : name.limits.ranks ≤ length (failures now.seen) = omega (arith, ap length all, full, ranks) in
     let declared = full_has meld name.limits now.seen own.number of.legal (omega (arith, below, ranks)) enough in
     calls_declared meld alone name now now (omega arith) asked own new of fits in_use (did_none alone now.seen) declared (is ∙ ap (λ s. record own { seen = s; refused = true }) all)

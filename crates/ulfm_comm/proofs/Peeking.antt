@@ -11,7 +11,7 @@ use Rattle.ulfm_words.proofs.Trails.{did_none, did_prefix, did_quiet, did_wait}
 use Rattle.ulfm_steps.specs.declared.{mark_all.MarkAll.{MarkAll}, blocks.Peek.{Peek}, blocks.ReadBlocks.{ReadBlocks}}
 use Rattle.ulfm_steps.specs.{Blocks.{AreOf, MayPeek, block_at, is_whole, starts_at}, Marks.{IsAt, Marks, members_in}, Rounds.{IsRoundOf}, Turns.{IsStepAt}}
 use Rattle.ulfm_steps.proofs.{InBlocks.{few_members}, Groups.{members_rise}, Marking.{marks_none}}
-use Rattle.ulfm_comm.specs.{Polls.{HasMarked, agreement}, Phase.{Stands, next_step}, StepsLeft.{MakesStep}, Agreement.{HasPeeked, HasReadAll, IsMarking, IsPeeking}}
+use Rattle.ulfm_comm.specs.{Polls.{HasMarked}, Requests.{agreement}, Phase.{Stands, next_step}, StepsLeft.{MakesStep}, Agreement.{HasPeeked, HasReadAll, IsMarking, IsPeeking}}
 use Rattle.ulfm_comm.specs.declared.phases.phase.Phase.TheVariants.{Marking, Peeking, Reading}
 use Rattle.ulfm_comm.proofs.{Agreement.{all_in, reading_begins, some_member}, AmongOthers.{did_loosely}, Holding.{exists_is, group_is, holds, same_held}, Polls.{open_round}}
 

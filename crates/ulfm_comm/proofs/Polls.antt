@@ -14,7 +14,7 @@ use Rattle.ulfm_model.proofs.{Decisions.{slot_stands}, Histories.{slot_stays}, L
 use Rattle.ulfm_words.proofs.Trails.{did_prefix, did_quiet, did_wait}
 use Rattle.ulfm_model.specs.Blocks.{IsSummed}
 use Rattle.ulfm_steps.specs.Marks.{IsMarkOf}
-use Rattle.ulfm_comm.specs.{Ends.{IsEndRun}, Polls.{HasMarked, agreement}}
+use Rattle.ulfm_comm.specs.{Ends.{IsEndRun}, Polls.{HasMarked}, Requests.{agreement}}
 use Rattle.ulfm_comm.proofs.{Holding.{comm_is, failed_is, group_is, holds}, WholeCall.{held_before, replied}}
 
 -- a body that is a flag or a clash, and no flag

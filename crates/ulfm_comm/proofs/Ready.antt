@@ -10,7 +10,7 @@ use Rattle.ulfm_words.proofs.Trails.{did_none}
 use Rattle.ulfm_steps.specs.declared.{arrivals.Arrivals.{Arrivals}, blocks.Peek.{Peek}}
 use Rattle.ulfm_steps.specs.{Arriving.{AtArrival, IsAsked, asked_before}, Blocks.{Tells}}
 use Rattle.ulfm_steps.proofs.Arriving.{at_arrival_new}
-use Rattle.ulfm_comm.specs.{Polls.{agreement}, Agreement.{IsPeeking}, Barrier.{IsWaiting}, Look.{JustLooked}, Phase.{Stands}}
+use Rattle.ulfm_comm.specs.{Requests.{agreement}, Agreement.{IsPeeking}, Barrier.{IsWaiting}, Look.{JustLooked}, Phase.{Stands}}
 use Rattle.ulfm_comm.specs.declared.phases.phase.Phase.TheVariants.{Peeking, Waiting}
 use Rattle.ulfm_comm.proofs.{CallRuns.{looked_fits}, Agreement.{poll_mine, some_member}, Holding.{holds}}
 

@@ -7,7 +7,7 @@ use Rattle.ulfm_model.specs.{History.{History, IsLegal, is_revoked}, Records.{Fi
 use Rattle.ulfm_model.proofs.Stable.{revoke_stays}
 use Rattle.ulfm_words.specs.{Steps.{IsAdded, IsOf, Name, Sight}, Tries.{MayEnd}}
 use Rattle.ulfm_words.proofs.{Growing.{revoked_stays}, Ranks.{spawns_below}, Trails.{did_added}}
-use Rattle.ulfm_comm.specs.{Calls.{Calls}, Look.{Looked}, Revokes.{revoked}}
+use Rattle.ulfm_comm.specs.{Calls.{Replied}, Look.{Looked}, Revokes.{revoked}}
 use Rattle.ulfm_comm.proofs.{CallRuns.{calls_is}, Holding.{comm_is, exists_is}, WholeCall.{held_before, replied}, Refusals.{by_tests}}
 
 -- a communicator that isn't revoked wasn't before
@@ -36,7 +36,7 @@ module _ {P : Type 0} (meld : P → P → P) (alone : Bool) (name : Name) (befor
     (looked : Looked alone before.seen look.seen old mid) (now : Fits meld name.limits look.seen mid) (x : Held) (held : held_at mid c ≡ Some x) where
   -- the communicator is revoked, by this call or before
   pub calls_revoked : (won : Bool) → IsOf meld name after → MatchBool won (IsAdded alone (record { by = Rank old.number; event = Revoke c }) look.seen after.seen) (Did alone [] look.seen after.seen) → IsTrue (is_revoked after.seen c)
-      → Calls meld alone name (call.Revoke rank c) old before (revoked won) mid after
+      → Replied meld alone name (call.Revoke rank c) old before (revoked won) mid after
   calls_revoked true of outcome stands =
       calls_is meld alone name before after onward (call.Revoke rank c) old Revoked mid of fits
       (replied meld name.limits alone before.seen look.seen old mid looked after.seen (Revoke c ∷ []) (call.Revoke rank c) Revoked mid x (did_added alone (record { by = Rank old.number; event = Revoke c }) look.seen after.seen outcome) of.legal
@@ -49,7 +49,7 @@ module _ {P : Type 0} (meld : P → P → P) (alone : Bool) (name : Name) (befor
       tt (stands, inr (refl, refl)) refl (λ here polls. absurd (cc polls)))
 
   -- whether the communicator is revoked, at the end
-  pub calls_standing : (found : Bool) → IsOf meld name after → Did alone [] look.seen after.seen → found ≡ is_revoked after.seen c → Calls meld alone name (call.IsRevoked rank c) old before (Standing found) mid after
+  pub calls_standing : (found : Bool) → IsOf meld name after → Did alone [] look.seen after.seen → found ≡ is_revoked after.seen c → Replied meld alone name (call.IsRevoked rank c) old before (Standing found) mid after
   calls_standing found of did is =
       calls_is meld alone name before after onward (call.IsRevoked rank c) old (Standing found) mid of fits
       (replied meld name.limits alone before.seen look.seen old mid looked after.seen [] (call.IsRevoked rank c) (Standing found) mid x did of.legal

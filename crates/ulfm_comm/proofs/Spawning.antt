@@ -20,7 +20,7 @@ use Rattle.ulfm_comm.specs.declared.{phases.phase.Made.{Made}, phases.phase.Phas
 use Rattle.ulfm_comm.specs.declared.phases.spawning.Spawned.TheVariants as spawned
 use Rattle.ulfm_steps.specs.declared.read_on.ReadOn.{ReadOn}
 use Rattle.ulfm_steps.specs.ReadsOn.{AtFailure, MayReadOn, ReadsOn}
-use Rattle.ulfm_comm.specs.{Calls.{EndsAs, HadCome, RunsOut, wants_memory}, Ends.{IsEndRun}}
+use Rattle.ulfm_comm.specs.{Calls.{RepliedAs, HadCome, RanOut, wants_memory}, Ends.{IsEndRun}}
 use Rattle.ulfm_comm.specs.{Spawning.{Holds, IsFullBy, IsMadeBy, MayHold, MaySpawn, SpawnIs, HasReached, IsDecided}, Step.{Adds, Makes, Walks}}
 use Rattle.ulfm_comm.specs.{Phase.{Answered, Stands}, Agreement.{HasReadAll}}
 use Rattle.ulfm_steps.proofs.ReadingOn.{passing_grow}
@@ -48,7 +48,7 @@ pub answered_with : {P : Type 0} (meld : P → P → P) (alone : Bool) (name : N
 answered_with meld alone name asked old before reply new after of onward fits polls ended answers decides =
     let mine = subst (λ (a : Call _). IsEndRun meld name.limits alone before.seen after.seen old a reply new) (sym polls) ended in
     let called = calls_is meld alone name before after onward asked old reply new of fits mine in
-    record { ends = inr (subst (λ b. EndsAs meld alone name asked old before reply b new after) (sym answers) called); pending = λ waits. absurd (decides waits) }
+    record { ends = inr (subst (λ b. RepliedAs meld alone name asked old before reply b new after) (sym answers) called); pending = λ waits. absurd (decides waits) }
 
 -- no communicator was made
 none_made : (xs : List (ℕ × ℕ)) (c k : ℕ) → length xs ≡ 0 → list_any (λ made. (made.0 == c) && (made.1 == k)) xs ≡ false
@@ -60,7 +60,7 @@ pub full_alone : {P : Type 0} (meld : P → P → P) (alone : Bool) (name : Name
 full_alone meld alone name c k now of one =
     let below = spawns_below meld name.limits now.seen of.legal of.may_open.in_range.some_comms in
     let none : length (spawns now.seen) ≡ 0 = omega (arith, below, one) in
-    record { of = of; did = did_none alone now.seen; full = omega (arith, none, one); unmade = none_made (spawns now.seen) c k none; onward = omega arith }
+    record { of = of; did = did_none alone now.seen; full = omega (arith, none, one); unmade = none_made (spawns now.seen) c k none; onward = omega arith; cached = ([], append-nil now.cached) }
 
 -- the ids of a mask are below 32
 id_below : (mask : CtxMask) (i : ℕ) → IsLowestId mask.bits i → i < 32
@@ -192,7 +192,7 @@ module _ {P : Type 0} (meld : P → P → P) (alone : Bool) (name : Name) (asked
   ends_out out_of_it =
       let poll = call.Poll old.number c in
       let quiet = did_none alone now.seen in
-      let out : RunsOut meld alone name poll old before own now =
+      let out : RanOut meld alone name poll old before own now =
       runs_out_after meld alone name before now onward poll old own d.marked.look (d.marked.marks.own ++ []) of fits
       (record { in_use = d.marked.looked.in_use; did = d.marked.looked.did; not_declared = d.marked.looked.not_declared; record_is = refl })
       (all_did meld name.limits alone before.seen old d.mid c k x d.decided d.marked d.all d.read now.seen begins_now of.legal own.seen reach counted [] now.seen quiet d.waited tt refl of.legal)
@@ -204,7 +204,7 @@ module _ {P : Type 0} (meld : P → P → P) (alone : Bool) (name : Name) (asked
       (sees_on meld name.limits alone before.seen old d.mid c k x d.decided d.marked d.all d.read now.seen begins_now of.legal own.seen reach counted [] now.seen quiet d.waited tt refl of.legal)
       d.begins (d.own_is ∙ ap (λ (w : Record). record w { seen = own.seen }) d.marked.looked.record_is) in
       let shrinking : IsTrue (is_shrink (polled_by {P = P} old poll)) = ap is_shrink (polls_it meld name.limits alone before.seen old d.mid c true k x d.decided d.marked) in
-      record { ends = inr (subst (λ (a : Call P). RunsOut meld alone name a old before own now × IsTrue (is_shrink (polled_by old a))) (sym polls) (out, shrinking)); pending = λ waits. absurd (cc waits) }
+      record { ends = inr (subst (λ (a : Call P). RanOut meld alone name a old before own now × IsTrue (is_shrink (polled_by old a))) (sym polls) (out, shrinking)); pending = λ waits. absurd (cc waits) }
 
 module _ {P : Type 0} (meld : P → P → P) (alone : Bool) (name : Name) (asked : Call P) (k : ℕ) (all : Summary P) (old : Record) (before : Sight P) (mid : Record) (now : Sight P) (of : IsOf meld name now)
     (r : HasReadAll meld alone name asked true k all old before mid now) where
@@ -324,10 +324,10 @@ module _ {P : Type 0} (meld : P → P → P) (alone quiet : Bool) (only : IsTrue
   module _ (next : Append) (new : Record) (after : Sight P) where
     -- these are steps of the rank's own
     pub spawn_walks : (result : Spawned) → SpawnIs meld quiet name comm s.at.1.round context append next group own now result new after → Walks meld quiet name own.number now after
-    spawn_walks spawned.Unknown is = record { of = is.0.of; own = []; did = is.0.did; onward = is.0.onward }
+    spawn_walks spawned.Unknown is = record { of = is.0.of; own = []; did = is.0.did; onward = is.0.onward; cached = is.0.cached }
     spawn_walks (spawned.Made j size) is =
-        record { of = is.0.of; own = is.0.own; did = subst (λ by. Did quiet (entries_by by is.0.own) now.seen after.seen) rank_is is.0.did; onward = is.0.onward }
-    spawn_walks spawned.Full is = record { of = is.0.of; own = []; did = is.0.did; onward = is.0.onward }
+        record { of = is.0.of; own = is.0.own; did = subst (λ by. Did quiet (entries_by by is.0.own) now.seen after.seen) rank_is is.0.did; onward = is.0.onward; cached = is.0.cached }
+    spawn_walks spawned.Full is = record { of = is.0.of; own = []; did = is.0.did; onward = is.0.onward; cached = is.0.cached }
 
     -- and add nothing, or the communicator
     pub spawn_adds : (reply : Option (Reply P)) (result : Spawned) → SpawnIs meld quiet name comm s.at.1.round context append next group own now result new after → Adds quiet [] own asked reply now.seen after.seen
@@ -410,6 +410,7 @@ module _ {P : Type 0} (meld : P → P → P) (alone quiet : Bool) (only : IsTrue
           some = made.some;
           made = made.made;
           onward = made.onward;
+          cached = made.cached;
         }) in
         ends_made meld alone name asked i.round i.mask i.x i.count reach old before own now of s.onward s.fits s.at.0 i.decided i.reads j context size group new after mine
         (subst (λ n. Holds n context group own j size new) there is.1) i.lowest i.left i.stays
@@ -421,5 +422,5 @@ module _ {P : Type 0} (meld : P → P → P) (alone quiet : Bool) (only : IsTrue
         let full = is.0 in
         let loosely : IsFullBy meld alone name (comm_of asked) i.round now after =
         subst (λ n. IsFullBy meld alone name n i.round now after) there
-        (record { of = full.of; did = did_loosely alone quiet only [] now.seen after.seen full.did; full = full.full; unmade = full.unmade; onward = full.onward }) in
+        (record { of = full.of; did = did_loosely alone quiet only [] now.seen after.seen full.did; full = full.full; unmade = full.unmade; onward = full.onward; cached = full.cached }) in
         ends_full meld alone name asked i.round i.mask i.x i.count reach old before own now of s.onward s.fits s.at.0 i.decided i.reads ended after loosely i.stays (closes ∙ ap₂ closed is.1 there)

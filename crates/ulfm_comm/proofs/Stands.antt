@@ -1,9 +1,10 @@
 -- A call under way stands as it stood, after others' events.
-use Rattle.std.proofs.Common.{ℕ, Bool, List, [], arith}
+use Rattle.std.proofs.Common.{◌≡◌, ℕ, Bool, true, List, [], IsTrue, ap, sym, ◌∙◌, arith}
 use mathlib.Core.List.{IsPrefix}
 use Rattle.ulfm_laws.specs.declared.ctx_mask.CtxMask.{CtxMask}
+use Rattle.ulfm_model.specs.declared.call.Call.TheVariants as call
 use Rattle.ulfm_model.specs.declared.{call.Call.{Call}, limits.Limits.{Limits}}
-use Rattle.ulfm_model.specs.{History.{History, IsLegal, failures}, Records.{Held, Record}, Runs.{Did}}
+use Rattle.ulfm_model.specs.{Answers.{polled_by}, History.{History, IsLegal, failures}, Records.{Held, Record, is_shrink}, Runs.{Did}}
 use Rattle.ulfm_model.proofs.{Histories.{failures_begin}, Lists.{prefix_trans}}
 use Rattle.ulfm_model.specs.Terms.{comm_of}
 use Rattle.ulfm_words.specs.Steps.{IsOf, Name, Sight}
@@ -11,7 +12,8 @@ use Rattle.ulfm_words.proofs.Trails.{did_prefix, did_wait}
 use Rattle.ulfm_steps.specs.declared.{append.Append.{Append}, mark_all.MarkAll.{MarkAll}, blocks.Peek.{Peek}, blocks.ReadBlocks.{ReadBlocks}, blocks.RoundBlocks.{RoundBlocks}}
 use Rattle.ulfm_steps.proofs.{InBlocks.{are_later, at_block_later}, Appending.{passed_stays}, Arriving.{at_arrival_stays}}
 use Rattle.ulfm_comm.specs.Polls.{HasMarked}
-use Rattle.ulfm_comm.specs.{Look.{HasLooked}, Spawning.{IsDecided, IsSpawning}, Agreement.{IsMarking, IsPeeking, IsReading}, Barrier.{IsWaiting}}
+use Rattle.ulfm_comm.specs.{Look.{HasLooked, Looked}, Spawning.{IsDecided, IsSpawning}, Agreement.{IsMarking, IsPeeking, IsReading}, Barrier.{IsWaiting}}
+use Rattle.ulfm_comm.proofs.{Known.{reads_on}, Polls.{polls_it}}
 use Rattle.ulfm_comm.specs.Phase.{Stands, StandsAt, UnderWay, Waits}
 use Rattle.ulfm_comm.specs.declared.phases.phase.Phase.{Phase}
 use Rattle.ulfm_comm.specs.declared.phases.phase.Phase.TheVariants.{Over, Begun, Looking, Settling, Arriving, Revoking, Asking, Peeking, Marking, Reading, ReadingOn, Spawning, Waiting, Checking}
@@ -157,3 +159,51 @@ stands_lasts meld alone name old before doing own now later u waits of =
       onward = omega (arith, u.onward, waits.onward);
       at = at_lasts meld alone name doing.asked old before doing.group own now later waits.did of doing.phase u.at;
     }
+
+-- a call that is under way has changed nothing of its rank's record but what it has seen
+module _ {P : Type 0} (meld : P → P → P) (alone : Bool) (name : Name) (asked : Call P) (old : Record) (before : Sight P) (group : List ℕ) (own : Record) (now : Sight P) where
+  by_same : own ≡ old → own ≡ record old { seen = own.seen }
+  by_same is = is ∙ ap (λ (w : Record). record old { seen = w.seen }) (sym is)
+
+  by_seen : (seen : List ℕ) → own ≡ record old { seen = seen } → own ≡ record old { seen = own.seen }
+  by_seen seen is = is ∙ ap (λ s. record old { seen = s }) (sym (ap (λ (w : Record). w.seen) is))
+
+  by_looked : (mid : Record) (look : History P) → Looked alone before.seen look old mid → own ≡ record mid { seen = own.seen } → own ≡ record old { seen = own.seen }
+  by_looked mid look looked is = is ∙ ap (λ (w : Record). record w { seen = own.seen }) looked.record_is
+
+  pub stands_own : (phase : Phase P) → StandsAt meld alone name asked old before phase group own now → own ≡ record old { seen = own.seen }
+  stands_own Over p = by_same p.1
+  stands_own Begun p = by_same p.1
+  stands_own Looking p = p.1
+  stands_own (Settling request offer) p = by_seen _ p.0.looked.record_is
+  stands_own (Arriving round) p = by_seen _ p.0.looked.record_is
+  stands_own Revoking p = by_seen _ p.0.looked.record_is
+  stands_own Asking p = by_seen _ p.0.looked.record_is
+  stands_own (Peeking peek shrinks) p = by_seen _ p.1.looked.record_is
+  stands_own (Marking marks blocks shrinks) p = by_seen _ p.1.looked.record_is
+  stands_own (Reading reading shrinks) p = by_seen _ p.1.marked.looked.record_is
+  stands_own (ReadingOn on made) p = let d = p.2 in by_looked d.mid d.marked.look d.marked.looked d.own_is
+  stands_own (Spawning append context reach) p = let d = p.1.decided in by_looked d.mid d.marked.look d.marked.looked d.own_is
+  stands_own (Waiting arrivals) p = by_seen _ p.3.looked.record_is
+  stands_own (Checking missing) p = by_seen _ p.2.waits.looked.record_is
+
+  -- one that reads on polls a shrink
+  pub stands_shrinks : (phase : Phase P) → reads_on phase ≡ true → StandsAt meld alone name asked old before phase group own now → IsTrue (is_shrink (polled_by own asked))
+  stands_shrinks (ReadingOn on made) reads p =
+      let d = p.2 in
+      let shrinking : IsTrue (is_shrink (polled_by {P = P} old (call.Poll old.number (comm_of asked)))) = ap is_shrink (polls_it meld name.limits alone before.seen old d.mid (comm_of asked) true made.round p.1 d.decided d.marked) in
+      let same : polled_by {P = P} own asked ≡ polled_by {P = P} old (call.Poll old.number (comm_of asked)) = ap (λ (w : Record). polled_by {P = P} w asked) (by_looked d.mid d.marked.look d.marked.looked d.own_is) ∙ ap (λ (a : Call P). polled_by {P = P} old a) p.0 in
+      ap is_shrink same ∙ shrinking
+  stands_shrinks Over reads p = absurd (cc reads)
+  stands_shrinks Begun reads p = absurd (cc reads)
+  stands_shrinks Looking reads p = absurd (cc reads)
+  stands_shrinks (Settling request offer) reads p = absurd (cc reads)
+  stands_shrinks (Arriving round) reads p = absurd (cc reads)
+  stands_shrinks Revoking reads p = absurd (cc reads)
+  stands_shrinks Asking reads p = absurd (cc reads)
+  stands_shrinks (Peeking peek shrinks) reads p = absurd (cc reads)
+  stands_shrinks (Marking marks blocks shrinks) reads p = absurd (cc reads)
+  stands_shrinks (Reading reading shrinks) reads p = absurd (cc reads)
+  stands_shrinks (Spawning append context reach) reads p = absurd (cc reads)
+  stands_shrinks (Waiting arrivals) reads p = absurd (cc reads)
+  stands_shrinks (Checking missing) reads p = absurd (cc reads)

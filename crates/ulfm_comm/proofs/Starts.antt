@@ -6,7 +6,7 @@ use Rattle.ulfm_model.specs.Terms.{comm_of}
 use Rattle.ulfm_model.proofs.{Decisions.{slot_stands}, Marking.{failed_few}, Lists.{has_at, has_filter, length_prefix}}
 use Rattle.ulfm_words.specs.Steps.{IsAdded, IsOf, Name, Sight}
 use Rattle.ulfm_words.proofs.Trails.{did_added, did_after}
-use Rattle.ulfm_comm.specs.{Calls.{Calls, reply_of}, Ends.{IsEndRun}, Look.{Looked}, Exchange.{Settles, start_leaves, start_result}}
+use Rattle.ulfm_comm.specs.{Calls.{Replied, reply_of}, Ends.{IsEndRun}, Look.{Looked}, Exchange.{Settles, start_leaves, start_result}}
 use Rattle.ulfm_comm.proofs.{CallRuns.{calls_is}, Helds.{change_alike}, Holding.{comm_is, exists_is, failed_is, group_is, holds}, LeftOut.{filter_begins}}
 use Rattle.ulfm_comm.proofs.WholeCall.{held_before, replied, self_failed}
 
@@ -71,9 +71,9 @@ module _ {P : Type 0} (meld : P → P → P) (alone : Bool) (name : Name) (befor
 
   -- it is answered as its exchange says
   pub calls_started : (settled : Result (Unit {0}) (Slot P)) (result : Result (Unit {0}) Refusal) (new : Record) → IsOf meld name after → Settles alone now after.seen mid x offer settled → result ≡ start_result settled
-      → new ≡ start_leaves mid (comm_of asked) request settled → Calls meld alone name asked old before (reply_of (λ _. Started) result) new after
+      → new ≡ start_leaves mid (comm_of asked) request settled → Replied meld alone name asked old before (reply_of (λ _. Started) result) new after
   calls_started settled result new of settles gives leaves =
-      subst (λ r. Calls meld alone name asked old before (reply_of (λ _. Started) r) new after) (sym gives)
+      subst (λ r. Replied meld alone name asked old before (reply_of (λ _. Started) r) new after) (sym gives)
       (calls_is meld alone name before after onward asked old (reply_of (λ _. Started) (start_result settled)) new of fits (by_outcome settled new of.legal settles leaves))
 
 -- what a start asks of its exchange, where others may have stepped since the rank's look

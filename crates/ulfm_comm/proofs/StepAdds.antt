@@ -11,7 +11,7 @@ use Rattle.ulfm_words.proofs.Trails.{did_added, did_prefix, did_wait}
 use Rattle.ulfm_steps.proofs.Reading.{has_at}
 use Rattle.ulfm_steps.specs.Marks.{MarksOnce}
 use Rattle.ulfm_steps.specs.declared.{mark_all.MarkAll.{MarkAll}, blocks.RoundBlocks.{RoundBlocks}}
-use Rattle.ulfm_comm.specs.{Calls.{reply_of}, Polls.{agreement}, Step.{Adds, Makes, StepAdds}, Look.{HasLooked}, Revokes.{revoked}, Agreement.{IsMarking}, Phase.{Stands}}
+use Rattle.ulfm_comm.specs.{Calls.{reply_of}, Requests.{agreement}, Step.{Adds, Makes, StepAdds}, Look.{HasLooked}, Revokes.{revoked}, Agreement.{IsMarking}, Phase.{Stands}}
 use Rattle.ulfm_comm.specs.Exchange.{Settles, start_leaves, start_result}
 use Rattle.ulfm_comm.specs.declared.phases.phase.Phase.{Phase}
 use Rattle.ulfm_comm.specs.declared.phases.phase.Phase.TheVariants.{Over, Begun, Looking, Settling, Arriving, Revoking, Asking, Peeking, Marking, Reading, ReadingOn, Spawning, Waiting, Checking}

@@ -12,7 +12,7 @@ use Rattle.ulfm_steps.specs.declared.blocks.RoundBlocks.{RoundBlocks}
 use Rattle.ulfm_steps.proofs.{Arriving.{in_order_few}, InBlocks.{peek_most, peek_some, starts_left, unread_most}}
 use Rattle.ulfm_comm.proofs.Look.{tests_same}
 use Rattle.ulfm_words.specs.Steps.{Sight}
-use Rattle.ulfm_comm.specs.{Bound.{call_bound, poll_bound, step_bound}, Look.{Passes}, Phase.{NextBelow}, Polls.{agreement}, StepsLeft.{FewerLeft, Spends, after_look, after_peek, after_round, behind_look, group_of, polling, steps_left, with_look}}
+use Rattle.ulfm_comm.specs.{Bound.{call_bound, poll_bound, step_bound}, Look.{Passes}, Phase.{NextBelow}, Requests.{agreement}, StepsLeft.{FewerLeft, Spends, after_look, after_peek, after_round, behind_look, group_of, polling, steps_left, with_look}}
 use Rattle.ulfm_comm.specs.declared.{phases.phase.Next.{Next}, phases.phase.Next.TheVariants.{Goes, Ends}}
 use Rattle.ulfm_comm.specs.declared.phases.phase.Phase.TheVariants.{Over, Begun, Looking, Marking, Peeking, Reading, Waiting}
 

@@ -67,6 +67,8 @@ module _ {P : Type 0} (meld : P → P → P) (alone : Bool) (name : Name) (rank 
             sees = run.answer.leaves.seen;
             record_is = is;
           };
+          cached = called.cached;
+          knows = tt;
         };
       }
 

@@ -10,7 +10,7 @@ use Rattle.ulfm_steps.specs.declared.{mark_all.MarkAll.{MarkAll}, blocks.Peek.{P
 use Rattle.ulfm_steps.specs.declared.blocks.RoundBlocks.{RoundBlocks}
 use Rattle.ulfm_model.specs.Blocks.{IsSummed}
 use Rattle.ulfm_steps.specs.{Blocks.{AreOf, AtBlock, is_whole}, Marks.{IsAt, Marks, members_in}}
-use Rattle.ulfm_comm.specs.{Look.{Looked}, Polls.{HasMarked, agreement}}
+use Rattle.ulfm_comm.specs.{Look.{Looked}, Polls.{HasMarked}, Requests.{agreement}}
 
 -- The poll of an agreement has looked, and loads the blocks of its round, of which it knows those that were set. Since its look there were
 -- others' events alone.

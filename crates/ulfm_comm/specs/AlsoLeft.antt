@@ -5,7 +5,7 @@ use Rattle.ulfm_model.specs.declared.{call.Call.{Call}, call.Request.{Request}, 
 use Rattle.ulfm_model.specs.{Answers.{refusal_of}, Blocks.{has_block}, Records.{Record, held_at}, Terms.{comm_of, request_of}}
 use Rattle.ulfm_words.specs.Steps.{Sight}
 use Rattle.ulfm_steps.specs.{Blocks.{block_at, has_back, peeks_left}, declared.blocks.Peek.{Peek}}
-use Rattle.ulfm_comm.specs.{Bound.{BlocksStand}, StepsLeft.{behind, group_of, steps_left}}
+use Rattle.ulfm_comm.specs.{Requests.{BlocksStand}, StepsLeft.{behind, group_of, steps_left}}
 use Rattle.ulfm_comm.specs.declared.{phases.phase.Next.{Next}, phases.phase.Next.TheVariants.{Goes, Ends}, phases.phase.Phase.{Phase}}
 use Rattle.ulfm_comm.specs.declared.phases.phase.Phase.TheVariants.{Begun, Looking, Peeking, Marking, Reading, ReadingOn}
 
@@ -53,10 +53,8 @@ pub record FindsAll {P : Type 0} (n : ℕ) (cached : List Block) (peek : Peek P)
   pub known : peek.side ≡ Back → is_some peek.blocks.front ≡ true
   pub back : has_back n ≡ true → has_block cached (block_at peek.comm peek.round Back) ≡ true
 
--- a call that goes on with this phase finds the blocks of its round set, or doesn't load them
+-- a call that goes on with this phase finds the blocks of its round set, or doesn't load them; of one in its look nothing is asked
 abbrev pub FindsSetIn : {P : Type 0} → Record → Call P → List Block → Phase P → Type 0
-FindsSetIn own asked cached Begun = BlocksStand own asked cached
-FindsSetIn own asked cached Looking = BlocksStand own asked cached
 FindsSetIn own asked cached (Peeking peek shrinks) = FindsAll (length (group_of (held_at own (comm_of asked)))) cached peek
 FindsSetIn own asked cached (Marking marks blocks shrinks) = ⊥
 FindsSetIn own asked cached (Reading reading shrinks) = ⊥
@@ -67,12 +65,29 @@ abbrev pub FindsSetNext : {P : Type 0} → Record → Call P → List Block → 
 FindsSetNext own asked cached (Goes phase) = FindsSetIn own asked cached phase
 FindsSetNext own asked cached (Ends reply) = ⊤
 
--- The steps that a call makes, with those that are left then, are no more than so many and one for each failure that its rank has seen more;
--- and it still finds its round's blocks set.
+-- the steps that a call makes, with those that are left then, are no more than so many and one for each failure that its rank has seen more
+abbrev pub AlsoFew : {P : Type 0} → ℕ → Limits → Call P → Record → Sight P → Next P → Record → Sight P → Type 0
+AlsoFew most limits asked own now next new after = after.steps + also_in limits new asked next + length own.seen ≤ now.steps + most + length new.seen
+
+-- so it is of a step, and the call still finds its round's blocks set
 pub record AlsoSpends {P : Type 0} (most : ℕ) (limits : Limits) (asked : Call P) (own : Record) (now : Sight P) (next : Next P) (new : Record)
     (after : Sight P) : Type 0 where
-  pub few : after.steps + also_in limits new asked next + length own.seen ≤ now.steps + most + length new.seen
+  pub few : AlsoFew most limits asked own now next new after
   pub sets : FindsSetNext new asked after.cached next
+
+-- So it is of a step of the look, whatever is set; and what comes next finds its round's blocks set where they are known to be once that step
+-- is made.
+pub record AlsoLooks {P : Type 0} (most : ℕ) (limits : Limits) (asked : Call P) (own : Record) (now : Sight P) (next : Next P) (new : Record)
+    (after : Sight P) : Type 0 where
+  pub few : AlsoFew most limits asked own now next new after
+  pub sets : BlocksStand own asked after.cached → FindsSetNext new asked after.cached next
+
+-- what a step of a call spends that stood here
+abbrev pub AlsoTurns : {P : Type 0} → Limits → Call P → Phase P → Record → Sight P → Next P → Record → Sight P → Type 0
+AlsoTurns limits asked Begun own now next new after = AlsoLooks (also_left limits own asked Begun) limits asked own now next new after
+AlsoTurns limits asked Looking own now next new after = AlsoLooks (also_left limits own asked Looking) limits asked own now next new after
+AlsoTurns limits asked phase own now next new after =
+    FindsSetIn own asked now.cached phase → AlsoSpends (also_left limits own asked phase) limits asked own now next new after
 
 -- What comes after a look that has just ended, with no step in between: no more than may come, by a rank that has seen what it had, and that
 -- still finds its round's blocks set.

@@ -1,13 +1,11 @@
 -- How many atomic steps a call of a rank makes at most, whatever the others do.
-use Rattle.std.specs.Prelude.{◌≡◌, ℕ, ◌+◌, ◌-◌, ◌*◌, ◌≤◌, Bool, true, List, length, Option, Some, None, is_some, if◌then◌else◌, ⊤}
+use Rattle.std.specs.Prelude.{◌≡◌, ℕ, ◌+◌, ◌-◌, ◌*◌, ◌≤◌, Bool, List, length, Option, Some, None, is_some, if◌then◌else◌}
 use Rattle.ulfm_model.specs.declared.call.Call.TheVariants as call
 use Rattle.ulfm_model.specs.declared.{call.Call.{Call}, call.Request.{Request}, call.Request.TheVariants.{Agree, Shrink, Barrier}, limits.Limits.{Limits}}
-use Rattle.ulfm_model.specs.declared.{block.Block.{Block}, block.Side.{Side}}
-use Rattle.ulfm_model.specs.{Answers.{refusal_of}, Blocks.{IsSide, has_block}, Records.{Held, Record, held_at}}
+use Rattle.ulfm_model.specs.{Answers.{refusal_of}, Records.{Record, held_at}}
 use Rattle.ulfm_model.specs.Terms.{comm_of, request_of}
 use Rattle.ulfm_words.specs.Steps.{Sight}
-use Rattle.ulfm_steps.specs.Blocks.{block_at}
-use Rattle.ulfm_comm.specs.{Polls.{agreement}, StepsLeft.{group_of}}
+use Rattle.ulfm_comm.specs.{Requests.{BlocksStand}, StepsLeft.{group_of}}
 
 -- The poll of a request on a communicator of n members, in a world of N ranks and M communicators, by a rank that has seen v failures. Where
 -- none is open it is refused.
@@ -65,14 +63,9 @@ also_bound limits own asked f =
     if own.refused then 0 else (if is_some (refusal_of own asked) then f + 1
     else also_call_bound f (length (group_of x)) limits.comms (request_of x) asked)
 
--- A poll finds its round's blocks set: where an agree or a shrink is open on its communicator, all blocks of that round are among these.
-abbrev pub BlocksStand : {P : Type 0} → Record → Call P → List Block → Type 0
-BlocksStand own (call.Poll rank c) cached = (x : Held) (shrinks : Bool) (k : ℕ) → held_at own c ≡ Some x → x.request ≡ Some (agreement shrinks k)
-    → (side : Side) → IsSide side x.group → has_block cached (block_at c k side) ≡ true
-BlocksStand own _ cached = ⊤
-
 -- A call makes no more steps than `also_bound` says by how many failures its rank has seen more; the poll of an agree or of a shrink, where
--- all blocks of its round are among those that the pass knew to be set at the start. Nothing is taken off for a rank that has seen fewer.
-abbrev pub AlsoBounded : {P : Type 0} → Limits → Call P → Record → Sight P → Record → Sight P → Type 0
-AlsoBounded limits asked old before new after =
-    BlocksStand old asked before.cached → after.steps ≤ before.steps + also_bound limits old asked (length new.seen - length old.seen)
+-- all blocks of its round are among those that the pass knew to be set at the end of the call's look. Nothing is taken off for a rank that has
+-- seen fewer.
+abbrev pub AlsoBounded : {P : Type 0} → Limits → Call P → Record → Sight P → Sight P → Record → Sight P → Type 0
+AlsoBounded limits asked old before looked new after =
+    BlocksStand old asked looked.cached → after.steps ≤ before.steps + also_bound limits old asked (length new.seen - length old.seen)

@@ -1,6 +1,7 @@
 -- What a call of a rank promises.
 use Rattle.std.specs.Prelude.{◌≡◌, ◌⊎◌, ℕ, ◌<◌, ◌≤◌, Bool, ◌==◌, true, false, [], Option, Some, None, IsTrue, IsFalse, Result, Ok, Err, ⊤}
 use Rattle.std.specs.List.{AllByRecursion}
+use mathlib.Core.List.{IsPrefix}
 use Rattle.ulfm_laws.specs.declared.{summary.Body.TheVariants.{Ctx as OfIds}, ctx_mask.CtxMask.{CtxMask}}
 use Rattle.ulfm_model.specs.declared.{call.Request.{Request}, call.Request.TheVariants.{Agree, Shrink, Barrier}}
 use Rattle.ulfm_model.specs.declared.{call.Call.{Call}, event.Caller.TheVariants.{Rank}, limits.Limits.{Limits}, refusal.Refusal.{Refusal}, reply.Reply.{Reply}}
@@ -10,16 +11,28 @@ use Rattle.ulfm_model.specs.{Answers.{MayOwn, Sees, polled_by, printed, refusal_
 use Rattle.ulfm_model.specs.{Records.{Fits, Record, is_shrink}, Runs.{IsSpan}}
 use Rattle.ulfm_model.specs.Terms.{comm_of}
 use Rattle.ulfm_words.specs.Steps.{IsOf, Name, Sight}
-use Rattle.ulfm_comm.specs.Ends.{IsEarlyRun, IsEndRun, IsRefusedAgain}
+use Rattle.ulfm_comm.specs.{Ends.{IsEarlyRun, IsEndRun, IsRefusedAgain}, Requests.{BlocksStand, LeavesSet}}
 
 -- the reply that a result stands for
 abbrev pub reply_of : {P X : Type 0} → (X → Reply P) → Result X Refusal → Reply P
 reply_of reply (Ok x) = reply x
 reply_of reply (Err refusal) = Refused refusal
 
--- A call of a rank: the pass is of these words still, its steps were counted onward, and the record fits what it has seen. A rank
--- that was refused for good is refused again, without a step. For any other, the call is one of the sequential object, among the
--- steps of others, with its point at its end; or, where the poll of a barrier found somebody missing, when that was found.
+-- What a call of a rank comes to with this reply, whole or step by step: the pass is of these words still, its steps were counted onward, and
+-- the record fits what it has seen. A rank that was refused for good is refused again, without a step. For any other, the call is one of the
+-- sequential object, among the steps of others, with its point at its end; or, where the poll of a barrier found somebody missing, when that
+-- was found.
+pub record Replied {P : Type 0} (meld : P → P → P) (alone : Bool) (name : Name)
+    (asked : Call P) (old : Record) (before : Sight P) (reply : Reply P) (new : Record) (after : Sight P) : Type 0 where
+  pub of : IsOf meld name after
+  pub onward : before.steps ≤ after.steps
+  pub fits : Fits meld name.limits after.seen new
+  pub ends : (IsRefusedAgain old reply new × (after ≡ before))
+      ⊎ (IsEndRun meld name.limits alone before.seen after.seen old asked reply new
+      ⊎ IsEarlyRun meld name.limits alone before.seen after.seen old asked reply new)
+
+-- A whole call of a rank comes to that. What was known to be set still is; and a poll that was answered by its round, also by one that ranks
+-- can't agree in, leaves all blocks of that known.
 pub record Calls {P : Type 0} (meld : P → P → P) (alone : Bool) (name : Name)
     (asked : Call P) (old : Record) (before : Sight P) (reply : Reply P) (new : Record) (after : Sight P) : Type 0 where
   pub of : IsOf meld name after
@@ -28,6 +41,8 @@ pub record Calls {P : Type 0} (meld : P → P → P) (alone : Bool) (name : Name
   pub ends : (IsRefusedAgain old reply new × (after ≡ before))
       ⊎ (IsEndRun meld name.limits alone before.seen after.seen old asked reply new
       ⊎ IsEarlyRun meld name.limits alone before.seen after.seen old asked reply new)
+  pub cached : IsPrefix before.cached after.cached
+  pub knows : LeavesSet old asked reply after.cached
 
 -- a shrink's round is decided for rank r: on free context ids, and the rank isn't in its failed group
 pub record IsDecidedFor {P : Type 0} (meld : P → P → P) (limits : Limits) (h : History P) (r c k : ℕ) : Type 0 where
@@ -59,13 +74,23 @@ pub record IsRunOut {P : Type 0} (meld : P → P → P) (limits : Limits) (alone
   pub sees : Sees (is_shrink (polled_by old asked)) (failures span.look) after new.seen
   pub record_is : new ≡ record old { seen = new.seen }
 
--- the same of a call that ran out of memory
+-- the same of a call that ran out of memory, whole or step by step
+pub record RanOut {P : Type 0} (meld : P → P → P) (alone : Bool) (name : Name)
+    (asked : Call P) (old : Record) (before : Sight P) (new : Record) (after : Sight P) : Type 0 where
+  pub of : IsOf meld name after
+  pub onward : before.steps ≤ after.steps
+  pub fits : Fits meld name.limits after.seen new
+  pub run_out : IsRunOut meld name.limits alone before.seen after.seen old asked new
+
+-- A whole call that ran out of memory. What was known to be set still is; and if it was the poll of a shrink, all blocks of its round are.
 pub record RunsOut {P : Type 0} (meld : P → P → P) (alone : Bool) (name : Name)
     (asked : Call P) (old : Record) (before : Sight P) (new : Record) (after : Sight P) : Type 0 where
   pub of : IsOf meld name after
   pub onward : before.steps ≤ after.steps
   pub fits : Fits meld name.limits after.seen new
   pub run_out : IsRunOut meld name.limits alone before.seen after.seen old asked new
+  pub cached : IsPrefix before.cached after.cached
+  pub knows : BlocksStand old asked after.cached
 
 -- whether a call ran out of memory, by the refusal's number
 abbrev pub is_out_of_memory : Refusal → Bool
@@ -81,7 +106,16 @@ abbrev pub wants_memory : {P : Type 0} → Reply P → Bool
 wants_memory (Refused refusal) = is_out_of_memory refusal
 wants_memory _ = false
 
--- a call that is answered, or the poll of a shrink that ran out of memory
+-- a call, whole or step by step, that is answered, or the poll of a shrink that ran out of memory
+abbrev pub RepliedAs : {P : Type 0} → (P → P → P) → Bool → Name → Call P → Record → Sight P → Reply P → Bool → Record → Sight P → Type 0
+RepliedAs meld alone name asked old before reply true new after = RanOut meld alone name asked old before new after × IsTrue (is_shrink (polled_by old asked))
+RepliedAs meld alone name asked old before reply false new after = Replied meld alone name asked old before reply new after
+
+-- the same, by the reply
+abbrev pub HasReplied : {P : Type 0} → (P → P → P) → Bool → Name → Call P → Record → Sight P → Reply P → Record → Sight P → Type 0
+HasReplied meld alone name asked old before reply new after = RepliedAs meld alone name asked old before reply (wants_memory reply) new after
+
+-- a whole call that is answered, or the poll of a shrink that ran out of memory
 abbrev pub EndsAs : {P : Type 0} → (P → P → P) → Bool → Name → Call P → Record → Sight P → Reply P → Bool → Record → Sight P → Type 0
 EndsAs meld alone name asked old before reply true new after = RunsOut meld alone name asked old before new after × IsTrue (is_shrink (polled_by old asked))
 EndsAs meld alone name asked old before reply false new after = Calls meld alone name asked old before reply new after

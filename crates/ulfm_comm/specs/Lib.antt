@@ -1,3 +1,4 @@
+pub mod Requests
 pub mod Look
 pub mod Ends
 pub mod Ranks
@@ -16,6 +17,7 @@ pub mod Bound
 pub mod AlsoLeft
 pub mod Agreement
 pub mod Phase
+pub mod Known
 pub mod Step
 pub mod Counts
 pub mod Begins

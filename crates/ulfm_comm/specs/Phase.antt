@@ -6,7 +6,7 @@ use Rattle.ulfm_model.specs.{Answers.{traits_of}, History.{History, failures}, R
 use Rattle.ulfm_model.specs.Blocks.{IsSide}
 use Rattle.ulfm_words.specs.Steps.{Name, Sight}
 use Rattle.ulfm_steps.specs.{Arriving.{AtArrival}, Looks.{LookIs}, ReadsOn.{AtFailure}}
-use Rattle.ulfm_comm.specs.{Calls.{EndsReply}, Ends.{IsRefusedAgain}, Polls.{PendsIn}, Look.{HasLooked}, Exchange.{StartsWith}}
+use Rattle.ulfm_comm.specs.{Calls.{HasReplied}, Ends.{IsRefusedAgain}, Polls.{PendsIn}, Look.{HasLooked}, Exchange.{StartsWith}}
 use Rattle.ulfm_comm.specs.{Agreement.{IsMarking, IsPeeking, IsReading}, Spawning.{IsDecided, IsSpawning}, Barrier.{IsWaiting, IsChecking}}
 use Rattle.ulfm_comm.specs.declared.{phases.phase.Next.{Next}, phases.phase.Next.TheVariants.{Goes, Ends}, phases.phase.Phase.{Phase}}
 use Rattle.ulfm_model.specs.declared.step_name.StepName.{StepName}
@@ -167,7 +167,7 @@ pub record Waits {P : Type 0} (alone : Bool) (old new : Sight P) : Type 0 where
 -- pending agreement ends in a load that found a member missing.
 pub record Answered {P : Type 0} (meld : P → P → P) (alone : Bool) (name : Name) (asked : Call P) (old : Record) (before : Sight P) (reply : Reply P)
     (new : Record) (after : Sight P) : Type 0 where
-  pub ends : (IsRefusedAgain old reply new × Waits alone before after) ⊎ EndsReply meld alone name asked old before reply new after
+  pub ends : (IsRefusedAgain old reply new × Waits alone before after) ⊎ HasReplied meld alone name asked old before reply new after
   pub pending : PendsIn meld alone name asked old before reply new after
 
 -- what comes next: further steps, or the reply

@@ -1,5 +1,6 @@
 -- What a poll answers, and in what a pending one ends.
 use Rattle.std.specs.Prelude.{◌≡◌, ℕ, ◌<◌, Bool, true, false, [], Option, Some, None, IsTrue, IsFalse, Result, Ok, Err, filter, ⊤}
+use mathlib.Core.List.{IsPrefix}
 use Rattle.ulfm_laws.specs.declared.summary.Summary.{Summary}
 use Rattle.ulfm_model.specs.declared.{call.Call.{Call}, call.Call.TheVariants.{Poll}, call.Request.{Request}, call.Request.TheVariants.{Agree, Shrink, Barrier}}
 use Rattle.ulfm_model.specs.declared.{limits.Limits.{Limits}, place.Place.TheVariants.{Slot as SlotAt}, refusal.Refusal.{Refusal}}
@@ -11,13 +12,8 @@ use Rattle.ulfm_words.specs.Steps.{IsOf, Name, Sight}
 use Rattle.ulfm_model.specs.Blocks.{IsSummed}
 use Rattle.ulfm_words.specs.declared.step.Site.{Site}
 use Rattle.ulfm_steps.specs.Marks.{Marks}
-use Rattle.ulfm_comm.specs.{Calls.{Calls, EndsBy, is_out_of_memory}, Look.{Looked}}
+use Rattle.ulfm_comm.specs.{Calls.{Calls, EndsBy, is_out_of_memory, reply_of}, Look.{Looked}, Requests.{LeavesSet, agreement}}
 use Rattle.ulfm_comm.specs.declared.{calls.polled.Polled.{Polled}, calls.polled.Polled.TheVariants.{Agreed, Done, Pending, Shrunk}}
-
--- an agree or a shrink in round k
-abbrev pub agreement : Bool → ℕ → Request
-agreement false k = Agree k
-agreement true k = Shrink k
 
 -- no barrier is open: an agree, a shrink, or nothing
 abbrev pub IsAgreement : Option Request → Type 0
@@ -39,13 +35,16 @@ PollIs meld alone name asked old before (Ok reply) new after = Calls meld alone 
 PollIs meld alone name asked old before (Err refusal) new after = EndsBy meld alone name asked old before refusal (is_out_of_memory refusal) new after
 
 -- A poll: whatever it answers, the pass is of these words still, and the record fits what it has seen. Only that of a shrink may
--- run out of memory.
+-- run out of memory. What was known to be set still is; a poll that was answered by its round, also by one that ranks can't agree in, leaves
+-- all blocks of that known.
 pub record Polls {P : Type 0} (meld : P → P → P) (alone : Bool) (name : Name) (asked : Call P) (old : Record) (before : Sight P)
     (result : Result (Polled P) Refusal) (new : Record) (after : Sight P) : Type 0 where
   pub of : IsOf meld name after
   pub fits : Fits meld name.limits after.seen new
   pub run : PollIs meld alone name asked old before result new after
   pub memory : result ≡ Err OutOfMemory → IsTrue (is_shrink (polled_by old asked))
+  pub cached : IsPrefix before.cached after.cached
+  pub knows : LeavesSet old asked (reply_of polled result) after.cached
 
 -- A poll under way: it has looked, and has marked each declared member in the round of its open request; since then there were
 -- others' events alone.

@@ -45,6 +45,7 @@ pub record IsMadeBy {P : Type 0} (meld : P → P → P) (alone : Bool) (name : N
   pub some : 0 < j
   pub made : slice_get (spawns after.seen) (j - 1) ≡ Some (c, k)
   pub onward : before.steps ≤ after.steps
+  pub cached : IsPrefix before.cached after.cached
 
 -- all communicators that there may be were made, and not of this round
 pub record IsFullBy {P : Type 0} (meld : P → P → P) (alone : Bool) (name : Name) (c k : ℕ) (before after : Sight P) : Type 0 where
@@ -53,6 +54,7 @@ pub record IsFullBy {P : Type 0} (meld : P → P → P) (alone : Bool) (name : N
   pub full : length (spawns after.seen) + 1 ≡ name.limits.comms
   pub unmade : IsFalse (is_made after.seen c k)
   pub onward : before.steps ≤ after.steps
+  pub cached : IsPrefix before.cached after.cached
 
 -- it isn't found yet, and the next step may be made
 pub record IsSoughtBy {P : Type 0} (meld : P → P → P) (alone : Bool) (name : Name) (c k : ℕ) (old : Append) (before : Sight P) (new : Append) (after : Sight P)
@@ -64,6 +66,7 @@ pub record IsSoughtBy {P : Type 0} (meld : P → P → P) (alone : Bool) (name :
   pub passed : Passed after.seen (OfComm c k) new.index
   pub more : new.index < name.limits.comms - 1
   pub onward : before.steps ≤ after.steps
+  pub cached : IsPrefix before.cached after.cached
 
 -- the rank holds communicator j, with these members, in place of the request on its parent
 pub record Holds (c context : ℕ) (group : List ℕ) (old : Record) (j size : ℕ) (new : Record) : Type 0 where

@@ -1,24 +1,26 @@
 -- What one step of a call does.
-use Rattle.std.specs.Prelude.{◌≡◌, ◌⊎◌, ℕ, ◌≤◌, Bool, true, false, List, [], ◌∷◌, Some, Option, IsTrue, ⊤}
+use Rattle.std.specs.Prelude.{◌≡◌, ◌⊎◌, ℕ, ◌+◌, ◌-◌, ◌<◌, ◌≤◌, Bool, true, false, List, [], ◌∷◌, Some, Option, IsTrue, length, max, ⊤}
+use mathlib.Core.List.{IsPrefix}
 use Rattle.ulfm_model.specs.declared.call.Call.TheVariants as call
-use Rattle.ulfm_model.specs.declared.{call.Call.{Call}, event.Caller.TheVariants.{Rank}, event.Event.{Event}, refusal.Refusal.TheVariants.{SelfFailed}}
+use Rattle.ulfm_model.specs.declared.{block.Block.{Block}, call.Call.{Call}, event.Caller.TheVariants.{Rank}, event.Event.{Event}, limits.Limits.{Limits}, refusal.Refusal.TheVariants.{SelfFailed}}
 use Rattle.ulfm_model.specs.declared.{reply.Reply.{Reply}, reply.Reply.TheVariants.{Refused, Revoked, Started}}
-use Rattle.ulfm_model.specs.{Answers.{CallAdds, traits_of}, History.{History, entries_by}, Records.{Fits, Held, Record, held_at}, Runs.{Did}, Terms.{comm_of}}
+use Rattle.ulfm_model.specs.{Answers.{CallAdds, polled_by, traits_of}, History.{History, entries_by, failures, has}, Records.{Fits, Held, Record, held_at, is_shrink}, Runs.{Did}, Terms.{comm_of}}
 use Rattle.ulfm_words.specs.Steps.{IsOf, Name, Sight}
 use Rattle.ulfm_steps.specs.declared.{arrivals.Arrivals.{Arrivals}, arrivals.Missing.{Missing}}
 use Rattle.ulfm_comm.specs.{Look.{JustLooked}, StepsLeft.{FewerLeft, MakesStep, Spends, steps_left}, Barrier.{IsChecking, AnswersEarly}}
-use Rattle.ulfm_comm.specs.AlsoLeft.{AlsoSpends, FindsSetIn, also_left}
-use Rattle.ulfm_comm.specs.Phase.{UnderWay, next_step, IsFurther, LeadsTo, NextIs, reply_in, Stands, Turns}
+use Rattle.ulfm_comm.specs.{AlsoLeft.{AlsoTurns, FindsSetIn, also_left}, Known.{KnowsIn, KnowsNext}, Requests.{BlocksStand, LeavesSet}}
+use Rattle.ulfm_comm.specs.Phase.{Answered, UnderWay, is_looking, next_step, IsFurther, IsPast, LeadsTo, NextIs, reply_in, Stands, Turns}
 use Rattle.ulfm_comm.specs.declared.{phases.phase.Next.{Next}, phases.phase.Next.TheVariants.{Goes, Ends}, phases.phase.Phase.{Phase}}
 use Rattle.ulfm_comm.specs.declared.phases.phase.Phase.TheVariants.{Over, Begun, Looking, Settling, Arriving, Revoking, Marking, ReadingOn}
 use Rattle.ulfm_comm.specs.declared.phases.phase.Phase.TheVariants.{Spawning, Waiting, Checking}
 
--- steps of one rank, with own events alone where nobody else steps
+-- steps of one rank, with own events alone where nobody else steps; what was known to be set still is
 pub record Walks {P : Type 0} (meld : P → P → P) (quiet : Bool) (name : Name) (rank : ℕ) (old new : Sight P) : Type 0 where
   pub of : IsOf meld name new
   pub own : List (Event P)
   pub did : Did quiet (entries_by (Rank rank) own) old.seen new.seen
   pub onward : old.steps ≤ new.steps
+  pub cached : IsPrefix old.cached new.cached
 
 -- An event that a call adds in a step with this reply, if it ends so. A start adds one only where it has started, and a revocation
 -- only where it has revoked.
@@ -53,28 +55,39 @@ StepAdds quiet own asked (Marking marks blocks shrinks) reply old new = Adds qui
 StepAdds quiet own asked (Spawning append context reach) reply old new = Adds quiet [] own asked reply old new
 StepAdds quiet own asked _ reply old new = Did quiet [] old new
 
--- what one step leaves of the failures that were seen: all, but for a load of their list
+-- what one step leaves of the failures that were seen: all, but for a load of their list; a shrink's poll that reads on sees more behind them
 abbrev pub StepSees : {P : Type 0} → Phase P → List ℕ → List ℕ → Type 0
 StepSees Begun old new = ⊤
 StepSees Looking old new = ⊤
-StepSees (ReadingOn on made) old new = ⊤
+StepSees (ReadingOn on made) old new = IsPrefix old new
 StepSees _ old new = new ≡ old
+
+-- Steps of a call's look: no more than ranks weren't seen, or one, where all were; and, where not all were, no more than one beside those that
+-- find a failure. Where the look has ended, the rank has seen all failures; and if it is among them, its call has ended with it.
+pub record LooksOn {P : Type 0} (limits : Limits) (own : Record) (now : Sight P) (next : Next P) (new : Record) (after : Sight P) : Type 0 where
+  pub few : after.steps ≤ now.steps + max 1 (limits.ranks - length own.seen)
+  pub found : length own.seen < limits.ranks → after.steps + length own.seen ≤ now.steps + length new.seen + 1
+  pub sees : IsPast next → new.seen ≡ failures after.seen
+  pub ends : IsPast next → IsTrue (has new.seen own.number) → next ≡ Ends (Refused SelfFailed)
 
 -- One step of a call that stood so: the one that was named. Of a rank that was refused for good before there is none, and it is
 -- refused again. Any other has added one event at most, and has seen more only by a load of the list of failures. If the call goes
--- on, fewer steps are left, also beside the failures that it has seen more, and it does what its phase leads to. The poll of a barrier
--- that found somebody missing is answered, after its last load, as it was when that was found.
+-- on, fewer steps are left, also beside the failures that it has seen more, and it does what its phase leads to. What it knows of blocks is of
+-- such as are known to be set. The poll of a barrier that found somebody missing is answered, after its last load, as it was when that was
+-- found.
 pub record Stepped {P : Type 0} (meld : P → P → P) (quiet : Bool) (name : Name) (was : UnderWay P) (own : Record) (now : Sight P)
     (next : Next P) (new : Record) (after : Sight P) : Type 0 where
   pub of : IsOf meld name after
   pub onward : now.steps ≤ after.steps
+  pub cached : IsPrefix now.cached after.cached
   pub named : MakesStep (next_step was.phase) own.number (comm_of was.asked) now after
   pub nearer : FewerLeft (steps_left name.limits own was.asked was.phase) name.limits new was.asked next
-  pub also : FindsSetIn own was.asked now.cached was.phase
-      → AlsoSpends (also_left name.limits own was.asked was.phase) name.limits was.asked own now next new after
+  pub also : AlsoTurns name.limits was.asked was.phase own now next new after
   pub over : was.phase ≡ Over → (next ≡ Ends (Refused SelfFailed)) × (new ≡ own)
   pub adds : StepAdds quiet own was.asked was.phase (reply_in next) now.seen after.seen
   pub sees : StepSees was.phase own.seen new.seen
+  pub looks : is_looking was.phase ≡ true → LooksOn name.limits own now next new after
+  pub knows : KnowsIn own was.asked now.cached was.phase → KnowsNext own was.asked after.cached next
   pub leads : LeadsTo was.phase next
   pub checks : (arrivals : Arrivals) → was.phase ≡ Waiting arrivals → (missing : Missing) → next ≡ Goes (Checking missing)
       → (alone : Bool) → (IsTrue alone → IsTrue quiet) → (old : Record) → (before : Sight P) → Stands meld alone name old before was own now
@@ -86,20 +99,43 @@ pub record Stepped {P : Type 0} (meld : P → P → P) (quiet : Bool) (name : Na
       → AnswersEarly meld name.limits alone was.asked missing earlier old before.seen reply new
 
 -- A call takes its turn in a phase, by one step or by all of them: it walks on, by the step that is named, comes nearer to its reply, spends
--- no more steps than it may, also by what it sees more, adds and sees what the phase may, does what the phase leads to, and stands where it
--- goes on, or is answered.
+-- no more steps than it may, also by what it sees more, adds and sees what the phase may, knows no block that isn't known to be set, does what
+-- the phase leads to, and stands where it goes on, or is answered.
 pub record TakesTurn {P : Type 0} (meld : P → P → P) (quiet whole : Bool) (name : Name) (asked : Call P) (phase : Phase P) (group : List ℕ) (own : Record)
     (now : Sight P) (next : Next P) (left : List ℕ) (new : Record) (after : Sight P) : Type 0 where
   pub walks : Walks meld quiet name own.number now after
   pub named : whole ≡ false → MakesStep (next_step phase) own.number (comm_of asked) now after
   pub nearer : whole ≡ false → FewerLeft (steps_left name.limits own asked phase) name.limits new asked next
   pub spends : Spends (steps_left name.limits own asked phase) name.limits new asked next now after
-  pub also : FindsSetIn own asked now.cached phase → AlsoSpends (also_left name.limits own asked phase) name.limits asked own now next new after
+  pub also : AlsoTurns name.limits asked phase own now next new after
   pub further : whole ≡ true → IsFurther phase next
   pub adds : whole ≡ false → StepAdds quiet own asked phase (reply_in next) now.seen after.seen
   pub sees : StepSees phase own.seen new.seen
+  pub looks : is_looking phase ≡ true → LooksOn name.limits own now next new after
+  pub knows : KnowsIn own asked now.cached phase → KnowsNext own asked after.cached next
   pub leads : LeadsTo phase next
   pub turns : Turns meld quiet name asked phase group own now next left new after
+
+-- The poll of a shrink has read on in the list of failures, behind what its look found. All blocks of its round are known to be set then.
+pub record HasReadOn {P : Type 0} (old : Record) (asked : Call P) (found seen : List ℕ) (cached : List Block) : Type 0 where
+  pub shrinks : IsTrue (is_shrink (polled_by old asked))
+  pub goes_on : IsPrefix found seen
+  pub known : BlocksStand old asked cached
+
+-- The rest of a call, behind its look: no more steps than are left, also by what it sees more. It sees more only where it reads on for a shrink.
+-- It leaves its round's blocks known where they have told its reply, and it is answered.
+pub record RunsOn {P : Type 0} (meld : P → P → P) (alone : Bool) (name : Name) (asked : Call P) (phase : Phase P) (own : Record) (now : Sight P)
+    (reply : Reply P) (new : Record) (after : Sight P) : Type 0 where
+  pub of : IsOf meld name after
+  pub begins : IsPrefix now.seen after.seen
+  pub cached : IsPrefix now.cached after.cached
+  pub onward : now.steps ≤ after.steps
+  pub spends : after.steps ≤ now.steps + steps_left name.limits own asked phase
+  pub also : FindsSetIn own asked now.cached phase → after.steps + length own.seen ≤ now.steps + also_left name.limits own asked phase + length new.seen
+  pub sees : KnowsIn own asked now.cached phase → (new.seen ≡ own.seen) ⊎ HasReadOn own asked own.seen new.seen after.cached
+  pub knows : KnowsIn own asked now.cached phase → LeavesSet own asked reply after.cached
+  pub turns : (old : Record) → (before : Sight P) → Stands meld alone name old before (record { asked = asked; phase = phase; group = [] }) own now
+      → Answered meld alone name asked old before reply new after
 
 -- a phase of one step ends its call, with this reply
 abbrev pub EndsTurn : {P : Type 0} → (P → P → P) → Bool → Name → Call P → Phase P → Record → Sight P → Reply P → Record → Sight P → Type 0

@@ -6,7 +6,7 @@ use Rattle.ulfm_model.specs.{History.{IsLegal, entries_by}, Records.{Fits, Recor
 use Rattle.ulfm_model.proofs.{LeftRuns.{call_legal, fail_legal}, Lists.{each_from, prefix_trans}, Stable.{fits_stays}}
 use Rattle.ulfm_words.specs.Steps.{IsOf, Name, Sight}
 use Rattle.ulfm_words.proofs.Trails.{did_prefix, did_wait}
-use Rattle.ulfm_comm.specs.{Calls.{Calls, EndsAs, EndsReply, wants_memory}, Fails.{Fails}, Ends.{IsRefusedAgain}}
+use Rattle.ulfm_comm.specs.{Calls.{Calls, RepliedAs, HasReplied, wants_memory}, Fails.{Fails}, Ends.{IsRefusedAgain}}
 use Rattle.ulfm_comm.specs.{Counts.{Counted}, Phase.{Answered, Stands, UnderWay, Waits, next_of, reply_in}, Step.{Stepped}}
 use Rattle.ulfm_comm.proofs.{StepAdds.{step_did}, CallRuns.{called_run}, InOrder.{each_set}, AmongOthers.{did_among, waits_none}}
 use Rattle.ulfm_comm_tests.specs.Seats.{HasStood, IsPlay, Seated, Sits}
@@ -56,7 +56,7 @@ module _ {P : Type 0} (meld : P → P → P) (name : Name) where
     stood_next own' doing' turns =
         record { old = was.old; before = was.before; stood = after; stands = turns was.old was.before was.stood was.stands was.waits; waits = waits_none after; begins = still_begins }
 
-    ends_fit : (asked : Call P) (reply : Reply P) (old own' : Record) (before : Sight P) (b : Bool) → EndsAs meld false name asked old before reply b own' after → Fits meld name.limits after.seen own'
+    ends_fit : (asked : Call P) (reply : Reply P) (old own' : Record) (before : Sight P) (b : Bool) → RepliedAs meld false name asked old before reply b own' after → Fits meld name.limits after.seen own'
     ends_fit asked reply old own' before true ends = ends.0.fits
     ends_fit asked reply old own' before false ends = ends.fits
 
@@ -65,7 +65,7 @@ module _ {P : Type 0} (meld : P → P → P) (name : Name) where
         → ((old : Record) (before stood : Sight P) → Stands meld false name old before doing.way own stood → Waits false stood now → Answered meld false name asked old before reply own' after) → Fits meld name.limits after.seen own'
     answered_fits own' asked reply legal turns = go (turns was.old was.before was.stood was.stands was.waits).ends
       where
-        go : (IsRefusedAgain was.old reply own' × Waits false was.before after) ⊎ EndsReply meld false name asked was.old was.before reply own' after → Fits meld name.limits after.seen own'
+        go : (IsRefusedAgain was.old reply own' × Waits false was.before after) ⊎ HasReplied meld false name asked was.old was.before reply own' after → Fits meld name.limits after.seen own'
         go (inl (again, waited)) = subst (λ r. Fits meld name.limits after.seen r) (sym again.record_is) (fits_stays meld name.limits was.before.seen after.seen was.old still_begins legal was.stands.fits)
         go (inr ends) = ends_fit asked reply was.old own' was.before (wants_memory reply) ends
 

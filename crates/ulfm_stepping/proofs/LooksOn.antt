@@ -8,7 +8,7 @@ use Rattle.ulfm_model.proofs.Lists.{prefix_trans}
 use Rattle.ulfm_words.specs.Steps.{IsOf, Name, Sight}
 use Rattle.ulfm_words.proofs.Trails.{did_prefix, did_quiet}
 use Rattle.ulfm_steps.specs.declared.arrivals.Missing.{Missing}
-use Rattle.ulfm_comm.specs.{Barrier.{IsChecking}, Calls.{EndsAs, EndsReply, wants_memory}, Ends.{IsEarlyRun, IsEndRun, IsRefusedAgain}, Phase.{Answered, Stands, StandsAt, UnderWay, Waits, is_looking}, Step.{StepAdds}}
+use Rattle.ulfm_comm.specs.{Barrier.{IsChecking}, Calls.{RepliedAs, HasReplied, wants_memory}, Ends.{IsEarlyRun, IsEndRun, IsRefusedAgain}, Phase.{Answered, Stands, StandsAt, UnderWay, Waits, is_looking}, Step.{StepAdds}}
 use Rattle.ulfm_comm.specs.declared.phases.phase.{Phase.{Phase}, Phase.TheVariants.{Checking}}
 use Rattle.ulfm_comm.proofs.AmongOthers.{waits_none}
 use Rattle.ulfm_trace_model.specs.declared.line.Line.TheVariants.{Looked}
@@ -179,9 +179,9 @@ module _ {P : Type 0} (meld : P → P → P) (name : Name) (now : Traced P) (pas
       by_calls fits (inr (inl ended)) = ending ended fits
       by_calls fits (inr (inr early)) = ending (ended_now reply early) fits
 
-      go : (IsRefusedAgain h.old reply own' × Waits false pass after_it) ⊎ EndsReply meld false name doing.asked h.old pass reply own' after_it → Comes (Some reply)
+      go : (IsRefusedAgain h.old reply own' × Waits false pass after_it) ⊎ HasReplied meld false name doing.asked h.old pass reply own' after_it → Comes (Some reply)
       go (inl again) = absurd (cc (again.0.refused, h.in_use))
-      go (inr e) = let calls = subst (λ b. EndsAs meld false name doing.asked h.old pass reply b own' after_it) has_memory e in by_calls calls.fits calls.ends
+      go (inr e) = let calls = subst (λ b. RepliedAs meld false name doing.asked h.old pass reply b own' after_it) has_memory e in by_calls calls.fits calls.ends
 
   pub looks_on : ((reply : Reply P) → result ≡ Some reply → wants_memory reply ≡ false) → MatchOption result (Stands meld false name h.old pass doing' own' after_it) (λ reply. Answered meld false name doing.asked h.old pass reply own' after_it) → Comes result
   looks_on has_memory ends = go result refl ends

@@ -6,7 +6,7 @@ use Rattle.ulfm_model.specs.{Answers.{polled_by}, History.{History}, Records.{He
 use Rattle.ulfm_model.specs.Terms.{comm_of, request_of}
 use Rattle.ulfm_words.specs.Steps.{Name, Sight}
 use Rattle.ulfm_steps.specs.declared.{arrivals.Arrivals.{Arrivals}, arrivals.Missing.{Missing}}
-use Rattle.ulfm_comm.specs.{Exchange.{StartsWith}, Look.{Looked as HasFound}, Phase.{LeadsTo, StandsAt, is_looking, is_making, next_of}, Polls.{agreement}, Step.{StepSees}}
+use Rattle.ulfm_comm.specs.{Exchange.{StartsWith}, Look.{Looked as HasFound}, Phase.{LeadsTo, StandsAt, is_looking, is_making, next_of}, Requests.{agreement}, Step.{StepSees}}
 use Rattle.ulfm_comm.specs.declared.phases.phase.{Phase.{Phase}, Phase.TheVariants.{Over, Begun, Looking, Settling, Arriving, Revoking, Asking, Peeking, Marking, Reading, ReadingOn, Spawning, Waiting, Checking}}
 use Rattle.ulfm_comm.proofs.{Polls.{polls_it}, WholeCall.{held_before}}
 

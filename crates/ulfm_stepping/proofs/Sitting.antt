@@ -6,7 +6,7 @@ use Rattle.ulfm_model.specs.{Answers.{comm_of, polled_by, traits_of}, History.{H
 use Rattle.ulfm_model.proofs.Lists.{in_list}
 use Rattle.ulfm_words.specs.Steps.{IsOf, Name, Sight}
 use Rattle.ulfm_words.proofs.Ranks.{failures_le}
-use Rattle.ulfm_comm.specs.{Calls.{EndsAs, EndsReply, wants_memory}, Ends.{IsRefusedAgain}, Phase.{Answered, Stands, StandsAt, UnderWay, Waits, is_checking, is_looking, next_of}, Step.{StepAdds, Stepped}, StepsLeft.{FewerLeft, steps_left}}
+use Rattle.ulfm_comm.specs.{Calls.{RepliedAs, HasReplied, wants_memory}, Ends.{IsRefusedAgain}, Phase.{Answered, Stands, StandsAt, UnderWay, Waits, is_checking, is_looking, next_of}, Step.{StepAdds, Stepped}, StepsLeft.{FewerLeft, steps_left}}
 use Rattle.ulfm_comm.specs.declared.phases.phase.{Phase.{Phase}, Phase.TheVariants.{Begun}}
 use Rattle.ulfm_comm.proofs.AmongOthers.{waits_none}
 use Rattle.ulfm_trace_model.specs.declared.line.Line.TheVariants.{Happened, Looked}
@@ -285,9 +285,9 @@ module _ {P : Type 0} (meld : P → P → P) (name : Name) (before later : Sight
       → IsTrue (is_shrink (polled_by own doing.asked))
   shrinks old start in_use same ends = go (subst (λ q. MatchOption q (Stands meld false name old start doing' own' later) (λ answer. Answered meld false name doing.asked old start answer own' later)) is ends).ends
     where
-      go : (IsRefusedAgain old reply own' × Waits false start later) ⊎ EndsReply meld false name doing.asked old start reply own' later → IsTrue (is_shrink (polled_by own doing.asked))
+      go : (IsRefusedAgain old reply own' × Waits false start later) ⊎ HasReplied meld false name doing.asked old start reply own' later → IsTrue (is_shrink (polled_by own doing.asked))
       go (inl again) = absurd (cc (again.0.refused, in_use))
-      go (inr e) = let polls = (subst (λ b. EndsAs meld false name doing.asked old start reply b own' later) wants e).1 in ap (λ w. is_shrink (polled_by w doing.asked)) same ∙ polls
+      go (inr e) = let polls = (subst (λ b. RepliedAs meld false name doing.asked old start reply b own' later) wants e).1 in ap (λ w. is_shrink (polled_by w doing.asked)) same ∙ polls
 
   pub polls_shrink : (now : Traced P) → SitsAt meld name now before own found (Some doing) → IsTrue (is_shrink (polled_by own doing.asked))
   polls_shrink now (inl h) =

@@ -11,7 +11,7 @@ use Rattle.ulfm_model.proofs.{Histories.{legal_parts}, Lists.{prefix_trans}}
 use Rattle.ulfm_words.specs.Steps.{IsOf, Name, Sight}
 use Rattle.ulfm_words.proofs.Trails.{did_prefix, did_quiet}
 use Rattle.ulfm_steps.specs.declared.{arrivals.Missing.{Missing}}
-use Rattle.ulfm_comm.specs.{Barrier.{AnswersEarly, IsChecking}, Calls.{Calls, EndsAs, EndsReply, wants_memory}, Ends.{IsEarlyRun, IsEndRun, IsRefusedAgain}, Phase.{Answered, LeadsTo, Stands, StandsAt, UnderWay, Waits, is_checking, is_making, next_of, reply_in}, Step.{Adds, Makes, StepAdds, Stepped}, StepsLeft.{FewerLeft, steps_left}}
+use Rattle.ulfm_comm.specs.{Barrier.{AnswersEarly, IsChecking}, Calls.{Replied, RepliedAs, HasReplied, wants_memory}, Ends.{IsEarlyRun, IsEndRun, IsRefusedAgain}, Phase.{Answered, LeadsTo, Stands, StandsAt, UnderWay, Waits, is_checking, is_making, next_of, reply_in}, Step.{Adds, Makes, StepAdds, Stepped}, StepsLeft.{FewerLeft, steps_left}}
 use Rattle.ulfm_comm.specs.declared.phases.phase.{Phase.{Phase}, Phase.TheVariants.{Over, Begun, Looking, Settling, Arriving, Revoking, Asking, Peeking, Marking, Reading, ReadingOn, Spawning, Waiting, Checking}}
 use Rattle.ulfm_comm.proofs.{StepAdds.{adds_none}, AmongOthers.{waits_none}, Stands.{stands_lasts}}
 use Rattle.ulfm_trace_model.specs.declared.line.Line.TheVariants.{Happened}
@@ -324,7 +324,7 @@ module _ {P : Type 0} (meld : P → P → P) (name : Name) (now : Traced P) (pas
     found_then = found_by_check (λ (phase : Phase P). doing'.phase ≡ phase) meld name.limits (comm_of doing'.asked) h.old start own' after_it.seen found' found_checking doing'.phase refl
 
   -- the call is answered
-  module _ (reply : Reply P) (is : result ≡ Some reply) (point : ℕ) (point_is : point ≡ point_of found (length after_it.seen) (is_checking doing.phase) reply) (calls : Calls meld false name doing.asked h.old h.before reply own' after_it) where
+  module _ (reply : Reply P) (is : result ≡ Some reply) (point : ℕ) (point_is : point ≡ point_of found (length after_it.seen) (is_checking doing.phase) reply) (calls : Replied meld false name doing.asked h.old h.before reply own' after_it) where
     abbrev SaysReply : ℕ → Type 0
     SaysReply n = Says (λ t. EndsSo meld name t after_it own.number (comm_of doing.asked) n reply own')
 
@@ -396,10 +396,10 @@ module _ {P : Type 0} (meld : P → P → P) (name : Name) (now : Traced P) (pas
       → ((reply : Reply P) → result ≡ Some reply → point ≡ point_of found (length after_it.seen) (is_checking doing.phase) reply) → Comes point found' result
   comes has_memory found' found_is point point_is = go result refl ends
     where
-      answered : (reply : Reply P) → result ≡ Some reply → (IsRefusedAgain h.old reply own' × Waits false h.before after_it) ⊎ EndsReply meld false name doing.asked h.old h.before reply own' after_it → Comes point found' (Some reply)
+      answered : (reply : Reply P) → result ≡ Some reply → (IsRefusedAgain h.old reply own' × Waits false h.before after_it) ⊎ HasReplied meld false name doing.asked h.old h.before reply own' after_it → Comes point found' (Some reply)
       answered reply is (inl again) = absurd (cc (again.0.refused, h.in_use))
       answered reply is (inr e) =
-          says_reply reply is point (point_is reply is) (subst (λ b. EndsAs meld false name doing.asked h.old h.before reply b own' after_it) (has_memory reply is) e)
+          says_reply reply is point (point_is reply is) (subst (λ b. RepliedAs meld false name doing.asked h.old h.before reply b own' after_it) (has_memory reply is) e)
 
       go : (r : Option (Reply P)) → result ≡ r → MatchOption r (Stands meld false name h.old h.before doing' own' after_it) (λ reply. Answered meld false name doing.asked h.old h.before reply own' after_it) → Comes point found' r
       go None is stands =

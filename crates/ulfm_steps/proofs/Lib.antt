@@ -4,6 +4,7 @@ pub mod Settling
 pub mod Groups
 pub mod Reading
 pub mod InBlocks
+pub mod KnownBlocks
 pub mod Arriving
 pub mod ReadingOn
 pub mod Marking

@@ -50,6 +50,14 @@ peeks_after false n side = peeks_left n side
 abbrev pub PeekTakes : {P : Type 0} → Bool → ℕ → Peek P → Bool → Peek P → Sight P → Sight P → Type 0
 PeekTakes whole n old done new = TakesAt whole (Site.Block (block_at old.comm old.round old.side)) true (peeks_left n old.side) (peeks_after done n new.side)
 
+-- what is known of a round's blocks is known of such as are among these
+abbrev pub AreSet : {P : Type 0} → List Block → ℕ → ℕ → RoundBlocks P → Type 0
+AreSet cached c k blocks = (side : Side) → is_some (said_at blocks side) ≡ true → has_block cached (block_at c k side) ≡ true
+
+-- all blocks of a round of these members are among these
+abbrev pub AllSet : List Block → ℕ → ℕ → List ℕ → Type 0
+AllSet cached c k group = (side : Side) → IsSide side group → has_block cached (block_at c k side) ≡ true
+
 -- a block that was set already was found set
 abbrev pub FindsSet : {P : Type 0} → List Block → Peek P → Side → Type 0
 FindsSet cached peek side = has_block cached (block_at peek.comm peek.round side) ≡ true → is_some (said_at peek.blocks side) ≡ true
@@ -61,7 +69,8 @@ pub record MayPeek {P : Type 0} (meld : P → P → P) (name : Name) (group : Li
   pub some : IsSide peek.side group
   pub are : AreOf meld sight.seen peek.comm peek.round group peek.blocks
 
--- loads of a peek, so many at most, and whether the last was made: what it knows stands, and says which blocks were set before
+-- loads of a peek, so many at most, and whether the last was made: what it knows stands, and says which blocks were set before; and what it
+-- knows is known to be set from then on
 pub record PeeksOn {P : Type 0} (meld : P → P → P) (alone whole : Bool) (name : Name) (most : ℕ) (group : List ℕ) (peek : Peek P) (old : Sight P)
     (done : Bool) (left : Peek P) (new : Sight P) : Type 0 where
   pub goes : Goes meld alone name most old new
@@ -74,6 +83,7 @@ pub record PeeksOn {P : Type 0} (meld : P → P → P) (alone whole : Bool) (nam
   pub front : peek.side ≡ Front → FindsSet old.cached left Front
   pub back : done ≡ true → has_back (length group) ≡ true → FindsSet old.cached left Back
   pub kept : peek.side ≡ Back → left.blocks.front ≡ peek.blocks.front
+  pub sets : AreSet old.cached peek.comm peek.round peek.blocks → AreSet new.cached peek.comm peek.round left.blocks
 
 -- where a block's members begin among those of its round
 abbrev pub first_of : Side → ℕ → ℕ
@@ -135,13 +145,21 @@ BlocksTake whole group old found new =
     TakesAt whole (site_of group old) (nat_lt old.read old.width) (blocks_left (length group) old)
     (left_without found (blocks_left (length group) new))
 
+-- The blocks that a reading knows are known to be set; or, once it has found what all members say, all blocks of its round. Where a member is
+-- missing nothing is said.
+abbrev pub SetsBlocks : {P : Type 0} → List Block → List ℕ → ReadBlocks P → Option (Found P) → Type 0
+SetsBlocks cached group reading None = AreSet cached reading.comm reading.round reading.blocks
+SetsBlocks cached group reading (Some Missing) = Unit {0}
+SetsBlocks cached group reading (Some (All all)) = AllSet cached reading.comm reading.round group
+
 -- what a reading of blocks asks for: the pass is of these words, these are its round's members, and it stands at a block
 pub record MayReadBlocks {P : Type 0} (meld : P → P → P) (name : Name) (group : List ℕ) (reading : ReadBlocks P) (sight : Sight P) : Type 0 where
   pub of : IsOf meld name sight
   pub round : IsRoundOf name.limits sight.seen reading.comm reading.round group
   pub at : AtBlock meld sight.seen group reading
 
--- steps of a reading of blocks, so many at most, and what was found: an answer, where all are made at once, or else where it stands
+-- Steps of a reading of blocks, so many at most, and what was found: an answer, where all are made at once, or else where it stands. Whoever
+-- finds what all members say leaves no block of the round unset.
 pub record ReadsBlocks {P : Type 0} (meld : P → P → P) (alone whole : Bool) (name : Name) (most : ℕ) (group : List ℕ) (reading : ReadBlocks P)
     (old : Sight P) (found : Option (Found P)) (left : ReadBlocks P) (new : Sight P) : Type 0 where
   pub goes : Goes meld alone name most old new
@@ -149,6 +167,7 @@ pub record ReadsBlocks {P : Type 0} (meld : P → P → P) (alone whole : Bool) 
   pub comm : left.comm ≡ reading.comm
   pub round : left.round ≡ reading.round
   pub tells : BlocksTell meld new group left found
+  pub sets : AreSet old.cached reading.comm reading.round reading.blocks → SetsBlocks new.cached group left found
   pub ends : whole ≡ true → IsSome found
 
 -- a reading that has read nothing of a block yet

@@ -2,8 +2,9 @@
 ghost use Rattle.std.specs.Prelude.{ℕ, Bool, List, ◌≡◌, ◌+◌, ◌<◌, ◌≤◌, false, true};
 ghost use Rattle.ulfm_model.specs.{Answers.{closed}, Records.{Record}, Terms.{comm_of}};
 ghost use Rattle.ulfm_comm.specs.{Phase.{IsPast, NextBelow, NextIs, StillStands, is_looking, left}, Agreement.{HasPeeked, HasReadAll, agreed_reply}, Step.{TakesTurn}};
+ghost use Rattle.ulfm_model.specs.declared.block.Block.{Block};
 ghost use Rattle.ulfm_comm.specs.StepsLeft.{FewerLeft, after_peek, after_round, steps_left};
-ghost use Rattle.ulfm_comm.specs.AlsoLeft.{also_after_round, also_in};
+ghost use Rattle.ulfm_comm.specs.{AlsoLeft.{also_after_round, also_in}, Known.{KnowsIn}};
 ghost use Rattle.ulfm_comm.specs.declared.phases.phase.Next.TheVariants.{Goes as NextGoes};
 ghost use Rattle.ulfm_comm.specs.declared.phases.phase.Phase.TheVariants.{Marking as AtMarking, Peeking as AtPeeking, Reading as AtReading};
 ghost use Rattle.ulfm_words.specs.Steps.{IsOf, Sight};
@@ -74,6 +75,7 @@ impl<P: Packed, A: Allocator> RankRecord<P, A> {
         ensures past { is_looking result ≡ false }
         ensures nearer { steps_left (W.name world.now.words).limits self.now asked.now result
             ≤ after_peek (W.name world.now.words).limits self.now asked.now shrinks }
+        ensures knows { (cached : List Block) → KnowsIn self.now asked.now cached (AtPeeking peek shrinks) → KnowsIn self.now asked.now cached result }
         ensures turns { (group : List ℕ) (alone : Bool) (old : Record) (before : Sight P)
             → HasPeeked P.meld alone (W.name world.now.words) asked.now shrinks peek old before self.now (W.sight pass.now)
             → NextIs P.meld alone (W.name world.now.words) asked.now old before (NextGoes result) group self.now (W.sight pass.now) }

@@ -1,5 +1,6 @@
 // The one step that starts and revocations make after their look.
 ghost use Rattle.std.specs.Prelude.{ℕ, List, ◌≡◌, false, Some, ◌≤◌, ◌<◌, filter, length};
+ghost use mathlib.Core.List.{IsPrefix};
 ghost use Rattle.ulfm_model.specs.{Terms.{comm_of}, History.{has}, Records.{Fits, held_at}};
 ghost use Rattle.ulfm_record.specs.Kept.{HasNext};
 ghost use Rattle.ulfm_comm.specs.{Phase.{StillStands}, Exchange.{Settles, start_leaves, start_result}, Step.{EndsTurn}};
@@ -122,6 +123,7 @@ impl<P: Packed, A: Allocator> RankRecord<P, A> {
         requires acked { x.now.acked ≤ length (filter (has x.now.group) self.now.seen) }
         requires room { x.now.next_agreement < (W.name world.now.words).limits.rounds }
         ensures of { IsOf P.meld (W.name world.now.words) (W.sight pass.new) }
+        ensures cached { IsPrefix (W.sight pass.old).cached (W.sight pass.new).cached }
         ensures one { IsOneStep (SlotAt x.now.comm x.now.next_agreement self.now.number) false (W.sight pass.old) (W.sight pass.new) }
         ensures settles { Settles W.alone (W.sight pass.old).seen (W.sight pass.new).seen self.now x.now offer result }
     {

@@ -1,9 +1,9 @@
 // The look of a call, and what comes after it.
-ghost use Rattle.std.specs.Prelude.{ℕ, List, ◌≡◌, ◌<◌, max, min, None, Some, MatchOption};
-ghost use Rattle.ulfm_model.specs.declared.{call.Call.TheVariants.{Poll as PollAsked}, call.Request.TheVariants.{Barrier as OfBarrier}};
-ghost use Rattle.ulfm_comm.specs.{Polls.{IsAgreement, agreement}, Phase.{IsFurther, StillStands, left}, Look.{Passes}};
+ghost use Rattle.std.specs.Prelude.{ℕ, List, ◌≡◌, ◌<◌, max, min, true, None, Some, MatchOption};
+ghost use Rattle.ulfm_model.specs.declared.{block.Block.{Block}, call.Call.TheVariants.{Poll as PollAsked}, call.Request.TheVariants.{Barrier as OfBarrier}};
+ghost use Rattle.ulfm_comm.specs.{Polls.{IsAgreement}, Phase.{IsFurther, IsPast, StillStands, left}, Look.{Passes}};
 ghost use Rattle.ulfm_comm.specs.{StepsLeft.{FewerLeft, steps_left, with_look}, Step.{FollowsLook, HasJustLooked, TakesTurn}};
-ghost use Rattle.ulfm_comm.specs.AlsoLeft.{AlsoFollows};
+ghost use Rattle.ulfm_comm.specs.{AlsoLeft.{AlsoFollows}, Known.{KnowsNext}, Requests.{agreement}};
 ghost use Rattle.ulfm_comm.specs.declared.phases.phase.Next.TheVariants.{Goes as NextGoes};
 ghost use Rattle.ulfm_comm.specs.declared.phases.phase.Phase.TheVariants.{Begun as AtBegun, Looking as AtLooking};
 ghost use Rattle.ulfm_words.specs.Steps.{IsOf};
@@ -67,8 +67,9 @@ impl<P: Packed, A: Allocator> RankRecord<P, A> {
     ) -> Next<P>
         requires of { IsOf P.meld (W.name world.now.words) (W.sight pass.old) }
         requires stands { (group : List ℕ) × StillStands P.meld (W.name world.now.words) asked.now AtBegun group self.old (W.sight pass.old) }
-        ensures { (group : List ℕ) → TakesTurn P.meld W.alone whole (W.name world.now.words) asked.now AtBegun group self.old (W.sight pass.old) result group
-            self.new (W.sight pass.new) }
+        ensures turn { (group : List ℕ) → TakesTurn P.meld W.alone whole (W.name world.now.words) asked.now AtBegun group self.old (W.sight pass.old) result
+            group self.new (W.sight pass.new) }
+        ensures past { whole ≡ true → IsPast result }
     {
         self.resume();
         self.go_looking(world, pass, asked, whole)
@@ -85,8 +86,9 @@ impl<P: Packed, A: Allocator> RankRecord<P, A> {
     ) -> Next<P>
         requires of { IsOf P.meld (W.name world.now.words) (W.sight pass.old) }
         requires stands { (group : List ℕ) × StillStands P.meld (W.name world.now.words) asked.now AtLooking group self.old (W.sight pass.old) }
-        ensures { (group : List ℕ) → TakesTurn P.meld W.alone whole (W.name world.now.words) asked.now AtLooking group self.old (W.sight pass.old) result
+        ensures turn { (group : List ℕ) → TakesTurn P.meld W.alone whole (W.name world.now.words) asked.now AtLooking group self.old (W.sight pass.old) result
             group self.new (W.sight pass.new) }
+        ensures past { whole ≡ true → IsPast result }
     {
         if !self.look_on(&world.words, pass, whole) {
             return Next::Goes(Phase::Looking);
@@ -110,6 +112,7 @@ impl<P: Packed, A: Allocator> RankRecord<P, A> {
         ensures further { IsFurther AtLooking result }
         ensures nearer { FewerLeft (with_look (W.name world.now.words).limits self.old asked.now) (W.name world.now.words).limits self.new asked.now result }
         ensures also { AlsoFollows (W.name world.now.words).limits asked.now self.old result self.new }
+        ensures knows { (cached : List Block) → KnowsNext self.old asked.now cached result }
         ensures turns { FollowsLook P.meld (W.name world.now.words) asked.now self.old (W.sight pass.now) result self.new }
     {
         let Some(x) = self.held(comm_of(asked)) else {
@@ -134,6 +137,7 @@ impl<P: Packed, A: Allocator> RankRecord<P, A> {
         ensures further { IsFurther AtLooking result }
         ensures nearer { FewerLeft (with_look (W.name world.now.words).limits self.old asked.now) (W.name world.now.words).limits self.new asked.now result }
         ensures also { AlsoFollows (W.name world.now.words).limits asked.now self.old result self.new }
+        ensures knows { (cached : List Block) → KnowsNext self.old asked.now cached result }
         ensures turns { FollowsLook P.meld (W.name world.now.words) asked.now self.old (W.sight pass.now) result self.new }
     {
         let x = self.held_comm(comm_of(asked));
@@ -189,6 +193,7 @@ impl<P: Packed, A: Allocator> RankRecord<P, A> {
         ensures further { left result < 8 }
         ensures nearer { steps_left (W.name world.now.words).limits self.now asked.now result < with_look (W.name world.now.words).limits self.now asked.now }
         ensures also { AlsoFollows (W.name world.now.words).limits asked.now self.now (NextGoes result) self.now }
+        ensures knows { (cached : List Block) → KnowsNext self.now asked.now cached (NextGoes result) }
         ensures turns { FollowsLook P.meld (W.name world.now.words) asked.now self.now (W.sight pass.now) (NextGoes result) self.now }
     {
         let comm = comm_of(asked);

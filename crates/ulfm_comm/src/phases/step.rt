@@ -1,11 +1,11 @@
 // Calls, step by step and whole.
-ghost use Rattle.std.specs.Prelude.{◌≡◌, ◌+◌, ◌<◌, ◌≤◌, Bool, false, length, true, None, Some, IsTrue, MatchOption, OnSome, if◌then◌else◌};
+ghost use Rattle.std.specs.Prelude.{◌≡◌, ◌<◌, ◌≤◌, [], Bool, false, length, IsTrue, MatchOption, OnSome, if◌then◌else◌};
 ghost use Rattle.ulfm_model.specs.declared.{event.Caller.TheVariants.{Rank as OfRank}, call.Call.TheVariants.{Poll as AskedPoll}};
 ghost use Rattle.ulfm_model.specs.declared.{refusal.Refusal.TheVariants.{SelfFailed}, reply.Reply.TheVariants.{Refused}};
 ghost use Rattle.ulfm_model.specs.{Answers.{traits_of}, Records.{Fits, Record}, History.{History}, Terms.{comm_of}};
-ghost use Rattle.ulfm_comm.specs.{Begins.{loads_again}, Bound.{AlsoBounded, also_bound, step_bound}, AlsoLeft.{also_left}, Counts.{CountsStep, TakesSteps}};
-ghost use Rattle.ulfm_comm.specs.{StepsLeft.{Spends, steps_left}, Step.{TakesTurn, Stepped}, Calls.{EndsReply}, Polls.{PendsIn}};
-ghost use Rattle.ulfm_comm.specs.{Phase.{Answered, next_of, Stands, StillStands, Waits}, Barrier.{AnswersEarly, IsChecking}};
+ghost use Rattle.ulfm_comm.specs.{Begins.{loads_again}, Bound.{also_bound, step_bound}, AlsoLeft.{also_left}, Counts.{CountsStep, MakesSteps, TakesSteps}};
+ghost use Rattle.ulfm_comm.specs.{StepsLeft.{Spends, steps_left}, Step.{RunsOn, TakesTurn, Stepped}, Calls.{EndsReply}, Polls.{PendsIn}};
+ghost use Rattle.ulfm_comm.specs.{Phase.{Answered, is_looking, next_of, Stands, StillStands, Waits}, Barrier.{AnswersEarly, IsChecking}};
 ghost use Rattle.ulfm_words.specs.Steps.{IsOf, Name, Sight};
 ghost use Rattle.ulfm_steps.specs.declared.{arrivals.Arrivals.{Arrivals}, arrivals.Missing.{Missing}};
 ghost use Rattle.ulfm_comm.specs.declared.phases.phase.Next.TheVariants.{Ends as NextEnds, Goes as NextGoes};
@@ -147,7 +147,7 @@ impl<P: Packed, A: Allocator + Copy> RankRecord<P, A> {
         }
     }
 
-    // A whole call: its own steps, run to the end.
+    // A whole call: its own steps, run to the end. The look comes first, as a whole.
     #[inline(always)]
     pub(crate) fn call<W: Words<P, A>>(
         &mut self,
@@ -160,8 +160,7 @@ impl<P: Packed, A: Allocator + Copy> RankRecord<P, A> {
         requires mine { (traits_of asked).by ≡ OfRank self.old.number }
         ensures ends { EndsReply P.meld W.alone (W.name world.now.words) asked self.old (W.sight pass.old) result self.new (W.sight pass.new) }
         ensures pending { PendsIn P.meld W.alone (W.name world.now.words) asked self.old (W.sight pass.old) result self.new (W.sight pass.new) }
-        ensures steps { (W.sight pass.new).steps ≤ (W.sight pass.old).steps + step_bound (W.name world.now.words).limits self.old asked }
-        ensures also { AlsoBounded (W.name world.now.words).limits asked self.old (W.sight pass.old) self.new (W.sight pass.new) }
+        ensures steps { MakesSteps (W.name world.now.words).limits asked self.old (W.sight pass.old) self.new (W.sight pass.new) }
     {
         if self.is_refused() {
             return Reply::Refused(Refusal::SelfFailed);
@@ -171,10 +170,29 @@ impl<P: Packed, A: Allocator + Copy> RankRecord<P, A> {
             self.refuse();
             return Reply::Refused(Refusal::SelfFailed);
         }
+        match self.go_begun(world, pass, &asked, true) {
+            Next::Goes(phase) => self.run_on(world, pass, &asked, phase),
+            Next::Ends(reply) => reply,
+        }
+    }
+
+    // The rest of a whole call, behind its look.
+    #[inline(always)]
+    fn run_on<W: Words<P, A>>(
+        &mut self,
+        world: &World<W, P, A>,
+        pass: &mut W::Pass,
+        asked: &Call<P>,
+        mut phase: Phase<P>,
+    ) -> Reply<P>
+        requires of { IsOf P.meld (W.name world.now.words) (W.sight pass.old) }
+        requires stands { StillStands P.meld (W.name world.now.words) asked.now phase [] self.old (W.sight pass.old) }
+        requires past { is_looking phase ≡ false }
+        ensures { RunsOn P.meld W.alone (W.name world.now.words) asked.now phase self.old (W.sight pass.old) result self.new (W.sight pass.new) }
+    {
         let mut group = Vec::new(self.allocator());
-        let mut phase = Phase::Begun;
         loop {
-            match self.go(world, pass, &asked, phase, &mut group, true) {
+            match self.go(world, pass, asked, phase, &mut group, true) {
                 Next::Goes(next) => phase = next,
                 Next::Ends(reply) => return reply,
             }

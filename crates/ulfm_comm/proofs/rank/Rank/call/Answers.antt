@@ -1,6 +1,6 @@
-use Rattle.std.proofs.Common.{◌+◌, ◌≤◌, arith, refl, subst, sym}
+use Rattle.std.proofs.Common.{arith, refl, subst, sym}
 use Rattle.ulfm_model.specs.Records.{Fits}
-use Rattle.ulfm_comm.specs.{Bound.{AlsoBounded, step_bound}, Counts.{Ranked}, Polls.{PendsIn}}
+use Rattle.ulfm_comm.specs.{Counts.{MakesSteps, Ranked}, Polls.{PendsIn}}
 use Rattle.ulfm_comm.proofs.Counts.{made_exact, made_small}
 use Rattle.ulfm_comm.proofs.rank.Rank.call.Goals as goal
 
@@ -10,7 +10,7 @@ overflow_cast-self g c =
     let before = g.W.Words.sight c.args.pass.now in
     let fits = subst (λ (r : Ranked). Fits g.P.Meld.meld name.limits before.seen r.own) (sym c.self.view_is) c.requires.fits in
     let small = made_small g.P.Meld.meld g.W.Words.alone name c.args.asked c.self.inside.own before c.call-reply.result c.call-reply.new.self (g.W.Words.sight c.call-reply.new.pass)
-    c.requires.of fits c.call-reply.ensures.ends c.call-reply.ensures.steps c.steps_made-before.result c.steps_made-after.result _ c.steps_made-before.ensures c.steps_made-after.ensures refl in
+    c.requires.of fits c.call-reply.ensures.ends c.call-reply.ensures.steps.steps c.steps_made-before.result c.steps_made-after.result _ c.steps_made-before.ensures c.steps_made-after.ensures refl in
     omega (arith, small)
 
 pub returns-clause-pending : goal.returns-clause-pending
@@ -28,9 +28,8 @@ returns-clause-steps g c =
     let after = g.W.Words.sight c.call-reply.new.pass in
     let fits = subst (λ (r : Ranked). Fits g.P.Meld.meld name.limits before.seen r.own) (sym c.self.view_is) c.requires.fits in
     record {
-      steps = subst (λ (r : Ranked). after.steps ≤ before.steps + step_bound name.limits r.own c.args.asked) c.self.view_is c.call-reply.ensures.steps;
-      also = subst (λ (r : Ranked). AlsoBounded name.limits c.args.asked r.own before c.call-reply.new.self after) c.self.view_is c.call-reply.ensures.also;
+      made = subst (λ (r : Ranked). MakesSteps name.limits c.args.asked r.own before c.call-reply.new.self after) c.self.view_is c.call-reply.ensures.steps;
       last =
           made_exact g.P.Meld.meld g.W.Words.alone name c.args.asked c.self.inside.own before c.call-reply.result c.call-reply.new.self after
-          c.requires.of fits c.call-reply.ensures.ends c.call-reply.ensures.steps c.steps_made-before.result c.steps_made-after.result _ c.steps_made-before.ensures c.steps_made-after.ensures refl;
+          c.requires.of fits c.call-reply.ensures.ends c.call-reply.ensures.steps.steps c.steps_made-before.result c.steps_made-after.result _ c.steps_made-before.ensures c.steps_made-after.ensures refl;
     }

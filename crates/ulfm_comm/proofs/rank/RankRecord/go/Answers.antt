@@ -1,4 +1,4 @@
-use Rattle.std.proofs.Common.{rules, [], ◌∙◌, ◌≡◌, arith, ap, inl, refl, subst, sym, Bool, true, false, ℕ, List, IsTrue}
+use Rattle.std.proofs.Common.{rules, append-nil, [], ◌∙◌, ◌≡◌, arith, ap, inl, refl, subst, sym, Bool, true, false, ℕ, List, IsTrue}
 use Rattle.std.proofs.lemmas.Bool.{false≢true}
 use Rattle.ulfm_model.specs.declared.{call.Call.{Call}, reply.Reply.{Reply}}
 use Rattle.ulfm_model.specs.Records.{Record}
@@ -45,7 +45,7 @@ ended known _ = known
 pub returns-in-Over-clause-turn : goal.returns-in-Over-clause-turn
 returns-in-Over-clause-turn g c =
     rw c.in-Over.is (record {
-      walks = record { of = c.requires.of; own = []; did = did_none g.W.Words.alone (g.W.Words.sight c.args.pass.now).seen; onward = omega arith };
+      walks = record { of = c.requires.of; own = []; did = did_none g.W.Words.alone (g.W.Words.sight c.args.pass.now).seen; onward = omega arith; cached = ([], append-nil (g.W.Words.sight c.args.pass.now).cached) };
       named = λ not. refl;
       nearer = λ not. tt;
       spends = omega arith;
@@ -53,6 +53,8 @@ returns-in-Over-clause-turn g c =
       further = λ is. tt;
       adds = λ not. did_none g.W.Words.alone (g.W.Words.sight c.args.pass.now).seen;
       sees = refl;
+      looks = λ at. absurd (cc at);
+      knows = λ known of. absurd (cc of);
       leads = tt;
       turns = λ alone only old before u.
           record {
@@ -62,10 +64,10 @@ returns-in-Over-clause-turn g c =
     })
 
 pub returns-in-Begun-clause-turn : goal.returns-in-Begun-clause-turn
-returns-in-Begun-clause-turn g c = rw c.in-Begun.is (c.go_begun.ensures c.args.group.now.items)
+returns-in-Begun-clause-turn g c = rw c.in-Begun.is (c.go_begun.ensures.turn c.args.group.now.items)
 
 pub returns-in-Looking-clause-turn : goal.returns-in-Looking-clause-turn
-returns-in-Looking-clause-turn g c = rw c.in-Looking.is (c.go_looking.ensures c.args.group.now.items)
+returns-in-Looking-clause-turn g c = rw c.in-Looking.is (c.go_looking.ensures.turn c.args.group.now.items)
 
 pub returns-in-Settling-clause-turn : goal.returns-in-Settling-clause-turn
 returns-in-Settling-clause-turn g c = rw c.in-Settling.is (c.go_settling.ensures c.args.group.now.items c.args.whole)
@@ -86,7 +88,7 @@ pub returns-in-Asking-clause-turn : goal.returns-in-Asking-clause-turn
 returns-in-Asking-clause-turn g c =
     rw c.in-Asking.is (record {
       walks = walks_none g.P.Meld.meld g.W.Words.alone (g.W.Words.name c.args.world.now.words) c.args.self.now.number (g.W.Words.sight c.args.pass.now) (g.W.Words.sight c.load_revocation.new.pass)
-          c.load_revocation.ensures.loads.of c.load_revocation.ensures.loads.steps c.load_revocation.ensures.loads.did;
+          c.load_revocation.ensures.loads.of c.load_revocation.ensures.loads.steps c.load_revocation.ensures.loads.cached c.load_revocation.ensures.loads.did;
       named = search rules;
       nearer = λ not. tt;
       spends = omega (arith, c.load_revocation.ensures.loads.steps);
@@ -95,6 +97,8 @@ returns-in-Asking-clause-turn g c =
       further = λ all. tt;
       adds = λ not. c.load_revocation.ensures.loads.did;
       sees = refl;
+      looks = λ at. absurd (cc at);
+      knows = λ known of. absurd (cc of);
       leads = tt;
       turns = λ alone only old before stands.
           let name = g.W.Words.name c.args.world.now.words in

@@ -35,7 +35,7 @@ arrived g c = rw (← c.number-number.ensures, ← c.comm_of-comm.ensures) c.set
 walks : (g : _) (c : After-set_arrival g) → Walks g.P.Meld.meld g.W.Words.alone (g.W.Words.name c.args.world.now.words) c.args.self.now.number (g.W.Words.sight c.args.pass.now) (g.W.Words.sight c.set_arrival.new.pass)
 walks g c =
     walks_tried g.P.Meld.meld g.W.Words.alone (g.W.Words.name c.args.world.now.words) c.args.self.now.number (g.W.Words.sight c.args.pass.now) (g.W.Words.sight c.set_arrival.new.pass)
-    c.set_arrival.ensures.tries.of c.set_arrival.ensures.tries.steps c.set_arrival.result (Arrive (comm_of c.args.asked.now) c.args.round c.args.self.now.number) (outcome g c)
+    c.set_arrival.ensures.tries.of c.set_arrival.ensures.tries.steps c.set_arrival.ensures.tries.cached c.set_arrival.result (Arrive (comm_of c.args.asked.now) c.args.round c.args.self.now.number) (outcome g c)
 
 pub returns-then-not-set_arrival : goal.returns-then-not-set_arrival
 returns-then-not-set_arrival g c =
@@ -53,6 +53,8 @@ returns-then-not-set_arrival g c =
           adds_none g.W.Words.alone c.args.self.now.seen c.args.self.now c.args.asked.now (Some (Refused Twice)) (g.W.Words.sight c.args.pass.now).seen (g.W.Words.sight c.set_arrival.new.pass).seen
           (when_lost _ _ c.set_arrival.result c.if-not-set_arrival.true (outcome g at));
       sees = search rules;
+      looks = λ at. absurd (cc at);
+      knows = λ known of. absurd (cc of);
       leads = search rules;
       turns = λ alone only old before stands.
           let at = (goal.at.returns-then-not-set_arrival g c).After-set_arrival in
@@ -83,6 +85,8 @@ returns g c =
           adds_arrived g.P.Meld.meld g.W.Words.alone (g.W.Words.name c.args.world.now.words).limits c.args.asked.now s.0 s.1.seen c.args.self.now (g.W.Words.sight c.args.pass.now).seen (g.W.Words.sight c.set_arrival.new.pass).seen
           c.requires.of.legal s.2.at.0 s.0.number c.args.round s.2.at.1 s.2.at.2 (when_won _ _ c.set_arrival.result c.if-not-set_arrival.false (outcome g at));
       sees = search rules;
+      looks = λ at. absurd (cc at);
+      knows = λ known of. absurd (cc of);
       leads = search rules;
       turns = λ alone only old before stands.
           let at = (goal.at.returns g c).After-set_arrival in

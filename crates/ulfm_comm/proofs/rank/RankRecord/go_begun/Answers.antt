@@ -1,8 +1,8 @@
-use Rattle.std.proofs.Common.{rules, ◌≡◌, ◌≤◌, ap, arith, subst, ◌∙◌}
-use Rattle.ulfm_model.specs.Records.{Record}
+use Rattle.std.proofs.Common.{rules, ◌≡◌, ◌≤◌, ap, arith, refl, subst, sym, ◌∙◌}
+use Rattle.ulfm_model.specs.Records.{Record, held_at}
 use Rattle.ulfm_comm.specs.{Step.{Walks}, StepsLeft.{steps_left}}
 use Rattle.ulfm_comm.specs.declared.phases.phase.Phase.TheVariants.{Begun, Looking}
-use Rattle.ulfm_comm.proofs.{AlsoLeft.{also_resumes}, Look.{begins_looking}, StepsLeft.{fewer_more, resumed_left}}
+use Rattle.ulfm_comm.proofs.{AlsoLeft.{also_resumes, looks_resumed}, Known.{next_same}, Look.{begins_looking}, StepsLeft.{fewer_more, resumed_left}}
 use Rattle.ulfm_comm.proofs.rank.RankRecord.go_begun.Goals as goal
 use Rattle.ulfm_comm.proofs.rank.RankRecord.go_begun.Goals.{After-resume}
 
@@ -30,22 +30,27 @@ left : (g : _) (c : After-resume g) → steps_left (g.W.Words.name c.args.world.
 left g c =
     resumed_left (g.W.Words.name c.args.world.now.words).limits c.args.self.now c.resume.new.self c.args.asked.now (ranks g c) (omega (arith, c.requires.of.may_open.in_range.some_ranks)) c.resume.ensures
 
-pub returns : goal.returns
-returns g c =
+pub returns-clause-turn : goal.returns-clause-turn
+returns-clause-turn g c =
     λ group.
     let now = g.W.Words.sight c.args.pass.now in
     let after = g.W.Words.sight c.go_looking.new.pass in
-    let t = c.go_looking.ensures group in
-    let fewer = left g (goal.at.returns g c).After-resume in
+    let t = c.go_looking.ensures.turn group in
+    let fewer = left g (goal.at.returns-clause-turn g c).After-resume in
+    let same = ranks g (goal.at.returns-clause-turn g c).After-resume in
+    let limits = (g.W.Words.name c.args.world.now.words).limits in
+    let own = c.args.self.now in
     record {
       walks = subst (λ (w : Record). Walks g.P.Meld.meld g.W.Words.alone (g.W.Words.name c.args.world.now.words) w.number now after) c.resume.ensures t.walks;
       named = t.named;
       nearer = λ single. fewer_more (g.W.Words.name c.args.world.now.words).limits c.go_looking.new.self c.args.asked.now _ _ fewer c.go_looking.result (t.nearer single);
       spends = omega (arith, fewer, t.spends);
-      also = also_resumes (g.W.Words.name c.args.world.now.words).limits c.args.self.now c.resume.new.self c.args.asked.now (ranks g (goal.at.returns g c).After-resume) c.resume.ensures now after c.go_looking.result c.go_looking.new.self t.also;
+      also = also_resumes limits own c.resume.new.self c.args.asked.now same c.resume.ensures now after c.go_looking.result c.go_looking.new.self t.also;
       further = search rules;
       adds = t.adds;
       sees = search rules;
+      looks = λ at. looks_resumed limits own c.resume.new.self c.args.asked.now same c.resume.ensures (omega (arith, c.requires.of.may_open.in_range.some_ranks)) now after c.go_looking.result c.go_looking.new.self (t.looks refl);
+      knows = λ known. next_same c.resume.new.self own c.args.asked.now after.cached (λ comm. sym (ap (λ (w : Record). held_at w comm) c.resume.ensures)) c.go_looking.result (t.knows tt);
       leads = search rules;
       turns = λ alone only old before u.
           t.turns alone only old before

@@ -1,15 +1,16 @@
-use Rattle.std.proofs.Common.{rules, ◌≡◌, ◌+◌, ◌≤◌, arith, subst, length, [], true, false, ap, ap₂, sym, ◌∙◌}
-use Rattle.ulfm_model.specs.{History.{failures, has}, Records.{Record}}
+use Rattle.std.proofs.Common.{rules, ◌≡◌, ◌+◌, ◌-◌, ◌≤◌, arith, refl, subst, length, [], true, false, IsTrue, ap, ap₂, sym, ◌∙◌}
+use Rattle.std.proofs.lemmas.Bool.{false≢true}
+use Rattle.ulfm_model.specs.{History.{failures, has}, Records.{Record, held_at}}
 use mathlib.Core.List.{IsPrefix}
 use Rattle.ulfm_model.proofs.{Histories.{failures_begin}, Lists.{length_prefix, prefix_trans}, Marking.{failures_few}}
 use Rattle.ulfm_words.proofs.Trails.{did_prefix, did_wait}
 use Rattle.ulfm_steps.specs.Looks.{looks_left}
-use Rattle.ulfm_comm.specs.{AlsoLeft.{AlsoFollows, AlsoSpends, also_left}, Bound.{BlocksStand}, StepsLeft.{FewerLeft, Spends, steps_left, with_look}}
+use Rattle.ulfm_comm.specs.{AlsoLeft.{AlsoFollows, AlsoLooks, also_left}, Step.{LooksOn}, StepsLeft.{FewerLeft, Spends, steps_left, with_look}}
 use Rattle.ulfm_comm.specs.declared.{phases.phase.Next.{Next}, phases.phase.Next.TheVariants.{Ends}, phases.phase.Phase.TheVariants.{Looking}}
 use Rattle.ulfm_model.specs.declared.{refusal.Refusal.TheVariants.{SelfFailed}, reply.Reply.TheVariants.{Refused}}
 use Rattle.ulfm_comm.proofs.StepsLeft.{fewer_more, looks_on, looks_over, looks_up}
 use Rattle.ulfm_comm.proofs.AlsoLeft.{also_looks_on, also_looks_over, follows_ends}
-use Rattle.ulfm_comm.proofs.{Look.{just_declared}, AmongOthers.{did_loosely}}
+use Rattle.ulfm_comm.proofs.{Known.{below_past, next_same}, Look.{just_declared}, AmongOthers.{did_loosely}}
 use Rattle.ulfm_comm.proofs.rank.RankRecord.go_looking.Goals as goal
 use Rattle.ulfm_comm.proofs.rank.RankRecord.go_looking.Goals.{After-look_on}
 
@@ -26,32 +27,55 @@ ends_look g c done new next fewer =
 
 -- also beside the failures that it has found
 ends_look_also : (g : _) (c : After-look_on g) → c.look_on.result ≡ true → c.look_on.new.self.seen ≡ failures (g.W.Words.sight c.look_on.new.pass).seen → (left : Record) (next : Next g.row.P.Denot)
-    → AlsoFollows (g.W.Words.name c.args.world.now.words).limits c.args.asked.now c.look_on.new.self next left → BlocksStand c.args.self.now c.args.asked.now (g.W.Words.sight c.args.pass.now).cached
-    → AlsoSpends (also_left (g.W.Words.name c.args.world.now.words).limits c.args.self.now c.args.asked.now Looking) (g.W.Words.name c.args.world.now.words).limits c.args.asked.now c.args.self.now (g.W.Words.sight c.args.pass.now) next left (g.W.Words.sight c.look_on.new.pass)
-ends_look_also g c done found left next follows stand =
+    → AlsoFollows (g.W.Words.name c.args.world.now.words).limits c.args.asked.now c.look_on.new.self next left
+    → AlsoLooks (also_left (g.W.Words.name c.args.world.now.words).limits c.args.self.now c.args.asked.now Looking) (g.W.Words.name c.args.world.now.words).limits c.args.asked.now c.args.self.now (g.W.Words.sight c.args.pass.now) next left (g.W.Words.sight c.look_on.new.pass)
+ends_look_also g c done found left next follows =
     let limits = (g.W.Words.name c.args.world.now.words).limits in
     let now = g.W.Words.sight c.args.pass.now in
     let after = g.W.Words.sight c.look_on.new.pass in
     let goes = c.look_on.ensures.goes in
     let within = failures_few g.P.Meld.meld limits after.seen goes.of.legal in
-    also_looks_over limits c.args.self.now c.look_on.new.self c.look_on.new.self.seen c.args.asked.now c.look_on.ensures.kept now after goes.cached c.requires.stands.1.2.at.3.1 (omega (arith, within, ap length found))
-    (subst (λ b. after.steps + looks_left limits b c.look_on.new.self.seen ≤ now.steps + looks_left limits false c.args.self.now.seen) done c.look_on.ensures.takes.turns) stand left next follows
+    also_looks_over limits c.args.self.now c.look_on.new.self c.look_on.new.self.seen c.args.asked.now c.look_on.ensures.kept now after c.requires.stands.1.2.at.3.1 (omega (arith, within, ap length found))
+    (subst (λ b. after.steps + looks_left limits b c.look_on.new.self.seen ≤ now.steps + looks_left limits false c.args.self.now.seen) done c.look_on.ensures.takes.turns) left next follows
 
-pub returns-then-not-look_on : goal.returns-then-not-look_on
-returns-then-not-look_on g c =
+-- it has found all failures
+ends_loads : (g : _) (c : After-look_on g) → c.look_on.result ≡ true → c.look_on.new.self.seen ≡ failures (g.W.Words.sight c.look_on.new.pass).seen → (left : Record) → left.seen ≡ c.look_on.new.self.seen → (next : Next g.row.P.Denot)
+    → (IsTrue (has left.seen c.args.self.now.number) → next ≡ Ends (Refused SelfFailed)) → LooksOn (g.W.Words.name c.args.world.now.words).limits c.args.self.now (g.W.Words.sight c.args.pass.now) next left (g.W.Words.sight c.look_on.new.pass)
+ends_loads g c done found left same next declared =
+    let limits = (g.W.Words.name c.args.world.now.words).limits in
+    let now = g.W.Words.sight c.args.pass.now in
+    let after = g.W.Words.sight c.look_on.new.pass in
+    let within = failures_few g.P.Meld.meld limits after.seen c.look_on.ensures.goes.of.legal in
+    let turns : after.steps + (limits.ranks - length c.look_on.new.self.seen - 1) ≤ now.steps + (limits.ranks - length c.args.self.now.seen) =
+    subst (λ b. after.steps + looks_left limits b c.look_on.new.self.seen ≤ now.steps + looks_left limits false c.args.self.now.seen) done c.look_on.ensures.takes.turns in
+    record {
+      few = omega (arith, turns);
+      found = λ more. omega (arith, turns, within, ap length found, ap length same, more);
+      sees = λ past. same ∙ found;
+      ends = λ past. declared;
+    }
+
+pub returns-then-not-look_on-clause-turn : goal.returns-then-not-look_on-clause-turn
+returns-then-not-look_on-clause-turn g c =
     λ group.
+    let limits = (g.W.Words.name c.args.world.now.words).limits in
+    let now = g.W.Words.sight c.args.pass.now in
+    let after = g.W.Words.sight c.look_on.new.pass in
+    let still = c.if-not-look_on.ensures.look.1 in
+    let turns : after.steps + (limits.ranks - length c.look_on.new.self.seen) ≤ now.steps + (limits.ranks - length c.args.self.now.seen) =
+    subst (λ done. after.steps + looks_left limits done c.look_on.new.self.seen ≤ now.steps + looks_left limits false c.args.self.now.seen) c.if-not-look_on.true c.look_on.ensures.takes.turns in
     record {
       walks = search rules;
       named = search rules;
       nearer = search rules;
       spends = looks_on (g.W.Words.name c.args.world.now.words).limits c.args.self.now c.look_on.new.self c.args.asked.now c.look_on.ensures.kept (g.W.Words.sight c.args.pass.now).steps (g.W.Words.sight c.look_on.new.pass).steps
           (subst (λ done. (g.W.Words.sight c.look_on.new.pass).steps + looks_left (g.W.Words.name c.args.world.now.words).limits done c.look_on.new.self.seen ≤ (g.W.Words.sight c.args.pass.now).steps + looks_left (g.W.Words.name c.args.world.now.words).limits false c.args.self.now.seen) c.if-not-look_on.true c.look_on.ensures.takes.turns);
-      also = also_looks_on (g.W.Words.name c.args.world.now.words).limits c.args.self.now c.look_on.new.self c.look_on.new.self.seen c.args.asked.now c.look_on.ensures.kept (g.W.Words.sight c.args.pass.now) (g.W.Words.sight c.look_on.new.pass) c.look_on.ensures.goes.cached
-          c.requires.stands.1.2.at.3.1 c.if-not-look_on.ensures.look.1
-          (subst (λ done. (g.W.Words.sight c.look_on.new.pass).steps + looks_left (g.W.Words.name c.args.world.now.words).limits done c.look_on.new.self.seen ≤ (g.W.Words.sight c.args.pass.now).steps + looks_left (g.W.Words.name c.args.world.now.words).limits false c.args.self.now.seen) c.if-not-look_on.true c.look_on.ensures.takes.turns);
+      also = also_looks_on limits c.args.self.now c.look_on.new.self c.look_on.new.self.seen c.args.asked.now c.look_on.ensures.kept now after c.requires.stands.1.2.at.3.1 c.if-not-look_on.ensures.look.1 turns;
       further = search rules;
       adds = search rules;
       sees = search rules;
+      looks = λ at. record { few = omega (arith, turns); found = λ more. omega (arith, turns, still, more); sees = λ past. absurd (cc past); ends = λ past. absurd (cc past) };
+      knows = λ known. tt;
       leads = search rules;
       turns = λ alone only old before u.
           let now = g.W.Words.sight c.args.pass.now in
@@ -66,19 +90,21 @@ returns-then-not-look_on g c =
           };
     }
 
-pub returns-then-has_rank : goal.returns-then-has_rank
-returns-then-has_rank g c =
+pub returns-then-has_rank-clause-turn : goal.returns-then-has_rank-clause-turn
+returns-then-has_rank-clause-turn g c =
     λ group.
     record {
       walks = search rules;
       named = search rules;
       nearer = search rules;
-      spends = ends_look g (goal.at.returns-then-has_rank g c).After-look_on c.if-not-look_on.false c.refuse.new.self (Ends (Refused SelfFailed)) tt;
-      also = ends_look_also g (goal.at.returns-then-has_rank g c).After-look_on c.if-not-look_on.false c.if-not-look_on.ensures.look c.refuse.new.self (Ends (Refused SelfFailed))
+      spends = ends_look g (goal.at.returns-then-has_rank-clause-turn g c).After-look_on c.if-not-look_on.false c.refuse.new.self (Ends (Refused SelfFailed)) tt;
+      also = ends_look_also g (goal.at.returns-then-has_rank-clause-turn g c).After-look_on c.if-not-look_on.false c.if-not-look_on.ensures.look c.refuse.new.self (Ends (Refused SelfFailed))
           (follows_ends (g.W.Words.name c.args.world.now.words).limits c.look_on.new.self c.args.asked.now (Refused SelfFailed) c.refuse.new.self (ap (λ (w : Record). w.seen) c.refuse.ensures));
       further = search rules;
       adds = search rules;
       sees = search rules;
+      looks = λ at. ends_loads g (goal.at.returns-then-has_rank-clause-turn g c).After-look_on c.if-not-look_on.false c.if-not-look_on.ensures.look c.refuse.new.self (ap (λ (w : Record). w.seen) c.refuse.ensures) (Ends (Refused SelfFailed)) (λ declared. refl);
+      knows = λ known of. absurd (cc of);
       leads = search rules;
       turns = let name = g.W.Words.name c.args.world.now.words in
           let now = g.W.Words.sight c.args.pass.now in
@@ -93,8 +119,8 @@ returns-then-has_rank g c =
           (c.refuse.ensures ∙ (ap (λ (w : Record). record w { refused = true }) own ∙ ap (λ s. record old { seen = s; refused = true }) found));
     }
 
-pub returns : goal.returns
-returns g c =
+pub returns-clause-turn : goal.returns-clause-turn
+returns-clause-turn g c =
     λ group.
     record {
       walks = search rules;
@@ -111,11 +137,16 @@ returns g c =
           let begins = subst (IsPrefix own.seen) (sym found) (prefix_trans own.seen (failures now.seen) (failures after.seen) at.3.0 grown) in
           fewer_more name.limits c.looked.new.self c.args.asked.now _ _
           (looks_up name.limits own new c.args.asked.now c.look_on.ensures.kept at.3.1 (length_prefix own.seen new.seen begins)) c.looked.result c.looked.ensures.nearer;
-      spends = ends_look g (goal.at.returns g c).After-look_on c.if-not-look_on.false c.looked.new.self c.looked.result c.looked.ensures.nearer;
-      also = ends_look_also g (goal.at.returns g c).After-look_on c.if-not-look_on.false c.if-not-look_on.ensures.look c.looked.new.self c.looked.result c.looked.ensures.also;
+      spends = ends_look g (goal.at.returns-clause-turn g c).After-look_on c.if-not-look_on.false c.looked.new.self c.looked.result c.looked.ensures.nearer;
+      also = ends_look_also g (goal.at.returns-clause-turn g c).After-look_on c.if-not-look_on.false c.if-not-look_on.ensures.look c.looked.new.self c.looked.result c.looked.ensures.also;
       further = search rules;
       adds = search rules;
       sees = search rules;
+      looks = λ at. ends_loads g (goal.at.returns-clause-turn g c).After-look_on c.if-not-look_on.false c.if-not-look_on.ensures.look c.looked.new.self c.looked.ensures.also.sees c.looked.result
+          (λ declared. absurd (false≢true (sym c.if-has_rank.false ∙ (c.has_rank.ensures ∙ (ap₂ has (c.failures.ensures ∙ sym c.looked.ensures.also.sees) (c.number.ensures ∙ ap (λ (w : Record). w.number) c.look_on.ensures.kept) ∙ declared)))));
+      knows = λ known.
+          let cached = (g.W.Words.sight c.look_on.new.pass).cached in
+          next_same c.look_on.new.self c.args.self.now c.args.asked.now cached (λ comm. sym (ap (λ (w : Record). held_at w comm) c.look_on.ensures.kept)) c.looked.result (c.looked.ensures.knows cached);
       leads = search rules;
       turns = λ alone only old before u.
           let now = g.W.Words.sight c.args.pass.now in
@@ -137,3 +168,12 @@ returns g c =
             };
           });
     }
+
+pub returns-then-not-look_on-clause-past : goal.returns-then-not-look_on-clause-past
+returns-then-not-look_on-clause-past g c = λ all. absurd (false≢true (sym c.if-not-look_on.true ∙ c.look_on.ensures.done all))
+
+pub returns-then-has_rank-clause-past : goal.returns-then-has_rank-clause-past
+returns-then-has_rank-clause-past g c = λ all. tt
+
+pub returns-clause-past : goal.returns-clause-past
+returns-clause-past g c = λ all. below_past c.looked.result c.looked.ensures.further

@@ -3,6 +3,8 @@ use Rattle.ulfm_model.specs.Records.{Held, held_at}
 use Rattle.ulfm_comm.proofs.Agreement.{marking_any, marking_few, marking_goes, marking_may_on, marking_reads, marking_unknown}
 use Rattle.ulfm_comm.proofs.StepsLeft.{marks_read}
 use Rattle.ulfm_comm.proofs.StepAdds.{adds_marked}
+use Rattle.ulfm_steps.specs.Blocks.{AreSet}
+use Rattle.ulfm_steps.proofs.KnownBlocks.{set_later}
 use Rattle.ulfm_comm.specs.Step.{Adds}
 use Rattle.std.proofs.Common.{Option}
 use Rattle.ulfm_model.specs.declared.reply.Reply.{Reply}
@@ -28,6 +30,10 @@ adds g c reply not =
     adds_marked g.P.Meld.meld g.W.Words.alone (g.W.Words.name c.args.world.now.words) c.args.asked.now c.args.marks c.args.blocks c.args.shrinks s.0 s.1.0 s.1.1 c.args.self.now (g.W.Words.sight c.args.pass.now) after c.requires.of s.1.2 reply
     (rw (← c.failures-seen.ensures) (c.advance.ensures.once not))
 
+-- what it knows of blocks it still knows
+later : (g : _) (c : After-advance g) → AreSet (g.W.Words.sight c.args.pass.now).cached c.args.marks.comm c.args.marks.round c.args.blocks → AreSet (g.W.Words.sight c.advance.new.pass).cached c.args.marks.comm c.args.marks.round c.args.blocks
+later g c known = set_later (g.W.Words.sight c.args.pass.now).cached (g.W.Words.sight c.advance.new.pass).cached c.args.marks.comm c.args.marks.round c.args.blocks c.advance.ensures.marks.marks.cached known
+
 pub returns-then-marks-seen : goal.returns-then-marks-seen
 returns-then-marks-seen g c =
     λ group.
@@ -40,6 +46,8 @@ returns-then-marks-seen g c =
       further = search rules;
       adds = adds g (goal.at.returns-then-marks-seen g c).After-advance _;
       sees = search rules;
+      looks = λ at. absurd (cc at);
+      knows = λ known. rw (c.advance.ensures.comm, c.advance.ensures.round) (later g (goal.at.returns-then-marks-seen g c).After-advance known);
       leads = search rules;
       turns = λ alone only old before stands.
           marking_goes g.P.Meld.meld (g.W.Words.name c.args.world.now.words) c.args.asked.now c.args.marks c.args.blocks c.args.shrinks group c.args.self.now (g.W.Words.sight c.args.pass.now) c.requires.of
@@ -88,6 +96,8 @@ returns g c =
       further = search rules;
       adds = adds g (goal.at.returns g c).After-advance _;
       sees = search rules;
+      looks = λ at. absurd (cc at);
+      knows = λ known. rw (c.new.ensures, c.advance.ensures.comm, c.advance.ensures.round) (later g (goal.at.returns g c).After-advance known);
       leads = search rules;
       turns = λ alone only old before stands.
           marking_reads g.P.Meld.meld (g.W.Words.name c.args.world.now.words) c.args.asked.now c.args.marks c.args.blocks c.args.shrinks group c.args.self.now (g.W.Words.sight c.args.pass.now) c.requires.of

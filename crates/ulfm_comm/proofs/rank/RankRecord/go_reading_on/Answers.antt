@@ -1,11 +1,12 @@
-use Rattle.std.proofs.Common.{rules, ◌≤◌, [], ap, arith, refl, ◌∙◌, IsTrue, Bool, false}
+use Rattle.std.proofs.Common.{rules, ◌≤◌, [], ap, arith, refl, subst, sym, ◌∙◌, IsTrue, Bool, false}
+use mathlib.Core.List.{IsPrefix}
 use Rattle.ulfm_model.specs.Records.{held_at, Record}
 use Rattle.ulfm_model.specs.Terms.{comm_of}
 use Rattle.ulfm_words.specs.Steps.{Sight}
 use Rattle.ulfm_steps.specs.ReadsOn.{AtFailure}
 use Rattle.ulfm_comm.specs.{Spawning.{HasReached}, Phase.{Stands}}
 use Rattle.ulfm_comm.specs.declared.phases.phase.Phase.TheVariants.{ReadingOn as AtReadingOn}
-use Rattle.ulfm_comm.proofs.{AlsoLeft.{also_reached, also_reads_on}, StepsLeft.{below_more}}
+use Rattle.ulfm_comm.proofs.{AlsoLeft.{also_reached, also_reads_on}, Known.{blocks_later, known_next}, StepsLeft.{below_more}}
 use Rattle.ulfm_comm.proofs.Spawning.{has_reached, held_is, may_read_on, reads_further}
 use Rattle.ulfm_comm.proofs.AmongOthers.{did_loosely}
 use Rattle.ulfm_comm.proofs.rank.RankRecord.go_reading_on.Goals as goal
@@ -61,14 +62,16 @@ pub returns-then-on-made : goal.returns-then-on-made
 returns-then-on-made g c =
     record {
       walks = let goes = c.read_on.ensures.goes in
-          record { of = goes.of; own = []; did = goes.did; onward = goes.onward };
+          record { of = goes.of; own = []; did = goes.did; onward = goes.onward; cached = goes.cached };
       named = search rules;
       nearer = search rules;
       spends = search rules;
       also = λ all. also_reads_on (g.W.Words.name c.args.world.now.words).limits c.args.asked.now c.args.self.now c.read_on.new.self c.read_on.new.self (g.W.Words.sight c.args.pass.now) (g.W.Words.sight c.read_on.new.pass) c.args.on c.args.made _ c.read_on.ensures.further refl (omega arith) (omega arith);
       further = search rules;
       adds = search rules;
-      sees = search rules;
+      sees = c.read_on.ensures.goes_on;
+      looks = λ at. absurd (cc at);
+      knows = λ stand. blocks_later c.args.self.now c.args.asked.now (g.W.Words.sight c.args.pass.now).cached (g.W.Words.sight c.read_on.new.pass).cached c.read_on.ensures.goes.cached stand;
       leads = search rules;
       turns = λ alone only old before s.
           let now = g.W.Words.sight c.args.pass.now in
@@ -83,7 +86,7 @@ pub returns : goal.returns
 returns g c =
     record {
       walks = let goes = c.read_on.ensures.goes in
-          record { of = goes.of; own = []; did = goes.did; onward = goes.onward };
+          record { of = goes.of; own = []; did = goes.did; onward = goes.onward; cached = goes.cached };
       named = search rules;
       nearer = search rules;
       spends = search rules;
@@ -92,7 +95,12 @@ returns g c =
           (also_reached (g.W.Words.name c.args.world.now.words).limits c.reached.new.self c.args.asked.now c.reached.result c.reached.ensures.further c.reached.ensures.nearer) (below_more 4 5 (omega arith) c.reached.result c.reached.ensures.further);
       further = search rules;
       adds = search rules;
-      sees = search rules;
+      sees = subst (IsPrefix c.args.self.now.seen) (sym c.reached.ensures.sees) c.read_on.ensures.goes_on;
+      looks = λ at. absurd (cc at);
+      knows = λ stand.
+          let cached = (g.W.Words.sight c.read_on.new.pass).cached in
+          known_next c.args.self.now c.args.asked.now cached c.reached.result (below_more 4 5 (omega arith) c.reached.result c.reached.ensures.further)
+          (blocks_later c.args.self.now c.args.asked.now (g.W.Words.sight c.args.pass.now).cached cached c.read_on.ensures.goes.cached stand);
       leads = search rules;
       turns = λ alone only old before s.
           c.reached.ensures.turns alone old before (reached g (goal.at.returns g c).After-read_on alone only old before s c.if-on-made.false);

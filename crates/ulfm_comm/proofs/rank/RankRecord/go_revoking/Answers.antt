@@ -1,10 +1,11 @@
-use Rattle.std.proofs.Common.{rules, ◌≡◌, arith, Bool, List, ℕ, [], IsTrue, MatchBool, ap, refl, subst, sym}
+use Rattle.std.proofs.Common.{rules, ◌≡◌, arith, Bool, List, ℕ, [], IsTrue, MatchBool, ap, refl, subst, sym, ◌∙◌}
+use Rattle.std.proofs.lemmas.Bool.{false≢true}
 use Rattle.ulfm_model.specs.declared.{event.Caller.TheVariants.{Rank}, event.Event.TheVariants.{Revoke}, reply.Reply.{Reply}, reply.Reply.TheVariants.{AlreadyRevoked, Revoked}}
 use Rattle.ulfm_model.specs.{History.{is_revoked}, Runs.{Did}, Terms.{comm_of}}
 use Rattle.ulfm_words.specs.Steps.{IsAdded}
 use Rattle.ulfm_comm.specs.{Revokes.{revoked}, Phase.{Answered, Turns}, Look.{HasLooked}, Step.{TakesTurn, Walks}}
 use Rattle.ulfm_comm.specs.declared.{phases.phase.Next.TheVariants.{Ends}, phases.phase.Phase.TheVariants.{Revoking}}
-use Rattle.ulfm_comm.proofs.{AlsoLeft.{also_ends}, Exchange.{asked_below, asked_may_end, revoke_answered, walks_tried}, StepAdds.{adds_revoked}}
+use Rattle.ulfm_comm.proofs.{AlsoLeft.{also_ends}, Exchange.{asked_below, asked_may_end, revoke_answered, walks_tried}, Known.{revoked_of_none}, StepAdds.{adds_revoked}}
 use Rattle.ulfm_comm.proofs.rank.RankRecord.go_revoking.Goals as goal
 use Rattle.ulfm_comm.proofs.rank.RankRecord.go_revoking.Goals.{After-set_revocation}
 
@@ -23,7 +24,7 @@ outcome g c = rw (← c.number.ensures, ← c.comm_of.ensures) c.set_revocation.
 walks : (g : _) (c : After-set_revocation g) → Walks g.P.Meld.meld g.W.Words.alone (g.W.Words.name c.args.world.now.words) c.args.self.now.number (g.W.Words.sight c.args.pass.now) (g.W.Words.sight c.set_revocation.new.pass)
 walks g c =
     walks_tried g.P.Meld.meld g.W.Words.alone (g.W.Words.name c.args.world.now.words) c.args.self.now.number (g.W.Words.sight c.args.pass.now) (g.W.Words.sight c.set_revocation.new.pass)
-    c.set_revocation.ensures.tries.of c.set_revocation.ensures.tries.steps c.set_revocation.result (Revoke (comm_of c.args.asked.now)) (outcome g c)
+    c.set_revocation.ensures.tries.of c.set_revocation.ensures.tries.steps c.set_revocation.ensures.tries.cached c.set_revocation.result (Revoke (comm_of c.args.asked.now)) (outcome g c)
 
 -- the revocation is answered by whether this call made it
 answered : (g : _) (c : After-set_revocation g) (group : List ℕ)
@@ -58,6 +59,8 @@ ends g c reply is = λ group whole.
       further = λ all. tt;
       adds = λ not. adds_revoked g.P.Meld.meld g.W.Words.alone name.limits c.args.asked.now s.0 s.1.seen own now.seen after.seen c.requires.of.legal s.2.at.0 s.0.number s.2.at.1 c.set_revocation.result (outcome g c);
       sees = refl;
+      looks = λ at. absurd (cc at);
+      knows = λ known of. absurd (false≢true (sym (revoked_of_none g.row.P.Denot c.set_revocation.result) ∙ of));
       leads = tt;
       turns = answered g c group;
     })

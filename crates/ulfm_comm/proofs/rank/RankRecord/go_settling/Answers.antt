@@ -2,14 +2,15 @@ use Rattle.std.proofs.Common.{rules, ◌≡◌, ℕ, arith, Bool, false, List, S
 use Rattle.ulfm_model.specs.Records.{Record}
 use Rattle.ulfm_comm.proofs.StepAdds.{adds_settled, start_keeps}
 use Rattle.ulfm_model.specs.declared.{reply.Reply.{Reply}, reply.Reply.TheVariants.{Started}}
-use Rattle.ulfm_comm.specs.{Calls.{reply_of}, Step.{Adds, TakesTurn}, Phase.{Answered, Turns}}
+use Rattle.std.proofs.lemmas.Bool.{false≢true}
+use Rattle.ulfm_comm.specs.{Calls.{reply_of}, Requests.{is_of_round}, Step.{Adds, TakesTurn}, Phase.{Answered, Turns}}
 use Rattle.ulfm_comm.specs.declared.{phases.phase.Next.TheVariants.{Ends}, phases.phase.Phase.TheVariants.{Settling}}
 use Rattle.ulfm_model.specs.declared.place.Place.TheVariants.{Slot as SlotAt}
 use Rattle.ulfm_model.specs.Terms.{comm_of}
 use Rattle.ulfm_steps.specs.Turns.{IsOneStep}
 use Rattle.ulfm_comm.specs.StepsLeft.{IsStepOf}
 use Rattle.ulfm_model.specs.declared.step_name.StepName.TheVariants.{Settle as AtSettle}
-use Rattle.ulfm_comm.proofs.{AlsoLeft.{also_ends}, Holding.{comm_is, found_there}, Exchange.{fits_now, seen_is, start_answered, walks_settled}, Starts.{acked_known}}
+use Rattle.ulfm_comm.proofs.{AlsoLeft.{also_ends}, Holding.{comm_is, found_there}, Exchange.{fits_now, seen_is, start_answered, walks_settled}, Known.{start_of_none}, Starts.{acked_known}}
 use Rattle.ulfm_comm.proofs.rank.RankRecord.go_settling.Goals as goal
 use Rattle.ulfm_comm.proofs.rank.RankRecord.go_settling.Goals.{After-end_start}
 
@@ -74,7 +75,7 @@ ends : (g : _) (c : After-end_start g) (reply : Reply g.row.P.Denot) → reply_o
 ends g c reply is = λ group whole.
     record {
       walks = walks_settled g.P.Meld.meld g.W.Words.alone (g.W.Words.name c.args.world.now.words) c.args.self.now.number (g.W.Words.sight c.args.pass.now) (g.W.Words.sight c.contribute-settled.new.pass)
-          c.contribute-settled.ensures.of c.contribute-settled.ensures.one.steps c.args.self.now c.held_comm-x.result.now c.args.offer c.contribute-settled.result refl c.contribute-settled.ensures.settles;
+          c.contribute-settled.ensures.of c.contribute-settled.ensures.one.steps c.contribute-settled.ensures.cached c.args.self.now c.held_comm-x.result.now c.args.offer c.contribute-settled.result refl c.contribute-settled.ensures.settles;
       named = λ not. named g c;
       nearer = λ not. tt;
       spends = omega (arith, c.contribute-settled.ensures.one.steps);
@@ -84,6 +85,10 @@ ends g c reply is = λ group whole.
       further = search rules;
       adds = λ not. subst (λ r. Adds g.W.Words.alone c.args.self.now.seen c.args.self.now c.args.asked.now (Some r) (g.W.Words.sight c.args.pass.now).seen (g.W.Words.sight c.contribute-settled.new.pass).seen) is (adds g c);
       sees = ap (λ (w : Record). w.seen) c.end_start.ensures.leaves ∙ start_keeps c.args.self.now _ c.args.request c.contribute-settled.result;
+      looks = λ at. absurd (cc at);
+      knows = λ known of.
+          let none = ap (λ r. is_of_round {P = g.row.P.Denot} (reply_of (λ _. Started) r)) c.end_start.ensures.result ∙ start_of_none c.contribute-settled.result in
+          absurd (false≢true (sym none ∙ (ap is_of_round is ∙ of)));
       leads = search rules;
       turns = λ alone only old before stands.
           subst (λ r. Answered g.P.Meld.meld alone (g.W.Words.name c.args.world.now.words) c.args.asked.now old before r c.end_start.new.self (g.W.Words.sight c.contribute-settled.new.pass)) is (answered g c group alone only old before stands);

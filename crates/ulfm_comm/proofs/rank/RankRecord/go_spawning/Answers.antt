@@ -3,7 +3,7 @@ use Rattle.ulfm_model.specs.{Records.{Record}}
 use Rattle.ulfm_steps.specs.declared.item.Item.TheVariants.{Comm as OfComm}
 use Rattle.ulfm_comm.specs.{Phase.{IsFurther, IsMaking, Turns, reply_in}, Spawning.{SpawnIs}, Step.{TakesTurn}, StepsLeft.{FewerLeft, Spends, steps_left}}
 use Rattle.ulfm_comm.specs.AlsoLeft.{AlsoSpends, FindsSetIn, also_left}
-use Rattle.ulfm_comm.proofs.AlsoLeft.{also_ends, also_spawns}
+use Rattle.ulfm_comm.proofs.{AlsoLeft.{also_ends, also_spawns}, Known.{blocks_later, known_making}}
 use Rattle.ulfm_comm.proofs.Spawning.{item_is, may_step, may_take, spawn_adds, spawn_full, spawn_goes_on, spawn_makes, spawn_walks}
 use Rattle.ulfm_comm.specs.declared.{phases.phase.Next.{Next}, phases.phase.Phase.TheVariants.{Spawning}, phases.spawning.Spawned.{Spawned}}
 use Rattle.ulfm_comm.specs.declared.phases.spawning.Spawned.TheVariants as spawned
@@ -42,10 +42,11 @@ spawns : (g : _) (c : After-spawn g) (result : Spawned) (next : Next g.row.P.Den
     → TakesTurn g.P.Meld.meld g.W.Words.alone c.args.whole (g.W.Words.name c.args.world.now.words) c.args.asked.now (Spawning c.args.append c.args.context c.args.reach) c.args.group.now.items c.args.self.now (g.W.Words.sight c.args.pass.now) next left new (g.W.Words.sight c.spawn.new.pass)
 spawns g c result next left new is nearer spends further sees leads also turns =
     let s = c.requires.stands in
+    let walks = spawn_walks g.P.Meld.meld false g.W.Words.alone (λ here. absurd (cc here)) (g.W.Words.name c.args.world.now.words) c.args.asked.now c.args.append c.args.context c.args.reach c.args.group.now.items s.0 s.1 c.args.self.now (g.W.Words.sight c.args.pass.now)
+    c.requires.of s.2 c.comm_of-comm.result c.comm_of-comm.ensures
+    c.spawn.new.append c.spawn.new.self (g.W.Words.sight c.spawn.new.pass) result is in
     record {
-      walks = spawn_walks g.P.Meld.meld false g.W.Words.alone (λ here. absurd (cc here)) (g.W.Words.name c.args.world.now.words) c.args.asked.now c.args.append c.args.context c.args.reach c.args.group.now.items s.0 s.1 c.args.self.now (g.W.Words.sight c.args.pass.now)
-          c.requires.of s.2 c.comm_of-comm.result c.comm_of-comm.ensures
-          c.spawn.new.append c.spawn.new.self (g.W.Words.sight c.spawn.new.pass) result is;
+      walks = walks;
       named = search rules;
       nearer = nearer;
       spends = spends;
@@ -56,6 +57,10 @@ spawns g c result next left new is nearer spends further sees leads also turns =
           c.requires.of s.2 c.comm_of-comm.result c.comm_of-comm.ensures
           c.spawn.new.append c.spawn.new.self (g.W.Words.sight c.spawn.new.pass) (reply_in next) result is;
       sees = sees;
+      looks = λ at. absurd (cc at);
+      knows = λ stand.
+          let cached = (g.W.Words.sight c.spawn.new.pass).cached in
+          known_making c.args.self.now c.args.asked.now cached next leads (blocks_later c.args.self.now c.args.asked.now (g.W.Words.sight c.args.pass.now).cached cached walks.cached stand);
       leads = leads;
       turns = turns;
     }

@@ -9,7 +9,7 @@ use Rattle.ulfm_model.specs.declared.{call.Call.{Call}, limits.Limits.{Limits}, 
 use Rattle.ulfm_words.specs.Steps.{Sight}
 use Rattle.ulfm_steps.specs.{Arriving.{arrivals_left}, Turns.{IsOneStep}}
 use Rattle.ulfm_steps.specs.declared.arrivals.{Arrivals.{Arrivals}, Missing.{Missing}}
-use Rattle.ulfm_comm.specs.AlsoLeft.{AlsoSpends, also_left}
+use Rattle.ulfm_comm.specs.{AlsoLeft.{AlsoSpends, also_left}, Known.{KnowsNext}}
 use Rattle.ulfm_comm.proofs.AlsoLeft.{also_checks, also_waits}
 use Rattle.ulfm_comm.proofs.Barrier.{waiting_checks, waiting_ends, waiting_goes, waiting_may}
 use Rattle.ulfm_comm.proofs.rank.RankRecord.go_waiting.Goals as goal
@@ -100,14 +100,14 @@ held g c = ap (held_at c.args.self.now) (sym c.comm_of.ensures) ∙ c.held_comm-
 -- the loads leave what the rank holds and has seen
 waits : (g : _) (c : After-advance g) (next : Next g.row.P.Denot) → (c.args.whole ≡ false → FewerLeft (steps_left (g.W.Words.name c.args.world.now.words).limits c.args.self.now c.args.asked.now (Waiting c.args.arrivals)) (g.W.Words.name c.args.world.now.words).limits c.args.self.now c.args.asked.now next)
     → Spends (steps_left (g.W.Words.name c.args.world.now.words).limits c.args.self.now c.args.asked.now (Waiting c.args.arrivals)) (g.W.Words.name c.args.world.now.words).limits c.args.self.now c.args.asked.now next (g.W.Words.sight c.args.pass.now) (g.W.Words.sight c.advance.new.pass)
-    → (c.args.whole ≡ true → IsFurther (Waiting c.args.arrivals) next) → LeadsTo (Waiting c.args.arrivals) next
+    → (c.args.whole ≡ true → IsFurther (Waiting c.args.arrivals) next) → LeadsTo (Waiting c.args.arrivals) next → KnowsNext c.args.self.now c.args.asked.now (g.W.Words.sight c.advance.new.pass).cached next
     → AlsoSpends (also_left (g.W.Words.name c.args.world.now.words).limits c.args.self.now c.args.asked.now (Waiting c.args.arrivals)) (g.W.Words.name c.args.world.now.words).limits c.args.asked.now c.args.self.now (g.W.Words.sight c.args.pass.now) next c.args.self.now (g.W.Words.sight c.advance.new.pass)
     → ((group : List ℕ) → Turns g.P.Meld.meld g.W.Words.alone (g.W.Words.name c.args.world.now.words) c.args.asked.now (Waiting c.args.arrivals) group c.args.self.now (g.W.Words.sight c.args.pass.now) next group c.args.self.now (g.W.Words.sight c.advance.new.pass))
     → (group : List ℕ) → TakesTurn g.P.Meld.meld g.W.Words.alone c.args.whole (g.W.Words.name c.args.world.now.words) c.args.asked.now (Waiting c.args.arrivals) group c.args.self.now (g.W.Words.sight c.args.pass.now) next group c.args.self.now (g.W.Words.sight c.advance.new.pass)
-waits g c next nearer spends further leads also turns = λ group.
+waits g c next nearer spends further leads knows also turns = λ group.
     let goes = c.advance.ensures.goes in
     record {
-      walks = record { of = goes.of; own = []; did = goes.did; onward = goes.onward };
+      walks = record { of = goes.of; own = []; did = goes.did; onward = goes.onward; cached = goes.cached };
       named = λ single. wait_named c.args.arrivals c.args.self.now.number (comm_of c.args.asked.now) _ (g.W.Words.sight c.args.pass.now) (g.W.Words.sight c.advance.new.pass) c.requires.stands.1.2.at.1 (c.advance.ensures.takes.one single);
       nearer = nearer;
       spends = spends;
@@ -115,6 +115,8 @@ waits g c next nearer spends further leads also turns = λ group.
       further = further;
       adds = λ single. goes.did;
       sees = refl;
+      looks = λ at. absurd (cc at);
+      knows = λ known. knows;
       leads = leads;
       turns = turns group;
     }
@@ -127,7 +129,7 @@ returns-in-None-clause-turn g c =
     let after = g.W.Words.sight c.advance.new.pass in
     let takes = c.in-None.ensures.takes in
     let spends = waits_on limits c.args.self.now c.args.asked.now c.held_comm-x.result.now (held g at) c.deref.result.now c.failures.result.now (members g at) c.failures.ensures c.args.arrivals now.steps after.steps c.advance.new.self takes.turns in
-    waits g (goal.at.returns-in-None-clause-turn g c).After-advance _ (λ single. fewer after.steps (steps_left limits c.args.self.now c.args.asked.now (Waiting c.advance.new.self)) now.steps (steps_left limits c.args.self.now c.args.asked.now (Waiting c.args.arrivals)) spends takes.some) spends (λ whole. absurd (false≢true (sym c.in-None.ensures.done ∙ whole))) refl
+    waits g (goal.at.returns-in-None-clause-turn g c).After-advance _ (λ single. fewer after.steps (steps_left limits c.args.self.now c.args.asked.now (Waiting c.advance.new.self)) now.steps (steps_left limits c.args.self.now c.args.asked.now (Waiting c.args.arrivals)) spends takes.some) spends (λ whole. absurd (false≢true (sym c.in-None.ensures.done ∙ whole))) refl tt
     (also_waits limits c.args.asked.now c.args.self.now now after c.args.arrivals c.advance.new.self spends) (λ group alone only old before stands.
     waiting_goes g.P.Meld.meld (g.W.Words.name c.args.world.now.words) c.args.asked.now c.args.arrivals group c.args.self.now (g.W.Words.sight c.args.pass.now) c.requires.of
     c.held_comm-x.result.now c.comm_of.result c.held_comm-x.ensures c.comm_of.ensures c.deref.result.now c.failures.result.now (members g (goal.at.returns-in-None-clause-turn g c).After-deref) c.failures.ensures alone old before stands
@@ -141,7 +143,7 @@ returns-in-Some-clause-turn g c =
     let after = g.W.Words.sight c.advance.new.pass in
     let takes = c.in-Some.ensures.takes in
     let spends = waits_over limits c.args.self.now c.args.asked.now c.held_comm-x.result.now (held g at) c.deref.result.now c.failures.result.now (members g at) c.failures.ensures c.args.arrivals now.steps after.steps (ended after.steps _ takes.turns) in
-    waits g (goal.at.returns-in-Some-clause-turn g c).After-advance _ (λ single. fewer after.steps 1 now.steps (steps_left limits c.args.self.now c.args.asked.now (Waiting c.args.arrivals)) spends takes.some) spends (λ whole. nearest) refl
+    waits g (goal.at.returns-in-Some-clause-turn g c).After-advance _ (λ single. fewer after.steps 1 now.steps (steps_left limits c.args.self.now c.args.asked.now (Waiting c.args.arrivals)) spends takes.some) spends (λ whole. nearest) refl tt
     (also_checks limits c.args.asked.now c.args.self.now now after c.args.arrivals c.in-Some.missing spends) (λ group alone only old before stands.
     waiting_ends g.P.Meld.meld (g.W.Words.name c.args.world.now.words) c.args.asked.now c.args.arrivals group c.args.self.now (g.W.Words.sight c.args.pass.now) c.requires.of
     c.held_comm-x.result.now c.comm_of.result c.held_comm-x.ensures c.comm_of.ensures c.deref.result.now c.failures.result.now (members g (goal.at.returns-in-Some-clause-turn g c).After-deref) c.failures.ensures alone old before stands

@@ -1,6 +1,6 @@
 use Rattle.std.proofs.Common.{ap, refl, sym, ◌∙◌}
 use Rattle.ulfm_model.specs.Records.{held_at}
-use Rattle.ulfm_comm.proofs.{AlsoLeft.{follows_ends}, Look.{just_missing, just_refused}}
+use Rattle.ulfm_comm.proofs.{AlsoLeft.{follows_ends}, Known.{refused_stand}, Look.{just_missing, just_refused}}
 use Rattle.ulfm_comm.proofs.rank.RankRecord.looked.Goals as goal
 
 pub returns-in_default-clause-turns : goal.returns-in_default-clause-turns
@@ -24,3 +24,10 @@ returns-in_default-clause-also g c = follows_ends (g.W.Words.name c.args.world.n
 
 pub returns-in-Some-refusal-clause-also : goal.returns-in-Some-refusal-clause-also
 returns-in-Some-refusal-clause-also g c = follows_ends (g.W.Words.name c.args.world.now.words).limits c.args.self.now c.args.asked.now _ _ refl
+
+pub returns-in_default-clause-knows : goal.returns-in_default-clause-knows
+returns-in_default-clause-knows g c = λ cached of. absurd (cc of)
+
+pub returns-in-Some-refusal-clause-knows : goal.returns-in-Some-refusal-clause-knows
+returns-in-Some-refusal-clause-knows g c = λ cached of.
+    refused_stand c.args.self.now c.in-Some.x.now c.args.asked.now c.in-Some-refusal.refusal cached (ap (held_at c.args.self.now) (sym c.comm_of.ensures) ∙ c.in-Some.ensures.held) (sym c.refusal.ensures ∙ c.in-Some-refusal.is)

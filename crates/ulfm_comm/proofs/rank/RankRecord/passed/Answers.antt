@@ -143,3 +143,12 @@ returns-in-Ack-clause-also g c = follows_ends (g.W.Words.name c.args.world.now.w
 
 pub returns-in-Free-clause-also : goal.returns-in-Free-clause-also
 returns-in-Free-clause-also g c = follows_ends (g.W.Words.name c.args.world.now.words).limits c.args.self.now c.args.asked.now _ _ (ap (λ (w : Record). w.seen) c.release.ensures)
+
+pub returns-in-GetFailed-clause-knows : goal.returns-in-GetFailed-clause-knows
+returns-in-GetFailed-clause-knows g c = λ cached of. absurd (cc of)
+
+pub returns-in-Ack-clause-knows : goal.returns-in-Ack-clause-knows
+returns-in-Ack-clause-knows g c = λ cached of. absurd (cc of)
+
+pub returns-in-Free-clause-knows : goal.returns-in-Free-clause-knows
+returns-in-Free-clause-knows g c = λ cached of. absurd (cc of)

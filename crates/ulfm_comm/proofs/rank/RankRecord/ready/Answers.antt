@@ -1,7 +1,7 @@
 use Rattle.std.proofs.Common.{◌≡◌, ◌<◌, false, length, ap, sym, ◌∙◌, subst}
 use Rattle.std.specs.List.Sorted.{IsStrictlyIncreasing}
 use Rattle.ulfm_model.specs.Records.{Fits, Held, held_at}
-use Rattle.ulfm_comm.proofs.{AlsoLeft.{follows_peeks, follows_waits}, StepsLeft.{passes_none, peeking_after, waiting_after}}
+use Rattle.ulfm_comm.proofs.{AlsoLeft.{follows_peeks, follows_waits}, Known.{knows_none}, StepsLeft.{passes_none, peeking_after, waiting_after}}
 use Rattle.ulfm_comm.proofs.{Holding.{group_rises, holds}, Ready.{just_fits, ready_peeking, ready_waiting}, Agreement.{some_member}}
 use Rattle.ulfm_comm.proofs.rank.RankRecord.ready.Goals as goal
 use Rattle.ulfm_comm.proofs.rank.RankRecord.ready.Goals.{After-held_comm-x, After-deref}
@@ -76,3 +76,6 @@ returns-clause-also g c =
     let member = (holds g.P.Meld.meld name.limits (g.W.Words.sight c.args.pass.now).seen c.args.self.now c.comm_of-comm.result _ here c.held_comm-x.ensures).member in
     follows_peeks name.limits c.args.self.now c.args.asked.now polls.0 polls.1 polls.2 (passes_none c.args.self.now c.args.asked.now c.requires.passes) c.held_comm-x.result.now held
     c.in-Some-agreement.round c.in-Some-agreement.shrinks c.new-peek.result (sym (ap (λ (y : Held). y.request) c.x.view_is) ∙ c.in-Some-agreement.ensures) (c.new-peek.ensures.comm ∙ c.comm_of-comm.ensures) c.new-peek.ensures.round c.new-peek.ensures.side (some_member _ _ member)
+
+pub returns-clause-knows : goal.returns-clause-knows
+returns-clause-knows g c = λ cached. knows_none cached c.new-peek.result.comm c.new-peek.result.round c.new-peek.result.blocks c.new-peek.ensures.none

@@ -28,6 +28,7 @@ returns-in_default-clause-spawns g c = λ k is.
         passed = subst (λ (item : Item). Passed (g.W.Words.sight c.advance.new.pass).seen item c.advance.new.self.index) is ensures.passed;
         more = subst (λ (item : Item). c.advance.new.self.index < room item (g.W.Words.name c.args.words.now).limits) is ensures.within;
         onward = ensures.goes.onward;
+        cached = ensures.goes.cached;
       },
       refl,
     )

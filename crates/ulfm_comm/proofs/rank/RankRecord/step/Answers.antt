@@ -57,12 +57,15 @@ stepped g c =
     (sym (same g at)) (record {
       of = c.go.ensures.turn.walks.of;
       onward = c.go.ensures.turn.walks.onward;
+      cached = c.go.ensures.turn.walks.cached;
       named = c.go.ensures.turn.named refl;
       nearer = c.go.ensures.turn.nearer refl;
       also = c.go.ensures.turn.also;
       over = c.go.ensures.over;
       adds = c.go.ensures.turn.adds refl;
       sees = c.go.ensures.turn.sees;
+      looks = c.go.ensures.turn.looks;
+      knows = c.go.ensures.turn.knows;
       leads = c.go.ensures.turn.leads;
       checks = c.go.ensures.checks;
       early = c.go.ensures.early;

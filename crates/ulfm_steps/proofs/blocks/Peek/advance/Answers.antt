@@ -45,4 +45,5 @@ returns g c =
           let still = has_block_stays x.cached y.cached (block_at c.step-2.new.self.comm c.step-2.new.self.round Back) first.goes.cached has in
           c.step-2.ensures.back here still;
       kept = search rules;
+      sets = λ are. (rw (first.comm, first.round) at then.sets) (first.sets are);
     }

@@ -3,7 +3,7 @@ use Rattle.ulfm_model.specs.{Blocks.{block_of, has_block}, declared.block.Side.{
 use Rattle.ulfm_model.proofs.Blocks.{has_block_stays}
 use Rattle.ulfm_words.proofs.Trails.{did_prefix}
 use Rattle.ulfm_steps.specs.Blocks.{AreOf, Tells, block_at}
-use Rattle.ulfm_steps.proofs.{InBlocks.{are_later, few_members, told_of, within_of}, Reading.{round_stays}}
+use Rattle.ulfm_steps.proofs.{InBlocks.{are_later, few_members, told_of, within_of}, KnownBlocks.{set_back, set_front}, Reading.{round_stays}}
 use Rattle.ulfm_steps.proofs.blocks.Peek.step.Goals as goal
 use Rattle.ulfm_steps.proofs.blocks.Peek.step.Goals.{After-load_said-said}
 
@@ -44,6 +44,12 @@ finds g c side is has =
     let still = has_block_stays (g.W.Words.sight c.args.pass.now).cached new (block_at r.comm r.round side) e.cached has in
     sym e.known ∙ subst (λ s. has_block new (block_at r.comm r.round s) ≡ true) (sym is) still
 
+-- a block that was found set is known to be
+known : (g : _) (c : After-load_said-said g) (side : Side) → c.args.self.now.side ≡ side → is_some c.load_said-said.result ≡ true → has_block (g.W.Words.sight c.load_said-said.new.pass).cached (block_at c.args.self.now.comm c.args.self.now.round side) ≡ true
+known g c side is some =
+    let r = c.args.self.now in
+    subst (λ s. has_block (g.W.Words.sight c.load_said-said.new.pass).cached (block_at r.comm r.round s) ≡ true) is (c.load_said-said.ensures.peeks.known ∙ some)
+
 pub returns-in-Front-clause-peeks : goal.returns-in-Front-clause-peeks
 returns-in-Front-clause-peeks g c =
     let at = (goal.at.returns-in-Front-clause-peeks g c).After-load_said-said in
@@ -58,6 +64,9 @@ returns-in-Front-clause-peeks g c =
       front = finds g at Front;
       back = search rules;
       kept = search rules;
+      sets = λ are.
+          let r = c.args.self.now in
+          set_front (g.W.Words.sight c.args.pass.now).cached (g.W.Words.sight c.load_said-said.new.pass).cached r.comm r.round r.blocks c.load_said-said.ensures.peeks.cached are c.load_said-said.result (known g at Front c.in-Front.is);
     }
 
 pub returns-in-Back-clause-peeks : goal.returns-in-Back-clause-peeks
@@ -74,6 +83,9 @@ returns-in-Back-clause-peeks g c =
       front = search rules;
       back = λ _ _. finds g at Back c.in-Back.is;
       kept = search rules;
+      sets = λ are.
+          let r = c.args.self.now in
+          set_back (g.W.Words.sight c.args.pass.now).cached (g.W.Words.sight c.load_said-said.new.pass).cached r.comm r.round r.blocks c.load_said-said.ensures.peeks.cached are c.load_said-said.result (known g at Back c.in-Back.is);
     }
 
 pub returns-in-Back-clause-back : goal.returns-in-Back-clause-back

@@ -30,6 +30,7 @@ returns-then-not-whole g c =
       comm = e.comm ∙ inv.comm;
       round = e.round ∙ inv.round;
       tells = e.tells;
+      sets = λ are. e.sets (inv.sets are);
       ends = search rules;
     }
 
@@ -51,6 +52,7 @@ loop-found-preserved g c =
       round = e.round ∙ inv.round;
       round_of = rw (e.comm, e.round) (round_stays (g.W.Words.name c.args.words.now).limits now after c.loop-found.self.comm c.loop-found.self.round c.args.group.now (did_prefix g.W.Words.alone [] now after e.goes.did) inv.round_of);
       at = tells;
+      sets = λ are. (rw going at e.sets) (inv.sets are);
       first = λ not. absurd (cc (not, c.if-not-whole.false));
       turn = λ not. absurd (cc (not, c.if-not-whole.false));
       onward = omega (arith, inv.onward, e.goes.onward);

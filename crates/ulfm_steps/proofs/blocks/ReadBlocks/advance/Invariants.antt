@@ -2,7 +2,7 @@ use Rattle.std.proofs.Common.{◌≡◌, ◌+◌, ◌≤◌, [], false, length}
 use mathlib.Core.List.{IsPrefix}
 use Rattle.ulfm_model.specs.Runs.{Did}
 use Rattle.ulfm_words.specs.Steps.{IsOf}
-use Rattle.ulfm_steps.specs.{Blocks.{AtBlock, blocks_left}, Rounds.{IsRoundOf}}
+use Rattle.ulfm_steps.specs.{Blocks.{AreSet, AtBlock, blocks_left}, Rounds.{IsRoundOf}}
 use Rattle.ulfm_steps.proofs.blocks.ReadBlocks.advance.Given as goal
 
 abbrev pub invariant-loop-found : goal.invariant-loop-found
@@ -14,6 +14,7 @@ invariant-loop-found g l = record {
   round : l.self.round ≡ l.initial.self.round;
   round_of : IsRoundOf (g.W.Words.name l.words).limits (g.W.Words.sight l.pass).seen l.self.comm l.self.round l.group;
   at : AtBlock g.P.Meld.meld (g.W.Words.sight l.pass).seen l.group l.self;
+  sets : AreSet (g.W.Words.sight l.initial.pass).cached l.initial.self.comm l.initial.self.round l.initial.self.blocks → AreSet (g.W.Words.sight l.pass).cached l.self.comm l.self.round l.self.blocks;
   first : l.whole ≡ false → (g.W.Words.sight l.pass).steps ≡ (g.W.Words.sight l.initial.pass).steps;
   turn : l.whole ≡ false → l.self ≡ l.initial.self;
   onward : (g.W.Words.sight l.initial.pass).steps ≤ (g.W.Words.sight l.pass).steps;

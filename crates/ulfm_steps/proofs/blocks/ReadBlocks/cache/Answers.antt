@@ -1,9 +1,10 @@
-use Rattle.std.proofs.Common.{◌≡◌, ℕ, ◌+◌, ◌-◌, ◌≤◌, ◌∙◌, refl, length, ap, subst, sym, arith, false, nat_lt}
+use Rattle.std.proofs.Common.{◌≡◌, ℕ, ◌+◌, ◌-◌, ◌≤◌, ◌∙◌, refl, length, ap, subst, sym, arith, false, true, is_some, nat_lt}
 use Rattle.ulfm_model.proofs.Summed.{summed_none}
 use Rattle.ulfm_words.specs.Steps.{Goes}
 use Rattle.ulfm_words.proofs.Trails.{did_prefix}
-use Rattle.ulfm_steps.specs.{Blocks.{AreOf, Tells, blocks_left, is_whole, site_of}, Turns.{TakesAt}}
+use Rattle.ulfm_steps.specs.{Blocks.{AreOf, AreSet, Tells, blocks_left, is_whole, site_of}, Turns.{TakesAt}}
 use Rattle.ulfm_steps.proofs.InBlocks.{apart_lt, are_with, few_members, is_block, known_with, next_by, next_cost, takes_cache, within_of}
+use Rattle.ulfm_steps.proofs.KnownBlocks.{all_known, set_known}
 use Rattle.ulfm_steps.proofs.blocks.ReadBlocks.cache.Goals as goal
 use Rattle.ulfm_steps.proofs.blocks.ReadBlocks.cache.Goals.{Joined-self, in-Front, in-Back}
 
@@ -47,6 +48,13 @@ took g c after fewer =
     takes_cache g.P.Meld.meld g.W.Words.alone (g.W.Words.name c.args.words.now) c.args.group.now r _ (blocks_left (length c.args.group.now) r) after (g.W.Words.sight c.args.pass.now) _ (g.W.Words.sight c.cache.new.pass)
     (omega (arith, c.requires.all, c.requires.may.at.wide)) fewer c.cache.ensures
 
+-- it was put into its block, or stood there
+known_set : (g : _) (c : Joined-self g) → AreSet (g.W.Words.sight c.args.pass.now).cached c.args.self.now.comm c.args.self.now.round c.args.self.now.blocks
+    → AreSet (g.W.Words.sight c.cache.new.pass).cached c.args.self.now.comm c.args.self.now.round (known_with c.args.self.now.blocks c.args.self.now.side c.args.self.now.all)
+known_set g c are =
+    let r = c.args.self.now in
+    set_known (g.W.Words.sight c.args.pass.now).cached (g.W.Words.sight c.cache.new.pass).cached r.comm r.round r.blocks c.cache.ensures.cached are r.side r.all c.cache.ensures.set
+
 pub returns-in-Some : goal.returns-in-Some
 returns-in-Some g c =
     let at = (goal.at.returns-in-Some g c).Joined-self in
@@ -62,6 +70,9 @@ returns-in-Some g c =
       comm = ap (λ x. x.comm) is;
       round = ap (λ x. x.round) is;
       tells = rw is (subst (Tells meld new r.comm r.round group) c.in-Some.is tells);
+      sets = λ are.
+          let whole : is_whole (known_with r.blocks r.side r.all) (length group) ≡ true = subst (λ b. is_whole b (length group) ≡ true) (ap (λ x. x.blocks) is) (sym c.all.ensures.whole ∙ ap is_some c.in-Some.is) in
+          rw is (all_known (g.W.Words.sight c.cache.new.pass).cached r.comm r.round group (known_with r.blocks r.side r.all) (known_set g at are) whole);
       ends = λ _. refl;
     }
 
@@ -91,5 +102,6 @@ returns g c =
         within = omega arith;
         read = summed_none meld new r.comm r.round;
       });
+      sets = λ are. rw is (known_set g at are);
       ends = λ no. absurd (cc no);
     }

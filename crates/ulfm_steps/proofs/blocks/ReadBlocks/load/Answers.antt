@@ -5,7 +5,7 @@ use Rattle.ulfm_model.specs.{Blocks.{block_of}, Laws.{summary_of}, declared.{pla
 use Rattle.ulfm_model.proofs.Summed.{summed_later, summed_push}
 use Rattle.ulfm_words.proofs.Trails.{did_prefix}
 use Rattle.ulfm_steps.specs.{Blocks.{blocks_left, site_of}, Turns.{TakesAt}}
-use Rattle.ulfm_steps.proofs.{InBlocks.{are_later, block_index, block_length, few_members, rank_is, rank_within, takes_member}, Reading.{has_at, member_within, missing_at, take_one_more}, Turning.{takes_load}}
+use Rattle.ulfm_steps.proofs.{InBlocks.{are_later, block_index, block_length, few_members, rank_is, rank_within, takes_member}, KnownBlocks.{set_later}, Reading.{has_at, member_within, missing_at, take_one_more}, Turning.{takes_load}}
 use Rattle.ulfm_steps.proofs.blocks.ReadBlocks.load.Goals as goal
 use Rattle.ulfm_steps.proofs.blocks.ReadBlocks.load.Goals.{After-load_summary}
 
@@ -52,6 +52,7 @@ returns-in-None g c =
       comm = search rules;
       round = search rules;
       tells = missing_at g.P.Packed.pack (g.W.Words.sight c.load_summary.new.pass) r.comm r.round (r.first + r.read) c.args.group.now lt c.in-None.ensures.summary c.load_summary.ensures.loads.last;
+      sets = λ are. tt;
       ends = search rules;
     }
 
@@ -88,5 +89,6 @@ returns-in-Some g c =
         within = omega (arith, c.requires.more);
         read = rw (is, push) more;
       };
+      sets = λ are. set_later (g.W.Words.sight c.args.pass.now).cached (g.W.Words.sight c.load_summary.new.pass).cached r.comm r.round r.blocks c.load_summary.ensures.loads.cached are;
       ends = search rules;
     }
