@@ -262,6 +262,15 @@ module _ (plan : Plan) (name : Name) (same : name.limits ≡ limits_of plan) (k 
     shrink_answered (Err refusal) reply polls kept =
         subst (λ w. IsAnswered plan after.seen r new (said ++ w ∷ [])) (sym kept.0) (poll_refused (Shrink own.number 0) (opened x (Some (OpenShrink k))) ready.comm mid then starts shrink_is_open new after refusal (inr refl) kept.1 polls)
 
+-- no reply to an agree that was answered is a refusal
+pub agreed_whole : (plan : Plan) (h : History FlagAnd) (r : ℕ) (said : List (Reply FlagAnd)) → AreAgreed flag_meld (limits_of plan) h 0 (flag_of r) r said → list_any is_refused said ≡ false
+agreed_whole plan h r said agreed = any_none is_refused said (λ n reply at. ap is_refused (agreed n reply at).0.reply_is)
+
+-- the same of a rank that is ready, with one reply more
+pub whole_push : (plan : Plan) (r k : ℕ) (own : Record) (h : History FlagAnd) (said replies : List (Reply FlagAnd)) (reply : Reply FlagAnd) → IsReady plan r k own h said → replies ≡ said ++ reply ∷ [] → list_any is_refused replies ≡ is_refused reply
+whole_push plan r k own h said replies reply ready pushed =
+    ap (list_any is_refused) pushed ∙ (any_push is_refused said reply ∙ ap (λ b. b || is_refused reply) (agreed_whole plan h r said ready.agreed))
+
 -- by whether an agree was refused
 pub says_true : (plan : Plan) (r k : ℕ) (said : List (Reply FlagAnd)) (new : Record) (h : History FlagAnd) (reply : Reply FlagAnd) → is_refused reply ≡ true → SaysAgree plan r k said new h reply → IsAnswered plan h r new (said ++ reply ∷ [])
 says_true plan r k said new h reply is (inl refused) = refused.1
