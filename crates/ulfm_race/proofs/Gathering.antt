@@ -1,5 +1,5 @@
 -- What is gathered of all workers.
-use Rattle.std.proofs.Common.{◌≡◌, ◌⊎◌, ℕ, zero, suc, ◌+◌, ◌<◌, Bool, true, false, cond, List, [], ◌∷◌, ◌++◌, length, map, Option, Some, None, IfSome, Result, Ok, Err, IfErr, IfOk, MatchResult, unwrap_or, inl, inr, refl, ap, sym, ◌∙◌, subst, arith, slice_get, length-append, append-nil}
+use Rattle.std.proofs.Common.{◌≡◌, ℕ, zero, suc, ◌+◌, ◌<◌, ◌≤◌, Bool, true, false, cond, List, [], ◌∷◌, ◌++◌, length, map, Option, Some, None, IfSome, Result, Ok, Err, IfErr, IfOk, MatchResult, unwrap_or, inl, inr, refl, ap, sym, ◌∙◌, subst, arith, length-append}
 use Rattle.std.specs.{List.{AllByRecursion, list_any}, Prelude.{⊤}}
 use mathlib.Core.{Bool.{◌||◌}, List.{IsPrefix}}
 use Rattle.ulfm_laws.specs.{declared.flag_and.FlagAnd.{FlagAnd}, Flags.{flag_meld}}
@@ -9,7 +9,7 @@ use Rattle.ulfm_model.proofs.{Histories.{failures_begin, members_stay}, LeftFits
 use Rattle.ulfm_comm.specs.Counts.{Ranked, new_rank, records_of}
 use Rattle.ulfm_comm.proofs.Opening.{records_are}
 use Rattle.ulfm_rounds.proofs.Staying.{replies_last}
-use Rattle.ulfm_race.specs.Races.{AreAnswered, EndsFor, IsAnswered, IsDeclared, IsEnded, IsGathered, IsGroup, IsHeard, IsNewRank, IsStarted, Numbered, StartIs, StopsFor, WasAnswered, WasTold, flag_of, is_refused, is_shrunk, limits_of}
+use Rattle.ulfm_race.specs.Races.{AreAnswered, EndsFor, IsAnswered, IsDeclared, IsEnded, IsGathered, IsGroup, IsHeard, IsNewRank, Numbered, StartIs, StopsFor, WasAnswered, WasTold, flag_of, is_refused, is_shrunk, limits_of}
 use Rattle.ulfm_race.specs.declared.{gather.Heard.{Heard}, plan.Plan.{Plan}, plan.RaceFault.{RaceFault}, plan.RaceFault.TheVariants.{Held as HeldBack, Memory}, plan.Turn.{Turn}}
 use Rattle.ulfm_race.proofs.Turns.{any_push, at_push}
 
@@ -175,19 +175,38 @@ heard_if plan other h r n same is (Ok x) heard = subst (λ m. IsHeard other h m 
 heard_if plan other h r n same is (Err e) heard = tt
 
 -- a fault of one rank's is one of the race's
-pub rank_ends : (plan : Plan) (may_hold : ℕ → Turn → Type 0) (r : ℕ) → r < plan.ranks → (fault : RaceFault) → StopsFor ⊤ (may_hold r) fault → EndsFor plan may_hold fault
-rank_ends plan may_hold r below Memory stops = tt
-rank_ends plan may_hold r below HeldBack stops = (r, below, stops)
+pub rank_ends : (plan : Plan) (may_say : ℕ → Turn → Bool → Type 0) (r : ℕ) → r < plan.ranks → (fault : RaceFault) → StopsFor ⊤ (may_say r) fault → EndsFor plan may_say fault
+rank_ends plan may_say r below Memory stops = tt
+rank_ends plan may_say r below HeldBack stops = (r, below, stops)
 
 -- the fault that is kept, of one rank more
-pub faults_go_on : (plan : Plan) (may_hold : ℕ → Turn → Type 0) (r : ℕ) (P : Heard → Type 0) → r < plan.ranks → (heard : Result Heard RaceFault) (old new : Option RaceFault)
-    → MatchResult heard P (StopsFor ⊤ (may_hold r)) → IfOk heard (λ _. new ≡ old) → IfErr heard (λ fault. new ≡ Some (unwrap_or old fault))
-    → ((fault : RaceFault) → old ≡ Some fault → EndsFor plan may_hold fault) → (fault : RaceFault) → new ≡ Some fault → EndsFor plan may_hold fault
-faults_go_on plan may_hold r P below (Ok x) old new is same first was fault met = was fault (sym same ∙ met)
-faults_go_on plan may_hold r P below (Err f) None new is same first was fault met =
-    subst (EndsFor plan may_hold) (cc (first, met)) (rank_ends plan may_hold r below f is)
-faults_go_on plan may_hold r P below (Err f) (Some g) new is same first was fault met = was fault (sym first ∙ met)
+pub faults_go_on : (plan : Plan) (may_say : ℕ → Turn → Bool → Type 0) (r : ℕ) (P : Heard → Type 0) → r < plan.ranks → (heard : Result Heard RaceFault) (old new : Option RaceFault)
+    → MatchResult heard P (StopsFor ⊤ (may_say r)) → IfOk heard (λ _. new ≡ old) → IfErr heard (λ fault. new ≡ Some (unwrap_or old fault))
+    → ((fault : RaceFault) → old ≡ Some fault → EndsFor plan may_say fault) → (fault : RaceFault) → new ≡ Some fault → EndsFor plan may_say fault
+faults_go_on plan may_say r P below (Ok x) old new is same first was fault met = was fault (sym same ∙ met)
+faults_go_on plan may_say r P below (Err f) None new is same first was fault met =
+    subst (EndsFor plan may_say) (cc (first, met)) (rank_ends plan may_say r below f is)
+faults_go_on plan may_say r P below (Err f) (Some g) new is same first was fault met = was fault (sym first ∙ met)
 
 pub heard_ok : (P : Heard → Type 0) (Q : RaceFault → Type 0) (heard : Result Heard RaceFault) → MatchResult heard P Q → IfOk heard P
 heard_ok P Q (Ok x) is = is
 heard_ok P Q (Err f) is = tt
+
+pub ok_parts : (P Q : Heard → Type 0) (heard : Result Heard RaceFault) → IfOk heard (λ x. P x × Q x) → IfOk heard P × IfOk heard Q
+ok_parts P Q (Ok x) is = is
+ok_parts P Q (Err f) is = (tt, tt)
+
+-- one rank more, or none
+pub few_more : {V : Type 0} (of : Heard → V) (heard : Result Heard RaceFault) (was now : List V) (r : ℕ) → MatchResult heard (λ x. now ≡ was ++ of x ∷ []) (λ _. now ≡ was) → length was ≤ r → length now ≤ r + 1
+few_more of (Ok x) was now r is few = omega (arith, ap length is, length-append was (of x ∷ []), few)
+few_more of (Err f) was now r is few = omega (arith, ap length is, few)
+
+-- what the gate may say to each rank so far
+pub lets_go_on : {V : Type 0} (of : Heard → V) (W : ℕ → V → Type 0) (r : ℕ) (heard : Result Heard RaceFault) (old new : Option RaceFault) (was now : List V)
+    → MatchResult heard (λ x. now ≡ was ++ of x ∷ []) (λ _. now ≡ was) → IfOk heard (λ _. new ≡ old) → IfErr heard (λ fault. new ≡ Some (unwrap_or old fault)) → IfOk heard (λ x. W r (of x))
+    → (old ≡ None → Numbered W 0 was × (length was ≡ r)) → new ≡ None → Numbered W 0 now × (length now ≡ r + 1)
+lets_go_on of W r (Ok x) old new was now is same first last before none =
+    let all = before (sym same ∙ none) in
+    let count = all.1 in
+    (subst (Numbered W 0) (sym is) (number_push W 0 was (of x) r (omega (arith, count)) all.0 last), omega (arith, ap length is, length-append was (of x ∷ []), count))
+lets_go_on of W r (Err f) old new was now is same first last before none = absurd (cc (first, none))

@@ -1,8 +1,8 @@
 -- Whose rank is declared failed, since its worker stopped.
-use Rattle.std.proofs.Common.{Option, None, Some, IfSome, Result, Ok, Err, IfOk, ◌≡◌, ◌∙◌, ◌⊎◌, ℕ, ◌<◌, ◌≤◌, Bool, true, not, [], inl, inr, refl, sym, subst, IsTrue, arith}
+use Rattle.std.proofs.Common.{Option, None, Some, IfSome, Result, Ok, Err, IfOk, ◌≡◌, ◌∙◌, ℕ, ◌<◌, Bool, true, not, [], inl, inr, refl, sym, subst, IsTrue, arith}
 use Rattle.ulfm_laws.specs.{declared.flag_and.FlagAnd.{FlagAnd}, Flags.{flag_meld}}
 use Rattle.ulfm_model.specs.declared.{limits.Limits.{Limits}, reply.Reply.{Reply}}
-use Rattle.ulfm_model.specs.{Answers.{AnswersFail}, History.{History, failures, has}, Records.{Fits, Record, new_record}, Runs.{IsFailRun, view_of}}
+use Rattle.ulfm_model.specs.{History.{History, failures, has}, Records.{Fits, Record, new_record}, Runs.{IsFailRun}}
 use Rattle.ulfm_words.proofs.Ranks.{members_below}
 use Rattle.ulfm_race.specs.declared.plan.RaceFault.{RaceFault}
 use Rattle.ulfm_race.specs.Races.{is_stopped}

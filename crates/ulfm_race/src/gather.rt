@@ -1,5 +1,5 @@
 // What the workers were answered, gathered.
-ghost use Rattle.std.specs.Prelude.{◌≡◌, ◌+◌, ◌<◌, ◌≤◌, ℕ, [], true, false, map, length, unwrap_or, vec_capacity, vec_len, ⊤};
+ghost use Rattle.std.specs.Prelude.{◌≡◌, ◌+◌, ◌<◌, ℕ, [], ◌∷◌, ◌++◌, true, false, map, length, unwrap_or, vec_capacity, vec_len, ⊤};
 ghost use Rattle.std.specs.Prelude.{IfErr, IfOk, IfSome, MatchResult, Some, None};
 ghost use Rattle.std.specs.List.{AllByRecursion, list_any};
 ghost use mathlib.Core.List.{IsPrefix};
@@ -8,7 +8,7 @@ ghost use Rattle.ulfm_laws.specs.declared.flag_and.FlagAnd.{FlagAnd as FlagOf};
 ghost use Rattle.ulfm_laws.specs.Flags.{flag_meld};
 ghost use Rattle.ulfm_model.specs.{History.{History}, Records.{Held, held_at}};
 ghost use Rattle.ulfm_words.specs.Steps.{IsOf};
-ghost use Rattle.ulfm_race.specs.Races.{EndsFor, IsDeclared, IsEnded, IsGathered, IsHeard, IsOutcome, IsReported, IsStarted, Numbered, StartIs, StopsFor};
+ghost use Rattle.ulfm_race.specs.Races.{EndsFor, IsDeclared, IsEnded, IsGathered, IsHeard, IsOutcome, IsReported, IsStarted, Numbered, StartIs, StopsFor, WasLet};
 ghost use Rattle.ulfm_race.specs.Races.{is_shrunk, limits_of};
 
 use crate::plan::{Gate, Outcome, Plan, RaceFault};
@@ -59,7 +59,8 @@ impl Gathered {
         ensures goes_on { IfOk heard (λ _. self.new.fault ≡ self.old.fault) }
         ensures stops { IfErr heard (λ fault. self.new.fault ≡ Some (unwrap_or self.old.fault fault)) }
         ensures room { vec_capacity self.new.replies ≡ vec_capacity self.old.replies }
-        ensures few { vec_len self.new.replies ≤ vec_len self.old.replies + 1 }
+        ensures items { MatchResult heard (λ x. self.new.replies.items ≡ self.old.replies.items ++ x.replies ∷ [])
+            (λ _. self.new.replies.items ≡ self.old.replies.items) }
         ensures takes { (h : History FlagOf) → (r : ℕ) → IfOk heard (λ x. IsHeard self.old.plan h r x.replies.items x.made x.group.items)
             → IsGathered self.old.plan h r (map (λ v. v.items) self.old.replies.items) self.old.group.items self.old.fault
             → IsGathered self.old.plan h (r + 1) (map (λ v. v.items) self.new.replies.items) self.new.group.items self.new.fault }
@@ -76,7 +77,7 @@ impl Gathered {
         ensures plan { self.new.plan ≡ self.old.plan }
         ensures fault { self.new.fault ≡ self.old.fault }
         ensures room { vec_capacity self.new.replies ≡ vec_capacity self.old.replies }
-        ensures few { vec_len self.new.replies ≤ vec_len self.old.replies + 1 }
+        ensures items { self.new.replies.items ≡ self.old.replies.items ++ heard.replies ∷ [] }
         ensures adds { (h : History FlagOf) → (r : ℕ) → IsHeard self.old.plan h r heard.replies.items heard.made heard.group.items
             → IsGathered self.old.plan h r (map (λ v. v.items) self.old.replies.items) self.old.group.items self.old.fault
             → IsGathered self.old.plan h (r + 1) (map (λ v. v.items) self.new.replies.items) self.new.group.items self.new.fault }
@@ -122,7 +123,8 @@ pub(crate) fn hear_all<R: Threads, G: Gate>(
         0 started.items }
     requires all { length started.items ≡ gathered.plan.ranks }
     ensures answered { IfOk result (λ o. IsOutcome gathered.plan o.seen.seen (map (λ v. v.items) o.replies.items) o.group.items) }
-    ensures ends { IfErr result (EndsFor gathered.plan (G.may_hold gate.now)) }
+    ensures asked { IfOk result (λ o. Numbered (λ r v. WasLet (G.may_say gate.now r) v.items) 0 o.replies.items) }
+    ensures ends { IfErr result (EndsFor gathered.plan (G.may_say gate.now)) }
     ensures ended { (r : ℕ) → r < gathered.plan.ranks → IsEnded gathered.plan outside.new.seen r }
 {
     let mut gathered = gathered;
@@ -164,7 +166,8 @@ fn hear<'a, R: Threads, G: Gate>(
     ensures of { IsOf flag_meld world.now.words outside.new }
     ensures seen { IsPrefix outside.old.seen outside.new.seen }
     ensures heard { (r : ℕ) → StartIs (λ h. IsStarted world.now.words said.now gate.now plan r h.promise) outside.old.seen r one.entry
-        → MatchResult result (λ x. IsHeard plan outside.new.seen r x.replies.items x.made x.group.items) (StopsFor ⊤ (G.may_hold gate.now r)) }
+        → MatchResult result (λ x. IsHeard plan outside.new.seen r x.replies.items x.made x.group.items × WasLet (G.may_say gate.now r) x.replies.items)
+        (StopsFor ⊤ (G.may_say gate.now r)) }
     ensures ended { (r : ℕ) → StartIs (λ h. IsStarted world.now.words said.now gate.now plan r h.promise) outside.old.seen r one.entry
         → IsEnded plan outside.new.seen r }
 {
@@ -186,7 +189,7 @@ fn finish<'a, R: Threads, G: Gate>(
     ensures of { IsOf flag_meld world.now.words outside.new }
     ensures seen { IsPrefix outside.old.seen outside.new.seen }
     ensures learned { IsPrefix result.told.seen outside.new.seen }
-    ensures kept { IsReported world.now.words handle.entry.promise.said.now (G.may_hold handle.entry.promise.gate.now) handle.entry.promise.plan
+    ensures kept { IsReported world.now.words handle.entry.promise.said.now (G.may_say handle.entry.promise.gate.now) handle.entry.promise.plan
         handle.entry.promise.number result }
 {
     let report = handle.join(rt);
@@ -210,7 +213,8 @@ fn hear_thread<'a, R: Threads, G: Gate>(
     ensures of { IsOf flag_meld world.now.words outside.new }
     ensures seen { IsPrefix outside.old.seen outside.new.seen }
     ensures answered { IfOk result (λ x. IsHeard handle.entry.promise.plan outside.new.seen handle.entry.promise.number x.replies.items x.made x.group.items) }
-    ensures stops { IfErr result (StopsFor ⊤ (G.may_hold handle.entry.promise.gate.now handle.entry.promise.number)) }
+    ensures asked { IfOk result (λ x. WasLet (G.may_say handle.entry.promise.gate.now handle.entry.promise.number) x.replies.items) }
+    ensures stops { IfErr result (StopsFor ⊤ (G.may_say handle.entry.promise.gate.now handle.entry.promise.number)) }
     ensures ended { IsEnded handle.entry.promise.plan outside.new.seen handle.entry.promise.number }
 {
     let report = finish(rt, world, handle, outside);

@@ -1,4 +1,4 @@
-ghost use Rattle.std.specs.Prelude.{◌≡◌, ℕ, false};
+ghost use Rattle.std.specs.Prelude.{◌≡◌, ℕ, Bool};
 ghost use Rattle.ulfm_race.specs.declared.plan.RaceFault.TheVariants.{Memory};
 ghost use Rattle.ulfm_race.specs.declared.plan.Turn.{Turn as TurnOf};
 
@@ -41,13 +41,13 @@ pub enum Turn {
 /// go(r, Contribute)  answered(r)  go(r, Poll) .. go(r, Poll)  answered(r)
 /// ```
 pub trait Gate {
-    /// Where the gate may say false: to which rank, at which turn. Anywhere, unless the gate says more. Only contracts see it.
-    ghost may_hold: { Self → ℕ → TurnOf → Type 0 } = { λ _ _ _. Unit {0} };
+    /// What the gate may say, true or false, to which rank, at which turn: either, unless the gate says more. Only contracts see it.
+    ghost may_say: { Self → ℕ → TurnOf → Bool → Type 0 } = { λ _ _ _ _. Unit {0} };
 
     /// Whether the rank may take this turn. It may wait. Where it says false, the worker stops, its rank is declared, and the race
     /// answers `Held`, or the fault of another rank.
     fn go(&self, rank: u16, turn: Turn) -> bool
-        ensures { result ≡ false → may_hold self.now rank turn };
+        ensures { may_say self.now rank turn result };
 
     /// The rank was answered: its start has started or was refused, or its poll has a reply that isn't pending, or was refused.
     fn answered(&self, rank: u16);

@@ -3,7 +3,7 @@ ghost use mathlib.Core.List.{IsPrefix};
 ghost use Rattle.ulfm_laws.specs.Flags.{flag_meld};
 ghost use Rattle.ulfm_words.specs.Steps.{IsOf};
 ghost use Rattle.ulfm_comm.specs.Counts.{records_of};
-ghost use Rattle.ulfm_race.specs.Races.{EndsFor, IsDeclared, IsNewRank, IsOutcome, IsPlan, IsReported, IsStarted, Numbered, StartIs, limits_of};
+ghost use Rattle.ulfm_race.specs.Races.{EndsFor, IsDeclared, IsNewRank, IsOutcome, IsPlan, IsReported, IsStarted, Numbered, StartIs, WasLet, limits_of};
 
 use crate::gather::{Gathered, hear_all};
 use crate::plan::{Gate, Outcome, Plan, RaceFault};
@@ -27,7 +27,7 @@ pub(crate) struct Promised<'a, G: Gate> {
 }
 
 impl<'a, G: Gate> Promise<Report> for Promised<'a, G> {
-    ghost kept_by = { λ p r. IsReported p.world.now.words p.said.now (G.may_hold p.gate.now) p.plan p.number r };
+    ghost kept_by = { λ p r. IsReported p.world.now.words p.said.now (G.may_say p.gate.now) p.plan p.number r };
 }
 
 /// A worker's thread.
@@ -43,9 +43,10 @@ pub(crate) type Started<'a, G> = Result<Handle<'a, G>, RaceFault>;
 /// gate lets it, and the gate is told of each answer. A worker that stops, by a fault or a refusal, has its rank declared, and so has one
 /// whose thread can't be made; so the others don't wait for it.
 ///
-/// `Ok` says for each rank what it was answered, all in one history. `Memory` where memory or a thread was refused, `Held` where the gate
-/// said false; where several ranks met a fault, it is one of theirs. Whatever it answers, all its threads have ended. It answers only if
-/// they end: each polls until it is answered, and yields in between.
+/// `Ok` says for each rank what it was answered, all in one history; in that the plan's rank is declared, and each rank that was refused.
+/// `Memory` where memory or a thread was refused, `Held` where the gate said false, which no gate does whose `may_say` rules it out; where
+/// several ranks met a fault, it is one of theirs, and nothing is left of what the others were answered. Whatever it answers, all its threads
+/// have ended. It answers only if they end: each polls until it is answered, and yields in between.
 ///
 /// With a gate that always says true:
 ///
@@ -74,7 +75,8 @@ pub fn race<R: Threads + Wait + Sync, G: Gate + Sync>(
 ) -> Result<Outcome, RaceFault>
     requires { IsPlan plan }
     ensures answered { IfOk result (λ o. IsOutcome plan o.seen.seen (map (λ v. v.items) o.replies.items) o.group.items) }
-    ensures ends { IfErr result (EndsFor plan (G.may_hold gate.now)) }
+    ensures asked { IfOk result (λ o. Numbered (λ r v. WasLet (G.may_say gate.now r) v.items) 0 o.replies.items) }
+    ensures ends { IfErr result (EndsFor plan (G.may_say gate.now)) }
 {
     let (world, ranks) = open_world(alloc, plan)?;
     let said = boxcar::Vec::new(alloc)?;
@@ -132,7 +134,8 @@ fn race_in<'s, E, R: Threads + Wait + Sync, G: Gate + Sync>(
     requires ranks { Numbered (IsNewRank plan) 0 (records_of ranks.items) }
     requires all { length ranks.items ≡ plan.ranks }
     ensures answered { IfOk result (λ o. IsOutcome plan o.seen.seen (map (λ v. v.items) o.replies.items) o.group.items) }
-    ensures ends { IfErr result (EndsFor plan (G.may_hold gate.now)) }
+    ensures asked { IfOk result (λ o. Numbered (λ r v. WasLet (G.may_say gate.now r) v.items) 0 o.replies.items) }
+    ensures ends { IfErr result (EndsFor plan (G.may_say gate.now)) }
 {
     let gathered = Gathered::new(alloc, plan)?;
     let mut started = Vec::with_capacity(alloc, ranks.len())?;

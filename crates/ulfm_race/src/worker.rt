@@ -1,5 +1,5 @@
 // The part of one rank.
-ghost use Rattle.std.specs.Prelude.{◌≡◌, ◌<◌, Bool, List, [], ◌∷◌, ◌++◌, false, map, not, ⊤, IfErr, IfOk, IfSome, IsTrue, MatchBool, None, Ok, Err};
+ghost use Rattle.std.specs.Prelude.{◌≡◌, ◌<◌, Bool, List, [], ◌∷◌, ◌++◌, false, true, map, not, ⊤, IfErr, IfOk, IfSome, IsTrue, MatchBool, None, Ok, Err};
 ghost use Rattle.std.specs.List.{AllByRecursion, list_any};
 ghost use mathlib.Core.List.{IsPrefix};
 ghost use Rattle.boxcar.specs.Table.{Shows};
@@ -9,7 +9,7 @@ ghost use Rattle.ulfm_laws.specs.Flags.{flag_meld};
 ghost use Rattle.ulfm_model.specs.declared.{call.Call.TheVariants.{Agree, Shrink}, reply.Reply.{Reply as ReplyOf}};
 ghost use Rattle.ulfm_wait.specs.Waits.{IsAwaited, IsPolledOn};
 ghost use Rattle.ulfm_race.specs.declared.plan.Plan.{Plan as PlanOf};
-ghost use Rattle.ulfm_race.specs.Races.{AreOf, IsAnswered, IsKept, IsPlan, IsReady, IsReported, SaysAgree, Starts, StopsFor, Works};
+ghost use Rattle.ulfm_race.specs.Races.{AreOf, IsAnswered, IsKept, IsPlan, IsReady, IsReported, SaysAgree, Starts, StopsFor, WasLet, Works};
 ghost use Rattle.ulfm_race.specs.Races.{flag_of, is_refused, is_stopped, limits_of};
 
 use crate::plan::{Gate, Plan, RaceFault, Turn};
@@ -62,7 +62,7 @@ pub(crate) fn work<G: Gate, R: Wait>(
     requires limits { world.now.words.limits ≡ limits_of plan }
     requires new { rank.own ≡ new_record (limits_of plan) rank.own.number }
     requires own { AreOf world.now.words rank.own pass }
-    ensures { IsReported world.now.words said.now (G.may_hold gate.now) plan rank.own.number result }
+    ensures { IsReported world.now.words said.now (G.may_say gate.now) plan rank.own.number result }
 {
     let number = rank.number();
     let mut worker = Worker {
@@ -132,8 +132,9 @@ fn take_turns<G: Gate, R: Wait>(
     ensures works { Works world.now.words said.now worker.new.rank.own worker.new.pass worker.new.tokens.items }
     ensures answered { IfOk result (λ _. IsAnswered plan worker.new.pass.seen worker.old.rank.own.number worker.new.rank.own
         (map (λ t. t.value) worker.new.tokens.items)) }
+    ensures asks { IfOk result (λ _. WasLet (G.may_say gate.now worker.old.rank.own.number) (map (λ t. t.value) worker.new.tokens.items)) }
     ensures whole { IfOk result (λ whole. list_any is_refused (map (λ t. t.value) worker.new.tokens.items) ≡ not whole) }
-    ensures stops { IfErr result (StopsFor ⊤ (G.may_hold gate.now worker.old.rank.own.number)) }
+    ensures stops { IfErr result (StopsFor ⊤ (G.may_say gate.now worker.old.rank.own.number)) }
 {
     match agree_all(rt, gate, world, said, plan, worker) {
         Ok(true) => {}
@@ -190,7 +191,8 @@ fn polled<G: Gate, R: Wait>(
     requires own { AreOf world.now.words rank.old.own pass.old }
     ensures own { AreOf world.now.words rank.new.own pass.new }
     ensures polls { IfOk result (λ answer. IsPolledOn flag_meld false world.now.words 0 rank.old.own pass.old answer rank.new.own pass.new) }
-    ensures stops { IfErr result (λ fault. (fault ≡ RaceFault.Held) × G.may_hold gate.now rank.old.own.number Turn.Poll) }
+    ensures asks { IfOk result (λ _. G.may_say gate.now rank.old.own.number Turn.Poll true) }
+    ensures stops { IfErr result (λ fault. (fault ≡ RaceFault.Held) × G.may_say gate.now rank.old.own.number Turn.Poll false) }
 {
     let number = rank.number();
     for _ in rt.forever() {
@@ -263,10 +265,11 @@ fn agree<G: Gate, R: Wait>(
     ensures says { IfOk result (λ reply. (plan : PlanOf) → (said : List (ReplyOf _))
         → world.now.words.limits ≡ limits_of plan → round < plan.rounds → IsReady plan rank.old.own.number round rank.old.own pass.old.seen said
         → SaysAgree plan rank.old.own.number round said rank.new.own pass.new.seen reply) }
+    ensures asks { IfOk result (λ reply. WasLet (G.may_say gate.now rank.old.own.number) (reply ∷ [])) }
     ensures stops { IfErr result (StopsFor
         (IsAwaited flag_meld false world.now.words 0 (Agree rank.old.own.number 0 (flag_of rank.old.own.number round)) rank.old.own pass.old (Err Refusal.OutOfMemory)
         rank.new.own pass.new)
-        (G.may_hold gate.now rank.old.own.number)) }
+        (G.may_say gate.now rank.old.own.number)) }
 {
     let number = rank.number();
     if !gate.go(number, Turn::Contribute) {
@@ -296,9 +299,10 @@ fn shrink<G: Gate, R: Wait>(
     ensures says { IfOk result (λ reply. (plan : PlanOf) → (said : List (ReplyOf _)) → world.now.words.limits ≡ limits_of plan
         → IsReady plan rank.old.own.number plan.rounds rank.old.own pass.old.seen said
         → IsAnswered plan pass.new.seen rank.old.own.number rank.new.own (said ++ reply ∷ [])) }
+    ensures asks { IfOk result (λ reply. WasLet (G.may_say gate.now rank.old.own.number) (reply ∷ [])) }
     ensures stops { IfErr result (StopsFor
         (IsAwaited flag_meld false world.now.words 0 (Shrink rank.old.own.number 0) rank.old.own pass.old (Err Refusal.OutOfMemory) rank.new.own pass.new)
-        (G.may_hold gate.now rank.old.own.number)) }
+        (G.may_say gate.now rank.old.own.number)) }
 {
     let number = rank.number();
     if !gate.go(number, Turn::Contribute) {
@@ -341,8 +345,9 @@ pub(crate) fn agree_all<G: Gate, R: Wait>(
         (map (λ t. t.value) worker.new.tokens.items))
         (IsAnswered plan worker.new.pass.seen worker.old.rank.own.number worker.new.rank.own
         (map (λ t. t.value) worker.new.tokens.items))) }
+    ensures asks { IfOk result (λ _. WasLet (G.may_say gate.now worker.old.rank.own.number) (map (λ t. t.value) worker.new.tokens.items)) }
     ensures whole { IfOk result (λ goes. list_any is_refused (map (λ t. t.value) worker.new.tokens.items) ≡ not goes) }
-    ensures stops { IfErr result (StopsFor ⊤ (G.may_hold gate.now worker.old.rank.own.number)) }
+    ensures stops { IfErr result (StopsFor ⊤ (G.may_say gate.now worker.old.rank.own.number)) }
 {
     for round in 0..plan.rounds {
         match agree(rt, gate, world, &mut worker.rank, &mut worker.pass, round) {

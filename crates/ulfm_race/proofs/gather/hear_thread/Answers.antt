@@ -1,4 +1,4 @@
-use Rattle.std.proofs.Common.{◌≡◌, map, subst, sym, ◌∙◌, Option, None}
+use Rattle.std.proofs.Common.{map, subst}
 use Rattle.ulfm_laws.specs.Flags.{flag_meld}
 use Rattle.ulfm_model.specs.{History.{IsLegal}, Records.{Fits}}
 use Rattle.ulfm_race.proofs.Gathering.{ended_by, heard_is}

@@ -1,4 +1,4 @@
-use Rattle.std.proofs.Common.{◌≡◌, sym, subst}
+use Rattle.std.proofs.Common.{sym, subst}
 use Rattle.ulfm_laws.specs.Flags.{flag_meld}
 use Rattle.ulfm_model.specs.History.{IsLegal}
 use Rattle.ulfm_race.specs.Races.{IsStarted, Numbered, StartIs}

@@ -1,4 +1,4 @@
-use Rattle.std.proofs.Common.{◌≡◌, ℕ, ◌+◌, ap, sym, ◌∙◌, subst, length, length-append, [], ◌∷◌, arith, refl}
+use Rattle.std.proofs.Common.{◌+◌, ap, sym, subst, length, length-append, [], ◌∷◌, arith, refl}
 use Rattle.ulfm_laws.specs.Flags.{flag_meld}
 use Rattle.ulfm_model.specs.{History.{IsLegal}, Records.{Record}}
 use Rattle.ulfm_comm.specs.Counts.{records_of}

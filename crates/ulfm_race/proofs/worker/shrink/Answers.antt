@@ -1,4 +1,4 @@
-use Rattle.std.proofs.Common.{◌≡◌, refl, false, arith}
+use Rattle.std.proofs.Common.{refl, arith}
 use Rattle.ulfm_race.specs.Races.{IsKept}
 use Rattle.ulfm_race.proofs.Turns.{if_ok, shrink_answered, shrink_refused}
 use Rattle.ulfm_race.proofs.worker.shrink.Goals as goal

@@ -2,7 +2,7 @@ use Rattle.std.proofs.Common.{◌≡◌, ◌<◌, ◌∙◌, Err, IfErr, IsTrue,
 use Rattle.std.specs.{List.{list_any}, Prelude.{⊤}}
 use Rattle.ulfm_laws.specs.Flags.{flag_meld}
 use Rattle.ulfm_model.specs.{History.{IsLegal, failures, has}, Records.{Fits, new_record}}
-use Rattle.ulfm_race.specs.Races.{IsAnswered, StopsFor, is_refused, is_stopped}
+use Rattle.ulfm_race.specs.Races.{IsAnswered, StopsFor, WasLet, is_refused, is_stopped}
 use Rattle.ulfm_race.specs.declared.plan.RaceFault.{RaceFault}
 use Rattle.ulfm_race.proofs.Stopping.{new_below, refused_stops, some_holds}
 use Rattle.ulfm_race.proofs.Turns.{answered_lasts, ok_holds}
@@ -31,10 +31,11 @@ returns g c =
       answered = λ none.
           let is = ok_holds (IsAnswered plan c.take_turns-ended.new.worker.pass.seen number rank said) c.take_turns-ended.result c.take_turns-ended.ensures.answered (c.fault_in-fault.ensures.none none) in
           subst (λ h. IsAnswered plan h number rank said) (sym here) (answered_lasts plan c.take_turns-ended.new.worker.pass.seen seen c.declare.ensures.seen legal number rank said is);
+      asked = λ none. ok_holds (WasLet (g.G.Gate.may_say c.args.gate.now number) said) c.take_turns-ended.result c.take_turns-ended.ensures.asks (c.fault_in-fault.ensures.none none);
       refused = λ refused.
           subst (λ h. IsTrue (has (failures h) number)) (sym here)
           (at_last (c.is_stopped.ensures ∙ refused_stops c.take_turns-ended.result (list_any is_refused said) c.take_turns-ended.ensures.whole refused));
       declared = λ f met. subst (λ h. IsTrue (has (failures h) number)) (sym here) (at_last (c.is_stopped.ensures ∙ ap is_stopped (failed f met)));
       stops = λ f met.
-          subst (λ o. IfErr o (StopsFor ⊤ (g.G.Gate.may_hold c.args.gate.now number))) (failed f met) c.take_turns-ended.ensures.stops;
+          subst (λ o. IfErr o (StopsFor ⊤ (g.G.Gate.may_say c.args.gate.now number))) (failed f met) c.take_turns-ended.ensures.stops;
     }
