@@ -1,9 +1,11 @@
 -- Whose rank is declared failed, since its worker stopped.
-use Rattle.std.proofs.Common.{Option, None, Some, IfSome, ◌≡◌, ◌⊎◌, ℕ, ◌<◌, ◌≤◌, Bool, [], inl, inr, refl, sym, subst, IsTrue, arith}
+use Rattle.std.proofs.Common.{Option, None, Some, IfSome, Result, Ok, Err, IfOk, ◌≡◌, ◌∙◌, ℕ, ◌<◌, Bool, true, not, [], inl, inr, refl, sym, subst, IsTrue, arith}
 use Rattle.ulfm_laws.specs.{declared.flag_and.FlagAnd.{FlagAnd}, Flags.{flag_meld}}
 use Rattle.ulfm_model.specs.declared.{limits.Limits.{Limits}, reply.Reply.{Reply}}
-use Rattle.ulfm_model.specs.{Answers.{AnswersFail}, History.{History, failures, has}, Records.{Fits, Record, new_record}, Runs.{IsFailRun, view_of}}
+use Rattle.ulfm_model.specs.{History.{History, failures, has}, Records.{Fits, Record, new_record}, Runs.{IsFailRun}}
 use Rattle.ulfm_words.proofs.Ranks.{members_below}
+use Rattle.ulfm_race.specs.declared.plan.RaceFault.{RaceFault}
+use Rattle.ulfm_race.specs.Races.{is_stopped}
 
 -- a declaration of a rank that the world has leaves it declared
 pub fail_declares : (limits : Limits) (alone : Bool) (before after : History FlagAnd) (r : ℕ) (reply : Reply FlagAnd) → (run : IsFailRun flag_meld limits alone before after r reply)
@@ -24,3 +26,8 @@ new_below limits h own r is fits =
 pub some_holds : {X : Type 0} (Q : X → Type 0) (r : Option X) (x : X) → IfSome r Q → r ≡ Some x → Q x
 some_holds Q None x holds is = absurd (cc is)
 some_holds Q (Some y) x holds is = subst Q (cc is) holds
+
+-- a worker that was refused stopped
+pub refused_stops : (ended : Result Bool RaceFault) (refused : Bool) → IfOk ended (λ whole. refused ≡ not whole) → refused ≡ true → is_stopped ended ≡ true
+refused_stops (Ok whole) refused is some = sym is ∙ some
+refused_stops (Err fault) refused is some = refl

@@ -1,22 +1,22 @@
 -- What a rank of a race is told by its agrees and its shrink, and how they leave it.
-use Rattle.std.proofs.Common.{◌≡◌, ◌⊎◌, ℕ, zero, suc, ◌+◌, ◌-◌, ◌<◌, ◌≤◌, ◌==◌, Bool, true, false, cond, List, [], ◌∷◌, ◌++◌, length, Option, Some, None, Result, Ok, Err, inl, inr, refl, ap, sym, ◌∙◌, subst, arith, slice_get, is_some, nat_le, IsTrue, IsFalse, length-append, IfOk}
+use Rattle.std.proofs.Common.{◌≡◌, ◌⊎◌, ℕ, zero, suc, ◌+◌, ◌-◌, ◌<◌, ◌≤◌, ◌==◌, Bool, true, false, cond, List, [], ◌∷◌, ◌++◌, length, Some, None, Result, Ok, Err, inl, inr, refl, ap, sym, ◌∙◌, subst, arith, slice_get, is_some, nat_le, IsFalse, length-append, IfOk}
 use Rattle.std.specs.Prelude.{find}
 use Rattle.std.specs.List.{list_any}
 use mathlib.Core.{Bool.{◌||◌}, List.{IsPrefix}}
 use Rattle.ulfm_laws.specs.{declared.flag_and.FlagAnd.{FlagAnd}, Flags.{flag_meld}}
-use Rattle.ulfm_model.specs.declared.{call.Call.{Call}, call.Call.TheVariants.{Agree, Poll, Shrink}, call.Request.{Request}, call.Request.TheVariants.{Agree as OpenAgree, Shrink as OpenShrink}, limits.Limits.{Limits}, refusal.Refusal.{Refusal}, refusal.Refusal.TheVariants.{Busy, RoundsUsedUp, ShrinkOpen}, reply.Reply.{Reply}, reply.Reply.TheVariants.{Refused, Started}}
-use Rattle.ulfm_model.specs.{Answers.{first_refusal, opened, refusal_of, refusal_on}, History.{History, IsLegal, first_ranks, spawns}, Records.{Fits, Held, Record, change_at, held_at, is_shrink, new_held, new_record}, Runs.{IsCall}}
+use Rattle.ulfm_model.specs.declared.{call.Call.{Call}, call.Call.TheVariants.{Agree, Poll, Shrink}, call.Request.TheVariants.{Agree as OpenAgree, Shrink as OpenShrink}, limits.Limits.{Limits}, refusal.Refusal.{Refusal}, refusal.Refusal.TheVariants.{Busy, RoundsUsedUp, ShrinkOpen}, reply.Reply.{Reply}, reply.Reply.TheVariants.{Refused, Started}}
+use Rattle.ulfm_model.specs.{Answers.{first_refusal, opened, refusal_of, refusal_on}, History.{History, IsLegal, first_ranks, spawns}, Records.{Fits, Held, Record, change_at, held_at, is_shrink, new_held, new_record}}
 use Rattle.ulfm_model.proofs.{LeftRuns.{call_number}, Lists.{in_list, prefix_trans}, StepsShrinks.{spawns_fit}}
 use Rattle.ulfm_words.specs.Steps.{IsOf, Name, Sight}
-use Rattle.ulfm_comm.specs.{Calls.{Calls, EndsBy, is_out_of_memory}, Polls.{IsAnswer, PollIs, polled}}
+use Rattle.ulfm_comm.specs.{Calls.{Calls, EndsBy, is_out_of_memory}, Polls.{polled}}
 use Rattle.ulfm_comm.specs.declared.calls.polled.Polled.{Polled}
 use Rattle.ulfm_comm.proofs.CallRuns.{called_run}
-use Rattle.ulfm_rounds.specs.Rounds.{AreAgreed, AreReplies, Gave, IsDecision, IsMadeOf, IsReason, IsRefusal}
-use Rattle.ulfm_rounds.proofs.{Refusing.{polls_refused, starts_refused}, Staying.{agreed_last, gave_lasts, replies_last}, Telling.{agree_opens, agree_tells, find_change, shrink_opens, shrink_tells}}
+use Rattle.ulfm_rounds.specs.Rounds.{AreAgreed, Gave, IsDecision, IsMadeOf, IsReason}
+use Rattle.ulfm_rounds.proofs.{Refusing.{polls_refused, starts_refused}, Staying.{agreed_last, gave_lasts, replies_last}, Telling.{agree_opens, agree_tells, shrink_opens, shrink_tells}}
 use Rattle.ulfm_wait.specs.Waits.{IsPolledOn}
 use Rattle.ulfm_wait.proofs.Waiting.{IsLast, answer_ends, goes_on, last_poll}
-use Rattle.ulfm_race.specs.Races.{IsAnswered, IsKept, IsReady, SaysAgree, WasAnswered, flag_of, is_refused, is_shrunk, limits_of}
-use Rattle.ulfm_race.specs.declared.plan.Plan.{Plan}
+use Rattle.ulfm_race.specs.Races.{IsAnswered, IsKept, IsReady, SaysAgree, WasLet, flag_of, is_refused, is_shrunk, limits_of}
+use Rattle.ulfm_race.specs.declared.{plan.Plan.{Plan}, plan.Turn.{Turn}}
 
 -- what stands in a list with one more element stood there before, or is that element
 pub at_push : {X : Type 0} (xs : List X) (x y : X) (n : ℕ) → slice_get (xs ++ x ∷ []) n ≡ Some y → (slice_get xs n ≡ Some y) ⊎ ((n ≡ length xs) × (x ≡ y))
@@ -262,6 +262,15 @@ module _ (plan : Plan) (name : Name) (same : name.limits ≡ limits_of plan) (k 
     shrink_answered (Err refusal) reply polls kept =
         subst (λ w. IsAnswered plan after.seen r new (said ++ w ∷ [])) (sym kept.0) (poll_refused (Shrink own.number 0) (opened x (Some (OpenShrink k))) ready.comm mid then starts shrink_is_open new after refusal (inr refl) kept.1 polls)
 
+-- no reply to an agree that was answered is a refusal
+pub agreed_whole : (plan : Plan) (h : History FlagAnd) (r : ℕ) (said : List (Reply FlagAnd)) → AreAgreed flag_meld (limits_of plan) h 0 (flag_of r) r said → list_any is_refused said ≡ false
+agreed_whole plan h r said agreed = any_none is_refused said (λ n reply at. ap is_refused (agreed n reply at).0.reply_is)
+
+-- the same of a rank that is ready, with one reply more
+pub whole_push : (plan : Plan) (r k : ℕ) (own : Record) (h : History FlagAnd) (said replies : List (Reply FlagAnd)) (reply : Reply FlagAnd) → IsReady plan r k own h said → replies ≡ said ++ reply ∷ [] → list_any is_refused replies ≡ is_refused reply
+whole_push plan r k own h said replies reply ready pushed =
+    ap (list_any is_refused) pushed ∙ (any_push is_refused said reply ∙ ap (λ b. b || is_refused reply) (agreed_whole plan h r said ready.agreed))
+
 -- by whether an agree was refused
 pub says_true : (plan : Plan) (r k : ℕ) (said : List (Reply FlagAnd)) (new : Record) (h : History FlagAnd) (reply : Reply FlagAnd) → is_refused reply ≡ true → SaysAgree plan r k said new h reply → IsAnswered plan h r new (said ++ reply ∷ [])
 says_true plan r k said new h reply is (inl refused) = refused.1
@@ -290,3 +299,15 @@ answered_lasts plan h longer begins legal r own said was = record {
   answered = replies_last flag_meld (limits_of plan) h longer 0 plan.rounds (flag_of r) r said (omega arith) (omega arith) begins legal was.answered;
   holds = was.holds;
 }
+
+-- the gate may say true to a rank whose last reply is the only one that may be a refusal
+pub let_last : (may_say : Turn → Bool → Type 0) (reply : Reply FlagAnd) (replies : List (Reply FlagAnd)) → list_any is_refused replies ≡ is_refused reply → WasLet may_say (reply ∷ []) → WasLet may_say replies
+let_last may_say reply replies last is = record { start = is.start; poll = λ whole. is.poll (go (is_refused reply) (sym last ∙ whole)) }
+  where
+    go : (b : Bool) → b ≡ false → (b || false) ≡ false
+    go true whole = whole
+    go false whole = refl
+
+-- both of its turns, where it isn't refused
+pub let_both : (may_say : Turn → Bool → Type 0) (reply : Reply FlagAnd) → is_refused reply ≡ false → WasLet may_say (reply ∷ []) → may_say Turn.Contribute true × may_say Turn.Poll true
+let_both may_say reply whole is = (is.start, is.poll (ap (λ b. b || false) whole))

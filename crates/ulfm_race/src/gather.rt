@@ -1,5 +1,6 @@
 // What the workers were answered, gathered.
-ghost use Rattle.std.specs.Prelude.{◌≡◌, ◌+◌, ℕ, [], true, false, map, length, IfOk, IfSome, Some, None};
+ghost use Rattle.std.specs.Prelude.{◌≡◌, ◌+◌, ◌<◌, ℕ, [], ◌∷◌, ◌++◌, true, false, map, length, unwrap_or, vec_capacity, vec_len, ⊤};
+ghost use Rattle.std.specs.Prelude.{IfErr, IfOk, IfSome, MatchResult, Some, None};
 ghost use Rattle.std.specs.List.{AllByRecursion, list_any};
 ghost use mathlib.Core.List.{IsPrefix};
 ghost use Rattle.boxcar.specs.Table.{Shows};
@@ -7,10 +8,11 @@ ghost use Rattle.ulfm_laws.specs.declared.flag_and.FlagAnd.{FlagAnd as FlagOf};
 ghost use Rattle.ulfm_laws.specs.Flags.{flag_meld};
 ghost use Rattle.ulfm_model.specs.{History.{History}, Records.{Held, held_at}};
 ghost use Rattle.ulfm_words.specs.Steps.{IsOf};
-ghost use Rattle.ulfm_race.specs.Races.{IsGathered, IsHeard, IsOutcome, IsReported, IsStarted, Numbered, is_shrunk, limits_of};
+ghost use Rattle.ulfm_race.specs.Races.{EndsFor, IsDeclared, IsEnded, IsGathered, IsHeard, IsOutcome, IsReported, IsStarted, Numbered, StartIs, StopsFor, WasLet};
+ghost use Rattle.ulfm_race.specs.Races.{is_shrunk, limits_of};
 
-use crate::plan::{Outcome, Plan, RaceFault};
-use crate::racing::Handle;
+use crate::plan::{Gate, Outcome, Plan, RaceFault};
+use crate::racing::{Handle, Started};
 use crate::worker::{Own, Replies, Report, Shared, Token};
 use std::alloc::{AllocError, Global};
 use std::thread::Threads;
@@ -38,7 +40,9 @@ pub(crate) struct Gathered {
 impl Gathered {
     /// Nothing yet, with room for all ranks of a plan.
     pub(crate) fn new(alloc: Global, plan: Plan) -> Result<Gathered, AllocError>
-        ensures { IfOk result (λ g. (g.plan ≡ plan) × (g.replies.items ≡ []) × (g.group.items ≡ [])) }
+        ensures plan { IfOk result (λ g. g.plan ≡ plan) }
+        ensures nothing { IfOk result (λ g. (g.replies.items ≡ []) × (g.group.items ≡ []) × (g.fault ≡ None)) }
+        ensures room { IfOk result (λ g. vec_capacity g.replies ≡ plan.ranks) }
     {
         Ok(Gathered {
             plan,
@@ -48,9 +52,15 @@ impl Gathered {
         })
     }
 
-    // What the next rank was answered is taken in.
+    // What the next rank was answered is taken in, or its fault.
     fn take_in(&mut self, heard: Result<Heard, RaceFault>)
+        requires { vec_len self.old.replies < vec_capacity self.old.replies }
         ensures plan { self.new.plan ≡ self.old.plan }
+        ensures goes_on { IfOk heard (λ _. self.new.fault ≡ self.old.fault) }
+        ensures stops { IfErr heard (λ fault. self.new.fault ≡ Some (unwrap_or self.old.fault fault)) }
+        ensures room { vec_capacity self.new.replies ≡ vec_capacity self.old.replies }
+        ensures items { MatchResult heard (λ x. self.new.replies.items ≡ self.old.replies.items ++ x.replies ∷ [])
+            (λ _. self.new.replies.items ≡ self.old.replies.items) }
         ensures takes { (h : History FlagOf) → (r : ℕ) → IfOk heard (λ x. IsHeard self.old.plan h r x.replies.items x.made x.group.items)
             → IsGathered self.old.plan h r (map (λ v. v.items) self.old.replies.items) self.old.group.items self.old.fault
             → IsGathered self.old.plan h (r + 1) (map (λ v. v.items) self.new.replies.items) self.new.group.items self.new.fault }
@@ -63,7 +73,11 @@ impl Gathered {
 
     // One rank more.
     fn add(&mut self, heard: Heard)
+        requires { vec_len self.old.replies < vec_capacity self.old.replies }
         ensures plan { self.new.plan ≡ self.old.plan }
+        ensures fault { self.new.fault ≡ self.old.fault }
+        ensures room { vec_capacity self.new.replies ≡ vec_capacity self.old.replies }
+        ensures items { self.new.replies.items ≡ self.old.replies.items ++ heard.replies ∷ [] }
         ensures adds { (h : History FlagOf) → (r : ℕ) → IsHeard self.old.plan h r heard.replies.items heard.made heard.group.items
             → IsGathered self.old.plan h r (map (λ v. v.items) self.old.replies.items) self.old.group.items self.old.fault
             → IsGathered self.old.plan h (r + 1) (map (λ v. v.items) self.new.replies.items) self.new.group.items self.new.fault }
@@ -73,10 +87,7 @@ impl Gathered {
             made,
             group,
         } = heard;
-        if self.replies.push(replies).is_err() {
-            self.stop(RaceFault::Memory);
-            return;
-        }
+        self.replies.push_reserved(replies);
         if made {
             self.group = group;
         }
@@ -84,8 +95,7 @@ impl Gathered {
 
     // The first fault stays.
     fn stop(&mut self, fault: RaceFault)
-        ensures stopped { self.new.fault ≡ None → ⊥ }
-        ensures plan { self.new.plan ≡ self.old.plan }
+        ensures { self.new ≡ record self.old { fault = Some (unwrap_or self.old.fault fault) } }
     {
         if self.fault.is_none() {
             self.fault = Some(fault);
@@ -93,32 +103,34 @@ impl Gathered {
     }
 }
 
-/// Joins all workers, in order, and gathers what they were answered, where all were started.
-pub(crate) fn hear_all<R: Threads>(
+/// Joins all workers, in order, and gathers what they were answered.
+pub(crate) fn hear_all<R: Threads, G: Gate>(
     rt: &R,
     alloc: Global,
     world: &Shared,
     said: &Replies,
-    handles: Vec<Handle<'_>>,
-    outside: BookPass<FlagAnd>,
+    gate: &G,
+    started: Vec<Started<'_, G>>,
+    outside: &mut BookPass<FlagAnd>,
     gathered: Gathered,
-    fault: Option<RaceFault>,
 ) -> Result<Outcome, RaceFault>
     requires limits { world.now.words.limits ≡ limits_of gathered.plan }
-    requires of { IsOf flag_meld world.now.words outside }
-    requires nothing { (gathered.replies.items ≡ []) × (gathered.group.items ≡ []) }
-    requires started { fault ≡ None → Numbered (λ r h. IsStarted world.now.words said.now gathered.plan r h.promise) 0 handles.items }
-    requires all { fault ≡ None → length handles.items ≡ gathered.plan.ranks }
-    ensures { IfOk result (λ o. IsOutcome gathered.plan o.seen.seen (map (λ v. v.items) o.replies.items) o.group.items) }
+    requires of { IsOf flag_meld world.now.words outside.old }
+    requires declared { IfSome gathered.plan.fail (IsDeclared outside.old.seen) }
+    requires nothing { (gathered.replies.items ≡ []) × (gathered.group.items ≡ []) × (gathered.fault ≡ None) }
+    requires room { vec_capacity gathered.replies ≡ gathered.plan.ranks }
+    requires started { Numbered (λ r one. StartIs (λ h. IsStarted world.now.words said.now gate.now gathered.plan r h.promise) outside.old.seen r one)
+        0 started.items }
+    requires all { length started.items ≡ gathered.plan.ranks }
+    ensures answered { IfOk result (λ o. IsOutcome gathered.plan o.seen.seen (map (λ v. v.items) o.replies.items) o.group.items) }
+    ensures asked { IfOk result (λ o. Numbered (λ r v. WasLet (G.may_say gate.now r) v.items) 0 o.replies.items) }
+    ensures ends { IfErr result (EndsFor gathered.plan (G.may_say gate.now)) }
+    ensures ended { (r : ℕ) → r < gathered.plan.ranks → IsEnded gathered.plan outside.new.seen r }
 {
-    if let Some(fault) = fault {
-        join_all(rt, handles);
-        return Err(fault);
-    }
-    let mut outside = outside;
     let mut gathered = gathered;
-    for handle in handles {
-        let heard = hear(rt, alloc, world, said, handle, &mut outside);
+    let plan = gathered.plan;
+    for one in started {
+        let heard = hear(rt, alloc, world, said, gate, plan, one, outside);
         gathered.take_in(heard);
     }
     let Gathered {
@@ -131,24 +143,45 @@ pub(crate) fn hear_all<R: Threads>(
         None => Ok(Outcome {
             replies,
             group,
-            seen: world.told(&outside),
+            seen: world.told(outside),
         }),
         Some(fault) => Err(fault),
     }
 }
 
-// Joins all workers, whatever they were answered.
-fn join_all<R: Threads>(rt: &R, handles: Vec<Handle<'_>>) {
-    for handle in handles {
-        drop(handle.join(rt));
+// A rank is heard: what it was answered, in what is seen from now on, or its fault.
+fn hear<'a, R: Threads, G: Gate>(
+    rt: &R,
+    alloc: Global,
+    world: &Shared,
+    said: &Replies,
+    gate: &G,
+    plan: Plan,
+    one: Started<'a, G>,
+    outside: &mut BookPass<FlagAnd>,
+) -> Result<Heard, RaceFault>
+    requires limits { world.now.words.limits ≡ limits_of plan }
+    requires of { IsOf flag_meld world.now.words outside.old }
+    requires one { (r : ℕ) × StartIs (λ h. IsStarted world.now.words said.now gate.now plan r h.promise) outside.old.seen r one }
+    ensures of { IsOf flag_meld world.now.words outside.new }
+    ensures seen { IsPrefix outside.old.seen outside.new.seen }
+    ensures heard { (r : ℕ) → StartIs (λ h. IsStarted world.now.words said.now gate.now plan r h.promise) outside.old.seen r one.entry
+        → MatchResult result (λ x. IsHeard plan outside.new.seen r x.replies.items x.made x.group.items × WasLet (G.may_say gate.now r) x.replies.items)
+        (StopsFor ⊤ (G.may_say gate.now r)) }
+    ensures ended { (r : ℕ) → StartIs (λ h. IsStarted world.now.words said.now gate.now plan r h.promise) outside.old.seen r one.entry
+        → IsEnded plan outside.new.seen r }
+{
+    match one {
+        Ok(handle) => hear_thread(rt, alloc, world, said, handle, outside),
+        Err(fault) => Err(fault),
     }
 }
 
 // A worker is joined: what it promised, and that all it had seen is seen.
-fn finish<'a, R: Threads>(
+fn finish<'a, R: Threads, G: Gate>(
     rt: &R,
     world: &Shared,
-    handle: Handle<'a>,
+    handle: Handle<'a, G>,
     outside: &mut BookPass<FlagAnd>,
 ) -> Report
     requires world { handle.promise.world.now.words ≡ world.now.words }
@@ -156,8 +189,8 @@ fn finish<'a, R: Threads>(
     ensures of { IsOf flag_meld world.now.words outside.new }
     ensures seen { IsPrefix outside.old.seen outside.new.seen }
     ensures learned { IsPrefix result.told.seen outside.new.seen }
-    ensures kept { IsReported world.now.words handle.entry.promise.said.now handle.entry.promise.plan handle.entry.promise.number result.rank.own result.told
-        result.tokens.items result.fault }
+    ensures kept { IsReported world.now.words handle.entry.promise.said.now (G.may_say handle.entry.promise.gate.now) handle.entry.promise.plan
+        handle.entry.promise.number result }
 {
     let report = handle.join(rt);
     world.learn(outside, &report.told);
@@ -165,12 +198,12 @@ fn finish<'a, R: Threads>(
 }
 
 // A worker is heard: where it met no fault, this is what its rank was answered, in what is seen from now on.
-fn hear<'a, R: Threads>(
+fn hear_thread<'a, R: Threads, G: Gate>(
     rt: &R,
     alloc: Global,
     world: &Shared,
     said: &Replies,
-    handle: Handle<'a>,
+    handle: Handle<'a, G>,
     outside: &mut BookPass<FlagAnd>,
 ) -> Result<Heard, RaceFault>
     requires world { handle.promise.world.now.words ≡ world.now.words }
@@ -180,6 +213,9 @@ fn hear<'a, R: Threads>(
     ensures of { IsOf flag_meld world.now.words outside.new }
     ensures seen { IsPrefix outside.old.seen outside.new.seen }
     ensures answered { IfOk result (λ x. IsHeard handle.entry.promise.plan outside.new.seen handle.entry.promise.number x.replies.items x.made x.group.items) }
+    ensures asked { IfOk result (λ x. WasLet (G.may_say handle.entry.promise.gate.now handle.entry.promise.number) x.replies.items) }
+    ensures stops { IfErr result (StopsFor ⊤ (G.may_say handle.entry.promise.gate.now handle.entry.promise.number)) }
+    ensures ended { IsEnded handle.entry.promise.plan outside.new.seen handle.entry.promise.number }
 {
     let report = finish(rt, world, handle, outside);
     let heard = read_report(alloc, said, &report);

@@ -1,3 +1,7 @@
+ghost use Rattle.std.specs.Prelude.{◌≡◌, ℕ, Bool};
+ghost use Rattle.ulfm_race.specs.declared.plan.RaceFault.TheVariants.{Memory};
+ghost use Rattle.ulfm_race.specs.declared.plan.Turn.{Turn as TurnOf};
+
 use std::alloc::AllocError;
 use thiserror::Error;
 use ulfm_book::BookTold;
@@ -26,17 +30,31 @@ pub enum Turn {
     Poll,
 }
 
-/// Lets workers take their turns, each on its own thread. A gate that always says true lets all run as they like.
+/// Lets workers take their turns, and is told of their answers, each on the worker's own thread. A gate that always says true lets all run
+/// as they like.
+///
+/// A worker asks before each start and each poll. It tells once of each answer: of a start that has started, of a start that is refused, and
+/// of a poll that has a reply or is refused; of a poll that is pending it doesn't tell. So in a round a rank asks for its start, tells of it,
+/// asks for each of its polls, and tells of the last.
+///
+/// ```text
+/// go(r, Contribute)  answered(r)  go(r, Poll) .. go(r, Poll)  answered(r)
+/// ```
 pub trait Gate {
-    /// Whether the rank may take this turn. It may wait. Where it says false, the worker stops, its rank is declared, and the race
-    /// answers `Held`.
-    fn go(&self, rank: u16, turn: Turn) -> bool;
+    /// What the gate may say, true or false, to which rank, at which turn: either, unless the gate says more. Only contracts see it.
+    ghost may_say: { Self → ℕ → TurnOf → Bool → Type 0 } = { λ _ _ _ _. Unit {0} };
 
-    /// The rank was answered: it has a reply that isn't pending, or a refusal.
+    /// Whether the rank may take this turn. It may wait. Where it says false, the worker stops, its rank is declared, and the race
+    /// answers `Held`, or the fault of another rank.
+    fn go(&self, rank: u16, turn: Turn) -> bool
+        ensures { may_say self.now rank turn result };
+
+    /// The rank was answered: its start has started or was refused, or its poll has a reply that isn't pending, or was refused.
     fn answered(&self, rank: u16);
 }
 
-/// Why a race has no outcome. Each worker has ended, and the rank of each that stopped was declared.
+/// Why a race has no outcome. Each worker has ended, and the rank of each that stopped was declared. Where several ranks met a fault,
+/// it is one of theirs.
 #[derive(Clone, Copy, Debug, PartialEq, Eq, Error)]
 pub enum RaceFault {
     /// Memory was refused, or a thread.
@@ -48,6 +66,8 @@ pub enum RaceFault {
 }
 
 impl From<AllocError> for RaceFault {
+    ghost from_gives = { λ _ e. e ≡ Memory };
+
     fn from(_: AllocError) -> RaceFault {
         RaceFault::Memory
     }

@@ -1,9 +1,9 @@
-ghost use Rattle.std.specs.Prelude.{◌≡◌, [], IfErr, IfOk, IsTrue, map, length, None};
+ghost use Rattle.std.specs.Prelude.{◌≡◌, ◌≤◌, [], IfErr, IfOk, IfSome, map, length, vec_capacity};
+ghost use mathlib.Core.List.{IsPrefix};
 ghost use Rattle.ulfm_laws.specs.Flags.{flag_meld};
-ghost use Rattle.ulfm_model.specs.History.{failures, has};
 ghost use Rattle.ulfm_words.specs.Steps.{IsOf};
 ghost use Rattle.ulfm_comm.specs.Counts.{records_of};
-ghost use Rattle.ulfm_race.specs.Races.{IsNewRank, IsOutcome, IsPlan, IsReported, IsStarted, Numbered, limits_of};
+ghost use Rattle.ulfm_race.specs.Races.{EndsFor, IsDeclared, IsNewRank, IsOutcome, IsPlan, IsReported, IsStarted, Numbered, StartIs, WasLet, limits_of};
 
 use crate::gather::{Gathered, hear_all};
 use crate::plan::{Gate, Outcome, Plan, RaceFault};
@@ -17,20 +17,24 @@ use ulfm_laws::flag_and::FlagAnd;
 use ulfm_model::limits::Limits;
 
 /// What the worker of this rank promises of its report.
-#[derive(Clone, Copy)]
-pub(crate) struct Promised<'a> {
+#[derive(Drop)]
+pub(crate) struct Promised<'a, G: Gate> {
+    pub(crate) gate: &'a G,
     pub(crate) world: &'a Shared,
     pub(crate) said: &'a Replies,
     pub(crate) plan: Plan,
     pub(crate) number: u16,
 }
 
-impl<'a> Promise<Report> for Promised<'a> {
-    ghost kept_by = { λ p r. IsReported p.world.now.words p.said.now p.plan p.number r.rank.own r.told r.tokens.items r.fault };
+impl<'a, G: Gate> Promise<Report> for Promised<'a, G> {
+    ghost kept_by = { λ p r. IsReported p.world.now.words p.said.now (G.may_say p.gate.now) p.plan p.number r };
 }
 
 /// A worker's thread.
-pub(crate) type Handle<'a> = PromisedHandle<Report, Promised<'a>>;
+pub(crate) type Handle<'a, G> = PromisedHandle<Report, Promised<'a, G>>;
+
+/// A worker's thread, or why none was made.
+pub(crate) type Started<'a, G> = Result<Handle<'a, G>, RaceFault>;
 
 /// Races the ranks of a new world, whose words threads share: each agrees round after round, and then shrinks, on a thread of its own.
 /// In round k rank r contributes all ones but bit (r + k) mod 32.
@@ -39,9 +43,10 @@ pub(crate) type Handle<'a> = PromisedHandle<Report, Promised<'a>>;
 /// gate lets it, and the gate is told of each answer. A worker that stops, by a fault or a refusal, has its rank declared, and so has one
 /// whose thread can't be made; so the others don't wait for it.
 ///
-/// `Ok` says for each rank what it was answered, all in one history. `Memory` where memory or a thread was refused, `Held` where the gate
-/// said false; where several ranks met a fault, it is one of theirs. Whatever it answers, all its threads have ended. It answers only if
-/// they end: each polls until it is answered, and yields in between.
+/// `Ok` says for each rank what it was answered, all in one history; in that the plan's rank is declared, and each rank that was refused.
+/// `Memory` where memory or a thread was refused, `Held` where the gate said false, which no gate does whose `may_say` rules it out; where
+/// several ranks met a fault, it is one of theirs, and nothing is left of what the others were answered. Whatever it answers, all its threads
+/// have ended. It answers only if they end: each polls until it is answered, and yields in between.
 ///
 /// With a gate that always says true:
 ///
@@ -69,7 +74,9 @@ pub fn race<R: Threads + Wait + Sync, G: Gate + Sync>(
     gate: &G,
 ) -> Result<Outcome, RaceFault>
     requires { IsPlan plan }
-    ensures { IfOk result (λ o. IsOutcome plan o.seen.seen (map (λ v. v.items) o.replies.items) o.group.items) }
+    ensures answered { IfOk result (λ o. IsOutcome plan o.seen.seen (map (λ v. v.items) o.replies.items) o.group.items) }
+    ensures asked { IfOk result (λ o. Numbered (λ r v. WasLet (G.may_say gate.now r) v.items) 0 o.replies.items) }
+    ensures ends { IfErr result (EndsFor plan (G.may_say gate.now)) }
 {
     let (world, ranks) = open_world(alloc, plan)?;
     let said = boxcar::Vec::new(alloc)?;
@@ -91,6 +98,7 @@ pub fn race<R: Threads + Wait + Sync, G: Gate + Sync>(
 #[tactic(auto, using(crate::proofs::Gathering::new_ranks))]
 fn open_world(alloc: Global, plan: Plan) -> Result<(Shared, Vec<Own>), RaceFault>
     requires { IsPlan plan }
+    ensures refused { IfErr result (λ fault. fault ≡ RaceFault.Memory) }
     ensures limits { IfOk result (λ o. o.0.words.limits ≡ limits_of plan) }
     ensures ranks { IfOk result (λ o. Numbered (IsNewRank plan) 0 (records_of o.1.items)) }
     ensures all { IfOk result (λ o. length o.1.items ≡ plan.ranks) }
@@ -125,12 +133,14 @@ fn race_in<'s, E, R: Threads + Wait + Sync, G: Gate + Sync>(
     requires limits { world.now.words.limits ≡ limits_of plan }
     requires ranks { Numbered (IsNewRank plan) 0 (records_of ranks.items) }
     requires all { length ranks.items ≡ plan.ranks }
-    ensures { IfOk result (λ o. IsOutcome plan o.seen.seen (map (λ v. v.items) o.replies.items) o.group.items) }
+    ensures answered { IfOk result (λ o. IsOutcome plan o.seen.seen (map (λ v. v.items) o.replies.items) o.group.items) }
+    ensures asked { IfOk result (λ o. Numbered (λ r v. WasLet (G.may_say gate.now r) v.items) 0 o.replies.items) }
+    ensures ends { IfErr result (EndsFor plan (G.may_say gate.now)) }
 {
     let gathered = Gathered::new(alloc, plan)?;
-    let mut handles = Vec::with_capacity(alloc, ranks.len())?;
+    let mut started = Vec::with_capacity(alloc, ranks.len())?;
     let mut outside = world.pass(alloc)?;
-    let fault = start_all(
+    start_all(
         scope,
         rt,
         gate,
@@ -140,23 +150,36 @@ fn race_in<'s, E, R: Threads + Wait + Sync, G: Gate + Sync>(
         plan,
         ranks,
         &mut outside,
-        &mut handles,
+        &mut started,
     );
     declare(world, plan, &mut outside);
-    hear_all(rt, alloc, world, said, handles, outside, gathered, fault)
+    hear_all(
+        rt,
+        alloc,
+        world,
+        said,
+        gate,
+        started,
+        &mut outside,
+        gathered,
+    )
 }
 
 // The rank that the plan declares, if any, is declared.
 fn declare(world: &Shared, plan: Plan, outside: &mut BookPass<FlagAnd>)
+    requires plan { IsPlan plan }
+    requires limits { world.now.words.limits ≡ limits_of plan }
     requires of { IsOf flag_meld world.now.words outside.old }
     ensures of { IsOf flag_meld world.now.words outside.new }
+    ensures seen { IsPrefix outside.old.seen outside.new.seen }
+    ensures declared { IfSome plan.fail (IsDeclared outside.new.seen) }
 {
     if let Some(rank) = plan.fail {
         let _ = world.fail(outside, rank);
     }
 }
 
-// A worker is started for each rank, in order: the fault of one that wasn't, if any.
+// A worker is started for each rank, in order; where one can't be, its rank is declared, and the others are started still.
 fn start_all<'s, E, G: Gate + Sync, R: Wait + Sync>(
     scope: &Scope<'s, E>,
     rt: &'s R,
@@ -167,29 +190,23 @@ fn start_all<'s, E, G: Gate + Sync, R: Wait + Sync>(
     plan: Plan,
     ranks: Vec<Own>,
     outside: &mut BookPass<FlagAnd>,
-    handles: &mut Vec<Handle<'s>>,
-) -> Option<RaceFault>
+    started: &mut Vec<Started<'s, G>>,
+)
     requires plan { IsPlan plan }
     requires limits { world.now.words.limits ≡ limits_of plan }
     requires of { IsOf flag_meld world.now.words outside.old }
     requires ranks { Numbered (IsNewRank plan) 0 (records_of ranks.items) }
-    requires nobody { handles.old.items ≡ [] }
+    requires nobody { started.old.items ≡ [] }
+    requires room { length ranks.items ≤ vec_capacity started.old }
     ensures of { IsOf flag_meld world.now.words outside.new }
-    ensures started { result ≡ None → Numbered (λ r h. IsStarted world.now.words said.now plan r h.promise) 0 handles.new.items }
-    ensures all { result ≡ None → length handles.new.items ≡ length ranks.items }
+    ensures started { Numbered (λ r one. StartIs (λ h. IsStarted world.now.words said.now gate.now plan r h.promise) outside.new.seen r one)
+        0 started.new.items }
+    ensures all { length started.new.items ≡ length ranks.items }
 {
-    let mut fault = None;
     for rank in ranks {
-        match start(scope, rt, gate, alloc, world, said, plan, rank, outside) {
-            Ok(handle) => {
-                if handles.push(handle).is_err() {
-                    fault = Some(RaceFault::Memory);
-                }
-            }
-            Err(stopped) => fault = Some(stopped),
-        }
+        let one = start(scope, rt, gate, alloc, world, said, plan, rank, outside);
+        started.push_reserved(one);
     }
-    fault
 }
 
 // One worker is started, on a thread of its own. Where none can be made, its rank is declared.
@@ -203,17 +220,18 @@ fn start<'s, E, G: Gate + Sync, R: Wait + Sync>(
     plan: Plan,
     rank: Own,
     outside: &mut BookPass<FlagAnd>,
-) -> Result<Handle<'s>, RaceFault>
+) -> Started<'s, G>
     requires plan { IsPlan plan }
     requires limits { world.now.words.limits ≡ limits_of plan }
     requires new { IsNewRank plan rank.own.number rank.own }
     requires of { IsOf flag_meld world.now.words outside.old }
     ensures of { IsOf flag_meld world.now.words outside.new }
-    ensures started { IfOk result (λ h. IsStarted world.now.words said.now plan rank.own.number h.promise) }
-    ensures declared { IfErr result (λ _. IsTrue (has (failures outside.new.seen) rank.own.number)) }
+    ensures seen { IsPrefix outside.old.seen outside.new.seen }
+    ensures started { StartIs (λ h. IsStarted world.now.words said.now gate.now plan rank.own.number h.promise) outside.new.seen rank.own.number result }
 {
     let number = rank.number();
     let promised = Promised {
+        gate,
         world,
         said,
         plan,

@@ -1,15 +1,15 @@
 // The part of one rank.
-ghost use Rattle.std.specs.Prelude.{◌≡◌, ◌<◌, Bool, List, [], ◌∷◌, ◌++◌, false, map, IfOk, IfSome, IsTrue, MatchBool, None, Ok, Err};
-ghost use Rattle.std.specs.List.{AllByRecursion};
+ghost use Rattle.std.specs.Prelude.{◌≡◌, ◌<◌, Bool, List, [], ◌∷◌, ◌++◌, false, true, map, not, ⊤, IfErr, IfOk, IfSome, IsTrue, MatchBool, None, Ok, Err};
+ghost use Rattle.std.specs.List.{AllByRecursion, list_any};
 ghost use mathlib.Core.List.{IsPrefix};
 ghost use Rattle.boxcar.specs.Table.{Shows};
 ghost use Rattle.ulfm_model.specs.History.{failures, has};
 ghost use Rattle.ulfm_model.specs.Records.{new_record};
 ghost use Rattle.ulfm_laws.specs.Flags.{flag_meld};
-ghost use Rattle.ulfm_model.specs.declared.reply.Reply.{Reply as ReplyOf};
-ghost use Rattle.ulfm_wait.specs.Waits.{IsPolledOn};
+ghost use Rattle.ulfm_model.specs.declared.{call.Call.TheVariants.{Agree, Shrink}, reply.Reply.{Reply as ReplyOf}};
+ghost use Rattle.ulfm_wait.specs.Waits.{IsAwaited, IsPolledOn};
 ghost use Rattle.ulfm_race.specs.declared.plan.Plan.{Plan as PlanOf};
-ghost use Rattle.ulfm_race.specs.Races.{AreOf, IsAnswered, IsKept, IsPlan, IsReady, IsReported, SaysAgree, Starts, Works};
+ghost use Rattle.ulfm_race.specs.Races.{AreOf, IsAnswered, IsKept, IsPlan, IsReady, IsReported, SaysAgree, Starts, StopsFor, WasLet, Works};
 ghost use Rattle.ulfm_race.specs.Races.{flag_of, is_refused, is_stopped, limits_of};
 
 use crate::plan::{Gate, Plan, RaceFault, Turn};
@@ -62,7 +62,7 @@ pub(crate) fn work<G: Gate, R: Wait>(
     requires limits { world.now.words.limits ≡ limits_of plan }
     requires new { rank.own ≡ new_record (limits_of plan) rank.own.number }
     requires own { AreOf world.now.words rank.own pass }
-    ensures { IsReported world.now.words said.now plan rank.own.number result.rank.own result.told result.tokens.items result.fault }
+    ensures { IsReported world.now.words said.now (G.may_say gate.now) plan rank.own.number result }
 {
     let number = rank.number();
     let mut worker = Worker {
@@ -112,6 +112,7 @@ fn declare(world: &Shared, rank: &Own, number: u16, pass: &mut BookPass<FlagAnd>
     ensures own { AreOf world.now.words rank.now.own pass.new }
     ensures seen { IsPrefix pass.old.seen pass.new.seen }
     ensures declared { IsTrue stopped → number < world.now.words.limits.ranks → IsTrue (has (failures pass.new.seen) number) }
+    ensures alone { stopped ≡ false → pass.new.seen ≡ pass.old.seen }
 {
     if stopped {
         let _ = world.fail(pass, number);
@@ -131,6 +132,9 @@ fn take_turns<G: Gate, R: Wait>(
     ensures works { Works world.now.words said.now worker.new.rank.own worker.new.pass worker.new.tokens.items }
     ensures answered { IfOk result (λ _. IsAnswered plan worker.new.pass.seen worker.old.rank.own.number worker.new.rank.own
         (map (λ t. t.value) worker.new.tokens.items)) }
+    ensures asks { IfOk result (λ _. WasLet (G.may_say gate.now worker.old.rank.own.number) (map (λ t. t.value) worker.new.tokens.items)) }
+    ensures whole { IfOk result (λ whole. list_any is_refused (map (λ t. t.value) worker.new.tokens.items) ≡ not whole) }
+    ensures stops { IfErr result (StopsFor ⊤ (G.may_say gate.now worker.old.rank.own.number)) }
 {
     match agree_all(rt, gate, world, said, plan, worker) {
         Ok(true) => {}
@@ -139,10 +143,7 @@ fn take_turns<G: Gate, R: Wait>(
     }
     match shrink(rt, gate, world, &mut worker.rank, &mut worker.pass) {
         Ok(reply) => match keep(rt, said, &mut worker.tokens, reply) {
-            Ok(()) => {
-                gate.answered(worker.rank.number());
-                Ok(!is_refused(&reply))
-            }
+            Ok(()) => Ok(!is_refused(&reply)),
             Err(fault) => Err(fault),
         },
         Err(fault) => Err(fault),
@@ -159,6 +160,7 @@ fn keep<R: Wait>(
     requires { AllByRecursion (Shows said.now) tokens.old.items }
     ensures shown { AllByRecursion (Shows said.now) tokens.new.items }
     ensures kept { IfOk result (λ _. map (λ t. t.value) tokens.new.items ≡ map (λ t. t.value) tokens.old.items ++ reply ∷ []) }
+    ensures stops { IfErr result (λ fault. fault ≡ RaceFault.Memory) }
 {
     match said.push_shown(rt, reply) {
         Ok(token) => match tokens.push(token) {
@@ -178,7 +180,7 @@ fn flag(rank: u16, round: u16) -> FlagAnd
     }
 }
 
-// Polls until there is an answer, or the gate says no.
+// Polls until there is an answer, of which the gate is told, or the gate says no.
 fn polled<G: Gate, R: Wait>(
     rt: &R,
     gate: &G,
@@ -189,17 +191,26 @@ fn polled<G: Gate, R: Wait>(
     requires own { AreOf world.now.words rank.old.own pass.old }
     ensures own { AreOf world.now.words rank.new.own pass.new }
     ensures polls { IfOk result (λ answer. IsPolledOn flag_meld false world.now.words 0 rank.old.own pass.old answer rank.new.own pass.new) }
+    ensures asks { IfOk result (λ _. G.may_say gate.now rank.old.own.number Turn.Poll true) }
+    ensures stops { IfErr result (λ fault. (fault ≡ RaceFault.Held) × G.may_say gate.now rank.old.own.number Turn.Poll false) }
 {
+    let number = rank.number();
     for _ in rt.forever() {
-        if !gate.go(rank.number(), Turn::Poll) {
+        if !gate.go(number, Turn::Poll) {
             return Err(RaceFault::Held);
         }
         match rank.poll(world, pass, 0) {
             Ok(reply) => match reply {
                 Polled::Pending => thread::yield_now(),
-                answer => return Ok(Ok(answer)),
+                answer => {
+                    gate.answered(number);
+                    return Ok(Ok(answer));
+                }
             },
-            Err(refusal) => return Ok(Err(refusal)),
+            Err(refusal) => {
+                gate.answered(number);
+                return Ok(Err(refusal));
+            }
         }
     }
     unreachable!()
@@ -207,7 +218,8 @@ fn polled<G: Gate, R: Wait>(
 
 // An answer as a reply, unless it wants memory.
 fn reply_from(answer: Result<Polled<FlagAnd>, Refusal>) -> Result<Reply<FlagAnd>, RaceFault>
-    ensures { IfOk result (IsKept answer) }
+    ensures kept { IfOk result (IsKept answer) }
+    ensures stops { IfErr result (λ fault. (fault ≡ RaceFault.Memory) × (answer ≡ Err Refusal.OutOfMemory)) }
 {
     match answer {
         Ok(reply) => Ok(match reply {
@@ -253,12 +265,19 @@ fn agree<G: Gate, R: Wait>(
     ensures says { IfOk result (λ reply. (plan : PlanOf) → (said : List (ReplyOf _))
         → world.now.words.limits ≡ limits_of plan → round < plan.rounds → IsReady plan rank.old.own.number round rank.old.own pass.old.seen said
         → SaysAgree plan rank.old.own.number round said rank.new.own pass.new.seen reply) }
+    ensures asks { IfOk result (λ reply. WasLet (G.may_say gate.now rank.old.own.number) (reply ∷ [])) }
+    ensures stops { IfErr result (StopsFor
+        (IsAwaited flag_meld false world.now.words 0 (Agree rank.old.own.number 0 (flag_of rank.old.own.number round)) rank.old.own pass.old (Err Refusal.OutOfMemory)
+        rank.new.own pass.new)
+        (G.may_say gate.now rank.old.own.number)) }
 {
     let number = rank.number();
     if !gate.go(number, Turn::Contribute) {
         return Err(RaceFault::Held);
     }
-    match rank.iagree(world, pass, 0, flag(number, round)) {
+    let started = rank.iagree(world, pass, 0, flag(number, round));
+    gate.answered(number);
+    match started {
         Ok(()) => match polled(rt, gate, world, rank, pass) {
             Ok(answer) => reply_from(answer),
             Err(fault) => Err(fault),
@@ -280,11 +299,18 @@ fn shrink<G: Gate, R: Wait>(
     ensures says { IfOk result (λ reply. (plan : PlanOf) → (said : List (ReplyOf _)) → world.now.words.limits ≡ limits_of plan
         → IsReady plan rank.old.own.number plan.rounds rank.old.own pass.old.seen said
         → IsAnswered plan pass.new.seen rank.old.own.number rank.new.own (said ++ reply ∷ [])) }
+    ensures asks { IfOk result (λ reply. WasLet (G.may_say gate.now rank.old.own.number) (reply ∷ [])) }
+    ensures stops { IfErr result (StopsFor
+        (IsAwaited flag_meld false world.now.words 0 (Shrink rank.old.own.number 0) rank.old.own pass.old (Err Refusal.OutOfMemory) rank.new.own pass.new)
+        (G.may_say gate.now rank.old.own.number)) }
 {
-    if !gate.go(rank.number(), Turn::Contribute) {
+    let number = rank.number();
+    if !gate.go(number, Turn::Contribute) {
         return Err(RaceFault::Held);
     }
-    match rank.ishrink(world, pass, 0) {
+    let started = rank.ishrink(world, pass, 0);
+    gate.answered(number);
+    match started {
         Ok(()) => match polled(rt, gate, world, rank, pass) {
             Ok(answer) => reply_from(answer),
             Err(fault) => Err(fault),
@@ -319,6 +345,9 @@ pub(crate) fn agree_all<G: Gate, R: Wait>(
         (map (λ t. t.value) worker.new.tokens.items))
         (IsAnswered plan worker.new.pass.seen worker.old.rank.own.number worker.new.rank.own
         (map (λ t. t.value) worker.new.tokens.items))) }
+    ensures asks { IfOk result (λ _. WasLet (G.may_say gate.now worker.old.rank.own.number) (map (λ t. t.value) worker.new.tokens.items)) }
+    ensures whole { IfOk result (λ goes. list_any is_refused (map (λ t. t.value) worker.new.tokens.items) ≡ not goes) }
+    ensures stops { IfErr result (StopsFor ⊤ (G.may_say gate.now worker.old.rank.own.number)) }
 {
     for round in 0..plan.rounds {
         match agree(rt, gate, world, &mut worker.rank, &mut worker.pass, round) {
@@ -327,7 +356,6 @@ pub(crate) fn agree_all<G: Gate, R: Wait>(
                     Ok(()) => {}
                     Err(fault) => return Err(fault),
                 }
-                gate.answered(worker.rank.number());
                 if is_refused(&reply) {
                     return Ok(false);
                 }

@@ -1,19 +1,38 @@
 // Races whose gate lets all run as they like.
+ghost use Rattle.std.specs.Prelude.{◌≡◌, IfErr, true};
+ghost use Rattle.ulfm_race.specs.Races.{IsPlan};
+
 use std::alloc::{AllocError, Global};
+use std::sync::Wait;
 use std::test::Fail;
+use std::thread::Threads;
 use ulfm_laws::flag_and::FlagAnd;
 use ulfm_model::reply::Reply;
-use ulfm_race::{Gate, Plan, Turn, race};
+use ulfm_race::{Gate, Outcome, Plan, RaceFault, Turn, race};
 
-/// Always says true.
+/// Always says true, and contracts know that.
 pub(crate) struct Free;
 
 impl Gate for Free {
+    ghost may_say = { λ _ _ _ said. said ≡ true };
+
     fn go(&self, _rank: u16, _turn: Turn) -> bool {
         true
     }
 
     fn answered(&self, _rank: u16) {}
+}
+
+/// A race that nothing holds: where it has no outcome, memory was refused, or a thread.
+fn free_race<R: Threads + Wait + Sync>(
+    rt: &R,
+    alloc: Global,
+    plan: Plan,
+) -> Result<Outcome, RaceFault>
+    requires { IsPlan plan }
+    ensures { IfErr result (λ fault. fault ≡ RaceFault.Memory) }
+{
+    race(rt, alloc, plan, &Free)
 }
 
 /// An agree of these bits that nobody failed in.
@@ -42,7 +61,7 @@ fn race_of_four(rt: HostRuntime) -> Result<(), Fail> {
         rounds: 2,
         fail: None,
     };
-    let outcome = race(&rt, rt.alloc(), plan, &Free)?;
+    let outcome = free_race(&rt, rt.alloc(), plan)?;
     let wanted = four_answers(rt.alloc())?;
     assert_eq!(rt; outcome.replies.len(), 4);
     for replies in &outcome.replies {

@@ -8,4 +8,6 @@ mod free;
 #[cfg(test)]
 mod held;
 #[cfg(test)]
+mod order;
+#[cfg(test)]
 mod tables;

@@ -11,7 +11,7 @@ use ulfm_race::{Gate, Plan, Turn, race};
 struct Seat {
     asked_to_poll: bool,
     starts: u16,
-    answers: u16,
+    answers: u32,
 }
 
 const NEW: Seat = Seat {
@@ -38,13 +38,18 @@ impl Table {
     }
 }
 
+/// How often a rank is answered until its start of this number has its reply: twice in each round before, and once.
+fn started(number: u16) -> u32 {
+    (2 * u32::from(number)).saturating_sub(1)
+}
+
 /// Whom a gate lets wait.
 #[derive(Clone, Copy)]
 enum Rule {
-    /// Each rank's first poll waits until both were asked for. From rank 0's second start on, its next turn waits until rank 1
-    /// was answered in that round.
+    /// Each rank's first poll waits until both were asked for. From rank 0's second start on, its next turn waits until rank 1 was answered
+    /// to its start of that round.
     Meet,
-    /// Rank 1's first turn waits until rank 0 was answered twice.
+    /// Rank 1's first turn waits until rank 0 was answered twice: to its start, and in its first round.
     Second,
 }
 
@@ -56,7 +61,7 @@ impl Rule {
                 let together = table.first.asked_to_poll && table.second.asked_to_poll;
                 let follows = rank == 1
                     || table.first.starts < 2
-                    || table.second.answers >= table.first.starts;
+                    || table.second.answers >= started(table.first.starts);
                 turn == Turn::Contribute || together && follows
             }
             Rule::Second => rank == 0 || table.first.answers >= 2,
@@ -64,7 +69,7 @@ impl Rule {
     }
 }
 
-/// A gate with a table. It gives up after a thousand turns of a thousand looks each.
+/// A gate with a table. It says false after a thousand turns of a thousand looks each, with a yield after each look.
 #[derive(Drop)]
 struct Tables<'a, R: Wait> {
     rt: &'a R,
@@ -100,16 +105,26 @@ impl<'a, R: Wait> Tables<'a, R> {
         let table = *self.table.lock(self.rt);
         self.rule.lets(table, rank, turn)
     }
+
+    // Looks a thousand times.
+    fn looks_on(&self, rank: u16, turn: Turn) -> bool {
+        for _look in 0..1_000u32 {
+            if self.looks(rank, turn) {
+                return true;
+            }
+            thread::yield_now();
+        }
+        false
+    }
 }
 
 impl<'a, R: Wait> Gate for Tables<'a, R> {
     fn go(&self, rank: u16, turn: Turn) -> bool {
         self.note(rank, turn);
-        for _look in 0..1_000_000u32 {
-            if self.looks(rank, turn) {
+        for _turn in 0..1_000u32 {
+            if self.looks_on(rank, turn) {
                 return true;
             }
-            thread::yield_now();
         }
         false
     }

@@ -1,8 +1,9 @@
-use Rattle.std.proofs.Common.{◌≡◌, ℕ, ◌+◌, ap, sym, ◌∙◌, subst, length, not, arith, refl}
-use Rattle.ulfm_model.specs.Records.{Record}
+use Rattle.std.proofs.Common.{◌+◌, ap, sym, subst, length, length-append, [], ◌∷◌, arith, refl}
+use Rattle.ulfm_laws.specs.Flags.{flag_meld}
+use Rattle.ulfm_model.specs.{History.{IsLegal}, Records.{Record}}
 use Rattle.ulfm_comm.specs.Counts.{records_of}
-use Rattle.ulfm_race.specs.Races.{IsNewRank, IsStarted, Numbered}
-use Rattle.ulfm_race.proofs.Gathering.{push_numbered}
+use Rattle.ulfm_race.specs.Races.{IsNewRank, IsStarted, Numbered, StartIs}
+use Rattle.ulfm_race.proofs.Gathering.{starts_push}
 use Rattle.ulfm_race.proofs.racing.start_all.Goals as goal
 
 pub loop-rank-init : goal.loop-rank-init
@@ -10,33 +11,46 @@ loop-rank-init g c =
     let items = c.into_iter-rank-iterator.ensures.into_iter_gives.0 in (
       refl,
       refl,
+      refl,
       c.requires.of,
       (
         0,
         omega (arith, ap length items),
         subst (λ rs. Numbered (IsNewRank c.args.plan) 0 (records_of rs)) (sym items) c.requires.ranks,
-        λ none. (
-          subst (Numbered (λ i h. IsStarted c.args.world.now.words c.args.said.now c.args.plan i h.promise) 0) (sym c.requires.nobody) tt,
-          ap length c.requires.nobody,
-        ),
+        subst
+            (Numbered (λ i one. StartIs (λ h. IsStarted c.args.world.now.words c.args.said.now c.args.gate.now c.args.plan i h.promise) c.args.outside.now.seen i one) 0)
+            (sym c.requires.nobody) tt,
+        ap length c.requires.nobody,
+        c.requires.room,
       ),
     )
 
-pub loop-rank-preserved-else-is_err : goal.loop-rank-preserved-else-is_err
-loop-rank-preserved-else-is_err g c =
-    let inv = c.loop-rank.invariant.3 in
+pub loop-rank-preserved : goal.loop-rank-preserved
+loop-rank-preserved g c =
+    let plan = c.args.plan in
+    let inv = c.loop-rank.invariant.4 in
     let r = inv.0 in
+    let was = c.loop-rank.outside.seen in
+    let seen = c.start-one.new.outside.seen in
     let steps = c.in-Some.ensures.steps.0 in
-    let rest = subst (λ rs. Numbered (IsNewRank c.args.plan) r (records_of rs)) steps inv.2 in
+    let rest = subst (λ rs. Numbered (IsNewRank plan) r (records_of rs)) steps inv.2 in
     let number = ap (λ (w : Record). w.number) rest.0.record_is in
-    let started = subst (λ n. IsStarted c.args.world.now.words c.args.said.now c.args.plan n c.in-Ok.handle.promise) number c.in-Ok.ensures.started in (
+    let legal = subst (λ l. IsLegal flag_meld l seen) c.requires.limits c.start-one.ensures.of.legal in
+    let here = subst (λ n. StartIs (λ h. IsStarted c.args.world.now.words c.args.said.now c.args.gate.now plan n h.promise) seen n c.start-one.result) number c.start-one.ensures.started in
+    let count = inv.4 in
+    let pushed = c.push_reserved.ensures.items in
+    let capacity = c.push_reserved.ensures.capacity in (
       refl,
       refl,
-      c.start.ensures.of,
+      refl,
+      c.start-one.ensures.of,
       (
         r + 1,
         omega (arith, ap length steps, inv.1),
         rest.1,
-        λ none. push_numbered _ c.loop-rank.handles.items c.push.new.self.items c.in-Ok.handle _ r c.push.ensures.items (c.is_err.ensures.negation ∙ ap not c.if-is_err.false) (inv.3 none) started,
+        starts_push plan was seen c.start-one.ensures.seen legal (λ i h. IsStarted c.args.world.now.words c.args.said.now c.args.gate.now plan i h.promise) c.loop-rank.started.items
+            c.push_reserved.new.self.items c.start-one.result r pushed count inv.3 here,
+        omega (arith, ap length pushed, length-append c.loop-rank.started.items (c.start-one.result ∷ []), count),
+        omega (arith, capacity, inv.5),
       ),
     )

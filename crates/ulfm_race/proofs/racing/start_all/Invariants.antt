@@ -1,8 +1,8 @@
-use Rattle.std.proofs.Common.{◌≡◌, ℕ, ◌+◌, length, Option, None}
+use Rattle.std.proofs.Common.{◌≡◌, ℕ, ◌+◌, ◌≤◌, length, vec_capacity}
 use Rattle.ulfm_laws.specs.Flags.{flag_meld}
 use Rattle.ulfm_words.specs.Steps.{IsOf}
 use Rattle.ulfm_comm.specs.Counts.{records_of}
-use Rattle.ulfm_race.specs.Races.{IsNewRank, IsStarted, Numbered}
+use Rattle.ulfm_race.specs.Races.{IsNewRank, IsStarted, Numbered, StartIs}
 use Rattle.ulfm_race.proofs.racing.start_all.Given as goal
 
 abbrev pub invariant-loop-rank : goal.invariant-loop-rank
@@ -12,8 +12,11 @@ invariant-loop-rank g l =
     let rest = l.rank-iterator.rest.items in
     (l.world ≡ l.fn.world)
     × (l.said ≡ l.fn.said)
+    × (l.gate ≡ l.fn.gate)
     × IsOf flag_meld name l.outside
     × ((r : ℕ)
     × (r + length rest ≡ length l.fn.ranks.items)
     × Numbered (IsNewRank plan) r (records_of rest)
-    × (l.fault ≡ None → Numbered (λ i h. IsStarted name l.fn.said plan i h.promise) 0 l.handles.items × (length l.handles.items ≡ r)))
+    × Numbered (λ i one. StartIs (λ h. IsStarted name l.fn.said l.fn.gate plan i h.promise) l.outside.seen i one) 0 l.started.items
+    × (length l.started.items ≡ r)
+    × (length l.fn.ranks.items ≤ vec_capacity l.started))

@@ -1,8 +1,10 @@
-use Rattle.std.proofs.Common.{◌≡◌, ◌<◌, ◌∙◌, Err, IsTrue, ap, map, sym, subst, refl}
+use Rattle.std.proofs.Common.{◌≡◌, ◌<◌, ◌∙◌, Err, IfErr, IsTrue, Some, ap, map, sym, subst, refl}
+use Rattle.std.specs.{List.{list_any}, Prelude.{⊤}}
 use Rattle.ulfm_laws.specs.Flags.{flag_meld}
 use Rattle.ulfm_model.specs.{History.{IsLegal, failures, has}, Records.{Fits, new_record}}
-use Rattle.ulfm_race.specs.Races.{IsAnswered, is_stopped}
-use Rattle.ulfm_race.proofs.Stopping.{new_below, some_holds}
+use Rattle.ulfm_race.specs.Races.{IsAnswered, StopsFor, WasLet, is_refused, is_stopped}
+use Rattle.ulfm_race.specs.declared.plan.RaceFault.{RaceFault}
+use Rattle.ulfm_race.proofs.Stopping.{new_below, refused_stops, some_holds}
 use Rattle.ulfm_race.proofs.Turns.{answered_lasts, ok_holds}
 use Rattle.ulfm_race.proofs.worker.work.Goals as goal
 
@@ -15,6 +17,11 @@ returns g c =
     let said = map (λ t. t.value) c.take_turns-ended.new.worker.tokens.items in
     let seen = c.declare.new.pass.seen in
     let here = (c.told-told.ensures.all refl).0 in
+    let below = new_below limits c.args.pass.seen c.args.rank.own number (subst (λ l. c.args.rank.own ≡ new_record l number) (sym c.requires.limits) c.requires.new) c.requires.own.fits in
+    let same = c.number-number.ensures in
+    let at_last : IsTrue (c.is_stopped.result) → IsTrue (has (failures seen) number) = λ stopped.
+    subst (λ n. IsTrue (has (failures seen) n)) same (c.declare.ensures.declared stopped (subst (λ n. n < limits.ranks) (sym same) below)) in
+    let failed = λ (f : RaceFault) (met : c.fault_in-fault.result ≡ Some f). some_holds (λ fault. c.take_turns-ended.result ≡ Err fault) c.fault_in-fault.result f c.fault_in-fault.ensures.some met in
     let legal = subst (λ l. IsLegal flag_meld l seen) c.requires.limits c.declare.ensures.own.of.legal in
     record {
       name_is = c.told-told.ensures.name_is;
@@ -24,11 +31,11 @@ returns g c =
       answered = λ none.
           let is = ok_holds (IsAnswered plan c.take_turns-ended.new.worker.pass.seen number rank said) c.take_turns-ended.result c.take_turns-ended.ensures.answered (c.fault_in-fault.ensures.none none) in
           subst (λ h. IsAnswered plan h number rank said) (sym here) (answered_lasts plan c.take_turns-ended.new.worker.pass.seen seen c.declare.ensures.seen legal number rank said is);
-      declared = λ f met.
-          let err = some_holds (λ fault. c.take_turns-ended.result ≡ Err fault) c.fault_in-fault.result f c.fault_in-fault.ensures.some met in
-          let stopped = c.is_stopped.ensures ∙ ap is_stopped err in
-          let below = new_below limits c.args.pass.seen c.args.rank.own number (subst (λ l. c.args.rank.own ≡ new_record l number) (sym c.requires.limits) c.requires.new) c.requires.own.fits in
-          let same = c.number-number.ensures in
-          let there = c.declare.ensures.declared stopped (subst (λ n. n < limits.ranks) (sym same) below) in
-          subst (λ h. IsTrue (has (failures h) number)) (sym here) (subst (λ n. IsTrue (has (failures seen) n)) same there);
+      asked = λ none. ok_holds (WasLet (g.G.Gate.may_say c.args.gate.now number) said) c.take_turns-ended.result c.take_turns-ended.ensures.asks (c.fault_in-fault.ensures.none none);
+      refused = λ refused.
+          subst (λ h. IsTrue (has (failures h) number)) (sym here)
+          (at_last (c.is_stopped.ensures ∙ refused_stops c.take_turns-ended.result (list_any is_refused said) c.take_turns-ended.ensures.whole refused));
+      declared = λ f met. subst (λ h. IsTrue (has (failures h) number)) (sym here) (at_last (c.is_stopped.ensures ∙ ap is_stopped (failed f met)));
+      stops = λ f met.
+          subst (λ o. IfErr o (StopsFor ⊤ (g.G.Gate.may_say c.args.gate.now number))) (failed f met) c.take_turns-ended.ensures.stops;
     }

@@ -1,4 +1,4 @@
-use Rattle.std.proofs.Common.{◌≡◌, IfOk, subst}
+use Rattle.std.proofs.Common.{IfOk, subst}
 use Rattle.ulfm_race.specs.Races.{IsHeard}
 use Rattle.ulfm_race.proofs.gather.Gathered.take_in.Goals as goal
 

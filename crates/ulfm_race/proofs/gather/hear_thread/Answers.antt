@@ -1,0 +1,39 @@
+use Rattle.std.proofs.Common.{map, subst}
+use Rattle.ulfm_laws.specs.Flags.{flag_meld}
+use Rattle.ulfm_model.specs.{History.{IsLegal}, Records.{Fits}}
+use Rattle.ulfm_race.proofs.Gathering.{ended_by, heard_is}
+use Rattle.ulfm_race.proofs.gather.hear_thread.Goals as goal
+
+pub returns-in-Ok-clause-answered : goal.returns-in-Ok-clause-answered
+returns-in-Ok-clause-answered g c =
+    let plan = c.args.handle.promise.plan in
+    let report = c.finish-report.result in
+    let seen = c.finish-report.new.outside.seen in
+    let legal = subst (λ l. IsLegal flag_meld l seen) c.requires.limits c.finish-report.ensures.of.legal in
+    let fits = subst (λ l. Fits flag_meld l report.told.seen report.rank.own) c.requires.limits c.finish-report.ensures.kept.fits in
+    heard_is plan report.told.seen seen c.finish-report.ensures.learned legal report.rank.own fits c.args.handle.promise.number (map (λ t. t.value) report.tokens.items) c.in-Ok.heard.replies.items c.in-Ok.ensures.replies
+    (c.finish-report.ensures.kept.answered c.in_default.is) c.finish-report.ensures.kept.refused c.in-Ok.heard.made c.in-Ok.heard.group.items c.in-Ok.ensures.made c.in-Ok.ensures.group c.in-Ok.ensures.nobody
+
+pub returns-in-Some-clause-ended : goal.returns-in-Some-clause-ended
+returns-in-Some-clause-ended g c =
+    let report = c.finish-report.result in
+    let seen = c.finish-report.new.outside.seen in
+    let legal = subst (λ l. IsLegal flag_meld l seen) c.requires.limits c.finish-report.ensures.of.legal in
+    let kept = c.finish-report.ensures.kept in
+    ended_by c.args.handle.promise.plan report.told.seen seen c.finish-report.ensures.learned legal c.args.handle.promise.number report.rank.own (map (λ t. t.value) report.tokens.items) report.fault kept.answered kept.refused kept.declared
+
+pub returns-in-Ok-clause-ended : goal.returns-in-Ok-clause-ended
+returns-in-Ok-clause-ended g c =
+    let report = c.finish-report.result in
+    let seen = c.finish-report.new.outside.seen in
+    let legal = subst (λ l. IsLegal flag_meld l seen) c.requires.limits c.finish-report.ensures.of.legal in
+    let kept = c.finish-report.ensures.kept in
+    ended_by c.args.handle.promise.plan report.told.seen seen c.finish-report.ensures.learned legal c.args.handle.promise.number report.rank.own (map (λ t. t.value) report.tokens.items) report.fault kept.answered kept.refused kept.declared
+
+pub returns-in-Err-clause-ended : goal.returns-in-Err-clause-ended
+returns-in-Err-clause-ended g c =
+    let report = c.finish-report.result in
+    let seen = c.finish-report.new.outside.seen in
+    let legal = subst (λ l. IsLegal flag_meld l seen) c.requires.limits c.finish-report.ensures.of.legal in
+    let kept = c.finish-report.ensures.kept in
+    ended_by c.args.handle.promise.plan report.told.seen seen c.finish-report.ensures.learned legal c.args.handle.promise.number report.rank.own (map (λ t. t.value) report.tokens.items) report.fault kept.answered kept.refused kept.declared
