@@ -180,13 +180,14 @@ module _ (name : Name) (pass : Sight FlagAnd) (seats : List FlagSeat) (now : Tra
       pub until_tells : TellsSteps (StandsFor name later (set seats r left)) now r reach made text more
       until_tells = record {
         piece = w.walks.piece;
-        count = w.count;
+        count = length w.names;
         told = w.walks.told;
         by = subst (λ n. AreOf (Caller.Rank n) w.walks.piece) number w.walks.by;
         legal = goes.legal;
         few = w.walks.few;
         counted = w.counted;
         within = w.within;
+        before = λ n is. w.walks.others n (w.before n is);
         idle = λ closed. absurd (closed (subst (λ n. IsOpen now (Caller.Rank n)) number (there_open now pass seat.own seat.found seat.call (stands.each r seat there).sits is_open)));
         ends = λ was closed. w.walks.ends is_open (over left.call refl closed);
         stops = λ unnamed. stops unnamed w.stops;
@@ -206,6 +207,7 @@ module _ (name : Name) (pass : Sight FlagAnd) (seats : List FlagSeat) (now : Tra
     few = omega arith;
     counted = inl (refl, omega arith);
     within = λ most is. omega arith;
+    before = λ n is. tt;
     idle = λ c. refl;
     ends = λ was c. absurd (closed was);
     stops = λ unnamed. inl closed;

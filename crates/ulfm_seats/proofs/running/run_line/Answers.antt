@@ -1,4 +1,4 @@
-use Rattle.std.proofs.Common.{None, Some, arith, refl}
+use Rattle.std.proofs.Common.{None, Some, refl}
 use Rattle.ulfm_words.specs.Pass.{plain_name}
 use Rattle.ulfm_trace_model.specs.declared.step_line.StepLine.TheVariants.{Before, Finished, Stepped}
 use Rattle.ulfm_lines.specs.declared.step_machine.Reach.{Reach}
@@ -18,9 +18,8 @@ returns-in_ok-walk_rank-in-Stepped-clause-tells g c = λ now stands.
     let reach : Reach = record { most = Some c.in-Stepped.count; name = None } in
     let t = c.in_ok-walk_rank-in-Stepped.ensures now stands in
     let k = taken_steps left now c.in-Stepped.rank reach c.in_ok-walk_rank-in-Stepped.field-0 c.args.teller.now.text.items c.walk_rank.new.teller.text.items t in
-    let asked = rw c.in-Stepped.is at c.requires.step in
     rw c.in-Stepped.is
-    (steps_tell left now (Stepped c.in-Stepped.rank c.in-Stepped.count) c.in-Stepped.rank reach c.in_ok-walk_rank-in-Stepped.field-0 c.args.teller.now.text.items c.walk_rank.new.teller.text.items t (k.by, k.few c.in-Stepped.count refl (omega (arith, asked.1.2))))
+    (steps_tell left now (Stepped c.in-Stepped.rank c.in-Stepped.count) c.in-Stepped.rank reach c.in_ok-walk_rank-in-Stepped.field-0 c.args.teller.now.text.items c.walk_rank.new.teller.text.items t (k.by, k.few c.in-Stepped.count refl))
 
 pub returns-in_ok-walk_rank-in-Stepped-clause-stands : goal.returns-in_ok-walk_rank-in-Stepped-clause-stands
 returns-in_ok-walk_rank-in-Stepped-clause-stands g c = let t = c.in_ok-walk_rank-in-Stepped.ensures c.requires.stands.0 c.requires.stands.1 in (_, t.stands)
@@ -32,7 +31,7 @@ returns-in_ok-walk_rank-in-Before-clause-tells g c = λ now stands.
     let t = c.in_ok-walk_rank-in-Before.ensures now stands in
     let k = taken_steps left now c.in-Before.rank reach c.in_ok-walk_rank-in-Before.field-0 c.args.teller.now.text.items c.walk_rank-in-Before.new.teller.text.items t in
     rw c.in-Before.is
-    (steps_tell left now (Before c.in-Before.rank c.in-Before.name) c.in-Before.rank reach c.in_ok-walk_rank-in-Before.field-0 c.args.teller.now.text.items c.walk_rank-in-Before.new.teller.text.items t k.by)
+    (steps_tell left now (Before c.in-Before.rank c.in-Before.name) c.in-Before.rank reach c.in_ok-walk_rank-in-Before.field-0 c.args.teller.now.text.items c.walk_rank-in-Before.new.teller.text.items t (k.by, k.before c.in-Before.name refl))
 
 pub returns-in_ok-walk_rank-in-Before-clause-stands : goal.returns-in_ok-walk_rank-in-Before-clause-stands
 returns-in_ok-walk_rank-in-Before-clause-stands g c = let t = c.in_ok-walk_rank-in-Before.ensures c.requires.stands.0 c.requires.stands.1 in (_, t.stands)
