@@ -8,7 +8,7 @@ use Rattle.ulfm_words.specs.Steps.{Name, Sight}
 use Rattle.ulfm_comm.specs.StepsLeft.{MakesStep}
 use Rattle.ulfm_trace_model.specs.{Follows.{AreOf, EndsInReply, NoneBy, steps_in}, Traces.{AreLegalAfter, Told, Traced, said_by}}
 use Rattle.ulfm_lines.specs.declared.step_machine.Reach.{Reach}
-use Rattle.ulfm_lines.specs.{LineTexts.{lines_text}, Walked.{IsCountOf}}
+use Rattle.ulfm_lines.specs.{LineTexts.{lines_text}, Progress.{IsReached}, Walked.{IsCountOf}}
 use Rattle.ulfm_stepping.specs.{Seats.{MayList, Seated, Sits, comm_in, left_in, next_in}, declared.told.Answer.{Answer}}
 
 -- the ranks that have a seat, with flags as contributions
@@ -54,10 +54,6 @@ pub record Walks (name : Name) (names : List (Option StepName)) (pass : Sight Fl
   pub number : left.own.number ≡ seat.own.number
   pub onward : pass.steps ≤ after.steps
   pub goes : (now : Traced FlagAnd) → Sits flag_meld name now pass seat → GoesOn name now piece after left
-
--- a call was taken as far as is said: so many steps were made, or its next step has the name
-abbrev pub IsReached : Reach → ℕ → Option StepName → Type 0
-IsReached reach made next = (reach.most ≡ Some made) ⊎ ((name : StepName) × (reach.name ≡ Some name) × (next ≡ Some name))
 
 -- Steps of a rank's call were made and told, as far as they are taken, and this was counted: no more than may be, and none that has the name before
 -- which they stop. The call is over then, or as far as is said.

@@ -5,7 +5,8 @@ ghost use Rattle.ulfm_words.specs.{Pass.{plain_name}, Steps.{IsOf}};
 ghost use Rattle.ulfm_trace_model.specs.Traces.{Traced};
 ghost use Rattle.ulfm_model.specs.declared.step_name.StepName.{StepName as TheStep};
 ghost use Rattle.ulfm_stepping.specs.Seats.{Sits, next_in};
-ghost use Rattle.ulfm_seats.specs.Walks.{IsReached, Walks, WalksUntil, left_of};
+ghost use Rattle.ulfm_lines.specs.Progress.{IsReached};
+ghost use Rattle.ulfm_seats.specs.Walks.{Walks, WalksUntil, left_of};
 
 use crate::telling::tell_step;
 use std::alloc::{AllocError, Allocator};

@@ -19,4 +19,4 @@ returns-clause-told g c = λ limits trace rest at.
     let m = g.M.StepMachine.Stands in
     let was = c.args.self.now in
     declared_by (m was.machine) (m c.run.new.self) limits was.plan was.waits was.made trace rest at c.if-self.false c.if-not-self.false
-    c.in_ok-run.field-0 was.teller.text.items c.run.new.teller.text.items (c.in_ok-run.ensures _ at.says)
+    c.in_ok-run.field-0 was.teller.text.items c.run.new.teller.text.items (c.in_ok-run.ensures.tells _ at.says)

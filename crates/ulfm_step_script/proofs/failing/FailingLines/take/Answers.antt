@@ -11,7 +11,7 @@ returns-in-Called-clause-told g c = λ limits trace rest at.
     let was = c.args.self.now in
     took_other (m was.machine) (m c.run.new.self) limits was.plan was.waits was.made trace rest at c.args.step.now
     (rw c.in-Called.is (λ piece is. called_events (said_by (nothing limits) trace) c.in-Called.field-0 piece is)) was.teller.text.items c.run.new.teller.text.items c.run.result
-    (c.run.ensures (said_by (nothing limits) trace) at.stands.says)
+    (c.run.ensures.tells (said_by (nothing limits) trace) at.stands.says)
 
 pub returns-in-Failed-clause-told : goal.returns-in-Failed-clause-told
 returns-in-Failed-clause-told g c = λ limits trace rest at.
@@ -19,7 +19,7 @@ returns-in-Failed-clause-told g c = λ limits trace rest at.
     let was = c.args.self.now in
     took_other (m was.machine) (m c.run-in-Failed.new.self) limits was.plan was.waits was.made trace rest at c.args.step.now
     (rw c.in-Failed.is (λ piece is. failed_events (said_by (nothing limits) trace) c.in-Failed.rank piece is)) was.teller.text.items c.run-in-Failed.new.teller.text.items c.run-in-Failed.result
-    (c.run-in-Failed.ensures (said_by (nothing limits) trace) at.stands.says)
+    (c.run-in-Failed.ensures.tells (said_by (nothing limits) trace) at.stands.says)
 
 pub returns-in_ok-walk-in-Stepped-clause-told : goal.returns-in_ok-walk-in-Stepped-clause-told
 returns-in_ok-walk-in-Stepped-clause-told g c = λ limits trace rest at.

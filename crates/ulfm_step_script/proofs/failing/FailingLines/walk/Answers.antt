@@ -8,7 +8,7 @@ returns-then-not-self-clause-told g c = λ limits trace rest at.
     let m = g.M.StepMachine.Stands in
     let was = c.args.self.now in
     walk_whole limits was.plan c.args.rank c.args.reach trace rest (m was.machine) (m c.steps.new.self) was.waits was.made c.in_ok-made.made c.count_up-self.result
-    was.teller.text.items c.steps.new.teller.text.items c.if-not-self.true at (c.in_ok-made.ensures (said_by (nothing limits) trace) at.says) c.count_up-self.ensures
+    was.teller.text.items c.steps.new.teller.text.items c.if-not-self.true at (c.in_ok-made.ensures.tells (said_by (nothing limits) trace) at.says) c.count_up-self.ensures
 
 pub returns-then-not-branch-clause-told : goal.returns-then-not-branch-clause-told
 returns-then-not-branch-clause-told g c = λ limits trace rest at.
@@ -19,7 +19,7 @@ returns-then-not-branch-clause-told g c = λ limits trace rest at.
     let at_fits : was.plan.at ≤ 4294967295 = omega arith in
     let fits : left ≤ 4294967295 = omega arith in
     let n = c.in_ok-first.first in
-    let t = rw c.cut_to.ensures at c.in_ok-first.ensures (said_by (nothing limits) trace) at.says in
+    let t = rw c.cut_to.ensures at c.in_ok-first.ensures.tells (said_by (nothing limits) trace) at.says in
     let then = stands_first_part (m was.machine) (m c.steps-2.new.self) limits was.plan was.waits was.made trace rest at c.args.rank c.args.reach left n
     c.count_up-self-2.result was.teller.text.items c.steps-2.new.teller.text.items t c.count_up-self-2.ensures c.saturating_sub-left.ensures at_fits in
     let d = not_due (m after.machine) limits was.plan after.waits after.made (trace ++ t.piece) (rest ++ t.piece) c.steps-2.new.teller.text.items after.teller.text.items
@@ -37,12 +37,12 @@ returns-clause-told g c = λ limits trace rest at.
     let at_fits : was.plan.at ≤ 4294967295 = omega arith in
     let fits : left ≤ 4294967295 = omega arith in
     let n = c.in_ok-first.first in
-    let t = rw c.cut_to.ensures at c.in_ok-first.ensures (said_by (nothing limits) trace) at.says in
+    let t = rw c.cut_to.ensures at c.in_ok-first.ensures.tells (said_by (nothing limits) trace) at.says in
     let then = stands_first_part (m was.machine) (m c.steps-2.new.self) limits was.plan was.waits was.made trace rest at c.args.rank c.args.reach left n
     c.count_up-self-2.result was.teller.text.items c.steps-2.new.teller.text.items t c.count_up-self-2.ensures c.saturating_sub-left.ensures at_fits in
     let d = is_due (m after.machine) limits was.plan after.waits after.made (trace ++ t.piece) (rest ++ t.piece) c.steps-2.new.teller.text.items after.teller.text.items
     c.in_ok-declare.field-0 c.if-not-branch.false (c.in_ok-declare.ensures.told limits (trace ++ t.piece) (rest ++ t.piece) then) in
-    let u = rw c.cut_behind.ensures at c.in_ok-rest.ensures (said_by (nothing limits) ((trace ++ t.piece) ++ d.1)) d.3.stands.says in
+    let u = rw c.cut_behind.ensures at c.in_ok-rest.ensures.tells (said_by (nothing limits) ((trace ++ t.piece) ++ d.1)) d.3.stands.says in
     walk_both limits was.plan c.args.rank c.args.reach trace rest (m after.machine) (m c.steps-3.new.self) (m c.steps-2.new.self) after.waits d.0 after.made left n
     c.in_ok-rest.rest c.count_up-self-3.result fits was.teller.text.items c.steps-2.new.teller.text.items after.teller.text.items c.steps-3.new.teller.text.items t d.1 d.2 d.3.stands
     d.4 u c.count_up-self-3.ensures
