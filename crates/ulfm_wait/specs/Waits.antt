@@ -20,6 +20,14 @@ PollsUntil {P} meld alone name c (suc pending) old before result new after =
 abbrev pub IsPolledOn : {P : Type 0} → (P → P → P) → Bool → Name → ℕ → Record → Sight P → Result (Polled P) Refusal → Record → Sight P → Type 0
 IsPolledOn meld alone name c old before result new after = (pending : ℕ) × PollsUntil meld alone name c pending old before result new after
 
+-- a rank's call started a request, and then polls of the rank went on until one was answered
+pub record IsAwaited {P : Type 0} (meld : P → P → P) (alone : Bool) (name : Name) (c : ℕ) (asked : Call P) (old : Record) (before : Sight P)
+    (result : Result (Polled P) Refusal) (new : Record) (after : Sight P) : Type 0 where
+  pub own : Record
+  pub at : Sight P
+  pub starts : Calls meld alone name asked old before Reply.Started own at
+  pub polls : IsPolledOn meld alone name c own at result new after
+
 -- polls of a member on communicator c, each in no more steps than it may make: so many are pending, and then one is answered
 abbrev pub MemberPollsUntil : {P : Type 0} → (P → P → P) → Bool → ℕ → ℕ → Membership P → Result (Polled P) Refusal → Membership P → Type 0
 MemberPollsUntil meld alone c zero old result new = IfOk result IsAnswer × MemberPolls meld alone c old result new
