@@ -1,5 +1,5 @@
 // Calls, step by step and whole.
-ghost use Rattle.std.specs.Prelude.{◌≡◌, ◌<◌, ◌≤◌, [], Bool, false, length, IsTrue, MatchOption, OnSome, if◌then◌else◌};
+ghost use Rattle.std.specs.Prelude.{◌≡◌, ◌+◌, ◌<◌, ◌≤◌, [], Bool, false, length, IsTrue, MatchOption, OnSome, if◌then◌else◌};
 ghost use Rattle.ulfm_model.specs.declared.{event.Caller.TheVariants.{Rank as OfRank}, call.Call.TheVariants.{Poll as AskedPoll}};
 ghost use Rattle.ulfm_model.specs.declared.{refusal.Refusal.TheVariants.{SelfFailed}, reply.Reply.TheVariants.{Refused}};
 ghost use Rattle.ulfm_model.specs.{Answers.{traits_of}, Records.{Fits, Record}, History.{History}, Terms.{comm_of}};
