@@ -1,7 +1,13 @@
 // The future of an agree, driven by an executor.
+ghost use Rattle.std.specs.Prelude.{◌≡◌, true, false, Some};
+ghost use Rattle.ulfm_laws.specs.Flags.{flag_meld};
+ghost use Rattle.ulfm_member.specs.Members.{Membership};
+ghost use Rattle.ulfm_wait.specs.Turns.{HasPolled};
+
 use futures::Future;
 use futures::executor::block_on;
-use futures::future::{join, poll_immediate};
+use futures::future::{join, poll_fn, poll_immediate};
+use futures::task::{Context, Poll};
 use std::alloc::{AllocGlobal, Global};
 use std::io;
 use std::process::Abort;
@@ -136,6 +142,37 @@ fn future_contributes_at_once(rt: HostRuntime) -> Result<(), Fail> {
         return Ok(());
     };
     contribute_at_once(&rt, one, other)
+}
+
+/// Polls a future twice, unless the first poll gives its output: whether both polls were pending. Then they made one start, and two polls of
+/// the rank, which has given its flag.
+fn is_pending_twice(
+    future: &mut AgreeFuture<BookWords<FlagAnd>, FlagAnd, Global>,
+    cx: &mut Context<'_>,
+) -> bool
+    ensures { result ≡ true → future.old.agree.started ≡ false → (m : Membership _) → future.old.held ≡ Some m
+        → HasPolled flag_meld false 2 future.old.agree m future.new }
+{
+    match future.poll(cx) {
+        Poll::Ready(_) => false,
+        Poll::Pending => match future.poll(cx) {
+            Poll::Ready(_) => false,
+            Poll::Pending => true,
+        },
+    }
+}
+
+#[test]
+fn future_pends_twice(rt: HostRuntime) -> Result<(), Fail> {
+    let words: BookWords<FlagAnd> = BookWords::open(rt.alloc(), limits(2))?;
+    let (_, mut members) = ulfm_member::open(rt.alloc(), words)?;
+    if let Some(member) = members.pop() {
+        let (world, rank, pass) = member.into_parts();
+        let mut future = AgreeFuture::new(&world, pass, rank, 0, FlagAnd { bits: 0xff });
+        let polls = poll_fn(|cx| Poll::Ready(is_pending_twice(&mut future, cx)));
+        assert!(rt; block_on(&rt, polls)?);
+    }
+    Ok(())
 }
 
 /// The future of one rank is dropped, after it was polled once or before, and then the other agrees: its reply.
