@@ -1,13 +1,9 @@
 // The future of an agree, driven by an executor.
-ghost use Rattle.std.specs.Prelude.{◌≡◌, true, false, Some};
-ghost use Rattle.ulfm_laws.specs.Flags.{flag_meld};
-ghost use Rattle.ulfm_member.specs.Members.{Membership};
-ghost use Rattle.ulfm_wait.specs.Turns.{HasPolled};
-
+use crate::twice::is_pending_twice;
 use futures::Future;
 use futures::executor::block_on;
 use futures::future::{join, poll_fn, poll_immediate};
-use futures::task::{Context, Poll};
+use futures::task::Poll;
 use std::alloc::{AllocGlobal, Global};
 use std::io;
 use std::process::Abort;
@@ -142,24 +138,6 @@ fn future_contributes_at_once(rt: HostRuntime) -> Result<(), Fail> {
         return Ok(());
     };
     contribute_at_once(&rt, one, other)
-}
-
-/// Polls a future twice, unless the first poll gives its output: whether both polls were pending. Then they made one start, and two polls of
-/// the rank, which has given its flag.
-fn is_pending_twice(
-    future: &mut AgreeFuture<BookWords<FlagAnd>, FlagAnd, Global>,
-    cx: &mut Context<'_>,
-) -> bool
-    ensures { result ≡ true → future.old.agree.started ≡ false → (m : Membership _) → future.old.held ≡ Some m
-        → HasPolled flag_meld false 2 future.old.agree m future.new }
-{
-    match future.poll(cx) {
-        Poll::Ready(_) => false,
-        Poll::Pending => match future.poll(cx) {
-            Poll::Ready(_) => false,
-            Poll::Pending => true,
-        },
-    }
 }
 
 #[test]
