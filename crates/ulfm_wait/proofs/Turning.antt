@@ -166,7 +166,7 @@ module _ {P : Type 0} (meld : P → P → P) (alone : Bool) (c : ℕ) (value : P
       record { left = more.left; polls = (pends.left, pends.turn, more.polls); given = more.given; new_is = more.new_is }
 
   -- Pending polls of a future that isn't started are counted: they made one start, and as many polls of its rank.
-  pub polls_counted : (times : ℕ) (m : Membership P) (new : AgreeState P) → PendsTimes meld alone (suc times) (holding false m) new
+  polls_counted : (times : ℕ) (m : Membership P) (new : AgreeState P) → PendsTimes meld alone (suc times) (holding false m) new
       → HasPolled meld alone (suc times) (agree_is false) m new
   polls_counted times m new (mid, pends, rest) =
       let more = polls_more times pends.left new pends.given (subst (λ f. PendsTimes meld alone times f new) pends.new_is rest) in
@@ -178,6 +178,18 @@ module _ {P : Type 0} (meld : P → P → P) (alone : Bool) (c : ℕ) (value : P
         given = more.given;
         new_is = more.new_is;
       }
+
+-- Pending polls of a future that isn't started, and holds this member, are counted.
+pub polls_are_counted : {P : Type 0} (meld : P → P → P) (alone : Bool) (times : ℕ) (old new : AgreeState P) (m : Membership P) → old.agree.started ≡ false → old.held ≡ Some m
+    → PendsTimes meld alone (suc times) old new → HasPolled meld alone (suc times) old.agree m new
+polls_are_counted {P} meld alone times old new m started held polls =
+    let c = old.agree.comm in
+    let value = old.agree.value in
+    let fresh : AgreeState P = record { agree = record { comm = c; value = value; started = false }; held = Some m } in
+    let same : fresh ≡ old =
+        ap (λ b. record { agree = record { comm = c; value = value; started = b }; held = Some m }) (sym started) ∙ ap (λ h. record { agree = old.agree; held = h }) (sym held) in
+    let counted = polls_counted meld alone c value times m new (subst (λ f. PendsTimes meld alone (suc times) f new) (sym same) polls) in
+    subst (λ agree. HasPolled meld alone (suc times) agree m new) (ap (λ (f : AgreeState P). f.agree) same) counted
 
 -- what holds where a poll is pending
 pub on_pending : {A X : Type 0} (result : Given A) → result ≡ StaysPending → X → OnPending result X

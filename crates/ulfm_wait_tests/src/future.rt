@@ -1,7 +1,9 @@
 // The future of an agree, driven by an executor.
+use crate::twice::is_pending_twice;
 use futures::Future;
 use futures::executor::block_on;
-use futures::future::{join, poll_immediate};
+use futures::future::{join, poll_fn, poll_immediate};
+use futures::task::Poll;
 use std::alloc::{AllocGlobal, Global};
 use std::io;
 use std::process::Abort;
@@ -136,6 +138,19 @@ fn future_contributes_at_once(rt: HostRuntime) -> Result<(), Fail> {
         return Ok(());
     };
     contribute_at_once(&rt, one, other)
+}
+
+#[test]
+fn future_pends_twice(rt: HostRuntime) -> Result<(), Fail> {
+    let words: BookWords<FlagAnd> = BookWords::open(rt.alloc(), limits(2))?;
+    let (_, mut members) = ulfm_member::open(rt.alloc(), words)?;
+    if let Some(member) = members.pop() {
+        let (world, rank, pass) = member.into_parts();
+        let mut future = AgreeFuture::new(&world, pass, rank, 0, FlagAnd { bits: 0xff });
+        let polls = poll_fn(|cx| Poll::Ready(is_pending_twice(&mut future, cx)));
+        assert!(rt; block_on(&rt, polls)?);
+    }
+    Ok(())
 }
 
 /// The future of one rank is dropped, after it was polled once or before, and then the other agrees: its reply.

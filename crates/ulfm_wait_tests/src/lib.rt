@@ -5,3 +5,4 @@
 mod future;
 #[cfg(test)]
 mod threads;
+pub mod twice;
