@@ -40,6 +40,9 @@ pub enum Turn {
 /// ```text
 /// go(r, Contribute)  answered(r)  go(r, Poll) .. go(r, Poll)  answered(r)
 /// ```
+///
+/// A gate that says what it may say lets contracts know it. One that always says true has
+/// `ghost may_say = { λ _ _ _ said. said ≡ true };`, and a race with it isn't held.
 pub trait Gate {
     /// What the gate may say, true or false, to which rank, at which turn: either, unless the gate says more. Only contracts see it.
     ghost may_say: { Self → ℕ → TurnOf → Bool → Type 0 } = { λ _ _ _ _. Unit {0} };

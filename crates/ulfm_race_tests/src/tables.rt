@@ -9,13 +9,13 @@ use ulfm_race::{Gate, Plan, Turn, race};
 /// What one rank has come to.
 #[derive(Clone, Copy, Drop)]
 struct Seat {
-    asked_to_poll: bool,
+    polls: u32,
     starts: u16,
     answers: u32,
 }
 
 const NEW: Seat = Seat {
-    asked_to_poll: false,
+    polls: 0,
     starts: 0,
     answers: 0,
 };
@@ -51,6 +51,8 @@ enum Rule {
     Meet,
     /// Rank 1's first turn waits until rank 0 was answered twice: to its start, and in its first round.
     Second,
+    /// Rank 1's first turn waits until rank 0 asked for three polls, all of its first round, which needs rank 1.
+    Third,
 }
 
 impl Rule {
@@ -58,13 +60,14 @@ impl Rule {
     fn lets(self, table: Table, rank: u16, turn: Turn) -> bool {
         match self {
             Rule::Meet => {
-                let together = table.first.asked_to_poll && table.second.asked_to_poll;
+                let together = table.first.polls > 0 && table.second.polls > 0;
                 let follows = rank == 1
                     || table.first.starts < 2
                     || table.second.answers >= started(table.first.starts);
                 turn == Turn::Contribute || together && follows
             }
             Rule::Second => rank == 0 || table.first.answers >= 2,
+            Rule::Third => rank == 0 || table.first.polls >= 3,
         }
     }
 }
@@ -96,7 +99,7 @@ impl<'a, R: Wait> Tables<'a, R> {
         let seat = table.seat(rank);
         match turn {
             Turn::Contribute => seat.starts = seat.starts.saturating_add(1),
-            Turn::Poll => seat.asked_to_poll = true,
+            Turn::Poll => seat.polls = seat.polls.saturating_add(1),
         }
     }
 
@@ -166,5 +169,18 @@ fn race_declares(rt: HostRuntime) -> Result<(), Fail> {
     };
     assert_eq!(rt; outcome.replies.len(), 2);
     assert_eq!(rt; outcome.replies[0].first(), Some(&raised));
+    Ok(())
+}
+
+#[test]
+fn each_poll_is_asked_for(rt: HostRuntime) -> Result<(), Fail> {
+    let plan = Plan {
+        ranks: 2,
+        rounds: 1,
+        fail: None,
+    };
+    let gate = Tables::new(&rt, Rule::Third);
+    let outcome = race(&rt, rt.alloc(), plan, &gate)?;
+    assert_eq!(rt; outcome.group.as_slice(), [0, 1].as_slice());
     Ok(())
 }
