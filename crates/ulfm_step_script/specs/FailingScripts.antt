@@ -11,7 +11,8 @@ use Rattle.ulfm_script.specs.{Ends.{HasRunAll, Known}, Scripts.{Language}}
 use Rattle.std.specs.Io.KnownBytes.{Appends}
 use Rattle.ulfm_trace_model.specs.declared.{line.Line.{Line}, step_line.StepLine.TheVariants.{Before, Called, Failed, Finished, Stepped}}
 use Rattle.ulfm_trace_model.specs.{Follows.{Follows, IsPiece}, Traces.{IsLegalTrace, IsOpen, Told, nothing, said_by}}
-use Rattle.ulfm_lines.specs.{LineTexts.{lines_text}, Progress.{Progress}, StepLines.{ScriptStep, step_line_of}, Stepped.{IsOpenCall, TraceState}, Walked.{IsCountOf, IsTaken}}
+use Rattle.ulfm_lines.specs.{LineTexts.{lines_text}, StepLines.{ScriptStep, step_line_of}, Stepped.{IsOpenCall, TraceState}}
+use Rattle.ulfm_lines.specs.{Progress.{Progress}, Walked.{IsCountOf, IsTaken}}
 use Rattle.ulfm_lines.specs.declared.step_machine.{Reach.{Reach}, Taken.{Taken}, Taken.TheVariants.{Open as IsOpenStill, Run}}
 use Rattle.ulfm_step_script.specs.StepScripts.{trace_text}
 use Rattle.ulfm_step_script.specs.declared.plan.Failing.{Failing}

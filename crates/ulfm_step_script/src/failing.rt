@@ -3,8 +3,8 @@ ghost use Rattle.std.specs.Prelude.{◌≡◌, ◌<◌, IfOk, OnOk, true, false}
 ghost use Rattle.ulfm_model.specs.declared.limits.Limits.{Limits as TheLimits};
 ghost use Rattle.ulfm_script.specs.Ends.{EndsAlone, ended};
 ghost use Rattle.ulfm_lines.specs.Stepped.{IsStep};
-ghost use Rattle.ulfm_step_script.specs.FailingScripts.{ComesAsSaid, ComesFar, Declares, HasFailed, Lines, RestsAt, RunsFailing, StandsAt, TakesStep, TellsWalk};
-ghost use Rattle.ulfm_step_script.specs.FailingScripts.{behind_of, failing_scripts, fewer, up_to};
+ghost use Rattle.ulfm_step_script.specs.FailingScripts.{ComesAsSaid, ComesFar, Declares, HasFailed, Lines, RestsAt, RunsFailing, StandsAt, TakesStep};
+ghost use Rattle.ulfm_step_script.specs.FailingScripts.{TellsWalk, behind_of, failing_scripts, fewer, up_to};
 
 use crate::engine::tell_header;
 use crate::plan::Failing;
