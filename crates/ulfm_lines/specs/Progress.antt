@@ -1,7 +1,7 @@
 -- How far a machine takes the calls of its ranks.
 use Rattle.std.specs.Prelude.{◌≡◌, ◌⊎◌, ℕ, ◌+◌, ◌≤◌, ⊤, Option, Some, None}
 use Rattle.ulfm_model.specs.declared.step_name.StepName.{StepName}
-use Rattle.ulfm_trace_model.specs.declared.step_line.StepLine.TheVariants.{Before, Finished, Stepped}
+use Rattle.ulfm_trace_model.specs.declared.step_line.StepLine.TheVariants.{Before, Called, Finished, Stepped}
 use Rattle.ulfm_lines.specs.{StepLines.{ScriptStep}, Walked.{IsCountOf}}
 use Rattle.ulfm_lines.specs.declared.step_machine.Reach.{Reach}
 
@@ -23,8 +23,9 @@ pub record GoesFar (old new : Progress) (r : ℕ) (reach : Reach) (made : ℕ) :
   pub stops : (new.next r ≡ None) ⊎ IsReached reach made (new.next r)
 
 -- A script's line takes its rank's call as far as it says: then the call is over, or none was under way; or so many steps were made, or the next one
--- has the name.
+-- has the name. The line of a call that begins makes no step.
 abbrev pub GoesAsSaid : Progress → Progress → ScriptStep → Type 0
+GoesAsSaid old new (Called asked) = new.steps ≡ old.steps
 GoesAsSaid old new (Stepped r count) = (new.steps ≤ old.steps + count) × ((new.next r ≡ None) ⊎ (new.steps ≡ old.steps + count))
 GoesAsSaid old new (Before r name) = (new.next r ≡ None) ⊎ (new.next r ≡ Some name)
 GoesAsSaid old new (Finished r) = new.next r ≡ None

@@ -139,7 +139,7 @@ made_on steps count n made sum (inr is) (inr most) (inl all) = inr (omega (arith
 made_on steps count n made sum (inr is) (inr most) (inr full) = inr (full.0, omega (arith, is.1))
 
 -- what is counted is no more than what was made
-made_below : (steps made : ℕ) → IsCountOf steps made → made ≤ steps
+pub made_below : (steps made : ℕ) → IsCountOf steps made → made ≤ steps
 made_below steps made (inl is) = omega (arith, is.0)
 made_below steps made (inr full) = omega (arith, full.0, full.1)
 
@@ -336,7 +336,7 @@ fewer_left : (left : ℕ) (most : Option ℕ) → fewer left most ≤ left
 fewer_left left None = omega arith
 fewer_left left (Some m) = min-le_right m left
 
-fewer_most : (left : ℕ) (o : Option ℕ) (most : ℕ) → o ≡ Some most → fewer left o ≤ most
+pub fewer_most : (left : ℕ) (o : Option ℕ) (most : ℕ) → o ≡ Some most → fewer left o ≤ most
 fewer_most left None most is = absurd (cc is)
 fewer_most left (Some m) most is = let same : m ≡ most = cc is in let less = min-le_left m left in omega (arith, same, less)
 

@@ -1,17 +1,18 @@
 -- What running a script of single steps writes where a rank is declared failed in between: the text of a legal trace that follows the script
 -- but for that declaration.
-use Rattle.std.specs.Prelude.{◌≡◌, ◌⊎◌, ℕ, ◌+◌, ◌-◌, ◌≤◌, ◌<◌, Bool, true, false, List, [], ◌∷◌, ◌++◌, length, min, option_map, Option, Some, None}
+use Rattle.std.specs.Prelude.{◌≡◌, ◌⊎◌, ℕ, ◌+◌, ◌-◌, ◌≤◌, ◌<◌, Bool, true, false, ⊤, List, [], ◌∷◌, ◌++◌, length, min, option_map, Option, Some, None}
 use Rattle.ulfm_laws.specs.{Flags.{flag_meld}, declared.flag_and.FlagAnd.{FlagAnd}}
-use Rattle.ulfm_model.specs.declared.{call.Call.{Call}, event.Caller.{Caller}, limits.Limits.{Limits}}
+use Rattle.ulfm_model.specs.declared.{call.Call.{Call}, event.Caller.{Caller}, limits.Limits.{Limits}, step_name.StepName.{StepName}}
 use Rattle.ulfm_model.specs.Answers.{traits_of}
 use Rattle.ulfm_script.specs.declared.header_kind.HeaderKind.TheVariants.{Steps}
 use Rattle.ulfm_script.specs.declared.line_kind.LineKind.{LineKind}
 use Rattle.ulfm_script.specs.declared.line_kind.LineKind.TheVariants.{Open}
 use Rattle.ulfm_script.specs.{Ends.{HasRunAll, Known}, Scripts.{Language}}
 use Rattle.std.specs.Io.KnownBytes.{Appends}
-use Rattle.ulfm_trace_model.specs.declared.{line.Line.{Line}, step_line.StepLine.TheVariants.{Called, Failed}}
+use Rattle.ulfm_trace_model.specs.declared.{line.Line.{Line}, step_line.StepLine.TheVariants.{Before, Called, Failed, Finished, Stepped}}
 use Rattle.ulfm_trace_model.specs.{Follows.{Follows, IsPiece}, Traces.{IsLegalTrace, IsOpen, Told, nothing, said_by}}
-use Rattle.ulfm_lines.specs.{LineTexts.{lines_text}, StepLines.{ScriptStep, step_line_of}, Stepped.{IsOpenCall, TraceState}, Walked.{IsCountOf, IsTaken}}
+use Rattle.ulfm_lines.specs.{LineTexts.{lines_text}, StepLines.{ScriptStep, step_line_of}, Stepped.{IsOpenCall, TraceState}}
+use Rattle.ulfm_lines.specs.{Progress.{Progress}, Walked.{IsCountOf, IsTaken}}
 use Rattle.ulfm_lines.specs.declared.step_machine.{Reach.{Reach}, Taken.{Taken}, Taken.TheVariants.{Open as IsOpenStill, Run}}
 use Rattle.ulfm_step_script.specs.StepScripts.{trace_text}
 use Rattle.ulfm_step_script.specs.declared.plan.Failing.{Failing}
@@ -163,3 +164,16 @@ pub record RunsStep (Says : TraceState → Type 0) (limits : Limits) (plan : Fai
 abbrev pub TakesStep : (TraceState → Type 0) → Limits → Failing → Bool → ℕ → Lines → Lines → ScriptStep → Taken → List ℕ → List ℕ → Type 0
 TakesStep Says limits plan waits made trace rest step Run old new = RunsStep Says limits plan waits made trace rest step old new
 TakesStep Says limits plan waits made trace rest step IsOpenStill old new = IsOpenCall (said_by (nothing limits) trace) step × (new ≡ old)
+
+-- A call was taken as far as is said, where so many steps were counted before and are counted now: it is over, or none was under way; or so many
+-- were made, or its next step has the name.
+abbrev pub ComesFar : Reach → ℕ → ℕ → Option StepName → Type 0
+ComesFar reach old new next =
+    (next ≡ None) ⊎ ((most : ℕ) × (reach.most ≡ Some most) × IsCountOf (old + most) new) ⊎ ((name : StepName) × (reach.name ≡ Some name) × (next ≡ Some name))
+
+-- a script's line that takes steps of a call takes them as far as it says
+abbrev pub ComesAsSaid : Progress → ℕ → ℕ → ScriptStep → Type 0
+ComesAsSaid now old new (Stepped r count) = (now.next r ≡ None) ⊎ IsCountOf (old + count) new
+ComesAsSaid now old new (Before r name) = (now.next r ≡ None) ⊎ (now.next r ≡ Some name)
+ComesAsSaid now old new (Finished r) = now.next r ≡ None
+ComesAsSaid now old new _ = ⊤

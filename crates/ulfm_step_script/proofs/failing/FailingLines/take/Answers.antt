@@ -2,6 +2,7 @@ use Rattle.std.proofs.Common.{None, Some, refl}
 use Rattle.ulfm_lines.specs.declared.step_machine.Reach.{Reach}
 use Rattle.ulfm_trace_model.specs.declared.step_line.StepLine.TheVariants.{Before, Finished, Stepped}
 use Rattle.ulfm_trace_model.specs.Traces.{nothing, said_by}
+use Rattle.ulfm_step_script.proofs.Far.{comes_all, comes_before, comes_stepped}
 use Rattle.ulfm_step_script.proofs.FailLemmas.{called_events, failed_events, took_other, walk_step}
 use Rattle.ulfm_step_script.proofs.failing.FailingLines.take.Goals as goal
 
@@ -50,3 +51,18 @@ returns-in_ok-walk-in-Finished-clause-told g c = λ limits trace rest at.
     rw c.in-Finished.is
     (walk_step (g.M.StepMachine.Stands after.machine) limits was.plan after.waits after.made trace rest c.in-Finished.rank reach was.teller.text.items after.teller.text.items
     (Finished c.in-Finished.rank) w (w.taken.by, w.taken.ends refl))
+
+pub returns-in_ok-walk-in-Stepped-clause-far : goal.returns-in_ok-walk-in-Stepped-clause-far
+returns-in_ok-walk-in-Stepped-clause-far g c =
+    let after = c.walk.new.self in
+    rw c.in-Stepped.is (comes_stepped c.in-Stepped.count c.args.self.now.made after.made ((g.M.StepMachine.Has after.machine).next c.in-Stepped.rank) c.in_ok-walk-in-Stepped.ensures.far)
+
+pub returns-in_ok-walk-in-Before-clause-far : goal.returns-in_ok-walk-in-Before-clause-far
+returns-in_ok-walk-in-Before-clause-far g c =
+    let after = c.walk-in-Before.new.self in
+    rw c.in-Before.is (comes_before c.in-Before.name c.args.self.now.made after.made ((g.M.StepMachine.Has after.machine).next c.in-Before.rank) c.in_ok-walk-in-Before.ensures.far)
+
+pub returns-in_ok-walk-in-Finished-clause-far : goal.returns-in_ok-walk-in-Finished-clause-far
+returns-in_ok-walk-in-Finished-clause-far g c =
+    let after = c.walk-in-Finished.new.self in
+    rw c.in-Finished.is (comes_all c.args.self.now.made after.made ((g.M.StepMachine.Has after.machine).next c.in-Finished.rank) c.in_ok-walk-in-Finished.ensures.far)

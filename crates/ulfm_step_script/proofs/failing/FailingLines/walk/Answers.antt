@@ -1,5 +1,8 @@
-use Rattle.std.proofs.Common.{arith, ◌≤◌, ◌++◌, ◌∙◌}
+use Rattle.std.proofs.Common.{arith, ◌≤◌, ◌++◌, ◌∙◌, subst, sym}
 use Rattle.ulfm_trace_model.specs.Traces.{nothing, said_by}
+use Rattle.ulfm_lines.specs.Progress.{Progress}
+use Rattle.ulfm_step_script.specs.FailingScripts.{ComesFar}
+use Rattle.ulfm_step_script.proofs.Far.{far_both, far_cut, far_whole}
 use Rattle.ulfm_step_script.proofs.FailLemmas.{is_due, not_cut, not_due, stands_first_part, walk_both, walk_cut, walk_whole}
 use Rattle.ulfm_step_script.proofs.failing.FailingLines.walk.Goals as goal
 
@@ -46,3 +49,35 @@ returns-clause-told g c = λ limits trace rest at.
     walk_both limits was.plan c.args.rank c.args.reach trace rest (m after.machine) (m c.steps-3.new.self) (m c.steps-2.new.self) after.waits d.0 after.made left n
     c.in_ok-rest.rest c.count_up-self-3.result fits was.teller.text.items c.steps-2.new.teller.text.items after.teller.text.items c.steps-3.new.teller.text.items t d.1 d.2 d.3.stands
     d.4 u c.count_up-self-3.ensures
+
+pub returns-then-not-self-clause-far : goal.returns-then-not-self-clause-far
+returns-then-not-self-clause-far g c =
+    let m = g.M.StepMachine.Has in
+    let was = c.args.self.now in
+    far_whole (m was.machine) (m c.steps.new.self) c.args.rank c.args.reach was.made c.in_ok-made.made c.count_up-self.result c.in_ok-made.ensures.goes c.count_up-self.ensures
+
+pub returns-then-not-branch-clause-far : goal.returns-then-not-branch-clause-far
+returns-then-not-branch-clause-far g c =
+    let m = g.M.StepMachine.Has in
+    let was = c.args.self.now in
+    let after = c.declare.new.self in
+    let left = c.saturating_sub-left.result in
+    let n = c.in_ok-first.first in
+    let at_fits : was.plan.at ≤ 4294967295 = omega arith in
+    let far = rw c.cut_to.ensures at c.in_ok-first.ensures.goes in
+    let other = not_cut was.plan.at was.made n c.count_up-self-2.result c.count_up-self-2.ensures at_fits (c.in_ok-declare.ensures.early c.if-not-branch.true c.if-not-self.false) in
+    subst (λ (p : Progress). ComesFar c.args.reach was.made after.made (p.next c.args.rank)) (sym (c.in_ok-declare.ensures.idle c.if-not-branch.true))
+    (subst (λ n. ComesFar c.args.reach was.made n ((m c.steps-2.new.self).next c.args.rank)) (sym c.declare.ensures.made)
+    (far_cut (m was.machine) (m c.steps-2.new.self) c.args.rank c.args.reach was.made left n c.count_up-self-2.result far (λ is. other (is ∙ c.saturating_sub-left.ensures)) c.count_up-self-2.ensures))
+
+pub returns-clause-far : goal.returns-clause-far
+returns-clause-far g c =
+    let m = g.M.StepMachine.Has in
+    let was = c.args.self.now in
+    let after = c.declare.new.self in
+    let left = c.saturating_sub-left.result in
+    let n = c.in_ok-first.first in
+    let first = rw c.cut_to.ensures at c.in_ok-first.ensures.goes in
+    let last = rw c.cut_behind.ensures at c.in_ok-rest.ensures.goes in
+    far_both (m after.machine) (m c.steps-3.new.self) c.args.rank c.args.reach was.made (m was.machine) (m c.steps-2.new.self) left n first c.in_ok-rest.rest c.count_up-self-2.result c.count_up-self-3.result last
+    c.count_up-self-2.ensures (rw c.declare.ensures.made at c.count_up-self-3.ensures)
