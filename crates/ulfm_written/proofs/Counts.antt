@@ -4,6 +4,7 @@ use Rattle.ulfm_laws.specs.{Flags.{flag_meld}, declared.flag_and.FlagAnd.{FlagAn
 use Rattle.ulfm_model.specs.declared.{event.Caller.{Caller}, event.Entry.{Entry}}
 use Rattle.ulfm_trace_model.specs.declared.line.Line.{Line}
 use Rattle.ulfm_trace_model.specs.Traces.{AreLegalAfter, MayCome, Told, Under, after, after_reply, caller_of, change_by, is_owned, said_by, same_caller, with_event}
+use Rattle.ulfm_written.specs.Calls.{calls_in, calls_of}
 use Rattle.ulfm_lines.specs.{LineTexts.{TraceEvent, TraceLine}, Stepped.{TraceState}}
 
 -- how many lines a call under way has still to come: a look, if it made none, and a reply
@@ -13,16 +14,6 @@ still u = if is_some u.look then 1 else 2
 abbrev stills : List (Under FlagAnd) → ℕ
 stills [] = 0
 stills (u ∷ us) = still u + stills us
-
--- how many calls a line begins
-abbrev pub calls_of : TraceLine → ℕ
-calls_of (Line.Called asked) = 1
-calls_of line = 0
-
--- how many calls lines begin
-abbrev pub calls_in : List (Told FlagAnd) → ℕ
-calls_in [] = 0
-calls_in (told ∷ rest) = calls_of told.line + calls_in rest
 
 stills_append : (us vs : List (Under FlagAnd)) → stills (us ++ vs) ≡ stills us + stills vs
 stills_append [] vs = omega arith

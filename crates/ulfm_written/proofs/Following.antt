@@ -13,11 +13,7 @@ use Rattle.ulfm_trace_model.specs.declared.{line.Line.{Line}, step_line.StepLine
 use Rattle.ulfm_trace_model.specs.{Follows.{AreOf, Follows, IsAtOnce, IsPiece, is_of, is_reply}, Traces.{Told, said_by}}
 use Rattle.ulfm_lines.specs.{LineTexts.{TraceLine}, StepLines.{ScriptStep, step_line_of}, Stepped.{IsStep, TraceState}}
 use Rattle.ulfm_lines.proofs.StepsSpelled.{steps_found}
-use Rattle.ulfm_written.proofs.{Counts.{calls_in, calls_of}, Lasting.{CalledFits}}
-
--- each call that begins in these lines is one that some line spells
-abbrev pub AllFit : List (Told FlagAnd) → Type 0
-AllFit trace = AllByRecursion (λ (told : Told FlagAnd). CalledFits told.line) trace
+use Rattle.ulfm_written.specs.Calls.{AllFit, CalledFits, calls_in, calls_of}
 
 pub calls_append : (xs ys : List (Told FlagAnd)) → calls_in (xs ++ ys) ≡ calls_in xs + calls_in ys
 calls_append [] ys = omega arith

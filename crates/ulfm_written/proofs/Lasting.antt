@@ -12,12 +12,8 @@ use Rattle.ulfm_script.specs.Spelling.{IsSpelled}
 use Rattle.ulfm_trace_model.specs.declared.line.Line.{Line}
 use Rattle.ulfm_trace_model.specs.{Laws.{IsAnswer, IsRanksAnswer}, Traces.{MayCome, Under, after, after_reply, call_by, caller_of, found_by, is_owned, nothing, record_of, records_after, same_caller, taken_in, with_event}}
 use Rattle.ulfm_trace_model.proofs.{Callers.{each_change, same_is}, Kept.{find_other_record}}
+use Rattle.ulfm_written.specs.Calls.{CalledFits}
 use Rattle.ulfm_lines.specs.{LineTexts.{TraceEvent, TraceLine}, Stepped.{TraceState}}
-
--- a call that begins is one that some line spells
-abbrev pub CalledFits : TraceLine → Type 0
-CalledFits (Line.Called asked) = IsSpelled asked
-CalledFits line = Unit {0}
 
 -- the record of a rank, among these
 abbrev record_at : List Record → ℕ → Option Record

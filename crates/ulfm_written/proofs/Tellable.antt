@@ -21,7 +21,8 @@ use Rattle.ulfm_script.specs.{Calls.{ScriptCall}, Spelling.{IsSpelled}}
 use Rattle.ulfm_trace_model.specs.declared.line.Line.{Line}
 use Rattle.ulfm_trace_model.specs.{Laws.{IsAnswer}, Traces.{AnswersCall, AnswersRank, MayCome, Under, call_by, found_by, listed, record_of, taken_in, view_at}}
 use Rattle.ulfm_lines.specs.{LineTexts.{TraceEvent, TraceLine}, Stepped.{TraceState}, Telling.{AreRanks, CallerFits, EventFits, LineFits, PlaceFits, ReplyFits}}
-use Rattle.ulfm_written.proofs.{Lasting.{CalledFits, IsAnswered, IsUnder, Keeps, left_fits, under}, Sizes.{events_few}}
+use Rattle.ulfm_written.specs.Calls.{CalledFits}
+use Rattle.ulfm_written.proofs.{Lasting.{IsAnswered, IsUnder, Keeps, left_fits, under}, Sizes.{events_few}}
 
 -- the ranks that a line lists: nobody where it is no reply
 abbrev pub told_group : List ℕ → TraceLine → List ℕ

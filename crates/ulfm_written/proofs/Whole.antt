@@ -1,5 +1,5 @@
 -- What a run of a step script has written at its end is a legal text.
-use Rattle.std.proofs.Common.{◌≡◌, ◌⊎◌, ℕ, ◌+◌, ◌<◌, ◌≤◌, Bool, true, false, List, [], ◌∷◌, ◌++◌, length, map, nat_le, nat_lt, ◌&&◌, Option, Some, None, Result, Ok, Err, refl, sym, ap, subst, ◌∙◌, append-nil, append_assoc, length-append, arith, inl, inr, if◌then◌else◌}
+use Rattle.std.proofs.Common.{◌≡◌, ◌⊎◌, ℕ, ◌+◌, ◌*◌, ◌<◌, ◌≤◌, Bool, true, false, List, [], ◌∷◌, ◌++◌, length, map, nat_le, nat_lt, ◌&&◌, Option, Some, None, Result, Ok, Err, refl, sym, ap, subst, ◌∙◌, append-nil, append_assoc, length-append, arith, inl, inr, if◌then◌else◌}
 use Rattle.std.specs.{Prelude.{codes}, Fmt.{decimal}, List.{AllByRecursion}, Io.KnownBytes.{Appends}}
 use Rattle.std.proofs.lemmas.Bool.{and_parts, leb-true, ltb-true}
 use Rattle.ulfm_laws.specs.{Flags.{flag_meld}, declared.flag_and.FlagAnd.{FlagAnd}}
@@ -20,7 +20,8 @@ use Rattle.ulfm_trace.specs.declared.verdict.{Verdict.{Verdict}, Verdict.TheVari
 use Rattle.ulfm_trace.proofs.{Beginnings.{one_law}, TextLines.{first_then}}
 use Rattle.ulfm_written.specs.Written.{GotLegal, IsFoundLegal, IsNoneOrLegal, WroteLegal}
 use Rattle.ulfm_script.specs.declared.fault.RunFault.TheVariants as fault
-use Rattle.ulfm_written.proofs.{Counts.{calls_in, lines_few}, Following.{AllFit, StepLanguage, calls_append, follows_begins, lines_spell, piece_begins}, Lasting.{CalledFits, IsAnswered, Keeps, kept_after, kept_nothing}}
+use Rattle.ulfm_written.specs.Calls.{AllFit, CalledFits, calls_in}
+use Rattle.ulfm_written.proofs.{Counts.{lines_few}, Following.{StepLanguage, calls_append, follows_begins, lines_spell, piece_begins}, Lasting.{IsAnswered, Keeps, kept_after, kept_nothing}}
 use Rattle.ulfm_written.proofs.{Short.{Short, header_short, line_short}, Sizes.{events_few}, Tellable.{IsTellable, line_tells, told_group}}
 
 -- each line can be told
@@ -101,7 +102,7 @@ legal_listing now [] legal = tt
 legal_listing now (told ∷ rest) legal = (may_list now told.group told.line legal.0, legal_listing (after now told.line) rest legal.1)
 
 -- the text of a legal trace with few calls, each of which some line spells, is a legal text
-legal_text : (limits : Limits) → MayOpen limits → (trace : TraceLines) → IsLegalTrace flag_meld limits trace → AllFit trace → calls_in trace ≤ 100000 → IsLegalText (trace_text limits trace)
+legal_text : (limits : Limits) → MayOpen limits → (trace : TraceLines) → IsLegalTrace flag_meld limits trace → AllFit trace → size_of limits + 3 * calls_in trace < 5000000 → IsLegalText (trace_text limits trace)
 legal_text limits wide trace legal fits few =
     let all = tellable limits wide [] trace legal fits (kept_nothing limits) in
     let stand = texts_stand trace all in
@@ -110,7 +111,6 @@ legal_text limits wide trace legal fits few =
     let said : TraceState = said_by (nothing limits) trace in
     let kept = kept_along flag_meld (nothing limits) trace legal (nothing_kept flag_meld limits) in
     let events = events_few flag_meld limits wide said.history (subst (λ (l : Limits). IsLegal flag_meld l said.history) (limits_stay flag_meld (nothing limits) trace) kept.legal) in
-    let small = wide.small in
     let count = lines_few (nothing limits) trace legal in
     let lines : lines_from [] (trace_text limits trace) ≡ header ∷ texts trace =
     first_then header (lines_text trace) short.free ∙ ap (λ (ts : List (List ℕ)). header ∷ ts) stand.0 in
@@ -122,7 +122,7 @@ legal_text limits wide trace legal fits few =
         header = header;
         texts = texts trace;
         lines_are = lines;
-        few = omega (arith, size, same, count, events, small, few);
+        few = omega (arith, size, same, count, events, few);
         is_header = record { may_open = wide; short = short.few; text_is = refl };
         told = texts_tell trace all;
         legal = legal_listing (nothing limits) trace legal;
@@ -139,6 +139,10 @@ found_legal text legal = record { legal = legal; only = only }
     only left (Illegal line why) checks =
         let bad : IsFirstBad text line why = subst (λ (t : List ℕ). IsFirstBad t line why) checks.2.1 checks.2.2 in
         absurd ((one_law.once text).apart line why bad legal)
+
+-- so it is with every legal trace of few calls
+pub printed_legal : (limits : Limits) (trace : TraceLines) → MayOpen limits → IsLegalTrace flag_meld limits trace → AllFit trace → size_of limits + 3 * calls_in trace < 5000000 → IsFoundLegal (trace_text limits trace)
+printed_legal limits trace wide legal fits few = found_legal (trace_text limits trace) (legal_text limits wide trace legal fits few)
 
 -- a header of a script gives limits that may be opened
 opens_if : (limits : Limits) → may_open limits ≡ true → MayOpen limits
@@ -253,7 +257,8 @@ trace_legal limits items out spells printed =
     let begins = follows_begins (nothing limits) items printed.0 spells.steps printed.2.follows in
     let few = begins.1 in
     let most = spells.few in
-    let legal = legal_text limits spells.wide printed.0 printed.2.legal begins.0 (omega (arith, few, most)) in
+    let small = spells.wide.small in
+    let legal = legal_text limits spells.wide printed.0 printed.2.legal begins.0 (omega (arith, few, most, small)) in
     found_legal out (subst IsLegalText (sym printed.3) legal)
 
 -- what the first items of a text print
@@ -324,5 +329,6 @@ failing_legal rank number known old new lt run =
     let few = begins.1 in
     let most = spells.few in
     let one = all.1 in
-    let legal = legal_text run.limits spells.wide failed.trace failed.legal all.0 (omega (arith, few, most, one)) in
+    let small = spells.wide.small in
+    let legal = legal_text run.limits spells.wide failed.trace failed.legal all.0 (omega (arith, few, most, one, small)) in
     (run.out, run.told, found_legal run.out (subst IsLegalText (sym failed.out_is) legal))

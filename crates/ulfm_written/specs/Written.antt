@@ -1,16 +1,32 @@
 -- What a run of a step script has written is what a check finds legal.
-use Rattle.std.specs.Prelude.{◌≡◌, ◌⊎◌, ℕ, ◌<◌, List, [], Some, Ok, Err}
+use Rattle.std.specs.Prelude.{◌≡◌, ◌⊎◌, ℕ, ◌+◌, ◌*◌, ◌<◌, ◌≤◌, List, [], length, Some, Ok, Err}
 use Rattle.std.specs.Io.KnownBytes.{Appends}
+use Rattle.ulfm_laws.specs.Flags.{flag_meld}
+use Rattle.ulfm_model.specs.declared.limits.Limits.{Limits}
+use Rattle.ulfm_model.specs.{History.{History, IsLegal}, Words.{MayOpen, size_of}}
 use Rattle.ulfm_script.specs.{Ends.{Known, RunEnd}, Written.{WritesPart}}
 use Rattle.ulfm_script.specs.declared.fault.RunFault.TheVariants.{Write}
-use Rattle.ulfm_step_script.specs.{FailingScripts.{RunsFailing}, StepScripts.{RunsSteps}}
-use Rattle.ulfm_trace.specs.{Checks.{Checks}, Texts.{IsLegalText}}
+use Rattle.ulfm_step_script.specs.{FailingScripts.{RunsFailing}, StepScripts.{RunsSteps, trace_text}}
+use Rattle.ulfm_trace.specs.{Checks.{Checks}, Texts.{IsLegalText, TraceLines}}
+use Rattle.ulfm_trace_model.specs.Traces.{IsLegalTrace}
+use Rattle.ulfm_written.specs.Calls.{AllFit, calls_in}
 use Rattle.ulfm_trace.specs.declared.verdict.{Verdict.{Verdict}, Verdict.TheVariants.{Legal}}
 
 -- the text is a legal trace, and a check of it that answers answers so
 pub record IsFoundLegal (text : List ℕ) : Type 0 where
   pub legal : IsLegalText text
   pub only : (left : Known) (verdict : Verdict) → Checks (Some text) left (Ok verdict) → verdict ≡ Legal
+
+-- a legal history has no more events than its world has words
+abbrev pub EventsAreFew : {P : Type 0} → (P → P → P) → Type 0
+EventsAreFew {P} meld = (limits : Limits) (h : History P) → MayOpen limits → IsLegal meld limits h → length h ≤ size_of limits
+
+-- the text of a legal trace is found legal, where a script may have each of its calls, and where its events, of which there are at most as many as
+-- words, and three lines for each of its calls are few enough
+abbrev pub PrintedTracesAreLegal : Type 0
+PrintedTracesAreLegal =
+    (limits : Limits) (trace : TraceLines) → MayOpen limits → IsLegalTrace flag_meld limits trace → AllFit trace
+    → size_of limits + 3 * calls_in trace < 5000000 → IsFoundLegal (trace_text limits trace)
 
 -- what a writer has got is such a text: what it had, and what it has
 abbrev pub GotLegal : Known → Known → Type 0

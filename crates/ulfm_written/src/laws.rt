@@ -1,12 +1,26 @@
 //! What follows from the contracts of runs and of the check, as functions whose contracts are these laws.
-ghost use Rattle.ulfm_written.specs.Written.{FailingTracesAreLegal, WrittenTracesAreLegal};
+ghost use Rattle.ulfm_written.specs.Written.{EventsAreFew, FailingTracesAreLegal, PrintedTracesAreLegal, WrittenTracesAreLegal};
 
-/// What a run of a step script has written at its end is a legal trace: whatever checks it, and answers, answers so.
+use ulfm_laws::meld::Meld;
+
+/// A legal history has no more events than its world has words, which is what `Limits::size` tells.
+pub fn events_are_few<P: Meld>()
+    ensures { EventsAreFew P.meld }
+{}
+
+/// The text of a legal trace, its header and its lines as they are printed, is found legal by whatever checks it, and answers. A script may have
+/// each of its calls; and the size of the world and three lines for each of the calls come to less than 5,000,000.
+pub fn printed_traces_are_legal()
+    ensures { PrintedTracesAreLegal }
+{}
+
+/// What a run of a step script has written is a legal trace, where it ended well: whatever checks it, and answers, answers so. At a fault it is a
+/// legal trace or nothing, and a beginning of that where the writer failed.
 pub fn written_traces_are_legal()
     ensures { WrittenTracesAreLegal }
 {}
 
-/// So it is where a rank is declared failed in between.
+/// What a run that ended well has written is a legal trace, too, where a rank was declared failed in between.
 pub fn failing_traces_are_legal()
     ensures { FailingTracesAreLegal }
 {}

@@ -3,4 +3,6 @@
 
 pub mod laws;
 
-pub use laws::{failing_traces_are_legal, written_traces_are_legal};
+pub use laws::{
+    events_are_few, failing_traces_are_legal, printed_traces_are_legal, written_traces_are_legal,
+};
