@@ -2,8 +2,8 @@
 use Rattle.std.proofs.Common.{◌≡◌, ◌+◌, Bool, true, false, List, [], ◌∷◌, ◌++◌, length, filter, refl, ap, sym, ◌∙◌, append_assoc, length-append, if◌then◌else◌}
 use Rattle.std.specs.List.{AllByRecursion}
 use Rattle.ulfm_laws.specs.declared.flag_and.FlagAnd.{FlagAnd}
-use Rattle.ulfm_trace_model.specs.{Follows.{EndsInReply, is_event}, Traces.{Told}}
-use Rattle.ulfm_lines.specs.{LineTexts.{line_text, lines_text}, Walked.{events_in}}
+use Rattle.ulfm_trace_model.specs.{Follows.{EndsInReply, steps_in, takes_step}, Traces.{Told}}
+use Rattle.ulfm_lines.specs.LineTexts.{line_text, lines_text}
 
 -- the text of lines behind lines
 pub lines_append : (xs ys : List (Told FlagAnd)) → lines_text (xs ++ ys) ≡ lines_text xs ++ lines_text ys
@@ -25,8 +25,9 @@ filter_append {X} p (x ∷ xs) ys = go (p x) (filter_append p xs ys)
     go true same = ap (λ zs. x ∷ zs) same
     go false same = same
 
-pub events_append : (xs ys : List (Told FlagAnd)) → events_in (xs ++ ys) ≡ events_in xs + events_in ys
-events_append xs ys = ap length (filter_append (λ (told : Told FlagAnd). is_event told.line) xs ys) ∙ length-append (filter (λ (told : Told FlagAnd). is_event told.line) xs) (filter (λ (told : Told FlagAnd). is_event told.line) ys)
+-- the steps that tell both
+pub steps_append : (xs ys : List (Told FlagAnd)) → steps_in (xs ++ ys) ≡ steps_in xs + steps_in ys
+steps_append xs ys = ap length (filter_append (λ (told : Told FlagAnd). takes_step told.line) xs ys) ∙ length-append (filter (λ (told : Told FlagAnd). takes_step told.line) xs) (filter (λ (told : Told FlagAnd). takes_step told.line) ys)
 
 -- the last line of both is that of the second
 pub ends_append : (xs ys : List (Told FlagAnd)) → EndsInReply ys → EndsInReply (xs ++ ys)

@@ -1,27 +1,24 @@
 -- What steps tell is what a line of a script asks for.
-use Rattle.std.proofs.Common.{◌≡◌, ℕ, ◌<◌, ◌≤◌, List, [], ◌++◌, Option, Some, None, refl, ap, sym, ◌∙◌, arith, append-nil, inl, inr}
+use Rattle.std.proofs.Common.{◌≡◌, ℕ, ◌≤◌, List, [], Some, refl, ap, sym, arith, append-nil, inl, inr}
 use Rattle.std.specs.Prelude.{◌⊎◌}
-use Rattle.ulfm_laws.specs.{Flags.{flag_meld}, declared.flag_and.FlagAnd.{FlagAnd}}
 use Rattle.ulfm_model.specs.declared.event.Caller.{Caller}
-use Rattle.ulfm_trace_model.specs.{Follows.{IsPiece}, Traces.{IsOpen, Told, said_by}}
+use Rattle.ulfm_trace_model.specs.{Follows.{IsPiece, steps_in}, Traces.{IsOpen, said_by}}
 use Rattle.ulfm_lines.specs.declared.step_machine.{Reach.{Reach}, Taken.TheVariants.{Run}}
-use Rattle.ulfm_lines.specs.{LineTexts.{lines_text}, StepLines.{ScriptStep}, Stepped.{TellsStep, TraceState}, Walked.{IsCountOf, IsTaken, TellsSteps, events_in, to_the_end}}
-
--- no more events than steps that may be made
-pub few_events : (piece : List (Told FlagAnd)) (count made most : ℕ) → events_in piece ≤ count → IsCountOf count made → made ≤ most → most < 4294967295
-    → events_in piece ≤ most
-few_events piece count made most few (inl is) within below = omega (arith, few, is.0, within)
-few_events piece count made most few (inr full) within below = absurd (omega (arith, full.0, within, below))
+use Rattle.ulfm_lines.specs.{StepLines.{ScriptStep}, Stepped.{TellsStep, TraceState}, Walked.{IsTaken, TellsSteps, to_the_end}}
 
 -- what steps told, as a line asks for it
 pub taken_steps : (Stands : TraceState → Type 0) (now : TraceState) (r : ℕ) (reach : Reach) (made : ℕ) (old new : List ℕ)
     (t : TellsSteps Stands now r reach made old new) → IsTaken now r reach t.piece
 taken_steps Stands now r reach made old new t = record {
   by = t.by;
-  few = λ most is below. few_events t.piece t.count made most t.few t.counted (t.within most is) below;
+  few = λ most is. few most is;
+  before = t.before;
   ends = λ is was. t.ends was (over is (t.stops (ap (λ (x : Reach). x.name) is)));
 }
   where
+    few : (most : ℕ) → reach.most ≡ Some most → steps_in t.piece ≤ most
+    few most is = let one = t.few in let two = t.within most is in omega (arith, one, two)
+
     over : reach ≡ to_the_end → (¬ IsOpen (said_by now t.piece) (Caller.Rank r)) ⊎ (reach.most ≡ Some made) → ¬ IsOpen (said_by now t.piece) (Caller.Rank r)
     over is (inl closed) = closed
     over is (inr reached) = absurd (cc (ap (λ (x : Reach). x.most) is, reached))

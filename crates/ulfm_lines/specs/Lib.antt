@@ -7,3 +7,4 @@ pub mod StepNames
 pub mod Stepped
 pub mod Telling
 pub mod Walked
+pub mod Progress

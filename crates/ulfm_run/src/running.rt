@@ -70,8 +70,9 @@ pub fn run_steps<A: Allocator + Copy + Drop, R: Read, W: Write>(
 /// is no such declaration. `rank` is one that a script can name; one that the world doesn't have is answered so.
 ///
 /// At `Ok` it gives the number of steps that the script's lines made; those of this declaration and of the script's `fail` lines aren't counted.
-/// The trace is legal, and follows the script but for the two or three lines of this declaration; it has no more events of ranks than the number
-/// says. At a fault what was written is as by [`run_steps`], but for this declaration.
+/// The trace is legal, and follows the script but for the two or three lines of this declaration, which it has exactly where no fewer steps were
+/// made. It has no more events of ranks than the number says, no more before the declaration than `at`, and no more behind it than the other
+/// steps. At a fault what was written is as by [`run_steps`], but for this declaration.
 ///
 /// The script of `examples/contribution_in_flight.steps` makes 20 steps: with 1000 for `at` its trace is what [`run_steps`] writes, and the
 /// answer is `Ok(20)`.
@@ -85,7 +86,7 @@ pub fn run_steps_failing<A: Allocator + Copy + Drop, R: Read, W: Write>(
     requires { rank < 1024 }
     ensures ends { EndsAlone failing_scripts (R.remaining reader.old) (R.remaining reader.new) (W.contents writer.old) (W.contents writer.new)
         (ended result) }
-    ensures fails { IfOk result (λ number. RunsFailing rank number (R.remaining reader.old) (W.contents writer.old) (W.contents writer.new)) }
+    ensures fails { IfOk result (λ number. RunsFailing at rank number (R.remaining reader.old) (W.contents writer.old) (W.contents writer.new)) }
 {
     run_failing_script::<StepTable<A>, A, R, W>(alloc, Failing { at, rank }, reader, writer)
 }

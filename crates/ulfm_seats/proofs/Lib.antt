@@ -5,3 +5,4 @@ pub mod LineTells
 pub mod Opening
 pub mod Whole
 pub mod Counting
+pub mod Goes

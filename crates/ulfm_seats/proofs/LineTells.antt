@@ -11,12 +11,12 @@ use Rattle.ulfm_words.specs.Steps.{IsOf, Name, Sight}
 use Rattle.ulfm_trace_model.specs.declared.{line.Line.{Line}, step_line.StepLine.TheVariants.{Called}}
 use Rattle.ulfm_trace_model.specs.{Follows.{AreOf, IsPiece}, Traces.{AnswersRank, AreLegalAfter, IsOpen, MayCome, Told, Traced, Under, after, after_reply, call_by, caller_of, record_of, said_by, same_caller, taken_in}}
 use Rattle.ulfm_trace_model.proofs.Callers.{same_rank}
-use Rattle.ulfm_lines.specs.{LineTexts.{lines_text}, StepLines.{IsByRank}, Stepped.{TellsStep}, Walked.{TellsSteps}}
+use Rattle.ulfm_lines.specs.{LineTexts.{lines_text}, Progress.{GoesFar, IsReached}, StepLines.{IsByRank}, Stepped.{TellsStep}, Walked.{TellsSteps}}
 use Rattle.ulfm_lines.specs.declared.step_machine.Reach.{Reach}
 use Rattle.ulfm_lines.specs.declared.step_machine.Taken.TheVariants.{Open, Run}
 use Rattle.ulfm_stepping.specs.Stepping.{replied}
 use Rattle.ulfm_stepping.specs.{Seats.{Sits, SitsAt as SitsWith, begun_piece, next_in, reply_piece}, declared.told.Answer.{Answer}}
-use Rattle.ulfm_seats.specs.{Lines.{BeginsCall, unknown_piece}, Table.{IsNobody, StandsFor}, Walks.{FlagSeat, GoesOn, IsReached, WalksUntil}}
+use Rattle.ulfm_seats.specs.{Lines.{BeginsCall, unknown_piece}, Table.{IsNobody, StandsFor}, Walks.{FlagSeat, GoesOn, WalksUntil}}
 use Rattle.ulfm_seats.proofs.{Pieces.{AllBy, are_by, find_no_record, piece_call, piece_entries, piece_history}, Standing.{find_last, get_there, ranks_differ, reply_frees, stands_on, stands_seat, tells_step}}
 
 -- a call of a rank is its own
@@ -180,13 +180,14 @@ module _ (name : Name) (pass : Sight FlagAnd) (seats : List FlagSeat) (now : Tra
       pub until_tells : TellsSteps (StandsFor name later (set seats r left)) now r reach made text more
       until_tells = record {
         piece = w.walks.piece;
-        count = w.count;
+        count = length w.names;
         told = w.walks.told;
         by = subst (λ n. AreOf (Caller.Rank n) w.walks.piece) number w.walks.by;
         legal = goes.legal;
         few = w.walks.few;
         counted = w.counted;
         within = w.within;
+        before = λ n is. w.walks.others n (w.before n is);
         idle = λ closed. absurd (closed (subst (λ n. IsOpen now (Caller.Rank n)) number (there_open now pass seat.own seat.found seat.call (stands.each r seat there).sits is_open)));
         ends = λ was closed. w.walks.ends is_open (over left.call refl closed);
         stops = λ unnamed. stops unnamed w.stops;
@@ -206,6 +207,7 @@ module _ (name : Name) (pass : Sight FlagAnd) (seats : List FlagSeat) (now : Tra
     few = omega arith;
     counted = inl (refl, omega arith);
     within = λ most is. omega arith;
+    before = λ n is. tt;
     idle = λ c. refl;
     ends = λ was c. absurd (closed was);
     stops = λ unnamed. inl closed;

@@ -7,9 +7,9 @@ use Rattle.ulfm_laws.specs.{Flags.{flag_meld}, declared.flag_and.FlagAnd.{FlagAn
 use Rattle.ulfm_model.specs.declared.{call.Call.{Call}, event.Caller.{Caller}, reply.Reply.{Reply}}
 use Rattle.ulfm_words.specs.Steps.{IsOf, Name, Sight}
 use Rattle.ulfm_trace_model.specs.declared.{line.Line.{Line}, step_line.StepLine.TheVariants.{Failed}}
-use Rattle.ulfm_trace_model.specs.{Follows.{IsPiece}, Traces.{AreLegalAfter, Told, Traced, Under, after, after_reply, call_by, said_by, same_caller}}
+use Rattle.ulfm_trace_model.specs.{Follows.{IsPiece, fail_event, fail_piece}, Traces.{AreLegalAfter, Told, Traced, Under, after, after_reply, call_by, said_by, same_caller}}
 use Rattle.ulfm_trace_model.proofs.{Kept.{limits_stay}, Parts.{said_append}}
-use Rattle.ulfm_stepping.specs.{Failing.{TellsFail, fail_event, fail_piece}, Seats.{AreOthers, Sits}}
+use Rattle.ulfm_stepping.specs.{Failing.{TellsFail}, Seats.{AreOthers, Sits}}
 use Rattle.ulfm_stepping.proofs.Others.{sits_lasts}
 use Rattle.ulfm_lines.specs.{LineTexts.{lines_text}, StepLines.{ScriptStep}, Stepped.{TellsStep}}
 use Rattle.ulfm_lines.specs.declared.step_machine.Taken.TheVariants.{Run}

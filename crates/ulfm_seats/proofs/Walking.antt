@@ -1,21 +1,21 @@
 -- Steps of one rank's call, one after another.
-use Rattle.std.proofs.Common.{◌≡◌, ◌≢◌, ℕ, suc, ◌+◌, ◌≤◌, ◌<◌, Bool, IsTrue, Option, Some, None, true, false, List, [], ◌∷◌, ◌++◌, length, filter, is_some, refl, ap, sym, ◌∙◌, subst, arith, append-nil, append_assoc, length-append, inl, inr, if◌then◌else◌}
+use Rattle.std.proofs.Common.{◌≡◌, ◌≢◌, ℕ, suc, ◌+◌, ◌≤◌, ◌<◌, IsTrue, Option, Some, None, List, [], ◌∷◌, ◌++◌, length, is_some, refl, ap, sym, ◌∙◌, subst, arith, append-nil, append_assoc, length-append, inl, inr}
 use Rattle.std.specs.{List.{AllByRecursion}, Prelude.{OnOk, Result, Ok, Err}}
 use Rattle.ulfm_laws.specs.{Flags.{flag_meld}, declared.flag_and.FlagAnd.{FlagAnd}}
 use Rattle.ulfm_model.specs.declared.event.Caller.{Caller}
 use Rattle.ulfm_words.specs.Steps.{Name, Sight}
-use Rattle.ulfm_trace_model.specs.{Follows.{AreOf, EndsInReply, is_event}, Traces.{Told, Traced, said_by}}
+use Rattle.ulfm_trace_model.specs.{Follows.{AreOf, EndsInReply, NoneBy}, Traces.{Told, Traced, said_by}}
 use Rattle.ulfm_trace_model.proofs.Parts.{legal_append, said_append}
-use Rattle.ulfm_lines.proofs.Joined.{all_append, ends_append, events_append, lines_append}
+use Rattle.ulfm_lines.proofs.Joined.{all_append, ends_append, lines_append, steps_append as pieces_append}
 use Rattle.ulfm_lines.specs.LineTexts.{lines_text}
-use Rattle.ulfm_model.specs.declared.{call.Call.{Call}, limits.Limits.{Limits}}
+use Rattle.ulfm_model.specs.declared.{call.Call.{Call}, limits.Limits.{Limits}, step_name.StepName.{StepName}}
 use Rattle.ulfm_model.specs.{Answers.{comm_of}, History.{History}, Records.{Record}}
 use Rattle.ulfm_comm.specs.Phase.{UnderWay}
 use Rattle.ulfm_stepping.specs.declared.told.{Answer.{Answer}, StepTold.{StepTold}}
-use Rattle.ulfm_stepping.specs.Seats.{GoesOrEnds, Sits, TellsPiece, asked_in, comm_in, group_in, left_in, piece_of}
+use Rattle.ulfm_stepping.specs.Seats.{AreToldBy, GoesOrEnds, Sits, TellsPiece, asked_in, comm_in, group_in, left_in, next_in, piece_of}
 use Rattle.ulfm_lines.specs.declared.step_machine.Reach.{Reach}
-use Rattle.ulfm_lines.specs.Walked.{IsCountOf, events_in}
-use Rattle.ulfm_seats.specs.Walks.{FlagSeat, GoesOn, KnowsGroup, Walks}
+use Rattle.ulfm_lines.specs.Walked.{IsCountOf}
+use Rattle.ulfm_seats.specs.Walks.{AreOther, FlagSeat, GoesOn, KnowsGroup, MakesSteps, Walks}
 
 -- how many steps a call has still to go, with its reply
 abbrev pub to_go : Limits → Record → Option (UnderWay FlagAnd) → ℕ
@@ -29,15 +29,39 @@ goes_nearer limits old None new call is less = absurd (cc is)
 goes_nearer limits old (Some doing) new None is less = omega arith
 goes_nearer limits old (Some doing) new (Some next) is less = let nearer = less refl in omega (arith, nearer)
 
+-- steps, and then further steps
+steps_append : (names others : List (Option StepName)) (pass : Sight FlagAnd) (seat : FlagSeat) (after : Sight FlagAnd) (left : FlagSeat) (later : Sight FlagAnd) (last : FlagSeat) → MakesSteps names pass seat after left → MakesSteps others after left later last
+    → MakesSteps (names ++ others) pass seat later last
+steps_append [] others pass seat after left later last none more =
+    subst (λ (p : Sight FlagAnd). MakesSteps others p seat later last) none.0 (subst (λ (s : FlagSeat). MakesSteps others after s later last) none.1 more)
+steps_append (x ∷ names) others pass seat after left later last (is, between, mid, made, rest) more =
+    (is, between, mid, made, steps_append names others between mid after left later last rest more)
+
+-- what holds of each of both holds of each of one
+first_all : {X : Type 0} (Q : X → Type 0) (xs ys : List X) → AllByRecursion Q (xs ++ ys) → AllByRecursion Q xs
+first_all Q [] ys all = tt
+first_all Q (x ∷ xs) ys all = (all.0, first_all Q xs ys all.1)
+
+last_all : {X : Type 0} (Q : X → Type 0) (xs ys : List X) → AllByRecursion Q (xs ++ ys) → AllByRecursion Q ys
+last_all Q [] ys all = all
+last_all Q (x ∷ xs) ys all = last_all Q xs ys all.1
+
+-- lines that are told by the next step alone are told by no other
+none_by : (next : Option StepName) (name : StepName) (piece : List (Told FlagAnd)) → AreToldBy next piece → next ≢ Some name → NoneBy name piece
+none_by next name [] all other = tt
+none_by next name (told ∷ rest) all other = ((λ is. other (all.0 name is)), none_by next name rest all.1 other)
+
 module _ (name : Name) (pass : Sight FlagAnd) (seat : FlagSeat) (text : List ℕ) where
   -- no step
-  pub walks_none : Walks name 0 pass seat text pass seat text
+  pub walks_none : Walks name [] pass seat text pass seat text
   walks_none =
       record {
         piece = [];
         told = sym (append-nil text);
+        makes = (refl, refl);
         by = tt;
         few = omega arith;
+        others = λ n all. tt;
         ends = λ is_open over. absurd (cc (is_open, ap is_some over));
         number = refl;
         onward = omega arith;
@@ -45,23 +69,20 @@ module _ (name : Name) (pass : Sight FlagAnd) (seat : FlagSeat) (text : List ℕ
       }
 
   module _ (after : Sight FlagAnd) (left : FlagSeat) (more : List ℕ) where
-    pub walks_fewer : (few most : ℕ) → few ≤ most → Walks name few pass seat text after left more → Walks name most pass seat text after left more
-    walks_fewer few most less w =
-        let count = w.few in
-        record { piece = w.piece; told = w.told; by = w.by; few = omega (arith, count, less); ends = w.ends; number = w.number; onward = w.onward; goes = w.goes }
-
     -- one step
     pub walks_one : (told : StepTold FlagAnd) → TellsPiece flag_meld name seat pass told left after → pass.steps ≤ after.steps → (asked : Call FlagAnd) → asked_in seat.call ≡ Some asked
         → ((ranks : ℕ) (h : History FlagAnd) → KnowsGroup ranks h (comm_of asked) told.reply left.own → more ≡ text ++ lines_text (piece_of left.own.number told (group_in ranks h (comm_of asked) told.reply)))
-        → Walks name 1 pass seat text after left more
+        → Walks name (next_in seat.call ∷ []) pass seat text after left more
     walks_one told t onward asked asked_is tells =
         record {
           piece = t.piece;
           told = tells name.limits.ranks after.seen (subst (λ n. KnowsGroup name.limits.ranks after.seen n told.reply left.own) comm_is (knows told.reply t.next))
               ∙ ap (λ p. text ++ lines_text p) (ap (λ r. piece_of r told (group_in name.limits.ranks after.seen (comm_of asked) told.reply)) t.number
               ∙ (ap (λ n. piece_of seat.own.number told (group_in name.limits.ranks after.seen n told.reply)) (sym comm_is) ∙ sym t.piece_is));
+          makes = (refl, after, left, t.named, (refl, refl));
           by = t.of;
           few = t.few;
+          others = λ n all. none_by (next_in seat.call) n t.piece t.by_step all.0;
           ends = λ is_open over. ends told.reply t.next over;
           number = t.number;
           onward = onward;
@@ -84,8 +105,8 @@ module _ (name : Name) (pass : Sight FlagAnd) (seat : FlagSeat) (text : List ℕ
         ends (Some answer) next over = next.in_reply
 
     -- and then further steps
-    module _ (later : Sight FlagAnd) (last : FlagSeat) (all : List ℕ) (m n : ℕ) (w : Walks name m pass seat text after left more) (is_open : IsTrue (is_some left.call)) (v : Walks name n after left more later last all) where
-      pub walks_then : Walks name (m + n) pass seat text later last all
+    module _ (later : Sight FlagAnd) (last : FlagSeat) (all : List ℕ) (names others : List (Option StepName)) (w : Walks name names pass seat text after left more) (is_open : IsTrue (is_some left.call)) (v : Walks name others after left more later last all) where
+      pub walks_then : Walks name (names ++ others) pass seat text later last all
       walks_then =
           let few_w = w.few in
           let few_v = v.few in
@@ -94,8 +115,10 @@ module _ (name : Name) (pass : Sight FlagAnd) (seat : FlagSeat) (text : List ℕ
           record {
             piece = w.piece ++ v.piece;
             told = v.told ∙ (ap (λ t. t ++ lines_text v.piece) w.told ∙ (append_assoc text (lines_text w.piece) (lines_text v.piece) ∙ ap (λ t. text ++ t) (sym (lines_append w.piece v.piece))));
+            makes = steps_append names others pass seat after left later last w.makes v.makes;
             by = all_append _ w.piece v.piece w.by (subst (λ r. AreOf (Caller.Rank r) v.piece) w.number v.by);
-            few = omega (arith, few_w, few_v, events_append w.piece v.piece);
+            few = omega (arith, few_w, few_v, pieces_append w.piece v.piece, length-append names others);
+            others = λ n none. all_append _ w.piece v.piece (w.others n (first_all _ names others none)) (v.others n (last_all _ names others none));
             ends = λ was_open over. ends_append w.piece v.piece (v.ends is_open over);
             number = v.number ∙ w.number;
             onward = omega (arith, on_w, on_v);
@@ -111,20 +134,29 @@ module _ (name : Name) (pass : Sight FlagAnd) (seat : FlagSeat) (text : List ℕ
               }
 
 -- one step more is counted
-pub counts_on : (count made more : ℕ) → IsCountOf count made → IsCountOf (made + 1) more → IsCountOf (count + 1) more
-counts_on count made more (inl is) (inl next) = inl (omega (arith, is.0, next.0), omega (arith, is.0, next.1))
-counts_on count made more (inl is) (inr full) = inr (full.0, omega (arith, is.0, full.1))
-counts_on count made more (inr is) (inl next) = absurd (omega (arith, is.0, next.1))
-counts_on count made more (inr is) (inr full) = inr (full.0, omega (arith, is.1))
+pub counts_on : (names : List (Option StepName)) (name : Option StepName) (made more : ℕ) → IsCountOf (length names) made → IsCountOf (made + 1) more → IsCountOf (length (names ++ name ∷ [])) more
+counts_on names name made more counted one_more = go counted one_more (length-append names (name ∷ []))
+  where
+    go : IsCountOf (length names) made → IsCountOf (made + 1) more → length (names ++ name ∷ []) ≡ length names + 1 → IsCountOf (length (names ++ name ∷ [])) more
+    go (inl is) (inl next) size = inl (omega (arith, is.0, next.0, size), omega (arith, is.0, next.1, size))
+    go (inl is) (inr full) size = inr (full.0, omega (arith, is.0, full.1, size))
+    go (inr is) (inl next) size = absurd (omega (arith, is.0, next.1))
+    go (inr is) (inr full) size = inr (full.0, omega (arith, is.1, size))
 
 -- and is still within what may be made, where that wasn't reached
-pub still_within : (reach : Reach) (made more : ℕ) → ((most : ℕ) → reach.most ≡ Some most → made ≤ most)
-    → ((most : ℕ) → reach.most ≡ Some most → made ≢ most) → IsCountOf (made + 1) more → (most : ℕ) → reach.most ≡ Some most → more ≤ most
-still_within reach made more within fewer counted most is = go counted (within most is) (fewer most is)
+pub still_within : (reach : Reach) (names : List (Option StepName)) (name : Option StepName) (made : ℕ) → ((most : ℕ) → reach.most ≡ Some most → length names ≤ most)
+    → ((most : ℕ) → reach.most ≡ Some most → made ≢ most × (most ≤ 4294967295)) → IsCountOf (length names) made → (most : ℕ) → reach.most ≡ Some most
+    → length (names ++ name ∷ []) ≤ most
+still_within reach names name made within fewer counted most is = go counted (within most is) (fewer most is) (length-append names (name ∷ []))
   where
-    go : IsCountOf (made + 1) more → made ≤ most → made ≢ most → more ≤ most
-    go (inl next) below other = omega (arith, next.0, below, other)
-    go (inr full) below other = omega (arith, full.0, full.1, below, other)
+    go : IsCountOf (length names) made → length names ≤ most → made ≢ most × (most ≤ 4294967295) → length (names ++ name ∷ []) ≡ length names + 1 → length (names ++ name ∷ []) ≤ most
+    go (inl all) below other size = omega (arith, all.0, below, other.0, size)
+    go (inr full) below other size = absurd (omega (arith, full.0, full.1, below, other.0, other.1))
+
+-- a step of another name is one more of other names
+pub still_other : (reach : Reach) (names : List (Option StepName)) (next : Option StepName) → ((name : StepName) → reach.name ≡ Some name → AreOther name names)
+    → ((name : StepName) → reach.name ≡ Some name → next ≢ Some name) → (name : StepName) → reach.name ≡ Some name → AreOther name (names ++ next ∷ [])
+still_other reach names next before other name is = all_append _ names (next ∷ []) (before name is) (other name is, tt)
 
 -- a fact at Ok leads to another
 pub on_ok : {T E : Type 0} {P Q : Type 0} (r : Result T E) → (P → Q) → OnOk r P → OnOk r Q

@@ -1,11 +1,12 @@
 -- What the machine of step scripts stands for.
-use Rattle.std.specs.Prelude.{◌≡◌, ℕ, ◌≤◌, List, length, slice_get, Some, None}
+use Rattle.std.specs.Prelude.{◌≡◌, ℕ, ◌≤◌, List, length, slice_get, Option, Some, None}
 use Rattle.ulfm_laws.specs.{Flags.{flag_meld}, declared.flag_and.FlagAnd.{FlagAnd}}
-use Rattle.ulfm_model.specs.declared.event.Caller.{Caller}
+use Rattle.ulfm_model.specs.declared.{event.Caller.{Caller}, step_name.StepName.{StepName}}
 use Rattle.ulfm_words.specs.Steps.{IsOf, Name, Sight}
 use Rattle.ulfm_comm.specs.Counts.{Ranked}
 use Rattle.ulfm_trace_model.specs.Traces.{Traced, call_by, record_of}
-use Rattle.ulfm_stepping.specs.Seats.{Sits}
+use Rattle.ulfm_lines.specs.Progress.{Progress}
+use Rattle.ulfm_stepping.specs.Seats.{Sits, next_in}
 use Rattle.ulfm_seats.specs.Walks.{FlagSeat}
 
 -- what contracts see of the machine: its words, its pass, and the ranks in the order of their numbers
@@ -38,6 +39,15 @@ pub record StandsFor (name : Name) (pass : Sight FlagAnd) (seats : List FlagSeat
   pub size : length seats ≡ name.limits.ranks
   pub each : (r : ℕ) (seat : FlagSeat) → slice_get seats r ≡ Some seat → SitsAt name now pass r seat
   pub beyond : (r : ℕ) → name.limits.ranks ≤ r → IsNobody now r
+
+-- the next step of a seat's call, if there is one
+abbrev pub next_of : Option FlagSeat → Option StepName
+next_of None = None
+next_of (Some seat) = next_in seat.call
+
+-- how far the ranks' calls have come
+abbrev pub progress_of : Sight FlagAnd → List FlagSeat → Progress
+progress_of pass seats = record { steps = pass.steps; next = λ r. next_of (slice_get seats r) }
 
 -- the machine stands for what lines say
 abbrev pub IsTable : Table → Traced FlagAnd → Type 0

@@ -1,13 +1,15 @@
 -- What steps of one rank's call tell.
-use Rattle.std.specs.Prelude.{◌≡◌, ◌⊎◌, ℕ, ◌+◌, ◌≤◌, ⊤, List, ◌++◌, take, is_some, IsTrue, Option, Some, None}
+use Rattle.std.specs.Prelude.{◌≡◌, ◌≢◌, ◌⊎◌, ℕ, ◌+◌, ◌≤◌, ⊤, List, [], ◌∷◌, ◌++◌, length, take, is_some, IsTrue, Option, Some, None}
+use Rattle.std.specs.List.{AllByRecursion}
 use Rattle.ulfm_laws.specs.{Flags.{flag_meld}, declared.flag_and.FlagAnd.{FlagAnd}}
 use Rattle.ulfm_model.specs.declared.{event.Caller.{Caller}, step_name.StepName.{StepName}}
 use Rattle.ulfm_model.specs.{History.{History}, Records.{Record}}
 use Rattle.ulfm_words.specs.Steps.{Name, Sight}
-use Rattle.ulfm_trace_model.specs.{Follows.{AreOf, EndsInReply}, Traces.{AreLegalAfter, Told, Traced, said_by}}
+use Rattle.ulfm_comm.specs.StepsLeft.{MakesStep}
+use Rattle.ulfm_trace_model.specs.{Follows.{AreOf, EndsInReply, NoneBy, steps_in}, Traces.{AreLegalAfter, Told, Traced, said_by}}
 use Rattle.ulfm_lines.specs.declared.step_machine.Reach.{Reach}
-use Rattle.ulfm_lines.specs.{LineTexts.{lines_text}, Walked.{IsCountOf, events_in}}
-use Rattle.ulfm_stepping.specs.{Seats.{MayList, Seated, Sits, left_in, next_in}, declared.told.Answer.{Answer}}
+use Rattle.ulfm_lines.specs.{LineTexts.{lines_text}, Progress.{IsReached}, Walked.{IsCountOf}}
+use Rattle.ulfm_stepping.specs.{Seats.{MayList, Seated, Sits, comm_in, left_in, next_in}, declared.told.Answer.{Answer}}
 
 -- the ranks that have a seat, with flags as contributions
 abbrev pub FlagSeat : Type 0
@@ -27,29 +29,40 @@ pub record GoesOn (name : Name) (now : Traced FlagAnd) (piece : List (Told FlagA
   pub legal : AreLegalAfter flag_meld now piece
   pub sits : Sits flag_meld name (said_by now piece) after seat
 
--- Steps of a rank's call were told, at most so many events: lines in its name, with a reply at last where the call is over. They may come
--- wherever the rank sits so.
-pub record Walks (name : Name) (most : ℕ) (pass : Sight FlagAnd) (seat : FlagSeat) (text : List ℕ) (after : Sight FlagAnd) (left : FlagSeat)
-    (more : List ℕ) : Type 0 where
+-- the names of the steps that a seat's call made, one after another
+abbrev pub MakesSteps : List (Option StepName) → Sight FlagAnd → FlagSeat → Sight FlagAnd → FlagSeat → Type 0
+MakesSteps [] pass seat after left = (after ≡ pass) × (left ≡ seat)
+MakesSteps (name ∷ names) pass seat after left =
+    (next_in seat.call ≡ name) × (between : Sight FlagAnd) × (mid : FlagSeat) × MakesStep name seat.own.number (comm_in seat.call) pass between
+    × MakesSteps names between mid after left
+
+-- none of these steps has the name
+abbrev pub AreOther : StepName → List (Option StepName) → Type 0
+AreOther name names = AllByRecursion (λ made. made ≢ Some name) names
+
+-- Steps of these names were made of a rank's call and told: lines in its name, no more looks and events than steps, none by a step of a name that none
+-- of them has, and a reply at last where the call is over. They may come wherever the rank sits so.
+pub record Walks (name : Name) (names : List (Option StepName)) (pass : Sight FlagAnd) (seat : FlagSeat) (text : List ℕ) (after : Sight FlagAnd)
+    (left : FlagSeat) (more : List ℕ) : Type 0 where
   pub piece : List (Told FlagAnd)
   pub told : more ≡ text ++ lines_text piece
+  pub makes : MakesSteps names pass seat after left
   pub by : AreOf (Caller.Rank seat.own.number) piece
-  pub few : events_in piece ≤ most
+  pub few : steps_in piece ≤ length names
+  pub others : (name : StepName) → AreOther name names → NoneBy name piece
   pub ends : IsTrue (is_some seat.call) → left.call ≡ None → EndsInReply piece
   pub number : left.own.number ≡ seat.own.number
   pub onward : pass.steps ≤ after.steps
   pub goes : (now : Traced FlagAnd) → Sits flag_meld name now pass seat → GoesOn name now piece after left
 
--- a call was taken as far as is said: so many steps were made, or its next step has the name
-abbrev pub IsReached : Reach → ℕ → Option StepName → Type 0
-IsReached reach made next = (reach.most ≡ Some made) ⊎ ((name : StepName) × (reach.name ≡ Some name) × (next ≡ Some name))
-
--- Steps of a rank's call were told, as far as they are taken: so many were made, and this was counted. The call is over then, or as far as is said.
+-- Steps of a rank's call were made and told, as far as they are taken, and this was counted: no more than may be, and none that has the name before
+-- which they stop. The call is over then, or as far as is said.
 pub record WalksUntil (reach : Reach) (made : ℕ) (name : Name) (pass : Sight FlagAnd) (seat : FlagSeat) (text : List ℕ) (after : Sight FlagAnd)
     (left : FlagSeat) (more : List ℕ) : Type 0 where
-  pub count : ℕ
-  pub counted : IsCountOf count made
-  pub within : (most : ℕ) → reach.most ≡ Some most → made ≤ most
-  pub steps : after.steps ≡ pass.steps + count
-  pub walks : Walks name count pass seat text after left more
+  pub names : List (Option StepName)
+  pub counted : IsCountOf (length names) made
+  pub within : (most : ℕ) → reach.most ≡ Some most → length names ≤ most
+  pub before : (name : StepName) → reach.name ≡ Some name → AreOther name names
+  pub steps : after.steps ≡ pass.steps + length names
+  pub walks : Walks name names pass seat text after left more
   pub stops : (left.call ≡ None) ⊎ IsReached reach made (next_in left.call)

@@ -7,8 +7,9 @@ ghost use Rattle.ulfm_words.specs.{Pass.{plain_name}, Steps.{IsOf}};
 ghost use Rattle.ulfm_trace_model.specs.Traces.{Traced};
 ghost use Rattle.ulfm_trace_model.specs.declared.step_line.StepLine.TheVariants.{Called, Failed};
 ghost use Rattle.ulfm_lines.specs.declared.step_machine.Taken.TheVariants.{Run};
+ghost use Rattle.ulfm_lines.specs.Progress.{GoesAsSaid, GoesFar};
 ghost use Rattle.ulfm_lines.specs.{LineTexts.{lines_text}, StepLines.{IsByRank}, Stepped.{IsStep, TellsStep}, Walked.{TellsSteps}};
-ghost use Rattle.ulfm_seats.specs.{Lines.{BeginsCall}, Table.{StandsFor}};
+ghost use Rattle.ulfm_seats.specs.{Lines.{BeginsCall}, Table.{StandsFor, progress_of}};
 
 use crate::telling::{tell_begun, tell_declaration, tell_unknown};
 use crate::walks::walk_until;
@@ -86,9 +87,10 @@ pub(crate) fn walk_rank<A: Allocator + Copy + Drop>(
     teller: &mut Teller<A>,
 ) -> Result<u32, AllocError>
     requires stands { (now : Traced FlagAnd) × StandsFor (plain_name world.now.words.limits) pass.old seats.old now }
-    ensures { (now : Traced FlagAnd) → StandsFor (plain_name world.now.words.limits) pass.old seats.old now
+    ensures tells { (now : Traced FlagAnd) → StandsFor (plain_name world.now.words.limits) pass.old seats.old now
         → IfOk result (λ made. TellsSteps (StandsFor (plain_name world.now.words.limits) pass.new seats.new) now rank reach made
         teller.old.text.items teller.new.text.items) }
+    ensures goes { IfOk result (λ made. GoesFar (progress_of pass.old seats.old) (progress_of pass.new seats.new) rank reach made) }
 {
     has_room(pass);
     if rank as usize >= seats.len() {
@@ -136,6 +138,7 @@ pub(crate) fn run_line<A: Allocator + Copy + Drop>(
         → IfOk result (λ taken. TellsStep (StandsFor (plain_name world.now.words.limits) pass.new seats.new) now step.now taken
         teller.old.text.items teller.new.text.items) }
     ensures stands { OnOk result ((next : Traced FlagAnd) × StandsFor (plain_name world.now.words.limits) pass.new seats.new next) }
+    ensures goes { OnOk result (GoesAsSaid (progress_of pass.old seats.old) (progress_of pass.new seats.new) step.now) }
 {
     match *step {
         StepLine::Called(asked) => return run_call(world, pass, seats, asked, teller),

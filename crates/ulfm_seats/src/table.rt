@@ -1,6 +1,6 @@
 //! The machine of step scripts: a world over plain words, one pass, and each rank with its call under way.
 ghost use Rattle.std.specs.Prelude.{◌≡◌, map, IfOk};
-ghost use Rattle.ulfm_seats.specs.Table.{IsTable, idle_seat};
+ghost use Rattle.ulfm_seats.specs.Table.{IsTable, idle_seat, progress_of};
 
 use crate::running::{run_line, walk_rank};
 use std::alloc::{AllocError, Allocator};
@@ -58,6 +58,8 @@ fn seats_of<A: Allocator + Copy + Drop>(
 
 impl<A: Allocator + Copy + Drop> StepMachine<A> for StepTable<A> {
     ghost Stands = { IsTable };
+
+    ghost Has = { λ table. progress_of table.pass table.seats };
 
     fn open(alloc: A, limits: Limits) -> Result<Self, AllocError> {
         let Ok(words) = PlainWords::open(limits) else {

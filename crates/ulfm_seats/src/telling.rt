@@ -4,7 +4,7 @@ ghost use Rattle.ulfm_lines.specs.LineTexts.{lines_text};
 ghost use Rattle.ulfm_laws.specs.declared.flag_and.FlagAnd.{FlagAnd};
 ghost use Rattle.ulfm_model.specs.History.{History};
 ghost use Rattle.ulfm_comm.specs.{Calls.{reply_of}, Fails.{declared}};
-ghost use Rattle.ulfm_stepping.specs.Failing.{fail_event, fail_piece};
+ghost use Rattle.ulfm_trace_model.specs.Follows.{fail_event, fail_piece};
 ghost use Rattle.ulfm_seats.specs.{Lines.{unknown_piece}, Walks.{KnowsGroup}};
 ghost use Rattle.ulfm_stepping.specs.Seats.{begun_piece, event_piece, group_in, look_piece, piece_of, reply_piece};
 

@@ -1,10 +1,12 @@
 // Steps of one rank's call, and the lines that they tell.
-ghost use Rattle.std.specs.Prelude.{◌≡◌, ◌≢◌, ◌+◌, ◌<◌, ℕ, Some, false, is_some, IfOk, IsTrue, OnOk};
+ghost use Rattle.std.specs.Prelude.{◌≡◌, ◌≢◌, ◌+◌, ◌<◌, ◌≤◌, ℕ, [], ◌∷◌, Some, false, is_some, IfOk, IsTrue, OnOk};
 ghost use Rattle.ulfm_laws.specs.{Flags.{flag_meld}, declared.flag_and.FlagAnd.{FlagAnd}};
 ghost use Rattle.ulfm_words.specs.{Pass.{plain_name}, Steps.{IsOf}};
 ghost use Rattle.ulfm_trace_model.specs.Traces.{Traced};
-ghost use Rattle.ulfm_stepping.specs.Seats.{Sits};
-ghost use Rattle.ulfm_seats.specs.Walks.{IsReached, Walks, WalksUntil, left_of};
+ghost use Rattle.ulfm_model.specs.declared.step_name.StepName.{StepName as TheStep};
+ghost use Rattle.ulfm_stepping.specs.Seats.{Sits, next_in};
+ghost use Rattle.ulfm_lines.specs.Progress.{IsReached};
+ghost use Rattle.ulfm_seats.specs.Walks.{Walks, WalksUntil, left_of};
 
 use crate::telling::tell_step;
 use std::alloc::{AllocError, Allocator};
@@ -28,7 +30,8 @@ fn walk_one<A: Allocator + Copy + Drop>(
     requires sits { (now : Traced FlagAnd) × Sits flag_meld (plain_name world.now.words.limits) now pass.old seat.old }
     requires is_open { IsTrue (is_some seat.old.call) }
     ensures of { IsOf flag_meld (plain_name world.now.words.limits) pass.new }
-    ensures walks { OnOk result (Walks (plain_name world.now.words.limits) 1 pass.old seat.old teller.old.text.items pass.new seat.new teller.new.text.items) }
+    ensures walks { OnOk result (Walks (plain_name world.now.words.limits) (next_in seat.old.call ∷ []) pass.old seat.old teller.old.text.items pass.new
+        seat.new teller.new.text.items) }
     ensures step { OnOk result (pass.new.steps ≡ pass.old.steps + 1) }
     ensures nearer { OnOk result (IsTrue (is_some seat.new.call) → left_of (plain_name world.now.words.limits) seat.new < left_of (plain_name world.now.words.limits) seat.old) }
 {
@@ -42,7 +45,8 @@ fn walk_one<A: Allocator + Copy + Drop>(
 // Whether a call was taken as far as is said.
 fn is_reached(reach: Reach, made: u32, next: Option<StepName>) -> bool
     ensures reached { IsTrue result → IsReached reach made next }
-    ensures fewer { (most : ℕ) → result ≡ false → reach.most ≡ Some most → made ≢ most }
+    ensures fewer { (most : ℕ) → result ≡ false → reach.most ≡ Some most → made ≢ most × (most ≤ 4294967295) }
+    ensures other { (name : TheStep) → result ≡ false → reach.name ≡ Some name → next ≢ Some name }
 {
     if let Some(name) = reach.name {
         if next == Some(name) {

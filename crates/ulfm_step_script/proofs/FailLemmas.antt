@@ -1,6 +1,6 @@
 -- Scripts of single steps in which a rank is declared in between.
 use Rattle.std.proofs.Common.{◌≡◌, ◌≢◌, ◌⊎◌, ℕ, ◌+◌, ◌-◌, ◌<◌, ◌≤◌, ◌&&◌, ◌||◌, Bool, true, false, List, [], ◌∷◌, ◌++◌, length, length-append, filter, option_map, Option, Some, None, Result, Ok, Err, is_some, refl, sym, ap, subst, ◌∙◌, append-nil, append_assoc, arith, inl, inr, IsTrue, if◌then◌else◌}
-use Rattle.std.proofs.Math.Nat.{min-le_left, min-le_right}
+use Rattle.std.proofs.Math.Nat.{add-zero, min-le_left, min-le_right}
 use Rattle.ulfm_laws.specs.{Flags.{flag_meld}, declared.flag_and.FlagAnd.{FlagAnd}}
 use Rattle.ulfm_model.specs.declared.{call.Call.{Call}, event.Caller.{Caller}, limits.Limits.{Limits}, reply.Reply.{Reply}}
 use Rattle.ulfm_script.specs.declared.line_kind.LineKind.TheVariants.{Open}
@@ -8,12 +8,12 @@ use Rattle.std.specs.Prelude.{IfOk}
 use Rattle.std.specs.Io.KnownBytes.{Appends}
 use Rattle.ulfm_script.specs.Ends.{HasFault, HasRunAll, Known, TakesItem}
 use Rattle.ulfm_trace_model.specs.declared.{line.Line.{Line}, step_line.StepLine.TheVariants.{Before, Called, Failed, Finished, Stepped}}
-use Rattle.ulfm_trace_model.specs.{Follows.{AreOf, EndsInReply, Follows, IsAtOnce, IsPiece, is_event, is_of, is_reply}, Traces.{AreLegalAfter, IsOpen, Told, Traced, Under, after, after_reply, call_by, nothing, said_by}}
+use Rattle.ulfm_trace_model.specs.{Follows.{EndsInReply, Follows, IsAtOnce, IsPiece, fail_piece, is_reply, steps_in, takes_step}, Traces.{AreLegalAfter, IsOpen, Told, Under, after, after_reply, call_by, nothing, said_by}}
 use Rattle.ulfm_trace_model.proofs.Parts.{legal_append, said_append}
-use Rattle.ulfm_lines.proofs.{Calls.{opens_all, opens_append, outside_opens, said_opens}, Joined.{all_append, ends_append, events_append, lines_append}, Taking.{few_events, taken_steps}}
-use Rattle.ulfm_lines.specs.{LineTexts.{lines_text}, StepLines.{ScriptStep, step_line_of}, Stepped.{IsOpenCall, TellsStep, TraceState}, Walked.{IsCountOf, IsTaken, TellsSteps, events_in, to_the_end}}
+use Rattle.ulfm_lines.proofs.{Calls.{opens_all, opens_append, said_opens}, Joined.{all_append, ends_append, lines_append, steps_append}, Taking.{taken_steps}}
+use Rattle.ulfm_lines.specs.{LineTexts.{lines_text}, StepLines.{ScriptStep, step_line_of}, Stepped.{IsOpenCall, TellsStep, TraceState}, Walked.{IsCountOf, IsTaken, TellsSteps, to_the_end}}
 use Rattle.ulfm_lines.specs.declared.step_machine.{Reach.{Reach}, Taken.{Taken}, Taken.TheVariants.{Open as IsOpenStill, Run}}
-use Rattle.ulfm_step_script.specs.{FailingScripts.{Declares, FailsAfter, FindsOpenBehind, HasFailed, IsDeclaration, LeavesOut, Lines, RunsFailing, RunsStep, StandsAt, TakesStep, TellsWalk, behind_of, failing_scripts, fewer, ranks_event, ranks_events, up_to}, StepScripts.{first_line, trace_text}}
+use Rattle.ulfm_step_script.specs.{FailingScripts.{Declares, FailsAfter, FindsOpenBehind, HasFailed, LeavesDue, LeavesOut, LeavesSoFar, Lines, RestsAt, RunsFailing, RunsStep, StandsAt, TakesStep, TellsWalk, behind_of, failing_scripts, fewer, ranks_event, ranks_events, up_to}, StepScripts.{first_line, trace_text}}
 use Rattle.ulfm_step_script.specs.declared.plan.Failing.{Failing}
 use Rattle.ulfm_step_script.proofs.TraceLemmas.{follows_append}
 
@@ -22,13 +22,13 @@ ranks_append : (xs ys : Lines) → ranks_events (xs ++ ys) ≡ ranks_events xs +
 ranks_append [] ys = omega arith
 ranks_append (x ∷ xs) ys = let more = ranks_append xs ys in omega (arith, more)
 
--- an event of a rank is an event
-ranks_fewer : (piece : Lines) → ranks_events piece ≤ events_in piece
+-- an event of a rank takes a step
+ranks_fewer : (piece : Lines) → ranks_events piece ≤ steps_in piece
 ranks_fewer [] = omega arith
 ranks_fewer (told ∷ rest) = go told.line (ranks_fewer rest)
   where
-    go : (line : Line FlagAnd) → ranks_events rest ≤ events_in rest
-        → ranks_event line + ranks_events rest ≤ length (if is_event line then told ∷ filter (λ (t : Told FlagAnd). is_event t.line) rest else filter (λ (t : Told FlagAnd). is_event t.line) rest)
+    go : (line : Line FlagAnd) → ranks_events rest ≤ steps_in rest
+        → ranks_event line + ranks_events rest ≤ length (if takes_step line then told ∷ filter (λ (t : Told FlagAnd). takes_step t.line) rest else filter (λ (t : Told FlagAnd). takes_step t.line) rest)
     go (Line.Called asked) less = omega (arith, less)
     go (Line.Looked r count) less = omega (arith, less)
     go (Line.Happened Caller.Outside None) less = omega (arith, less)
@@ -62,21 +62,13 @@ ranks_room now (told ∷ rest) =
     let one = line_room now told.line in
     let more = ranks_room (after now told.line) rest in omega (arith, one, more)
 
--- a line of the outside tells none
-outside_event : (line : Line FlagAnd) → is_of Caller.Outside line ≡ true → ranks_event line ≡ 0
-outside_event (Line.Called asked) is = absurd (cc is)
-outside_event (Line.Looked r count) is = absurd (cc is)
-outside_event (Line.Happened Caller.Outside event) is = refl
-outside_event (Line.Happened (Caller.Rank r) event) is = absurd (cc is)
-outside_event (Line.Replied by point reply) is = refl
-
-outside_events : (piece : Lines) → AreOf Caller.Outside piece → ranks_events piece ≡ 0
-outside_events [] all = refl
-outside_events (told ∷ rest) all = let one = outside_event told.line all.0 in let more = outside_events rest all.1 in omega (arith, one, more)
-
--- nor does a whole declaration
+-- a whole declaration tells none
 pub failed_events : (now : TraceState) (r : ℕ) (piece : Lines) → IsPiece now (Failed r) piece → ranks_events piece ≡ 0
-failed_events now r piece is = let none = outside_events is.0 is.2 in ap ranks_events is.1 ∙ omega (arith, none)
+failed_events now r piece is = ap ranks_events is.2 ∙ go is.1
+  where
+    go : (reply : Reply FlagAnd) → ranks_events (fail_piece r is.0 reply) ≡ 0
+    go Reply.Declared = refl
+    go _ = refl
 
 -- nor a call that begins
 pub called_events : (now : TraceState) (asked : Call FlagAnd) (piece : Lines) → IsPiece now (Called asked) piece → ranks_events piece ≡ 0
@@ -101,15 +93,17 @@ or_false true = refl
 or_false false = refl
 
 -- a declaration leaves the ranks' calls
-declared_opens : (q : ℕ) (limits : Limits) (r : ℕ) (lines : Lines) (was : Bool) → IsDeclaration limits r lines → opens_all q lines was ≡ was
-declared_opens q limits r lines was (inl none) = ap (λ (t : Lines). opens_all q t was) none
-declared_opens q limits r lines was (inr is) =
-    ap (λ (t : Lines). opens_all q t was) is.1 ∙ (ap (opens_all q is.0) (or_false was) ∙ outside_opens q is.0 was is.2)
+declared_opens : (q : ℕ) (limits : Limits) (r : ℕ) (lines : Lines) (was : Bool) → IsPiece (nothing limits) (Failed r) lines → opens_all q lines was ≡ was
+declared_opens q limits r lines was is = ap (λ (t : Lines). opens_all q t was) is.2 ∙ (go is.1 ∙ or_false was)
+  where
+    go : (reply : Reply FlagAnd) → opens_all q (fail_piece r is.0 reply) was ≡ was || false
+    go Reply.Declared = refl
+    go _ = refl
 
 -- a call that is under way without the declaration is under way with it
-still_open : (limits : Limits) (r : ℕ) (trace rest : Lines) → LeavesOut limits r trace rest → (q : ℕ) → IsOpen (said_by (nothing limits) rest) (Caller.Rank q)
+open_with : (limits : Limits) (r at steps : ℕ) (trace rest : Lines) → LeavesOut limits r at steps trace rest → (q : ℕ) → IsOpen (said_by (nothing limits) rest) (Caller.Rank q)
     → IsOpen (said_by (nothing limits) trace) (Caller.Rank q)
-still_open limits r trace rest l q is =
+open_with limits r at steps trace rest l q is =
     let n : TraceState = nothing limits in
     let b : Bool = is_some (call_by n (Caller.Rank q)) in
     let whole : opens_all q trace b ≡ opens_all q l.behind (opens_all q l.declaration (opens_all q l.before b)) =
@@ -119,26 +113,57 @@ still_open limits r trace rest l q is =
     part ∙ (ap (opens_all q l.behind) (sym (declared_opens q limits r l.declaration (opens_all q l.before b) l.declares)) ∙ sym whole) in
     subst (λ (x : Bool). IsTrue x) (said_opens q n rest ∙ (same ∙ sym (said_opens q n trace))) is
 
--- the piece of a line that is taken at what is said with the declaration is one at what is said without it
-piece_without : (limits : Limits) (r : ℕ) (trace rest : Lines) → LeavesOut limits r trace rest → (step : ScriptStep) (piece : Lines)
-    → IsPiece (said_by (nothing limits) trace) step piece → IsPiece (said_by (nothing limits) rest) step piece
-piece_without limits r trace rest l (Called asked) piece is = is
-piece_without limits r trace rest l (Stepped q count) piece is = is
-piece_without limits r trace rest l (Before q name) piece is = is
-piece_without limits r trace rest l (Finished q) piece is = (is.0, λ was. is.1 (still_open limits r trace rest l q was))
-piece_without limits r trace rest l (Failed q) piece is = is
+still_open : (limits : Limits) (plan : Failing) (waits : Bool) (steps : ℕ) (trace rest : Lines) → LeavesSoFar limits plan waits steps trace rest → (q : ℕ)
+    → IsOpen (said_by (nothing limits) rest) (Caller.Rank q) → IsOpen (said_by (nothing limits) trace) (Caller.Rank q)
+still_open limits plan true steps trace rest l q is = subst (λ (t : Lines). IsOpen (said_by (nothing limits) t) (Caller.Rank q)) (sym l.1.same) is
+still_open limits plan false steps trace rest l q is = open_with limits plan.rank plan.at steps trace rest l q is
 
--- further lines of a trace are further lines of what is left of it
-leaves_more : (limits : Limits) (r : ℕ) (trace rest piece : Lines) → LeavesOut limits r trace rest → LeavesOut limits r (trace ++ piece) (rest ++ piece)
-leaves_more limits r trace rest piece l = record {
-  before = l.before;
-  declaration = l.declaration;
-  behind = l.behind ++ piece;
-  trace_is = ap (λ (t : Lines). t ++ piece) l.trace_is
-      ∙ (append_assoc l.before (l.declaration ++ l.behind) piece ∙ ap (λ (t : Lines). l.before ++ t) (append_assoc l.declaration l.behind piece));
-  rest_is = ap (λ (t : Lines). t ++ piece) l.rest_is ∙ append_assoc l.before l.behind piece;
-  declares = l.declares;
-}
+-- the piece of a line that is taken at what is said with the declaration is one at what is said without it
+piece_without : (limits : Limits) (plan : Failing) (waits : Bool) (steps : ℕ) (trace rest : Lines) → LeavesSoFar limits plan waits steps trace rest
+    → (step : ScriptStep) (piece : Lines) → IsPiece (said_by (nothing limits) trace) step piece → IsPiece (said_by (nothing limits) rest) step piece
+piece_without limits plan waits steps trace rest l (Called asked) piece is = is
+piece_without limits plan waits steps trace rest l (Stepped q count) piece is = is
+piece_without limits plan waits steps trace rest l (Before q name) piece is = is
+piece_without limits plan waits steps trace rest l (Finished q) piece is = (is.0, λ was. is.1 (still_open limits plan waits steps trace rest l q was))
+piece_without limits plan waits steps trace rest l (Failed q) piece is = is
+
+-- the steps that were counted, and so many more
+made_on : (steps count n made sum : ℕ) → IsCountOf steps made → IsCountOf count n → IsCountOf (made + n) sum → IsCountOf (steps + count) sum
+made_on steps count n made sum (inl is) (inl more) (inl all) = inl (omega (arith, is.0, more.0, all.0), omega (arith, is.0, more.0, all.1))
+made_on steps count n made sum (inl is) (inl more) (inr full) = inr (full.0, omega (arith, is.0, more.0, full.1))
+made_on steps count n made sum (inl is) (inr most) (inl all) = inr (omega (arith, is.0, most.0, all.0, all.1), omega (arith, most.1))
+made_on steps count n made sum (inl is) (inr most) (inr full) = inr (full.0, omega (arith, most.1))
+made_on steps count n made sum (inr is) (inl more) (inl all) = inr (omega (arith, is.0, more.0, all.0, all.1), omega (arith, is.1))
+made_on steps count n made sum (inr is) (inl more) (inr full) = inr (full.0, omega (arith, is.1))
+made_on steps count n made sum (inr is) (inr most) (inl all) = inr (omega (arith, is.0, most.0, all.0, all.1), omega (arith, is.1))
+made_on steps count n made sum (inr is) (inr most) (inr full) = inr (full.0, omega (arith, is.1))
+
+-- what is counted is no more than what was made
+pub made_below : (steps made : ℕ) → IsCountOf steps made → made ≤ steps
+made_below steps made (inl is) = omega (arith, is.0)
+made_below steps made (inr full) = omega (arith, full.0, full.1)
+
+-- further lines of a trace, by so many steps, are further lines of what is left of it
+leaves_more : (limits : Limits) (plan : Failing) (waits : Bool) (steps more : ℕ) (trace rest piece : Lines) → LeavesSoFar limits plan waits steps trace rest
+    → ranks_events piece ≤ more → (waits ≡ true → steps + more ≤ plan.at) → LeavesSoFar limits plan waits (steps + more) (trace ++ piece) (rest ++ piece)
+leaves_more limits plan true steps more trace rest piece l fewer within =
+    let all = l.1.few in
+    let both = ranks_append trace piece in
+    (within refl, record { same = ap (λ (t : Lines). t ++ piece) l.1.same; few = omega (arith, all, both, fewer) })
+leaves_more limits plan false steps more trace rest piece l fewer within =
+    let some = l.few_behind in
+    let both = ranks_append l.behind piece in
+    record {
+      before = l.before;
+      declaration = l.declaration;
+      behind = l.behind ++ piece;
+      trace_is = ap (λ (t : Lines). t ++ piece) l.trace_is
+          ∙ (append_assoc l.before (l.declaration ++ l.behind) piece ∙ ap (λ (t : Lines). l.before ++ t) (append_assoc l.declaration l.behind piece));
+      rest_is = ap (λ (t : Lines). t ++ piece) l.rest_is ∙ append_assoc l.before l.behind piece;
+      declares = l.declares;
+      few_before = l.few_before;
+      few_behind = omega (arith, some, both, fewer);
+    }
 
 -- no more events than are counted, up to the greatest number that there is
 counted_on : (events more count n made sum : ℕ) → events ≤ made → more ≤ count → IsCountOf count n → IsCountOf (made + n) sum → events + more ≤ 4294967295
@@ -148,15 +173,27 @@ counted_on events more count n made sum few less (inl is) (inr full) room = omeg
 counted_on events more count n made sum few less (inr is) (inl all) room = omega (arith, is.0, all.0, room)
 counted_on events more count n made sum few less (inr is) (inr full) room = omega (arith, full.0, room)
 
-module _ (Was After : TraceState → Type 0) (limits : Limits) (r : ℕ) (waits : Bool) (made : ℕ) (trace rest : Lines)
-    (at : StandsAt Was limits r waits made trace rest) where
+-- where nothing more is declared, what is left out was due
+leaves_due : (limits : Limits) (plan : Failing) (waits : Bool) (steps : ℕ) (trace rest : Lines) → LeavesSoFar limits plan waits steps trace rest → (waits ≡ true → steps < plan.at)
+    → LeavesDue limits plan.rank plan.at steps trace rest
+leaves_due limits plan true steps trace rest l early = inl (early refl, l.1)
+leaves_due limits plan false steps trace rest l early = inr l
+
+-- lines that are told where the declaration isn't due
+rests_at : (Says : TraceState → Type 0) (limits : Limits) (plan : Failing) (waits : Bool) (made : ℕ) (trace rest : Lines) (at : StandsAt Says limits plan waits made trace rest) → (waits ≡ true → at.steps < plan.at)
+    → RestsAt Says limits plan waits made trace rest
+rests_at Says limits plan waits made trace rest at early =
+    record { stands = at; early = early; left_out = leaves_due limits plan waits at.steps trace rest at.left_out early }
+
+module _ (Was After : TraceState → Type 0) (limits : Limits) (plan : Failing) (waits : Bool) (made : ℕ) (trace rest : Lines)
+    (at : StandsAt Was limits plan waits made trace rest) where
   abbrev now : TraceState
   now = said_by (nothing limits) trace
 
-  -- steps of a rank's call
+  -- steps of a rank's call, no more than come before the declaration, if it is still to come
   pub stands_stepped : (q : ℕ) (reach : Reach) (n sum : ℕ) (old new : List ℕ) (t : TellsSteps After now q reach n old new) → IsCountOf (made + n) sum
-      → StandsAt After limits r waits sum (trace ++ t.piece) (rest ++ t.piece)
-  stands_stepped q reach n sum old new t all =
+      → (waits ≡ true → at.steps + t.count ≤ plan.at) → StandsAt After limits plan waits sum (trace ++ t.piece) (rest ++ t.piece)
+  stands_stepped q reach n sum old new t all within =
       let said = said_append (nothing limits) trace t.piece in
       let more = ranks_append trace t.piece in
       let fewer_events = ranks_fewer t.piece in
@@ -167,93 +204,130 @@ module _ (Was After : TraceState → Type 0) (limits : Limits) (r : ℕ) (waits 
       let counted = counted_on (ranks_events trace) (ranks_events t.piece) t.count n made sum at.counted (omega (arith, fewer_events, few)) t.counted all (omega (arith, first, second, room)) in
       record {
         legal = legal_append flag_meld (nothing limits) trace t.piece at.legal t.legal;
-        left_out = leaves_more limits r trace rest t.piece at.left_out;
-        same = λ is. ap (λ (x : Lines). x ++ t.piece) (at.same is);
+        steps = at.steps + t.count;
+        made_is = made_on at.steps t.count n made sum at.made_is t.counted all;
+        left_out = leaves_more limits plan waits at.steps t.count trace rest t.piece at.left_out (omega (arith, fewer_events, few)) within;
         counted = omega (arith, more, counted);
         says = subst After (sym said) t.stands;
       }
 
+  -- no step
+  left_same : (piece : Lines) → ranks_events piece ≡ 0 → LeavesSoFar limits plan waits at.steps (trace ++ piece) (rest ++ piece)
+  left_same piece none =
+      subst (λ n. LeavesSoFar limits plan waits n (trace ++ piece) (rest ++ piece)) (add-zero at.steps)
+      (leaves_more limits plan waits at.steps 0 trace rest piece at.left_out (omega (arith, none)) (λ is. within waits is at.left_out))
+    where
+      within : (b : Bool) → b ≡ true → LeavesSoFar limits plan b at.steps trace rest → at.steps + 0 ≤ plan.at
+      within true is l = let below = l.0 in omega (arith, below)
+      within false is l = absurd (cc is)
+
   -- a line of the script that makes no step
   stands_told : (piece : Lines) → AreLegalAfter flag_meld now piece → ranks_events piece ≡ 0 → After (said_by now piece)
-      → StandsAt After limits r waits made (trace ++ piece) (rest ++ piece)
+      → StandsAt After limits plan waits made (trace ++ piece) (rest ++ piece)
   stands_told piece legal none stands =
       let more = ranks_append trace piece in
       let counted = at.counted in
       record {
         legal = legal_append flag_meld (nothing limits) trace piece at.legal legal;
-        left_out = leaves_more limits r trace rest piece at.left_out;
-        same = λ is. ap (λ (x : Lines). x ++ piece) (at.same is);
+        steps = at.steps;
+        made_is = at.made_is;
+        left_out = left_same piece none;
         counted = omega (arith, more, none, counted);
         says = subst After (sym (said_append (nothing limits) trace piece)) stands;
       }
 
-  pub runs_told : (step : ScriptStep) → ((piece : Lines) → IsPiece now step piece → ranks_events piece ≡ 0) → (old new : List ℕ) → TellsStep After now step Run old new
-      → RunsStep After limits r waits made trace rest step old new
-  runs_told step none old new t =
+  pub runs_told : (waits ≡ true → at.steps < plan.at) → (step : ScriptStep) → ((piece : Lines) → IsPiece now step piece → ranks_events piece ≡ 0) → (old new : List ℕ)
+      → TellsStep After now step Run old new → RunsStep After limits plan waits made trace rest step old new
+  unfolding stands_told
+  runs_told early step none old new t =
       let f = t.2.follows in
       let whole : t.0 ≡ f.0 = f.2 ∙ (ap (λ (x : Lines). f.0 ++ x) f.4 ∙ append-nil f.0) in
       let is : IsPiece now step t.0 = subst (IsPiece now step) (sym whole) f.3 in
       record {
         whole = t.0;
         piece = t.0;
-        stands = stands_told t.0 t.2.legal (none t.0 is) (subst After t.2.new_is t.3);
+        rests = rests_at After limits plan waits made (trace ++ t.0) (rest ++ t.0) (stands_told t.0 t.2.legal (none t.0 is) (subst After t.2.new_is t.3)) early;
         is_piece = is;
         told = t.4;
       }
 
-  -- the declaration, where it was still to come
-  pub stands_declared : waits ≡ true → (old new : List ℕ) → TellsStep After now (Failed r) Run old new
-      → (declaration : Lines) × IsDeclaration limits r declaration × StandsAt After limits r false made (trace ++ declaration) rest × (new ≡ old ++ lines_text declaration)
-  stands_declared is old new t =
-      let f = t.2.follows in
-      let whole : t.0 ≡ f.0 = f.2 ∙ (ap (λ (x : Lines). f.0 ++ x) f.4 ∙ append-nil f.0) in
-      let piece : IsPiece now (Failed r) t.0 = subst (IsPiece now (Failed r)) (sym whole) f.3 in
-      let more = ranks_append trace t.0 in
-      let none = failed_events now r t.0 piece in
-      let counted = at.counted in (
-        t.0,
-        inr piece,
+  -- the declaration, where it was still to come, and is due
+  module _ (due : plan.at ≤ made) where
+    declares_here : (declaration : Lines) → IsPiece now (Failed plan.rank) declaration → (b : Bool) → b ≡ true → LeavesSoFar limits plan b at.steps trace rest
+        → LeavesOut limits plan.rank plan.at at.steps (trace ++ declaration) rest
+    declares_here declaration is false same l = absurd (cc same)
+    declares_here declaration is true same l =
+        let all = l.1.few in
+        let below = l.0 in
+        let made_steps = made_below at.steps made at.made_is in
         record {
-          legal = legal_append flag_meld (nothing limits) trace t.0 at.legal t.2.legal;
-          left_out = record {
-            before = trace;
-            declaration = t.0;
-            behind = [];
-            trace_is = ap (λ (x : Lines). trace ++ x) (sym (append-nil t.0));
-            rest_is = sym (at.same is) ∙ sym (append-nil trace);
-            declares = inr piece;
-          };
-          same = λ no. absurd (cc no);
-          counted = omega (arith, more, none, counted);
-          says = subst After (sym (said_append (nothing limits) trace t.0)) (subst After t.2.new_is t.3);
-        },
-        t.4,
-      )
+          before = trace;
+          declaration = declaration;
+          behind = [];
+          trace_is = ap (λ (x : Lines). trace ++ x) (sym (append-nil declaration));
+          rest_is = sym l.1.same ∙ sym (append-nil trace);
+          declares = is;
+          few_before = omega (arith, all, below);
+          few_behind = omega (arith, due, made_steps);
+        }
+
+    pub stands_declared : waits ≡ true → (old new : List ℕ) → TellsStep After now (Failed plan.rank) Run old new
+        → Declares After limits plan false made trace rest true old new
+    stands_declared is old new t =
+        let f = t.2.follows in
+        let whole : t.0 ≡ f.0 = f.2 ∙ (ap (λ (x : Lines). f.0 ++ x) f.4 ∙ append-nil f.0) in
+        let piece : IsPiece now (Failed plan.rank) t.0 = subst (IsPiece now (Failed plan.rank)) (sym whole) f.3 in
+        let more = ranks_append trace t.0 in
+        let none = failed_events now plan.rank t.0 piece in
+        let counted = at.counted in (
+          refl,
+          t.0,
+          piece,
+          rests_at After limits plan false made (trace ++ t.0) rest
+              (record {
+                legal = legal_append flag_meld (nothing limits) trace t.0 at.legal t.2.legal;
+                steps = at.steps;
+                made_is = at.made_is;
+                left_out = declares_here t.0 piece waits is at.left_out;
+                counted = omega (arith, more, none, counted);
+                says = subst After (sym (said_append (nothing limits) trace t.0)) (subst After t.2.new_is t.3);
+              }) (λ same. absurd (cc same)),
+          t.4,
+        )
+
+-- a declaration that isn't due yet
+pub still_early : (steps made at : ℕ) → IsCountOf steps made → made < at → at ≤ 4294967295 → steps < at
+still_early steps made at (inl is) early fits = omega (arith, is.0, early)
+still_early steps made at (inr full) early fits = absurd (omega (arith, full.0, early, fits))
 
 -- a declaration is no call of a rank that has one under way
-pub declared_by : (Was After : TraceState → Type 0) (limits : Limits) (r : ℕ) (waits : Bool) (made : ℕ) (trace rest : Lines) → StandsAt Was limits r waits made trace rest
-    → waits ≡ true → (taken : Taken) (old new : List ℕ) → TellsStep After (said_by (nothing limits) trace) (Failed r) taken old new
-    → Declares After limits r false made trace rest true old new
-declared_by Was After limits r waits made trace rest at is Run old new t = stands_declared Was After limits r waits made trace rest at is old new t
-declared_by Was After limits r waits made trace rest at is IsOpenStill old new t = absurd (cc t.0.1)
+pub declared_by : (Was After : TraceState → Type 0) (limits : Limits) (plan : Failing) (waits : Bool) (made : ℕ) (trace rest : Lines) → StandsAt Was limits plan waits made trace rest
+    → plan.at ≤ made → waits ≡ true → (taken : Taken) (old new : List ℕ) → TellsStep After (said_by (nothing limits) trace) (Failed plan.rank) taken old new
+    → Declares After limits plan false made trace rest true old new
+declared_by Was After limits plan waits made trace rest at due is Run old new t = stands_declared Was After limits plan waits made trace rest at due is old new t
+declared_by Was After limits plan waits made trace rest at due is IsOpenStill old new t = absurd (cc t.0.1)
 
 -- a line of the script that makes no step was run, or couldn't be
-pub took_other : {E : Type 0} (Was After : TraceState → Type 0) (limits : Limits) (r : ℕ) (waits : Bool) (made : ℕ) (trace rest : Lines)
-    → StandsAt Was limits r waits made trace rest → (step : ScriptStep) → ((piece : Lines) → IsPiece (said_by (nothing limits) trace) step piece → ranks_events piece ≡ 0)
+pub took_other : {E : Type 0} (Was After : TraceState → Type 0) (limits : Limits) (plan : Failing) (waits : Bool) (made : ℕ) (trace rest : Lines)
+    → RestsAt Was limits plan waits made trace rest → (step : ScriptStep) → ((piece : Lines) → IsPiece (said_by (nothing limits) trace) step piece → ranks_events piece ≡ 0)
     → (old new : List ℕ) (result : Result Taken E) → IfOk result (λ taken. TellsStep After (said_by (nothing limits) trace) step taken old new)
-    → IfOk result (λ taken. TakesStep After limits r waits made trace rest step taken old new)
-took_other Was After limits r waits made trace rest at step none old new (Ok Run) t = runs_told Was After limits r waits made trace rest at step none old new t
-took_other Was After limits r waits made trace rest at step none old new (Ok IsOpenStill) t = t
-took_other Was After limits r waits made trace rest at step none old new (Err fault) t = tt
+    → IfOk result (λ taken. TakesStep After limits plan waits made trace rest step taken old new)
+took_other Was After limits plan waits made trace rest at step none old new (Ok Run) t = runs_told Was After limits plan waits made trace rest at.stands at.early step none old new t
+took_other Was After limits plan waits made trace rest at step none old new (Ok IsOpenStill) t = t
+took_other Was After limits plan waits made trace rest at step none old new (Err fault) t = tt
 
-module _ (Says : TraceState → Type 0) (limits : Limits) (r : ℕ) (waits : Bool) (made : ℕ) (trace rest : Lines) (old new : List ℕ) where
-  -- a declaration that wasn't due
-  pub not_due : (due : Bool) → due ≡ false → Declares Says limits r waits made trace rest due old new → Declares Says limits r waits made trace rest false old new
+module _ (Says : TraceState → Type 0) (limits : Limits) (plan : Failing) (waits : Bool) (made : ℕ) (trace rest : Lines) (old new : List ℕ) where
+  -- a declaration that isn't due, since it was made or fewer steps were
+  pub none_due : (at : StandsAt Says limits plan waits made trace rest) → (waits ≡ true → (made < plan.at) × (plan.at ≤ 4294967295)) → new ≡ old → Declares Says limits plan waits made trace rest false old new
+  none_due at early same = (rests_at Says limits plan waits made trace rest at (λ is. let before = early is in still_early at.steps made plan.at at.made_is before.0 before.1), same)
+
+  -- one that wasn't due
+  pub not_due : (due : Bool) → due ≡ false → Declares Says limits plan waits made trace rest due old new → Declares Says limits plan waits made trace rest false old new
   not_due true is d = absurd (cc is)
   not_due false is d = d
 
   -- one that was
-  pub is_due : (due : Bool) → due ≡ true → Declares Says limits r waits made trace rest due old new → Declares Says limits r waits made trace rest true old new
+  pub is_due : (due : Bool) → due ≡ true → Declares Says limits plan waits made trace rest due old new → Declares Says limits plan waits made trace rest true old new
   is_due true is d = d
   is_due false is d = absurd (cc is)
 
@@ -262,7 +336,7 @@ fewer_left : (left : ℕ) (most : Option ℕ) → fewer left most ≤ left
 fewer_left left None = omega arith
 fewer_left left (Some m) = min-le_right m left
 
-fewer_most : (left : ℕ) (o : Option ℕ) (most : ℕ) → o ≡ Some most → fewer left o ≤ most
+pub fewer_most : (left : ℕ) (o : Option ℕ) (most : ℕ) → o ≡ Some most → fewer left o ≤ most
 fewer_most left None most is = absurd (cc is)
 fewer_most left (Some m) most is = let same : m ≡ most = cc is in let less = min-le_left m left in omega (arith, same, less)
 
@@ -276,12 +350,16 @@ module _ (After : TraceState → Type 0) (now : TraceState) (q : ℕ) (reach : R
   pub taken_cut : (left n : ℕ) (old new : List ℕ) (t : TellsSteps After now q (up_to left reach) n old new) → n ≢ left → IsTaken now q reach t.piece
   taken_cut left n old new t other = record {
     by = t.by;
-    few = λ most is below. few_events t.piece t.count n most t.few t.counted (within most is) below;
+    few = λ most is. few most is;
+    before = t.before;
     ends = λ is was. t.ends was (over is (t.stops (ap (λ (x : Reach). x.name) is)));
   }
     where
-      within : (most : ℕ) → reach.most ≡ Some most → n ≤ most
-      within most is = let one = t.within (fewer left reach.most) refl in let two = fewer_most left reach.most most is in omega (arith, one, two)
+      few : (most : ℕ) → reach.most ≡ Some most → steps_in t.piece ≤ most
+      few most is =
+          let one = t.within (fewer left reach.most) refl in
+          let two = fewer_most left reach.most most is in
+          let three = t.few in omega (arith, one, two, three)
 
       over : reach ≡ to_the_end → (¬ IsOpen (said_by now t.piece) (Caller.Rank q)) ⊎ (Some (fewer left reach.most) ≡ Some n) → ¬ IsOpen (said_by now t.piece) (Caller.Rank q)
       over is (inl closed) = closed
@@ -291,18 +369,27 @@ module _ (After : TraceState → Type 0) (now : TraceState) (q : ℕ) (reach : R
           absurd (other (sym same ∙ left_is))
 
   -- a walk in two parts, with the declaration in between
-  module _ (Later : TraceState → Type 0) (next : TraceState) (left n m : ℕ) (old new mid last : List ℕ) (t : TellsSteps After now q (up_to left reach) n old new)
+  module _ (Later : TraceState → Type 0) (next : TraceState) (left n m : ℕ) (fits : left ≤ 4294967295) (old new mid last : List ℕ) (t : TellsSteps After now q (up_to left reach) n old new)
       (u : TellsSteps Later next q (behind_of n reach) m mid last)
       (same : is_some (call_by next (Caller.Rank q)) ≡ is_some (call_by (said_by now t.piece) (Caller.Rank q))) where
-    both_few : (most : ℕ) → reach.most ≡ Some most → most < 4294967295 → events_in (t.piece ++ u.piece) ≤ most
-    both_few most is below =
+    both_few : (most : ℕ) → reach.most ≡ Some most → steps_in (t.piece ++ u.piece) ≤ most
+    both_few most is =
         let one = t.within (fewer left reach.most) refl in
         let two = fewer_most left reach.most most is in
         let three = u.within (most - n) (ap (option_map (λ x. x - n)) is) in
-        let first = few_events t.piece t.count n n t.few t.counted (omega arith) (omega (arith, one, two, below)) in
-        let second = few_events u.piece u.count m (most - n) u.few u.counted three (omega (arith, below)) in
-        let all = events_append t.piece u.piece in
-        omega (arith, one, two, first, second, all)
+        let first = t.few in
+        let second = u.few in
+        let counted = made_all in
+        let all = steps_append t.piece u.piece in
+        omega (arith, one, two, three, first, second, counted, all)
+      where
+        -- the first part was counted whole
+        made_all : t.count ≤ n
+        made_all = go t.counted
+          where
+            go : IsCountOf t.count n → t.count ≤ n
+            go (inl is) = omega (arith, is.0)
+            go (inr full) = let one = t.within (fewer left reach.most) refl in let two = fewer_left left reach.most in omega (arith, full.0, one, two, fits)
 
     both_end : reach ≡ to_the_end → IsOpen now (Caller.Rank q) → EndsInReply (t.piece ++ u.piece)
     both_end is was = go (is_some (call_by (said_by now t.piece) (Caller.Rank q))) refl
@@ -316,39 +403,59 @@ module _ (After : TraceState → Type 0) (now : TraceState) (q : ℕ) (reach : R
             ends_append t.piece u.piece (done.ends (ap (behind_of n) is) (same ∙ opened))
 
     pub taken_both : IsTaken now q reach (t.piece ++ u.piece)
-    taken_both = record { by = all_append _ t.piece u.piece t.by u.by; few = both_few; ends = both_end }
+    taken_both = record { by = all_append _ t.piece u.piece t.by u.by; few = both_few; before = λ name is. all_append _ t.piece u.piece (t.before name is) (u.before name is); ends = both_end }
 
-module _ (limits : Limits) (r q : ℕ) (reach : Reach) (trace rest : Lines) where
+-- steps that come before the declaration, and no more further steps than are left before it
+within_plan : (steps made at count left : ℕ) → IsCountOf steps made → steps ≤ at → at ≤ 4294967295 → left ≡ at - made → count ≤ left → steps + count ≤ at
+within_plan steps made at count left (inl is) below fits left_is few = omega (arith, is.0, below, left_is, few)
+within_plan steps made at count left (inr full) below fits left_is few = omega (arith, full.0, full.1, below, fits, left_is, few)
+
+-- the first part of a walk, up to the declaration
+pub stands_first_part : (Was After : TraceState → Type 0) (limits : Limits) (plan : Failing) (waits : Bool) (made : ℕ) (trace rest : Lines) (at : StandsAt Was limits plan waits made trace rest) (q : ℕ) (reach : Reach) (left n sum : ℕ) (old new : List ℕ)
+    (t : TellsSteps After (said_by (nothing limits) trace) q (up_to left reach) n old new) → IsCountOf (made + n) sum → left ≡ plan.at - made → plan.at ≤ 4294967295
+    → StandsAt After limits plan waits sum (trace ++ t.piece) (rest ++ t.piece)
+stands_first_part Was After limits plan waits made trace rest at q reach left n sum old new t all left_is fits =
+    stands_stepped Was After limits plan waits made trace rest at q (up_to left reach) n sum old new t all (λ is. go waits is at.left_out)
+  where
+    go : (b : Bool) → b ≡ true → LeavesSoFar limits plan b at.steps trace rest → at.steps + t.count ≤ plan.at
+    go true is l =
+        let one = t.within (fewer left reach.most) refl in
+        let two = fewer_left left reach.most in
+        within_plan at.steps made plan.at t.count left at.made_is l.0 fits left_is (omega (arith, one, two))
+    go false is l = absurd (cc is)
+
+module _ (limits : Limits) (plan : Failing) (q : ℕ) (reach : Reach) (trace rest : Lines) where
   abbrev said : TraceState
   said = said_by (nothing limits) trace
 
   -- a walk behind the declaration
-  pub walk_whole : (Was After : TraceState → Type 0) (waits : Bool) (made n sum : ℕ) (old new : List ℕ) → StandsAt Was limits r waits made trace rest
-      → TellsSteps After said q reach n old new → IsCountOf (made + n) sum → TellsWalk After limits r waits sum trace rest q reach old new
-  walk_whole Was After waits made n sum old new at t all = record {
+  pub walk_whole : (Was After : TraceState → Type 0) (waits : Bool) (made n sum : ℕ) (old new : List ℕ) → waits ≡ false → StandsAt Was limits plan waits made trace rest
+      → TellsSteps After said q reach n old new → IsCountOf (made + n) sum → TellsWalk After limits plan waits sum trace rest q reach old new
+  walk_whole Was After waits made n sum old new over at t all = record {
     whole = t.piece;
     piece = t.piece;
-    stands = stands_stepped Was After limits r waits made trace rest at q reach n sum old new t all;
+    rests = rests_at After limits plan waits sum (trace ++ t.piece) (rest ++ t.piece)
+        (stands_stepped Was After limits plan waits made trace rest at q reach n sum old new t all (λ is. absurd (cc (is, over)))) (λ is. absurd (cc (is, over)));
     taken = taken_steps After said q reach n old new t;
     told = t.told;
   }
 
   -- one that ended before the declaration
   pub walk_cut : (Later After : TraceState → Type 0) (waits : Bool) (made left n : ℕ) (old new last : List ℕ)
-      (t : TellsSteps After said q (up_to left reach) n old new) → n ≢ left → StandsAt Later limits r waits made (trace ++ t.piece) (rest ++ t.piece)
-      → last ≡ new → TellsWalk Later limits r waits made trace rest q reach old last
+      (t : TellsSteps After said q (up_to left reach) n old new) → n ≢ left → RestsAt Later limits plan waits made (trace ++ t.piece) (rest ++ t.piece)
+      → last ≡ new → TellsWalk Later limits plan waits made trace rest q reach old last
   walk_cut Later After waits made left n old new last t other at same = record {
     whole = t.piece;
     piece = t.piece;
-    stands = at;
+    rests = at;
     taken = taken_cut After said q reach left n old new t other;
     told = same ∙ t.told;
   }
 
   -- one with the declaration in between
-  module _ (Mid Later After : TraceState → Type 0) (waits : Bool) (made left n m sum : ℕ) (old new mid last : List ℕ)
-      (t : TellsSteps After said q (up_to left reach) n old new) (declaration : Lines) (is : IsDeclaration limits r declaration)
-      (at : StandsAt Mid limits r waits made ((trace ++ t.piece) ++ declaration) (rest ++ t.piece)) (told : mid ≡ new ++ lines_text declaration)
+  module _ (Mid Later After : TraceState → Type 0) (waits : Bool) (over : waits ≡ false) (made left n m sum : ℕ) (fits : left ≤ 4294967295) (old new mid last : List ℕ)
+      (t : TellsSteps After said q (up_to left reach) n old new) (declaration : Lines) (is : IsPiece (nothing limits) (Failed plan.rank) declaration)
+      (at : StandsAt Mid limits plan waits made ((trace ++ t.piece) ++ declaration) (rest ++ t.piece)) (told : mid ≡ new ++ lines_text declaration)
       (u : TellsSteps Later (said_by (nothing limits) ((trace ++ t.piece) ++ declaration)) q (behind_of n reach) m mid last) (all : IsCountOf (made + m) sum) where
     abbrev whole : Lines
     whole = t.piece ++ (declaration ++ u.piece)
@@ -356,17 +463,17 @@ module _ (limits : Limits) (r q : ℕ) (reach : Reach) (trace rest : Lines) wher
     then_same : is_some (call_by (said_by (nothing limits) ((trace ++ t.piece) ++ declaration)) (Caller.Rank q)) ≡ is_some (call_by (said_by said t.piece) (Caller.Rank q))
     then_same =
         ap (λ (x : TraceState). is_some (call_by x (Caller.Rank q))) (said_append (nothing limits) (trace ++ t.piece) declaration ∙ ap (λ (x : TraceState). said_by x declaration) (said_append (nothing limits) trace t.piece))
-        ∙ (said_opens q (said_by said t.piece) declaration ∙ declared_opens q limits r declaration (is_some (call_by (said_by said t.piece) (Caller.Rank q))) is)
+        ∙ (said_opens q (said_by said t.piece) declaration ∙ declared_opens q limits plan.rank declaration (is_some (call_by (said_by said t.piece) (Caller.Rank q))) is)
 
     regroup : ((trace ++ t.piece) ++ declaration) ++ u.piece ≡ trace ++ whole
     regroup =
         append_assoc (trace ++ t.piece) declaration u.piece ∙ append_assoc trace t.piece (declaration ++ u.piece)
 
-    stands : StandsAt Later limits r waits sum (trace ++ whole) (rest ++ (t.piece ++ u.piece))
+    stands : StandsAt Later limits plan waits sum (trace ++ whole) (rest ++ (t.piece ++ u.piece))
     stands =
-        subst (λ (x : Lines). StandsAt Later limits r waits sum x (rest ++ (t.piece ++ u.piece))) regroup
-        (subst (λ (x : Lines). StandsAt Later limits r waits sum (((trace ++ t.piece) ++ declaration) ++ u.piece) x) (append_assoc rest t.piece u.piece)
-        (stands_stepped Mid Later limits r waits made ((trace ++ t.piece) ++ declaration) (rest ++ t.piece) at q (behind_of n reach) m sum mid last u all))
+        subst (λ (x : Lines). StandsAt Later limits plan waits sum x (rest ++ (t.piece ++ u.piece))) regroup
+        (subst (λ (x : Lines). StandsAt Later limits plan waits sum (((trace ++ t.piece) ++ declaration) ++ u.piece) x) (append_assoc rest t.piece u.piece)
+        (stands_stepped Mid Later limits plan waits made ((trace ++ t.piece) ++ declaration) (rest ++ t.piece) at q (behind_of n reach) m sum mid last u all (λ is. absurd (cc (is, over)))))
 
     texts : last ≡ old ++ lines_text whole
     texts =
@@ -376,68 +483,86 @@ module _ (limits : Limits) (r q : ℕ) (reach : Reach) (trace rest : Lines) wher
         ∙ (append_assoc old (lines_text t.piece) (lines_text declaration ++ lines_text u.piece)
         ∙ ap (λ (x : List ℕ). old ++ x) (ap (λ (x : List ℕ). lines_text t.piece ++ x) (sym (lines_append declaration u.piece)) ∙ sym (lines_append t.piece (declaration ++ u.piece))))))
 
-    pub walk_both : TellsWalk Later limits r waits sum trace rest q reach old last
+    pub walk_both : TellsWalk Later limits plan waits sum trace rest q reach old last
     walk_both = record {
       whole = whole;
       piece = t.piece ++ u.piece;
-      stands = stands;
-      taken = taken_both After said q reach Later (said_by (nothing limits) ((trace ++ t.piece) ++ declaration)) left n m old new mid last t u then_same;
+      rests = rests_at Later limits plan waits sum (trace ++ whole) (rest ++ (t.piece ++ u.piece)) stands (λ is. absurd (cc (is, over)));
+      taken = taken_both After said q reach Later (said_by (nothing limits) ((trace ++ t.piece) ++ declaration)) left n m fits old new mid last t u then_same;
       told = texts;
     }
 
 -- a walk is the piece of its line
-pub walk_step : (Says : TraceState → Type 0) (limits : Limits) (r : ℕ) (waits : Bool) (made : ℕ) (trace rest : Lines) (q : ℕ) (reach : Reach) (old new : List ℕ)
-    (step : ScriptStep) → (w : TellsWalk Says limits r waits made trace rest q reach old new) → IsPiece (said_by (nothing limits) trace) step w.piece
-    → RunsStep Says limits r waits made trace rest step old new
-walk_step Says limits r waits made trace rest q reach old new step w is = record { whole = w.whole; piece = w.piece; stands = w.stands; is_piece = is; told = w.told }
+pub walk_step : (Says : TraceState → Type 0) (limits : Limits) (plan : Failing) (waits : Bool) (made : ℕ) (trace rest : Lines) (q : ℕ) (reach : Reach) (old new : List ℕ)
+    (step : ScriptStep) → (w : TellsWalk Says limits plan waits made trace rest q reach old new) → IsPiece (said_by (nothing limits) trace) step w.piece
+    → RunsStep Says limits plan waits made trace rest step old new
+walk_step Says limits plan waits made trace rest q reach old new step w is = record { whole = w.whole; piece = w.piece; rests = w.rests; is_piece = is; told = w.told }
 
 -- nothing is told yet
-pub stands_first : (Says : TraceState → Type 0) (limits : Limits) (r : ℕ) → Says (nothing limits) → StandsAt Says limits r true 0 [] []
-stands_first Says limits r says = record {
+pub stands_first : (Says : TraceState → Type 0) (limits : Limits) (plan : Failing) → Says (nothing limits) → StandsAt Says limits plan true 0 [] []
+stands_first Says limits plan says = record {
   legal = tt;
-  left_out = record { before = []; declaration = []; behind = []; trace_is = refl; rest_is = refl; declares = inl refl };
-  same = λ is. refl;
+  steps = 0;
+  made_is = inl (refl, omega arith);
+  left_out = (omega arith, record { same = refl; few = omega arith });
   counted = omega arith;
   says = says;
 }
 
 -- behind the header, and the declaration, if it was due there
 pub has_opened : (Says : TraceState → Type 0) (limits : Limits) (plan own : Failing) (waits : Bool) (made : ℕ) (due : Bool) (old new : List ℕ) → own ≡ plan
-    → old ≡ first_line limits → Declares Says limits plan.rank waits made [] [] due old new → HasFailed plan own Says waits made limits [] new
+    → old ≡ first_line limits → Declares Says limits plan waits made [] [] due old new → HasFailed plan own Says waits made limits [] new
 has_opened Says limits plan own waits made true old new same first d = record {
   plan_is = same;
-  trace = d.0;
+  trace = d.1;
   rest = [];
-  stands = subst (λ (x : Failing). StandsAt Says limits x.rank waits made d.0 []) (sym same) d.2;
+  rests = subst (λ (x : Failing). RestsAt Says limits x waits made d.1 []) (sym same) d.3;
   follows = refl;
-  out_is = d.3 ∙ ap (λ (x : List ℕ). x ++ lines_text d.0) first;
+  out_is = d.4 ∙ ap (λ (x : List ℕ). x ++ lines_text d.1) first;
 }
 has_opened Says limits plan own waits made false old new same first d = record {
   plan_is = same;
   trace = [];
   rest = [];
-  stands = subst (λ (x : Failing). StandsAt Says limits x.rank waits made [] []) (sym same) d.0;
+  rests = subst (λ (x : Failing). RestsAt Says limits x waits made [] []) (sym same) d.0;
   follows = refl;
   out_is = d.1 ∙ (first ∙ sym (append-nil (first_line limits)));
 }
 
+-- so much was written of lines that were run
+fails_after : (Says : TraceState → Type 0) (plan own : Failing) (waits : Bool) (made : ℕ) (limits : Limits) (lines : List ScriptStep) (out : List ℕ) → HasFailed plan own Says waits made limits lines out
+    → FailsAfter own.at own.rank made limits lines out
+fails_after Says plan own waits made limits lines out h =
+    let s = h.rests.stands in
+    record {
+      trace = h.trace;
+      rest = h.rest;
+      steps = s.steps;
+      legal = s.legal;
+      number_is = s.made_is;
+      left_out = h.rests.left_out;
+      follows = h.follows;
+      counted = s.counted;
+      out_is = h.out_is;
+    }
+
 module _ (Was Says : TraceState → Type 0) (plan own later : Failing) (waited waits : Bool) (made sum : ℕ) (limits : Limits) (lines : List ScriptStep) (out line : List ℕ)
     (step : ScriptStep) (h : HasFailed plan own Was waited made limits lines out) (e : step_line_of line ≡ Ok step) where
   -- a line was run
-  pub takes_failing : (old text : List ℕ) → old ≡ [] → later ≡ own → RunsStep Says limits own.rank waits sum h.trace h.rest step old text
+  pub takes_failing : (old text : List ℕ) → old ≡ [] → later ≡ own → RunsStep Says limits own waits sum h.trace h.rest step old text
       → TakesItem failing_scripts (HasFailed plan later Says waits sum) limits lines out (step_line_of line) text (Ok tt)
   takes_failing old text none same t =
       let told : text ≡ lines_text t.whole = t.told ∙ ap (λ (x : List ℕ). x ++ lines_text t.whole) none in
       let follows : Follows (nothing limits) (lines ++ step ∷ []) (h.rest ++ t.piece) =
       follows_append (nothing limits) lines (step ∷ []) h.rest t.piece h.follows
-      (t.piece, [], sym (append-nil t.piece), piece_without limits own.rank h.trace h.rest h.stands.left_out step t.piece t.is_piece, refl) in (
+      (t.piece, [], sym (append-nil t.piece), piece_without limits own waited h.rests.stands.steps h.trace h.rest h.rests.stands.left_out step t.piece t.is_piece, refl) in (
         step,
         e,
         record {
           plan_is = same ∙ h.plan_is;
           trace = h.trace ++ t.whole;
           rest = h.rest ++ t.piece;
-          stands = subst (λ (x : Failing). StandsAt Says limits x.rank waits sum (h.trace ++ t.whole) (h.rest ++ t.piece)) (sym same) t.stands;
+          rests = subst (λ (x : Failing). RestsAt Says limits x waits sum (h.trace ++ t.whole) (h.rest ++ t.piece)) (sym same) t.rests;
           follows = follows;
           out_is = ap (λ (x : List ℕ). x ++ text) h.out_is
               ∙ (ap (λ (x : List ℕ). trace_text limits h.trace ++ x) told
@@ -447,16 +572,8 @@ module _ (Was Says : TraceState → Type 0) (plan own later : Failing) (waited w
 
   -- a line begins a call of a rank that has one under way
   pub finds_failing : IsOpenCall (said_by (nothing limits) h.trace) step → HasFault failing_scripts limits lines out (step_line_of line) Open
+  unfolding fails_after
   finds_failing is =
-      let fails : FailsAfter own.rank made limits lines out = record {
-        trace = h.trace;
-        rest = h.rest;
-        legal = h.stands.legal;
-        left_out = h.stands.left_out;
-        follows = h.follows;
-        counted = h.stands.counted;
-        out_is = h.out_is;
-      } in
       let found : (behind : List ScriptStep) → FindsOpenBehind limits (lines ++ step ∷ behind) (length lines + 2) Open out = λ behind. record {
         first = lines;
         asked = is.0;
@@ -464,18 +581,18 @@ module _ (Was Says : TraceState → Type 0) (plan own later : Failing) (waited w
         kind_is = refl;
         lines_are = ap (λ (s : ScriptStep). lines ++ s ∷ behind) is.1;
         number_is = refl;
+        at = own.at;
         r = own.rank;
         made = made;
-        fails = fails;
+        fails = fails_after Was plan own waited made limits lines out h;
         is_open = is.2;
       } in
       inr (step, e, found)
 
 -- what was run by a plan fails its rank
 pub all_failing : (Says : TraceState → Type 0) (plan own : Failing) (waits : Bool) (made : ℕ) (known old new : Known)
-    → HasRunAll failing_scripts (HasFailed plan own Says waits made) known (Appends old new) → RunsFailing plan.rank made known old new
+    → HasRunAll failing_scripts (HasFailed plan own Says waits made) known (Appends old new) → RunsFailing plan.at plan.rank made known old new
 all_failing Says plan own waits made known old new h =
-    let f = h.has_run in
     record {
       text = h.text;
       limits = h.limits;
@@ -483,14 +600,6 @@ all_failing Says plan own waits made known old new h =
       out = h.out;
       whole = h.whole;
       script_is = h.script_is;
-      has_run = record {
-        trace = f.trace;
-        rest = f.rest;
-        legal = f.stands.legal;
-        left_out = subst (λ (x : Failing). LeavesOut h.limits x.rank f.trace f.rest) f.plan_is f.stands.left_out;
-        follows = f.follows;
-        counted = f.stands.counted;
-        out_is = f.out_is;
-      };
+      has_run = subst (λ (x : Failing). FailsAfter x.at x.rank made h.limits h.items h.out) h.has_run.plan_is (fails_after Says plan own waits made h.limits h.items h.out h.has_run);
       told = h.told;
     }

@@ -1,2 +1,3 @@
 pub mod FailLemmas
 pub mod TraceLemmas
+pub mod Far

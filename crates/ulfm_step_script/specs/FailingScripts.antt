@@ -1,17 +1,17 @@
 -- What running a script of single steps writes where a rank is declared failed in between: the text of a legal trace that follows the script
 -- but for that declaration.
-use Rattle.std.specs.Prelude.{◌≡◌, ◌⊎◌, ℕ, ◌+◌, ◌-◌, ◌≤◌, ◌<◌, Bool, true, false, List, [], ◌∷◌, ◌++◌, length, min, option_map, Option, Some, None, Result, Ok, Err}
+use Rattle.std.specs.Prelude.{◌≡◌, ◌⊎◌, ℕ, ◌+◌, ◌-◌, ◌≤◌, ◌<◌, Bool, true, false, ⊤, List, [], ◌∷◌, ◌++◌, length, min, option_map, Option, Some, None}
 use Rattle.ulfm_laws.specs.{Flags.{flag_meld}, declared.flag_and.FlagAnd.{FlagAnd}}
-use Rattle.ulfm_model.specs.declared.{call.Call.{Call}, event.Caller.{Caller}, limits.Limits.{Limits}}
+use Rattle.ulfm_model.specs.declared.{call.Call.{Call}, event.Caller.{Caller}, limits.Limits.{Limits}, step_name.StepName.{StepName}}
 use Rattle.ulfm_model.specs.Answers.{traits_of}
 use Rattle.ulfm_script.specs.declared.header_kind.HeaderKind.TheVariants.{Steps}
 use Rattle.ulfm_script.specs.declared.line_kind.LineKind.{LineKind}
 use Rattle.ulfm_script.specs.declared.line_kind.LineKind.TheVariants.{Open}
-use Rattle.ulfm_script.specs.{Ends.{HasRunAll, Known, Stage}, Scripts.{Language}, Written.{Begins}}
+use Rattle.ulfm_script.specs.{Ends.{HasRunAll, Known}, Scripts.{Language}}
 use Rattle.std.specs.Io.KnownBytes.{Appends}
-use Rattle.ulfm_trace_model.specs.declared.{line.Line.{Line}, step_line.StepLine.TheVariants.{Called, Failed}}
+use Rattle.ulfm_trace_model.specs.declared.{line.Line.{Line}, step_line.StepLine.TheVariants.{Before, Called, Failed, Finished, Stepped}}
 use Rattle.ulfm_trace_model.specs.{Follows.{Follows, IsPiece}, Traces.{IsLegalTrace, IsOpen, Told, nothing, said_by}}
-use Rattle.ulfm_lines.specs.{LineTexts.{lines_text}, StepLines.{ScriptStep, step_line_of}, Stepped.{IsOpenCall, TraceState}, Walked.{IsTaken}}
+use Rattle.ulfm_lines.specs.{LineTexts.{lines_text}, Progress.{Progress}, StepLines.{ScriptStep, step_line_of}, Stepped.{IsOpenCall, TraceState}, Walked.{IsCountOf, IsTaken}}
 use Rattle.ulfm_lines.specs.declared.step_machine.{Reach.{Reach}, Taken.{Taken}, Taken.TheVariants.{Open as IsOpenStill, Run}}
 use Rattle.ulfm_step_script.specs.StepScripts.{trace_text}
 use Rattle.ulfm_step_script.specs.declared.plan.Failing.{Failing}
@@ -30,33 +30,43 @@ abbrev pub ranks_events : Lines → ℕ
 ranks_events [] = 0
 ranks_events (told ∷ rest) = ranks_event told.line + ranks_events rest
 
--- the lines of a whole declaration of rank r, as a line of a script gives them, or none
-abbrev pub IsDeclaration : Limits → ℕ → Lines → Type 0
-IsDeclaration limits r lines = (lines ≡ []) ⊎ IsPiece (nothing limits) (Failed r) lines
-
--- a trace, and what is left of it without a declaration of rank r, if there is one
-pub record LeavesOut (limits : Limits) (r : ℕ) (trace rest : Lines) : Type 0 where
+-- A trace, and what is left of it without the lines of a whole declaration of rank r right behind step `at` of so many: before them come no more
+-- events of ranks than steps, and behind them no more than further steps.
+pub record LeavesOut (limits : Limits) (r at steps : ℕ) (trace rest : Lines) : Type 0 where
   pub before : Lines
   pub declaration : Lines
   pub behind : Lines
   pub trace_is : trace ≡ before ++ (declaration ++ behind)
   pub rest_is : rest ≡ before ++ behind
-  pub declares : IsDeclaration limits r declaration
+  pub declares : IsPiece (nothing limits) (Failed r) declaration
+  pub few_before : ranks_events before ≤ at
+  pub few_behind : at + ranks_events behind ≤ steps
 
--- The text of a legal trace that follows these lines of a script, but for one declaration of rank r somewhere in it, or none. It has no more
--- events of ranks than this number.
-pub record FailsAfter (r number : ℕ) (limits : Limits) (lines : List ScriptStep) (out : List ℕ) : Type 0 where
+-- nothing is left out of a trace with no more events of ranks than steps
+pub record LeavesAll (steps : ℕ) (trace rest : Lines) : Type 0 where
+  pub same : trace ≡ rest
+  pub few : ranks_events trace ≤ steps
+
+-- the declaration behind step `at` is left out; or there is none, since fewer steps were made
+abbrev pub LeavesDue : Limits → ℕ → ℕ → ℕ → Lines → Lines → Type 0
+LeavesDue limits r at steps trace rest = ((steps < at) × LeavesAll steps trace rest) ⊎ LeavesOut limits r at steps trace rest
+
+-- The text of a legal trace that follows these lines of a script, but for one whole declaration of rank r right behind step `at`, or for nothing,
+-- where fewer steps were made. This number is that of the steps, or the greatest that there is; the trace has no more events of ranks.
+pub record FailsAfter (at r number : ℕ) (limits : Limits) (lines : List ScriptStep) (out : List ℕ) : Type 0 where
   pub trace : Lines
   pub rest : Lines
+  pub steps : ℕ
   pub legal : IsLegalTrace flag_meld limits trace
-  pub left_out : LeavesOut limits r trace rest
+  pub number_is : IsCountOf steps number
+  pub left_out : LeavesDue limits r at steps trace rest
   pub follows : Follows (nothing limits) lines rest
   pub counted : ranks_events trace ≤ number
   pub out_is : out ≡ trace_text limits trace
 
--- the same for some rank
+-- the same for some rank, behind some step
 abbrev pub FailsSomewhere : Limits → List ScriptStep → List ℕ → Type 0
-FailsSomewhere limits lines out = (r number : ℕ) × FailsAfter r number limits lines out
+FailsSomewhere limits lines out = (at r number : ℕ) × FailsAfter at r number limits lines out
 
 -- the line of this number begins a call of a rank that has one under way in the trace of the lines before it, whose text this is
 pub record FindsOpenBehind (limits : Limits) (lines : List ScriptStep) (number : ℕ) (kind : LineKind) (out : List ℕ) : Type 0 where
@@ -66,28 +76,41 @@ pub record FindsOpenBehind (limits : Limits) (lines : List ScriptStep) (number :
   pub kind_is : kind ≡ Open
   pub lines_are : lines ≡ first ++ Called asked ∷ behind
   pub number_is : number ≡ length first + 2
+  pub at : ℕ
   pub r : ℕ
   pub made : ℕ
-  pub fails : FailsAfter r made limits first out
+  pub fails : FailsAfter at r made limits first out
   pub is_open : IsOpen (said_by (nothing limits) fails.trace) (traits_of asked).by
 
 -- scripts of single steps, with a rank that is declared in between
 abbrev pub failing_scripts : Language
 failing_scripts = record { Item = ScriptStep; kind = Steps; read = step_line_of; Prints = FailsSomewhere; Finds = FindsOpenBehind }
 
--- The script of the reader's whole text was run, which has no fault, and rank r was declared in between, or the script was too short: what the
--- reader had, what the writer had and has, and a number that is no less than that of the events of ranks.
-abbrev pub RunsFailing : ℕ → ℕ → Known → Known → Known → Type 0
-RunsFailing r number known old new = HasRunAll failing_scripts (FailsAfter r number) known (Appends old new)
+-- The script of the reader's whole text was run, which has no fault, and rank r was declared behind step `at`, or the script was too short: what
+-- the reader had, what the writer had and has, and the number of steps.
+abbrev pub RunsFailing : ℕ → ℕ → ℕ → Known → Known → Known → Type 0
+RunsFailing at r number known old new = HasRunAll failing_scripts (FailsAfter at r number) known (Appends old new)
 
--- Lines that the machine stands for, and what is left of them without the declaration of rank r, if it isn't still to come. The steps that were
--- counted are no fewer than the events of ranks.
-pub record StandsAt (Says : TraceState → Type 0) (limits : Limits) (r : ℕ) (waits : Bool) (made : ℕ) (trace rest : Lines) : Type 0 where
+-- while the declaration is still to come, nothing is left out, and no more steps were made than come before it
+abbrev pub LeavesSoFar : Limits → Failing → Bool → ℕ → Lines → Lines → Type 0
+LeavesSoFar limits plan true steps trace rest = (steps ≤ plan.at) × LeavesAll steps trace rest
+LeavesSoFar limits plan false steps trace rest = LeavesOut limits plan.rank plan.at steps trace rest
+
+-- Lines that the machine stands for, and what is left of them without the declaration that was planned, if it isn't still to come. So many steps
+-- were made, and this was counted.
+pub record StandsAt (Says : TraceState → Type 0) (limits : Limits) (plan : Failing) (waits : Bool) (made : ℕ) (trace rest : Lines) : Type 0 where
   pub legal : IsLegalTrace flag_meld limits trace
-  pub left_out : LeavesOut limits r trace rest
-  pub same : waits ≡ true → trace ≡ rest
+  pub steps : ℕ
+  pub made_is : IsCountOf steps made
+  pub left_out : LeavesSoFar limits plan waits steps trace rest
   pub counted : ranks_events trace ≤ made
   pub says : Says (said_by (nothing limits) trace)
+
+-- the same, where the declaration isn't due
+pub record RestsAt (Says : TraceState → Type 0) (limits : Limits) (plan : Failing) (waits : Bool) (made : ℕ) (trace rest : Lines) : Type 0 where
+  pub stands : StandsAt Says limits plan waits made trace rest
+  pub early : waits ≡ true → stands.steps < plan.at
+  pub left_out : LeavesDue limits plan.rank plan.at stands.steps trace rest
 
 -- the lines of a script were run, and this was told
 pub record HasFailed (plan : Failing) (own : Failing) (Says : TraceState → Type 0) (waits : Bool) (made : ℕ) (limits : Limits) (lines : List ScriptStep)
@@ -95,7 +118,7 @@ pub record HasFailed (plan : Failing) (own : Failing) (Says : TraceState → Typ
   pub plan_is : own ≡ plan
   pub trace : Lines
   pub rest : Lines
-  pub stands : StandsAt Says limits own.rank waits made trace rest
+  pub rests : RestsAt Says limits own waits made trace rest
   pub follows : Follows (nothing limits) lines rest
   pub out_is : out ≡ trace_text limits trace
 
@@ -111,32 +134,45 @@ up_to left reach = record { most = Some (fewer left reach.most); name = reach.na
 abbrev pub behind_of : ℕ → Reach → Reach
 behind_of made reach = record { most = option_map (λ most. most - made) reach.most; name = reach.name }
 
--- the declaration of rank r was due, and was made and told; or it wasn't due
-abbrev pub Declares : (TraceState → Type 0) → Limits → ℕ → Bool → ℕ → Lines → Lines → Bool → List ℕ → List ℕ → Type 0
-Declares Says limits r waits made trace rest true old new =
-    (declaration : Lines) × IsDeclaration limits r declaration × StandsAt Says limits r waits made (trace ++ declaration) rest
-    × (new ≡ old ++ lines_text declaration)
-Declares Says limits r waits made trace rest false old new = StandsAt Says limits r waits made trace rest × (new ≡ old)
+-- the declaration was due, and was made and told; or it wasn't due
+abbrev pub Declares : (TraceState → Type 0) → Limits → Failing → Bool → ℕ → Lines → Lines → Bool → List ℕ → List ℕ → Type 0
+Declares Says limits plan waits made trace rest true old new =
+    (waits ≡ false) × (declaration : Lines) × IsPiece (nothing limits) (Failed plan.rank) declaration
+    × RestsAt Says limits plan waits made (trace ++ declaration) rest × (new ≡ old ++ lines_text declaration)
+Declares Says limits plan waits made trace rest false old new = RestsAt Says limits plan waits made trace rest × (new ≡ old)
 
 -- Steps of rank q's call were told as far as they are taken, with the declaration, if it was due in between.
-pub record TellsWalk (Says : TraceState → Type 0) (limits : Limits) (r : ℕ) (waits : Bool) (made : ℕ) (trace rest : Lines) (q : ℕ) (reach : Reach)
+pub record TellsWalk (Says : TraceState → Type 0) (limits : Limits) (plan : Failing) (waits : Bool) (made : ℕ) (trace rest : Lines) (q : ℕ) (reach : Reach)
     (old new : List ℕ) : Type 0 where
   pub whole : Lines
   pub piece : Lines
-  pub stands : StandsAt Says limits r waits made (trace ++ whole) (rest ++ piece)
+  pub rests : RestsAt Says limits plan waits made (trace ++ whole) (rest ++ piece)
   pub taken : IsTaken (said_by (nothing limits) trace) q reach piece
   pub told : new ≡ old ++ lines_text whole
 
 -- a line of a script was run and told, with the declaration, if it was due in between
-pub record RunsStep (Says : TraceState → Type 0) (limits : Limits) (r : ℕ) (waits : Bool) (made : ℕ) (trace rest : Lines) (step : ScriptStep)
+pub record RunsStep (Says : TraceState → Type 0) (limits : Limits) (plan : Failing) (waits : Bool) (made : ℕ) (trace rest : Lines) (step : ScriptStep)
     (old new : List ℕ) : Type 0 where
   pub whole : Lines
   pub piece : Lines
-  pub stands : StandsAt Says limits r waits made (trace ++ whole) (rest ++ piece)
+  pub rests : RestsAt Says limits plan waits made (trace ++ whole) (rest ++ piece)
   pub is_piece : IsPiece (said_by (nothing limits) trace) step piece
   pub told : new ≡ old ++ lines_text whole
 
 -- a line was run; or its call is of a rank that has one under way, and nothing was told
-abbrev pub TakesStep : (TraceState → Type 0) → Limits → ℕ → Bool → ℕ → Lines → Lines → ScriptStep → Taken → List ℕ → List ℕ → Type 0
-TakesStep Says limits r waits made trace rest step Run old new = RunsStep Says limits r waits made trace rest step old new
-TakesStep Says limits r waits made trace rest step IsOpenStill old new = IsOpenCall (said_by (nothing limits) trace) step × (new ≡ old)
+abbrev pub TakesStep : (TraceState → Type 0) → Limits → Failing → Bool → ℕ → Lines → Lines → ScriptStep → Taken → List ℕ → List ℕ → Type 0
+TakesStep Says limits plan waits made trace rest step Run old new = RunsStep Says limits plan waits made trace rest step old new
+TakesStep Says limits plan waits made trace rest step IsOpenStill old new = IsOpenCall (said_by (nothing limits) trace) step × (new ≡ old)
+
+-- A call was taken as far as is said, where so many steps were counted before and are counted now: it is over, or none was under way; or so many
+-- were made, or its next step has the name.
+abbrev pub ComesFar : Reach → ℕ → ℕ → Option StepName → Type 0
+ComesFar reach old new next =
+    (next ≡ None) ⊎ ((most : ℕ) × (reach.most ≡ Some most) × IsCountOf (old + most) new) ⊎ ((name : StepName) × (reach.name ≡ Some name) × (next ≡ Some name))
+
+-- a script's line that takes steps of a call takes them as far as it says
+abbrev pub ComesAsSaid : Progress → ℕ → ℕ → ScriptStep → Type 0
+ComesAsSaid now old new (Stepped r count) = (now.next r ≡ None) ⊎ IsCountOf (old + count) new
+ComesAsSaid now old new (Before r name) = (now.next r ≡ None) ⊎ (now.next r ≡ Some name)
+ComesAsSaid now old new (Finished r) = now.next r ≡ None
+ComesAsSaid now old new _ = ⊤

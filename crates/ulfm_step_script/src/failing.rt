@@ -3,7 +3,7 @@ ghost use Rattle.std.specs.Prelude.{◌≡◌, ◌<◌, IfOk, OnOk, true, false}
 ghost use Rattle.ulfm_model.specs.declared.limits.Limits.{Limits as TheLimits};
 ghost use Rattle.ulfm_script.specs.Ends.{EndsAlone, ended};
 ghost use Rattle.ulfm_lines.specs.Stepped.{IsStep};
-ghost use Rattle.ulfm_step_script.specs.FailingScripts.{Declares, HasFailed, Lines, RunsFailing, StandsAt, TakesStep, TellsWalk};
+ghost use Rattle.ulfm_step_script.specs.FailingScripts.{ComesAsSaid, ComesFar, Declares, HasFailed, Lines, RestsAt, RunsFailing, StandsAt, TakesStep, TellsWalk};
 ghost use Rattle.ulfm_step_script.specs.FailingScripts.{behind_of, failing_scripts, fewer, up_to};
 
 use crate::engine::tell_header;
@@ -20,9 +20,10 @@ use ulfm_trace_model::StepLine;
 /// script's lines, behind all lines of the trace that it tells; right behind the header for 0, and never where fewer steps are made. A rank
 /// that the world doesn't have is answered so.
 ///
-/// At `Ok` it gives the number of steps that were made; those of declarations aren't counted. The trace is legal, and follows the script but
-/// for the lines of that declaration; it has no more events of ranks than the number says. At a fault what was written is as there, but for
-/// that declaration.
+/// At `Ok` it gives the number of steps that were made, or the greatest that there is; those of declarations aren't counted. The trace is
+/// legal, and follows the script but for the lines of that declaration, which it has exactly where no fewer steps were made. It has no more
+/// events of ranks than the number says, no more before the declaration than the steps that come before it, and no more behind it than the
+/// others. At a fault what was written is as there, but for that declaration.
 pub fn run_failing_script<M: StepMachine<A>, A: Allocator + Copy, R: Read, W: Write>(
     alloc: A,
     plan: Failing,
@@ -31,7 +32,7 @@ pub fn run_failing_script<M: StepMachine<A>, A: Allocator + Copy, R: Read, W: Wr
 ) -> Result<u32, RunFault>
     ensures ends { EndsAlone failing_scripts (R.remaining reader.old) (R.remaining reader.new) (W.contents writer.old) (W.contents writer.new)
         (ended result) }
-    ensures fails { IfOk result (λ number. RunsFailing plan.rank number (R.remaining reader.old) (W.contents writer.old) (W.contents writer.new)) }
+    ensures fails { IfOk result (λ number. RunsFailing plan.at plan.rank number (R.remaining reader.old) (W.contents writer.old) (W.contents writer.new)) }
 {
     match run_text::<FailingLines<M, A>, A, R, W>(alloc, plan, reader, writer) {
         Ok(lines) => Ok(lines.made),
@@ -85,8 +86,9 @@ impl<M: StepMachine<A>, A: Allocator + Copy> FailingLines<M, A> {
         ensures plan { self.new.plan ≡ self.old.plan }
         ensures made { self.new.made ≡ self.old.made }
         ensures early { IfOk result (λ due. due ≡ false → self.old.waits ≡ true → self.old.made < self.old.plan.at) }
-        ensures told { (limits : TheLimits) (trace rest : Lines) → StandsAt (M.Stands self.old.machine) limits self.old.plan.rank self.old.waits
-            self.old.made trace rest → IfOk result (λ due. Declares (M.Stands self.new.machine) limits self.old.plan.rank self.new.waits
+        ensures idle { IfOk result (λ due. due ≡ false → M.Has self.new.machine ≡ M.Has self.old.machine) }
+        ensures told { (limits : TheLimits) (trace rest : Lines) → StandsAt (M.Stands self.old.machine) limits self.old.plan self.old.waits
+            self.old.made trace rest → IfOk result (λ due. Declares (M.Stands self.new.machine) limits self.old.plan self.new.waits
             self.new.made trace rest due self.old.teller.text.items self.new.teller.text.items) }
     {
         if !self.waits || self.made < self.plan.at {
@@ -102,9 +104,10 @@ impl<M: StepMachine<A>, A: Allocator + Copy> FailingLines<M, A> {
     /// Takes steps of a rank's call as far as they are to be taken, and declares the rank where that is due in between.
     fn walk(&mut self, rank: u16, reach: Reach) -> Result<(), AllocError>
         ensures plan { self.new.plan ≡ self.old.plan }
-        ensures told { (limits : TheLimits) (trace rest : Lines) → StandsAt (M.Stands self.old.machine) limits self.old.plan.rank self.old.waits
-            self.old.made trace rest → OnOk result (TellsWalk (M.Stands self.new.machine) limits self.old.plan.rank self.new.waits self.new.made trace rest
+        ensures told { (limits : TheLimits) (trace rest : Lines) → StandsAt (M.Stands self.old.machine) limits self.old.plan self.old.waits
+            self.old.made trace rest → OnOk result (TellsWalk (M.Stands self.new.machine) limits self.old.plan self.new.waits self.new.made trace rest
             rank reach self.old.teller.text.items self.new.teller.text.items) }
+        ensures far { OnOk result (ComesFar reach self.old.made self.new.made ((M.Has self.new.machine).next rank)) }
     {
         if !self.waits {
             let made = self.machine.steps(rank, reach, &mut self.teller)?;
@@ -130,9 +133,10 @@ impl<M: StepMachine<A>, A: Allocator + Copy> FailingLines<M, A> {
     fn take(&mut self, step: &StepLine<FlagAnd>) -> Result<Taken, AllocError>
         requires { IsStep step.now }
         ensures plan { self.new.plan ≡ self.old.plan }
-        ensures told { (limits : TheLimits) (trace rest : Lines) → StandsAt (M.Stands self.old.machine) limits self.old.plan.rank self.old.waits
-            self.old.made trace rest → IfOk result (λ taken. TakesStep (M.Stands self.new.machine) limits self.old.plan.rank self.new.waits self.new.made
+        ensures told { (limits : TheLimits) (trace rest : Lines) → RestsAt (M.Stands self.old.machine) limits self.old.plan self.old.waits
+            self.old.made trace rest → IfOk result (λ taken. TakesStep (M.Stands self.new.machine) limits self.old.plan self.new.waits self.new.made
             trace rest step.now taken self.old.teller.text.items self.new.teller.text.items) }
+        ensures far { OnOk result (ComesAsSaid (M.Has self.new.machine) self.old.made self.new.made step.now) }
     {
         match *step {
             StepLine::Stepped { rank, count } => {
@@ -199,15 +203,18 @@ impl<M: StepMachine<A>, A: Allocator + Copy> Interpreter<A> for FailingLines<M, 
     }
 
     ghost prints = { λ plan it limits lines out ran. (
+      it.plan.at,
       it.plan.rank,
       it.made,
       record {
         trace = ran.trace;
         rest = ran.rest;
-        legal = ran.stands.legal;
-        left_out = ran.stands.left_out;
+        steps = ran.rests.stands.steps;
+        legal = ran.rests.stands.legal;
+        number_is = ran.rests.stands.made_is;
+        left_out = ran.rests.left_out;
         follows = ran.follows;
-        counted = ran.stands.counted;
+        counted = ran.rests.stands.counted;
         out_is = ran.out_is;
       },
     ) };

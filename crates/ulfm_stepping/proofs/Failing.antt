@@ -8,9 +8,9 @@ use Rattle.ulfm_model.proofs.Histories.{legal_parts}
 use Rattle.ulfm_words.specs.Steps.{Name, Sight}
 use Rattle.ulfm_comm.specs.Fails.{Fails}
 use Rattle.ulfm_trace_model.specs.declared.{line.Line.{Line}, step_line.StepLine.{StepLine}}
-use Rattle.ulfm_trace_model.specs.{Follows.{Runs}, Traces.{MayCome, Traced, Under, after, after_reply, call_by, caller_of, is_owned, listed, said_by, same_caller, view_at, with_event}}
+use Rattle.ulfm_trace_model.specs.{Follows.{Runs, fail_piece}, Traces.{MayCome, Traced, Under, after, after_reply, call_by, caller_of, is_owned, listed, said_by, same_caller, view_at, with_event}}
 use Rattle.ulfm_trace_model.proofs.Callers.{find_change}
-use Rattle.ulfm_stepping.specs.Failing.{TellsFail, fail_event, fail_piece}
+use Rattle.ulfm_stepping.specs.Failing.{TellsFail}
 use Rattle.ulfm_stepping.proofs.Beginning.{find_push}
 
 module _ {P : Type 0} (meld : P → P → P) (name : Name) (r : ℕ) (old new : Sight P) (now : Traced P) (limits : now.limits ≡ name.limits) (history : now.history ≡ old.seen) (free : call_by now Caller.Outside ≡ None) where
@@ -70,7 +70,7 @@ module _ {P : Type 0} (meld : P → P → P) (name : Name) (r : ℕ) (old new : 
     runs_declared = (
       record {
         legal = (free, ((may_follow, tt), (may_reply, tt)));
-        follows = (fail_piece r (length new.seen) Reply.Declared, [], refl, (_, refl, (refl, (refl, tt)), (fail_event r Reply.Declared, _, refl, refl)), refl);
+        follows = (fail_piece r (length new.seen) Reply.Declared, [], refl, (length new.seen, Reply.Declared, refl), refl);
         new_is = refl;
       },
       ap (λ c. (after_reply told Caller.Outside (length new.seen) Reply.Declared c).history) call_then ∙ history_then,
@@ -96,7 +96,7 @@ module _ {P : Type 0} (meld : P → P → P) (name : Name) (r : ℕ) (old new : 
         let answers : AnswersFail begun.limits (view_at begun u (length new.seen)) r Reply.AlreadyFailed = inr (inl (refl, refl, subst (λ h. IsTrue (has (failures h) r)) (sym whole) is_declared)) in (
           record {
             legal = (free, (may_answer Reply.AlreadyFailed answers refl, tt));
-            follows = (fail_piece r (length new.seen) Reply.AlreadyFailed, [], refl, (_, refl, (refl, tt), ([], _, refl, refl)), refl);
+            follows = (fail_piece r (length new.seen) Reply.AlreadyFailed, [], refl, (length new.seen, Reply.AlreadyFailed, refl), refl);
             new_is = refl;
           },
           history_left Reply.AlreadyFailed,
@@ -107,7 +107,7 @@ module _ {P : Type 0} (meld : P → P → P) (name : Name) (r : ℕ) (old new : 
         let answers : AnswersFail begun.limits (view_at begun u (length new.seen)) r (Reply.Refused Refusal.NoSuchRank) = inr (inr (refl, refl, subst (λ l. l.ranks ≤ r) (sym limits) out)) in (
           record {
             legal = (free, (may_answer (Reply.Refused Refusal.NoSuchRank) answers refl, tt));
-            follows = (fail_piece r (length new.seen) (Reply.Refused Refusal.NoSuchRank), [], refl, (_, refl, (refl, tt), ([], _, refl, refl)), refl);
+            follows = (fail_piece r (length new.seen) (Reply.Refused Refusal.NoSuchRank), [], refl, (length new.seen, Reply.Refused Refusal.NoSuchRank, refl), refl);
             new_is = refl;
           },
           history_left (Reply.Refused Refusal.NoSuchRank),

@@ -9,6 +9,7 @@ pub mod Replying
 pub mod LookedAt
 pub mod LooksOn
 pub mod Stepped
+pub mod ByName
 pub mod Failing
 pub mod Beginning
 pub mod Others

@@ -1,21 +1,23 @@
 -- What a call's begin and each of its steps tell, of a rank that sits as the lines so far say.
-use Rattle.std.proofs.Common.{◌≡◌, ◌⊎◌, ℕ, ◌<◌, ◌≤◌, ◌^◌, ◌||◌, not, Bool, true, false, List, [], ◌∷◌, ◌++◌, length, filter, take, Option, Some, None, is_some, refl, ap, sym, ◌∙◌, subst, arith, append-nil, append_assoc, length-append, inl, inr, IsTrue, IsFalse, if◌then◌else◌}
+use Rattle.std.proofs.Common.{◌≡◌, ◌⊎◌, ℕ, ◌<◌, ◌≤◌, ◌^◌, ◌||◌, not, Bool, true, false, List, [], ◌∷◌, ◌++◌, length, take, Option, Some, None, is_some, refl, ap, sym, ◌∙◌, subst, arith, append-nil, append_assoc, length-append, inl, inr, IsTrue, IsFalse, if◌then◌else◌}
 use Rattle.std.specs.Prelude.{MatchOption, slice_get}
 use Rattle.ulfm_model.specs.declared.{call.Call.{Call}, event.Caller.{Caller}, event.Caller.TheVariants.{Rank}, event.Entry.{Entry}, event.Event.{Event}, refusal.Refusal.TheVariants.{SelfFailed}, reply.Reply.{Reply}, reply.Reply.TheVariants.{Refused}}
+use Rattle.ulfm_model.specs.declared.step_name.StepName.TheVariants as step
+use Rattle.ulfm_model.specs.declared.step_name.StepName.{StepName}
 use Rattle.ulfm_model.specs.{Answers.{comm_of, polled_by, traits_of}, History.{History, failures}, Records.{Fits, Record, is_shrink}}
 use Rattle.ulfm_model.proofs.Lists.{in_list}
 use Rattle.ulfm_words.specs.Steps.{IsOf, Name, Sight}
 use Rattle.ulfm_words.proofs.Ranks.{failures_le}
-use Rattle.ulfm_comm.specs.{Calls.{EndsAs, EndsReply, wants_memory}, Ends.{IsRefusedAgain}, Phase.{Answered, Stands, StandsAt, UnderWay, Waits, is_checking, is_looking, next_of}, Step.{StepAdds, Stepped}, StepsLeft.{FewerLeft, steps_left}}
+use Rattle.ulfm_comm.specs.{Calls.{EndsAs, EndsReply, wants_memory}, Ends.{IsRefusedAgain}, Phase.{Answered, Stands, StandsAt, UnderWay, Waits, is_checking, is_looking, next_of, next_step}, Step.{StepAdds, Stepped}, StepsLeft.{FewerLeft, steps_left}}
 use Rattle.ulfm_comm.specs.declared.phases.phase.{Phase.{Phase}, Phase.TheVariants.{Begun}}
 use Rattle.ulfm_comm.proofs.AmongOthers.{waits_none}
 use Rattle.ulfm_trace_model.specs.declared.line.Line.TheVariants.{Happened, Looked}
-use Rattle.ulfm_trace_model.specs.Follows.{AreOf, EndsInReply, is_event}
+use Rattle.ulfm_trace_model.specs.Follows.{AreOf, EndsInReply, step_of, steps_in}
 use Rattle.ulfm_trace_model.specs.Traces.{AreLegalAfter, Told, Traced, after, listed, said_by, same_caller}
 use Rattle.ulfm_trace_model.proofs.Callers.{same_rank}
 use Rattle.ulfm_stepping.specs.declared.told.{Answer.{Answer}, StepTold.{StepTold}}
-use Rattle.ulfm_stepping.specs.{Seats.{MayList, Seated, Sits, SitsAt, TellsBegin, TellsPiece, entries_of, event_piece, has_looked, left_in, look_piece, piece_of, reply_piece, wants_in}, Stepping.{HasBegun, HasCalled, IsIdle, point_of, replied}}
-use Rattle.ulfm_stepping.proofs.{Beginning.{begun, may_call, refused}, ByPhase.{in_look}, LooksOn.{looks_on, no_event}, Nexts.{reply_next}, Reseen.{reseen}, Stepped.{comes}, Turns.{EndsSo, LooksOn, NextAt, SaysStep}}
+use Rattle.ulfm_stepping.specs.{Seats.{AreToldBy, MayList, Seated, Sits, SitsAt, TellsBegin, TellsPiece, entries_of, event_piece, has_looked, left_in, look_piece, piece_of, reply_piece, wants_in}, Stepping.{HasBegun, HasCalled, IsIdle, point_of, replied}}
+use Rattle.ulfm_stepping.proofs.{Beginning.{begun, may_call, refused}, ByName.{event_named, get_last, look_named}, ByPhase.{in_look}, LooksOn.{looks_on, no_event}, Nexts.{reply_next}, Reseen.{reseen}, Stepped.{comes}, Turns.{EndsSo, LooksOn, NextAt, SaysStep}}
 
 -- The lines of a call that begins.
 module _ {P : Type 0} (meld : P → P → P) (name : Name) (own : Record) (found : ℕ) (pass : Sight P) (asked : Call P) (mine : (traits_of asked).by ≡ Rank own.number) where
@@ -46,11 +48,6 @@ module _ {P : Type 0} (meld : P → P → P) (name : Name) (own : Record) (found
         sits = λ now sits. inl (begun meld name now pass own sits asked mine doing asked_is in_use phase (stands false name pass of sits.fits));
         next = (doing, refl, asked_is);
       }
-
--- what stands behind a history, where it has one event more, or none
-get_last : {E : Type 0} (xs : List E) (x : E) → slice_get (xs ++ x ∷ []) (length xs) ≡ Some x
-get_last [] x = refl
-get_last (y ∷ xs) x = get_last xs x
 
 -- the event that was read off the pass behind so many, if there is one
 abbrev pub ReadsEvent : {P : Type 0} → History P → ℕ → Option (Event P) → Type 0
@@ -88,15 +85,32 @@ module _ {P : Type 0} (r : ℕ) where
       looks None = events told.event
       looks (Some count) = (same_rank r, events told.event)
 
-  pub one_event : (group : List ℕ) (look : Option ℕ) (event : Option (Event P)) (reply : Option (Answer P)) → length (filter (λ (told : Told P). is_event told.line) (look_piece r look ++ (event_piece r event ++ reply_piece r group reply))) ≤ 1
-  one_event group None None None = omega arith
-  one_event group None None (Some answer) = omega arith
-  one_event group None (Some event) None = omega arith
-  one_event group None (Some event) (Some answer) = omega arith
-  one_event group (Some count) None None = omega arith
-  one_event group (Some count) None (Some answer) = omega arith
-  one_event group (Some count) (Some event) None = omega arith
-  one_event group (Some count) (Some event) (Some answer) = omega arith
+  pub one_step : (group : List ℕ) (look : Option ℕ) (event : Option (Event P)) (reply : Option (Answer P)) → (look ≡ None) ⊎ (event ≡ None) → steps_in (look_piece r look ++ (event_piece r event ++ reply_piece r group reply)) ≤ 1
+  one_step group None None None apart = omega arith
+  one_step group None None (Some answer) apart = omega arith
+  one_step group None (Some event) None apart = omega arith
+  one_step group None (Some event) (Some answer) apart = omega arith
+  one_step group (Some count) None None apart = omega arith
+  one_step group (Some count) None (Some answer) apart = omega arith
+  one_step group (Some count) (Some event) reply (inl none) = absurd (cc none)
+  one_step group (Some count) (Some event) reply (inr none) = absurd (cc none)
+
+  -- what tells the look and the event tells all lines
+  pub all_by : (group : List ℕ) (told : StepTold P) (next : Option StepName) → ((count : ℕ) → told.look ≡ Some count → next ≡ Some step.List)
+      → ((e : Event P) (n : StepName) → told.event ≡ Some e → step_of e ≡ Some n → next ≡ Some n) → AreToldBy next (piece_of r told group)
+  all_by group told next list made = looks told.look refl
+    where
+      replies : (reply : Option (Answer P)) → AreToldBy next (reply_piece r group reply)
+      replies None = tt
+      replies (Some answer) = ((λ n is. absurd (cc is)), tt)
+
+      events : (event : Option (Event P)) → told.event ≡ event → AreToldBy next (event_piece r event ++ reply_piece r group told.reply)
+      events None is = replies told.reply
+      events (Some e) is = ((λ n by. made e n is by), replies told.reply)
+
+      looks : (look : Option ℕ) → told.look ≡ look → AreToldBy next (look_piece r look ++ (event_piece r told.event ++ reply_piece r group told.reply))
+      looks None is = events told.event refl
+      looks (Some count) is = ((λ n by. list count is ∙ by), events told.event refl)
 
   pub last_reply : (group : List ℕ) (look : Option ℕ) (event : Option (Event P)) (answer : Answer P) → EndsInReply (look_piece r look ++ (event_piece r event ++ reply_piece r group (Some answer)))
   last_reply group look event answer = (look_piece r look ++ event_piece r event, replied r answer.point group answer.reply, sym (append_assoc (look_piece r look) (event_piece r event) (reply_piece r group (Some answer))), refl)
@@ -121,6 +135,29 @@ module _ {P : Type 0} (meld : P → P → P) (name : Name) (before later : Sight
 
   adds : StepAdds true own doing.asked doing.phase result before.seen later.seen
   adds = subst (λ q. StepAdds true own doing.asked doing.phase q before.seen later.seen) (reply_next result doing'.phase) s.adds
+
+  -- the end of a look comes with no event
+  apart : (look ≡ None) ⊎ (event ≡ None)
+  apart = go (is_looking doing.phase) refl
+    where
+      go : (b : Bool) → is_looking doing.phase ≡ b → (look ≡ None) ⊎ (event ≡ None)
+      go true looking = inr (read_none before.seen later.seen event reads (sym (no_event own doing.asked doing.phase result before.seen later.seen looking adds)))
+      go false past = inl (look_is ∙ ap (λ b. look_end b result doing'.phase own') past)
+
+  -- a look has ended by a load of the list
+  list_is : (count : ℕ) → look ≡ Some count → next_step doing.phase ≡ Some step.List
+  list_is count is = go (is_looking doing.phase) refl
+    where
+      go : (b : Bool) → is_looking doing.phase ≡ b → next_step doing.phase ≡ Some step.List
+      go true looking = look_named doing.phase looking
+      go false past = let none : look ≡ None = look_is ∙ ap (λ b. look_end b result doing'.phase own') past in absurd (cc (none, is))
+
+  -- the event was made by the step that was named
+  event_is : (now : Traced P) → SitsAt meld name now before own found (Some doing) → before.seen ++ entries_of r event ≡ later.seen → (e : Event P) (n : StepName) → event ≡ Some e → step_of e ≡ Some n → next_step doing.phase ≡ Some n
+  event_is now (inl h) seen e n is by =
+      let none : event ≡ None = read_none before.seen later.seen event reads (sym (no_event own doing.asked doing.phase result before.seen later.seen h.looking adds)) in absurd (cc (none, is))
+  event_is now (inr h) seen e n is by =
+      event_named meld name doing.asked h.old h.before doing.group own h.stood own result before.seen later.seen e (ap (λ v. before.seen ++ entries_of r v) (sym is) ∙ seen) n by doing.phase h.stands.at adds
 
   abbrev Then : Option (Reply P) → Traced P → Type 0
   Then q t = NextAt meld name r c point found' q later own' doing' t
@@ -212,7 +249,8 @@ module _ {P : Type 0} (meld : P → P → P) (name : Name) (before later : Sight
         piece = piece;
         piece_is = refl;
         of = all_of r [] told;
-        few = one_event r [] look event None;
+        few = one_step r [] look event None apart;
+        by_step = all_by r [] told (next_step doing.phase) list_is (event_is witness sits first.seen);
         legal = λ now there. (at now there).legal;
         sits = λ now there. (at now there).after_them;
         next = (refl, nearer);
@@ -248,7 +286,8 @@ module _ {P : Type 0} (meld : P → P → P) (name : Name) (before later : Sight
         piece = piece;
         piece_is = refl;
         of = all_of r group told;
-        few = one_event r group look event (Some answer);
+        few = one_step r group look event (Some answer) apart;
+        by_step = all_by r group told (next_step doing.phase) list_is (event_is witness sits first.seen);
         legal = λ now there. (at now there).legal;
         sits = λ now there. (at now there).after_them.0;
         next = record { over = refl; in_reply = last_reply r group look event answer; may_list = first.after_them.1 };

@@ -67,7 +67,7 @@ module _ {P : Type 0} (look : List ℕ) (own : Record) (asked : Call P) (reply :
   adds_of (Checking missing) sees did = adds_none true look own asked reply old new did
 
 -- a history without a step's event, or with it
-did_is : {P : Type 0} (own x y : History P) → Did true own x y → x ++ own ≡ y
+pub did_is : {P : Type 0} (own x y : History P) → Did true own x y → x ++ own ≡ y
 did_is own x y did = ap (λ w. x ++ w) (sym (did.quiet refl)) ∙ did.goes_on
 
 -- a barrier's poll that makes its last load next

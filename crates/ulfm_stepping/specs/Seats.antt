@@ -1,5 +1,5 @@
 -- Ranks whose calls are taken step by step: where the lines so far say that one sits, and what its call's begin and each of its steps tell.
-use Rattle.std.specs.Prelude.{◌≡◌, ◌⊎◌, ℕ, ◌<◌, ◌≤◌, ◌&&◌, ◌||◌, not, Bool, false, ⊤, List, [], ◌∷◌, ◌++◌, length, filter, take, Option, Some, None, is_some, IsTrue}
+use Rattle.std.specs.Prelude.{◌≡◌, ◌⊎◌, ℕ, ◌<◌, ◌≤◌, ◌&&◌, ◌||◌, not, Bool, false, ⊤, List, [], ◌∷◌, ◌++◌, take, Option, Some, None, is_some, IsTrue}
 use Rattle.std.specs.List.{AllByRecursion}
 use Rattle.ulfm_model.specs.declared.{call.Call.{Call}, event.Caller.{Caller}, event.Caller.TheVariants.{Rank}, event.Event.{Event}, limits.Limits.{Limits}}
 use Rattle.ulfm_model.specs.declared.{reply.Reply.{Reply}, reply.Reply.TheVariants.{FailedGroup, Shrunk}, step_name.StepName.{StepName}}
@@ -8,7 +8,7 @@ use Rattle.ulfm_words.specs.Steps.{IsOf, Name, Sight}
 use Rattle.ulfm_comm.specs.{Calls.{wants_memory}, Counts.{Counted}, Phase.{UnderWay, is_looking, next_step}, StepsLeft.{MakesStep, steps_left}}
 use Rattle.ulfm_comm.specs.declared.phases.phase.Phase.{Phase}
 use Rattle.ulfm_trace_model.specs.declared.line.{Line.{Line}, Line.TheVariants.{Called, Happened, Looked, Replied}}
-use Rattle.ulfm_trace_model.specs.Follows.{AreOf, EndsInReply, IsAtOnce, called, is_event}
+use Rattle.ulfm_trace_model.specs.Follows.{AreOf, EndsInReply, IsAtOnce, called, steps_in, told_by}
 use Rattle.ulfm_trace_model.specs.Traces.{AreLegalAfter, Told, Traced, listed, nothing, said_by, same_caller}
 use Rattle.ulfm_stepping.specs.declared.told.{Answer.{Answer}, StepTold.{StepTold}}
 use Rattle.ulfm_stepping.specs.Stepping.{HasBegun, HasCalled, IsIdle, happened, replied}
@@ -118,8 +118,13 @@ abbrev pub GoesOrEnds : {P : Type 0} → Limits → History P → List (Told P) 
 GoesOrEnds limits h piece old new None = GoesNearer limits old new
 GoesOrEnds limits h piece old new (Some answer) = Ends limits.ranks h (comm_in old.call) answer piece new
 
+-- no line is told by a step of another name than this, where the line says by which
+abbrev pub AreToldBy : {P : Type 0} → Option StepName → List (Told P) → Type 0
+AreToldBy next piece = AllByRecursion (λ told. (name : StepName) → told_by told.line ≡ Some name → next ≡ Some name) piece
+
 -- One atomic step of a call, the one that was named, and the lines that it tells: each may come after those before, they are the rank's, at most
--- one is an event, and afterwards the rank sits as they say. The event is the one that the pass has seen since. The call is answered, or goes on with fewer steps left.
+-- one is the end of a look or an event, none is told by another step, and afterwards the rank sits as they say. The event is the one that the pass has
+-- seen since. The call is answered, or goes on with fewer steps left.
 pub record TellsPiece {P : Type 0} (meld : P → P → P) (name : Name) (old : Seated P) (before : Sight P) (told : StepTold P) (new : Seated P) (after : Sight P)
     : Type 0 where
   pub number : new.own.number ≡ old.own.number
@@ -128,7 +133,8 @@ pub record TellsPiece {P : Type 0} (meld : P → P → P) (name : Name) (old : S
   pub piece : List (Told P)
   pub piece_is : piece ≡ piece_of old.own.number told (group_in name.limits.ranks after.seen (comm_in old.call) told.reply)
   pub of : AreOf (Rank old.own.number) piece
-  pub few : length (filter (λ told. is_event told.line) piece) ≤ 1
+  pub few : steps_in piece ≤ 1
+  pub by_step : AreToldBy (next_in old.call) piece
   pub legal : (now : Traced P) → Sits meld name now before old → AreLegalAfter meld now piece
   pub sits : (now : Traced P) → Sits meld name now before old → Sits meld name (said_by now piece) after new
   pub next : GoesOrEnds name.limits after.seen piece old new told.reply

@@ -4,7 +4,8 @@ use Rattle.std.specs.Prelude.{bit_and}
 use Rattle.ulfm_model.specs.declared.{call.Call.{Call}, contribution.Offer.{Offer}, event.Caller.{Caller}, event.Event.{Event}, limits.Limits.{Limits}}
 use Rattle.ulfm_model.specs.declared.{refusal.Refusal.{Refusal}, reply.Reply.{Reply}}
 use Rattle.ulfm_model.specs.Computed.{given_at, mark_at}
-use Rattle.ulfm_trace_model.specs.declared.line.{Line.{Line}, Why.{Why}}
+use Rattle.ulfm_trace_model.specs.declared.{line.Line.{Line}, line.Why.{Why}, step_line.StepLine.{StepLine}}
+use Rattle.ulfm_trace_model.specs.Follows.{IsPiece, fail_piece}
 use Rattle.ulfm_trace_model.specs.Traces.{AnswersCall, IsBad, IsLegalTrace, MayCome, Told, Under, nothing, said_by}
 use Rattle.ulfm_trace_model.proofs.Parts.{legal_parts}
 
@@ -237,3 +238,20 @@ count_changed = inl (refl, λ may. cc (may.2))
 -- and it is no legal trace
 count_changed_is_not_legal : ¬ IsLegalTrace bit_and two (one_marked ++ marks_other 1 ∷ [])
 count_changed_is_not_legal legal = cc ((legal_parts bit_and (nothing two) one_marked (marks_other 1 ∷ []) legal).1.0.0.2)
+
+-- a declaration is the piece of its line
+fails_is_piece : IsPiece (nothing three) (StepLine.Failed 2) (fails 2 1)
+fails_is_piece = (1, Reply.Declared, refl)
+
+-- the lines of one that declares another rank too are none
+abbrev fails_another : List (Told ℕ)
+fails_another =
+    plain (Line.Called (Call.Fail 2)) ∷ did Caller.Outside (Event.Fail 1) ∷ did Caller.Outside (Event.Fail 2)
+    ∷ replied Caller.Outside 2 Reply.Declared ∷ []
+
+fails_another_is_no_piece : ¬ IsPiece (nothing three) (StepLine.Failed 2) fails_another
+fails_another_is_no_piece is = go is.1 is.2
+  where
+    go : (reply : Reply ℕ) → fails_another ≡ fail_piece 2 is.0 reply → ⊥
+    go Reply.Declared same = cc same
+    go _ same = cc same

@@ -1,7 +1,8 @@
-use Rattle.std.proofs.Common.{None, Some, arith, refl}
+use Rattle.std.proofs.Common.{None, Some, refl}
 use Rattle.ulfm_lines.specs.declared.step_machine.Reach.{Reach}
-use Rattle.ulfm_trace_model.specs.declared.step_line.StepLine.TheVariants.{Before, Called, Failed, Finished, Stepped}
+use Rattle.ulfm_trace_model.specs.declared.step_line.StepLine.TheVariants.{Before, Finished, Stepped}
 use Rattle.ulfm_trace_model.specs.Traces.{nothing, said_by}
+use Rattle.ulfm_step_script.proofs.Far.{comes_all, comes_before, comes_stepped}
 use Rattle.ulfm_step_script.proofs.FailLemmas.{called_events, failed_events, took_other, walk_step}
 use Rattle.ulfm_step_script.proofs.failing.FailingLines.take.Goals as goal
 
@@ -9,45 +10,59 @@ pub returns-in-Called-clause-told : goal.returns-in-Called-clause-told
 returns-in-Called-clause-told g c = λ limits trace rest at.
     let m = g.M.StepMachine.Stands in
     let was = c.args.self.now in
-    took_other (m was.machine) (m c.run.new.self) limits was.plan.rank was.waits was.made trace rest at c.args.step.now
+    took_other (m was.machine) (m c.run.new.self) limits was.plan was.waits was.made trace rest at c.args.step.now
     (rw c.in-Called.is (λ piece is. called_events (said_by (nothing limits) trace) c.in-Called.field-0 piece is)) was.teller.text.items c.run.new.teller.text.items c.run.result
-    (c.run.ensures (said_by (nothing limits) trace) at.says)
+    (c.run.ensures.tells (said_by (nothing limits) trace) at.stands.says)
 
 pub returns-in-Failed-clause-told : goal.returns-in-Failed-clause-told
 returns-in-Failed-clause-told g c = λ limits trace rest at.
     let m = g.M.StepMachine.Stands in
     let was = c.args.self.now in
-    took_other (m was.machine) (m c.run-in-Failed.new.self) limits was.plan.rank was.waits was.made trace rest at c.args.step.now
+    took_other (m was.machine) (m c.run-in-Failed.new.self) limits was.plan was.waits was.made trace rest at c.args.step.now
     (rw c.in-Failed.is (λ piece is. failed_events (said_by (nothing limits) trace) c.in-Failed.rank piece is)) was.teller.text.items c.run-in-Failed.new.teller.text.items c.run-in-Failed.result
-    (c.run-in-Failed.ensures (said_by (nothing limits) trace) at.says)
+    (c.run-in-Failed.ensures.tells (said_by (nothing limits) trace) at.stands.says)
 
 pub returns-in_ok-walk-in-Stepped-clause-told : goal.returns-in_ok-walk-in-Stepped-clause-told
 returns-in_ok-walk-in-Stepped-clause-told g c = λ limits trace rest at.
     let after = c.walk.new.self in
     let was = c.args.self.now in
     let reach : Reach = record { most = Some c.in-Stepped.count; name = None } in
-    let w = c.in_ok-walk-in-Stepped.ensures.told limits trace rest at in
-    let asked = rw c.in-Stepped.is at c.requires in
+    let w = c.in_ok-walk-in-Stepped.ensures.told limits trace rest at.stands in
     rw c.in-Stepped.is
-    (walk_step (g.M.StepMachine.Stands after.machine) limits was.plan.rank after.waits after.made trace rest c.in-Stepped.rank reach was.teller.text.items after.teller.text.items
-    (Stepped c.in-Stepped.rank c.in-Stepped.count) w (w.taken.by, w.taken.few c.in-Stepped.count refl (omega (arith, asked.1.2))))
+    (walk_step (g.M.StepMachine.Stands after.machine) limits was.plan after.waits after.made trace rest c.in-Stepped.rank reach was.teller.text.items after.teller.text.items
+    (Stepped c.in-Stepped.rank c.in-Stepped.count) w (w.taken.by, w.taken.few c.in-Stepped.count refl))
 
 pub returns-in_ok-walk-in-Before-clause-told : goal.returns-in_ok-walk-in-Before-clause-told
 returns-in_ok-walk-in-Before-clause-told g c = λ limits trace rest at.
     let after = c.walk-in-Before.new.self in
     let was = c.args.self.now in
     let reach : Reach = record { most = None; name = Some c.in-Before.name } in
-    let w = c.in_ok-walk-in-Before.ensures.told limits trace rest at in
+    let w = c.in_ok-walk-in-Before.ensures.told limits trace rest at.stands in
     rw c.in-Before.is
-    (walk_step (g.M.StepMachine.Stands after.machine) limits was.plan.rank after.waits after.made trace rest c.in-Before.rank reach was.teller.text.items after.teller.text.items
-    (Before c.in-Before.rank c.in-Before.name) w w.taken.by)
+    (walk_step (g.M.StepMachine.Stands after.machine) limits was.plan after.waits after.made trace rest c.in-Before.rank reach was.teller.text.items after.teller.text.items
+    (Before c.in-Before.rank c.in-Before.name) w (w.taken.by, w.taken.before c.in-Before.name refl))
 
 pub returns-in_ok-walk-in-Finished-clause-told : goal.returns-in_ok-walk-in-Finished-clause-told
 returns-in_ok-walk-in-Finished-clause-told g c = λ limits trace rest at.
     let after = c.walk-in-Finished.new.self in
     let was = c.args.self.now in
     let reach : Reach = record { most = None; name = None } in
-    let w = c.in_ok-walk-in-Finished.ensures.told limits trace rest at in
+    let w = c.in_ok-walk-in-Finished.ensures.told limits trace rest at.stands in
     rw c.in-Finished.is
-    (walk_step (g.M.StepMachine.Stands after.machine) limits was.plan.rank after.waits after.made trace rest c.in-Finished.rank reach was.teller.text.items after.teller.text.items
+    (walk_step (g.M.StepMachine.Stands after.machine) limits was.plan after.waits after.made trace rest c.in-Finished.rank reach was.teller.text.items after.teller.text.items
     (Finished c.in-Finished.rank) w (w.taken.by, w.taken.ends refl))
+
+pub returns-in_ok-walk-in-Stepped-clause-far : goal.returns-in_ok-walk-in-Stepped-clause-far
+returns-in_ok-walk-in-Stepped-clause-far g c =
+    let after = c.walk.new.self in
+    rw c.in-Stepped.is (comes_stepped c.in-Stepped.count c.args.self.now.made after.made ((g.M.StepMachine.Has after.machine).next c.in-Stepped.rank) c.in_ok-walk-in-Stepped.ensures.far)
+
+pub returns-in_ok-walk-in-Before-clause-far : goal.returns-in_ok-walk-in-Before-clause-far
+returns-in_ok-walk-in-Before-clause-far g c =
+    let after = c.walk-in-Before.new.self in
+    rw c.in-Before.is (comes_before c.in-Before.name c.args.self.now.made after.made ((g.M.StepMachine.Has after.machine).next c.in-Before.rank) c.in_ok-walk-in-Before.ensures.far)
+
+pub returns-in_ok-walk-in-Finished-clause-far : goal.returns-in_ok-walk-in-Finished-clause-far
+returns-in_ok-walk-in-Finished-clause-far g c =
+    let after = c.walk-in-Finished.new.self in
+    rw c.in-Finished.is (comes_all c.args.self.now.made after.made ((g.M.StepMachine.Has after.machine).next c.in-Finished.rank) c.in_ok-walk-in-Finished.ensures.far)

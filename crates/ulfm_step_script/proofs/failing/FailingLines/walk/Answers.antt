@@ -1,15 +1,17 @@
-use Rattle.std.proofs.Common.{arith, ◌++◌, ◌∙◌}
+use Rattle.std.proofs.Common.{arith, ◌≤◌, ◌++◌, ◌∙◌, subst, sym}
 use Rattle.ulfm_trace_model.specs.Traces.{nothing, said_by}
-use Rattle.ulfm_step_script.specs.FailingScripts.{up_to}
-use Rattle.ulfm_step_script.proofs.FailLemmas.{is_due, not_cut, not_due, stands_stepped, walk_both, walk_cut, walk_whole}
+use Rattle.ulfm_lines.specs.Progress.{Progress}
+use Rattle.ulfm_step_script.specs.FailingScripts.{ComesFar}
+use Rattle.ulfm_step_script.proofs.Far.{far_both, far_cut, far_whole}
+use Rattle.ulfm_step_script.proofs.FailLemmas.{is_due, not_cut, not_due, stands_first_part, walk_both, walk_cut, walk_whole}
 use Rattle.ulfm_step_script.proofs.failing.FailingLines.walk.Goals as goal
 
 pub returns-then-not-self-clause-told : goal.returns-then-not-self-clause-told
 returns-then-not-self-clause-told g c = λ limits trace rest at.
     let m = g.M.StepMachine.Stands in
     let was = c.args.self.now in
-    walk_whole limits was.plan.rank c.args.rank c.args.reach trace rest (m was.machine) (m c.steps.new.self) was.waits was.made c.in_ok-made.made c.count_up-self.result
-    was.teller.text.items c.steps.new.teller.text.items at (c.in_ok-made.ensures (said_by (nothing limits) trace) at.says) c.count_up-self.ensures
+    walk_whole limits was.plan c.args.rank c.args.reach trace rest (m was.machine) (m c.steps.new.self) was.waits was.made c.in_ok-made.made c.count_up-self.result
+    was.teller.text.items c.steps.new.teller.text.items c.if-not-self.true at (c.in_ok-made.ensures.tells (said_by (nothing limits) trace) at.says) c.count_up-self.ensures
 
 pub returns-then-not-branch-clause-told : goal.returns-then-not-branch-clause-told
 returns-then-not-branch-clause-told g c = λ limits trace rest at.
@@ -17,14 +19,16 @@ returns-then-not-branch-clause-told g c = λ limits trace rest at.
     let was = c.args.self.now in
     let after = c.declare.new.self in
     let left = c.saturating_sub-left.result in
+    let at_fits : was.plan.at ≤ 4294967295 = omega arith in
+    let fits : left ≤ 4294967295 = omega arith in
     let n = c.in_ok-first.first in
-    let t = rw c.cut_to.ensures at c.in_ok-first.ensures (said_by (nothing limits) trace) at.says in
-    let then = stands_stepped (m was.machine) (m c.steps-2.new.self) limits was.plan.rank was.waits was.made trace rest at c.args.rank (up_to left c.args.reach) n
-    c.count_up-self-2.result was.teller.text.items c.steps-2.new.teller.text.items t c.count_up-self-2.ensures in
-    let d = not_due (m after.machine) limits was.plan.rank after.waits after.made (trace ++ t.piece) (rest ++ t.piece) c.steps-2.new.teller.text.items after.teller.text.items
+    let t = rw c.cut_to.ensures at c.in_ok-first.ensures.tells (said_by (nothing limits) trace) at.says in
+    let then = stands_first_part (m was.machine) (m c.steps-2.new.self) limits was.plan was.waits was.made trace rest at c.args.rank c.args.reach left n
+    c.count_up-self-2.result was.teller.text.items c.steps-2.new.teller.text.items t c.count_up-self-2.ensures c.saturating_sub-left.ensures at_fits in
+    let d = not_due (m after.machine) limits was.plan after.waits after.made (trace ++ t.piece) (rest ++ t.piece) c.steps-2.new.teller.text.items after.teller.text.items
     c.in_ok-declare.field-0 c.if-not-branch.true (c.in_ok-declare.ensures.told limits (trace ++ t.piece) (rest ++ t.piece) then) in
-    let other = not_cut was.plan.at was.made n c.count_up-self-2.result c.count_up-self-2.ensures (omega arith) (c.in_ok-declare.ensures.early c.if-not-branch.true c.if-not-self.false) in
-    walk_cut limits was.plan.rank c.args.rank c.args.reach trace rest (m after.machine) (m c.steps-2.new.self) after.waits after.made left n was.teller.text.items
+    let other = not_cut was.plan.at was.made n c.count_up-self-2.result c.count_up-self-2.ensures at_fits (c.in_ok-declare.ensures.early c.if-not-branch.true c.if-not-self.false) in
+    walk_cut limits was.plan c.args.rank c.args.reach trace rest (m after.machine) (m c.steps-2.new.self) after.waits after.made left n was.teller.text.items
     c.steps-2.new.teller.text.items after.teller.text.items t (λ is. other (is ∙ c.saturating_sub-left.ensures)) d.0 d.1
 
 pub returns-clause-told : goal.returns-clause-told
@@ -33,13 +37,47 @@ returns-clause-told g c = λ limits trace rest at.
     let was = c.args.self.now in
     let after = c.declare.new.self in
     let left = c.saturating_sub-left.result in
+    let at_fits : was.plan.at ≤ 4294967295 = omega arith in
+    let fits : left ≤ 4294967295 = omega arith in
     let n = c.in_ok-first.first in
-    let t = rw c.cut_to.ensures at c.in_ok-first.ensures (said_by (nothing limits) trace) at.says in
-    let then = stands_stepped (m was.machine) (m c.steps-2.new.self) limits was.plan.rank was.waits was.made trace rest at c.args.rank (up_to left c.args.reach) n
-    c.count_up-self-2.result was.teller.text.items c.steps-2.new.teller.text.items t c.count_up-self-2.ensures in
-    let d = is_due (m after.machine) limits was.plan.rank after.waits after.made (trace ++ t.piece) (rest ++ t.piece) c.steps-2.new.teller.text.items after.teller.text.items
+    let t = rw c.cut_to.ensures at c.in_ok-first.ensures.tells (said_by (nothing limits) trace) at.says in
+    let then = stands_first_part (m was.machine) (m c.steps-2.new.self) limits was.plan was.waits was.made trace rest at c.args.rank c.args.reach left n
+    c.count_up-self-2.result was.teller.text.items c.steps-2.new.teller.text.items t c.count_up-self-2.ensures c.saturating_sub-left.ensures at_fits in
+    let d = is_due (m after.machine) limits was.plan after.waits after.made (trace ++ t.piece) (rest ++ t.piece) c.steps-2.new.teller.text.items after.teller.text.items
     c.in_ok-declare.field-0 c.if-not-branch.false (c.in_ok-declare.ensures.told limits (trace ++ t.piece) (rest ++ t.piece) then) in
-    let u = rw c.cut_behind.ensures at c.in_ok-rest.ensures (said_by (nothing limits) ((trace ++ t.piece) ++ d.0)) d.2.says in
-    walk_both limits was.plan.rank c.args.rank c.args.reach trace rest (m after.machine) (m c.steps-3.new.self) (m c.steps-2.new.self) after.waits after.made left n
-    c.in_ok-rest.rest c.count_up-self-3.result was.teller.text.items c.steps-2.new.teller.text.items after.teller.text.items c.steps-3.new.teller.text.items t d.0 d.1 d.2 d.3 u
-    c.count_up-self-3.ensures
+    let u = rw c.cut_behind.ensures at c.in_ok-rest.ensures.tells (said_by (nothing limits) ((trace ++ t.piece) ++ d.1)) d.3.stands.says in
+    walk_both limits was.plan c.args.rank c.args.reach trace rest (m after.machine) (m c.steps-3.new.self) (m c.steps-2.new.self) after.waits d.0 after.made left n
+    c.in_ok-rest.rest c.count_up-self-3.result fits was.teller.text.items c.steps-2.new.teller.text.items after.teller.text.items c.steps-3.new.teller.text.items t d.1 d.2 d.3.stands
+    d.4 u c.count_up-self-3.ensures
+
+pub returns-then-not-self-clause-far : goal.returns-then-not-self-clause-far
+returns-then-not-self-clause-far g c =
+    let m = g.M.StepMachine.Has in
+    let was = c.args.self.now in
+    far_whole (m was.machine) (m c.steps.new.self) c.args.rank c.args.reach was.made c.in_ok-made.made c.count_up-self.result c.in_ok-made.ensures.goes c.count_up-self.ensures
+
+pub returns-then-not-branch-clause-far : goal.returns-then-not-branch-clause-far
+returns-then-not-branch-clause-far g c =
+    let m = g.M.StepMachine.Has in
+    let was = c.args.self.now in
+    let after = c.declare.new.self in
+    let left = c.saturating_sub-left.result in
+    let n = c.in_ok-first.first in
+    let at_fits : was.plan.at ≤ 4294967295 = omega arith in
+    let far = rw c.cut_to.ensures at c.in_ok-first.ensures.goes in
+    let other = not_cut was.plan.at was.made n c.count_up-self-2.result c.count_up-self-2.ensures at_fits (c.in_ok-declare.ensures.early c.if-not-branch.true c.if-not-self.false) in
+    subst (λ (p : Progress). ComesFar c.args.reach was.made after.made (p.next c.args.rank)) (sym (c.in_ok-declare.ensures.idle c.if-not-branch.true))
+    (subst (λ n. ComesFar c.args.reach was.made n ((m c.steps-2.new.self).next c.args.rank)) (sym c.declare.ensures.made)
+    (far_cut (m was.machine) (m c.steps-2.new.self) c.args.rank c.args.reach was.made left n c.count_up-self-2.result far (λ is. other (is ∙ c.saturating_sub-left.ensures)) c.count_up-self-2.ensures))
+
+pub returns-clause-far : goal.returns-clause-far
+returns-clause-far g c =
+    let m = g.M.StepMachine.Has in
+    let was = c.args.self.now in
+    let after = c.declare.new.self in
+    let left = c.saturating_sub-left.result in
+    let n = c.in_ok-first.first in
+    let first = rw c.cut_to.ensures at c.in_ok-first.ensures.goes in
+    let last = rw c.cut_behind.ensures at c.in_ok-rest.ensures.goes in
+    far_both (m after.machine) (m c.steps-3.new.self) c.args.rank c.args.reach was.made (m was.machine) (m c.steps-2.new.self) left n first c.in_ok-rest.rest c.count_up-self-2.result c.count_up-self-3.result last
+    c.count_up-self-2.ensures (rw c.declare.ensures.made at c.count_up-self-3.ensures)

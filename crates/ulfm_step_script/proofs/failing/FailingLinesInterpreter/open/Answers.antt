@@ -8,4 +8,4 @@ returns g c =
     let after = c.declare.new.self in
     has_opened (m after.machine) c.args.limits c.args.plan after.plan after.waits after.made c.in_ok-declare.field-0 c.in_ok-teller.teller.text.items
     after.teller.text.items c.declare.ensures.plan c.in_ok-teller.ensures
-    (c.in_ok-declare.ensures.told c.args.limits [] [] (stands_first (m c.in_ok-machine.machine) c.args.limits c.args.plan.rank c.in_ok-machine.ensures))
+    (c.in_ok-declare.ensures.told c.args.limits [] [] (stands_first (m c.in_ok-machine.machine) c.args.limits c.args.plan c.in_ok-machine.ensures))
