@@ -1,8 +1,10 @@
 -- What a trace begins that follows a script: calls that some line spells, and at most one for each line of the script.
-use Rattle.std.proofs.Common.{◌≡◌, ℕ, ◌+◌, ◌-◌, ◌≤◌, ◌&&◌, Bool, true, false, List, [], ◌∷◌, ◌++◌, length, Result, Ok, Err, refl, sym, subst, arith, inl, inr, if◌then◌else◌, nat_lt}
+use Rattle.std.proofs.Common.{◌≡◌, ℕ, ◌+◌, ◌-◌, ◌≤◌, ◌&&◌, Bool, true, false, List, [], ◌∷◌, ◌++◌, length, Some, Result, Ok, Err, refl, sym, subst, arith, inl, inr, if◌then◌else◌, nat_lt}
 use Rattle.std.specs.{Prelude.{codes}, Fmt.{decimal}, List.{AllByRecursion}}
 use Rattle.ulfm_laws.specs.declared.flag_and.FlagAnd.{FlagAnd}
 use Rattle.ulfm_model.specs.declared.{call.Call.{Call}, event.Caller.{Caller}, limits.Limits.{Limits}}
+use Rattle.ulfm_model.specs.declared.reply.Reply.{Reply}
+use Rattle.ulfm_model.specs.declared.reply.Reply.TheVariants as reply
 use Rattle.ulfm_model.specs.Answers.{traits_of}
 use Rattle.ulfm_model.proofs.Lists.{each_append}
 use Rattle.ulfm_script.specs.declared.line_kind.{LineKind.{LineKind}, LineKind.TheVariants.{Lines, Long}}
@@ -10,7 +12,7 @@ use Rattle.ulfm_script.specs.Scripts.{Asked, Language, asked_by, asked_last, ask
 use Rattle.ulfm_script.specs.declared.header_kind.HeaderKind.TheVariants.{Steps}
 use Rattle.ulfm_script.proofs.ScriptLemmas.{before_last}
 use Rattle.ulfm_trace_model.specs.declared.{line.Line.{Line}, step_line.StepLine.TheVariants.{Before, Called, Failed, Finished, Stepped}}
-use Rattle.ulfm_trace_model.specs.{Follows.{AreOf, Follows, IsAtOnce, IsPiece, is_of, is_reply}, Traces.{Told, said_by}}
+use Rattle.ulfm_trace_model.specs.{Follows.{AreOf, Follows, IsAtOnce, IsPiece, fail_event, is_of, is_reply}, Traces.{Told, said_by}}
 use Rattle.ulfm_lines.specs.{LineTexts.{TraceLine}, StepLines.{ScriptStep, step_line_of}, Stepped.{IsStep, TraceState}}
 use Rattle.ulfm_lines.proofs.StepsSpelled.{steps_found}
 use Rattle.ulfm_written.specs.Calls.{AllFit, CalledFits, calls_in, calls_of}
@@ -52,6 +54,12 @@ at_once asked rest (inr one) =
     let zero = none.1 in
     subst (λ (t : List (Told FlagAnd)). AllFit t × (calls_in t ≡ 0)) (sym one.1) ((none.0, tt), omega (arith, zero))
 
+-- nor does what a declaration tells behind its call
+fail_begins : (r point : ℕ) (told : Reply FlagAnd)
+    → (let rest = fail_event r told ++ record { line = Line.Replied Caller.Outside point (Some told); group = [] } ∷ [] in AllFit rest × (calls_in rest ≡ 0))
+fail_begins r point reply.Declared = ((tt, (tt, tt)), refl)
+fail_begins r point told = ((tt, tt), refl)
+
 -- a piece begins one call at most
 abbrev OneAtMost : List (Told FlagAnd) → Type 0
 OneAtMost piece = AllFit piece × (calls_in piece ≤ 1)
@@ -65,12 +73,12 @@ piece_begins now (Called asked) piece spelled is =
     let zero = rest.1 in
     subst OneAtMost (sym is.1) (((spelled.1.0, spelled.1.1), rest.0), omega (arith, zero))
 piece_begins now (Stepped r count) piece spelled is = none_at_most piece (none_begins (Caller.Rank r) piece is.0)
-piece_begins now (Before r name) piece spelled is = none_at_most piece (none_begins (Caller.Rank r) piece is)
+piece_begins now (Before r name) piece spelled is = none_at_most piece (none_begins (Caller.Rank r) piece is.0)
 piece_begins now (Finished r) piece spelled is = none_at_most piece (none_begins (Caller.Rank r) piece is.0)
 piece_begins now (Failed r) piece spelled is =
-    let rest = none_begins Caller.Outside is.0 is.2 in
+    let rest = fail_begins r is.0 is.1 in
     let zero = rest.1 in
-    subst OneAtMost (sym is.1) (((codes "fail " ++ decimal r, (spelled.1.0, refl)), rest.0), omega (arith, zero))
+    subst OneAtMost (sym is.2) (((codes "fail " ++ decimal r, (spelled.1.0, refl)), rest.0), omega (arith, zero))
 
 -- a trace that follows a script
 pub follows_begins : (now : TraceState) (lines : List ScriptStep) (trace : List (Told FlagAnd)) → AllByRecursion IsStep lines → Follows now lines trace → AllFit trace × (calls_in trace ≤ length lines)

@@ -14,7 +14,7 @@ use Rattle.ulfm_trace_model.specs.{Traces.{AreLegalAfter, IsLegalTrace, MayCome,
 use Rattle.ulfm_trace_model.proofs.{Answered.{replies_answered}, Kept.{kept_along, kept_nothing as nothing_kept, limits_stay}, Parts.{legal_parts, said_append}}
 use Rattle.ulfm_lines.specs.{LineTexts.{TraceLine, line_text, lines_text}, StepLines.{ScriptStep}, Stepped.{IsStep, TraceState}, Telling.{Tells}}
 use Rattle.ulfm_lines.proofs.ReadLemmas.{printed_told}
-use Rattle.ulfm_step_script.specs.{FailingScripts.{failing_scripts, FailsSomewhere, FindsOpenBehind, IsDeclaration, LeavesOut, RunsFailing}, StepScripts.{FindsOpenCall, PrintsTrace, RunsSteps, step_scripts, trace_text}}
+use Rattle.ulfm_step_script.specs.{FailingScripts.{failing_scripts, FailsSomewhere, FindsOpenBehind, LeavesDue, RunsFailing}, StepScripts.{FindsOpenCall, PrintsTrace, RunsSteps, step_scripts, trace_text}}
 use Rattle.ulfm_trace.specs.{Checks.{Checks}, Texts.{AreTold, IsFirstBad, IsLegalText, TraceLines}}
 use Rattle.ulfm_trace.specs.declared.verdict.{Verdict.{Verdict}, Verdict.TheVariants.{Illegal, Legal}}
 use Rattle.ulfm_trace.proofs.{Beginnings.{one_law}, TextLines.{first_then}}
@@ -300,15 +300,13 @@ written_legal known left old new (Err fault.Read) ends = let stops = ends.2.0 in
 written_legal known left old new (Err fault.Write) ends = let stops = ends.2 in (stops.out, stops.told, some_legal stops.text stops.out stops.printed)
 
 -- a declaration in between begins one call more
-declaration_begins : (limits : Limits) (r : ℕ) (piece : TraceLines) → r < 1024 → IsDeclaration limits r piece → AllFit piece × (calls_in piece ≤ 1)
-declaration_begins limits r piece lt (inl none) = subst (λ (t : TraceLines). AllFit t × (calls_in t ≤ 1)) (sym none) (tt, omega arith)
-declaration_begins limits r piece lt (inr is) = piece_begins (nothing limits) (Failed r) piece (codes "fail " ++ decimal r, (lt, refl)) is
-
-failing_begins : (limits : Limits) (r : ℕ) (trace rest : TraceLines) → r < 1024 → LeavesOut limits r trace rest → AllFit rest → AllFit trace × (calls_in trace ≤ calls_in rest + 1)
-failing_begins limits r trace rest lt left fits =
+failing_begins : (limits : Limits) (r at steps : ℕ) (trace rest : TraceLines) → r < 1024 → LeavesDue limits r at steps trace rest → AllFit rest → AllFit trace × (calls_in trace ≤ calls_in rest + 1)
+failing_begins limits r at steps trace rest lt (inl none) fits =
+    let same : calls_in trace ≡ calls_in rest = ap calls_in none.1.same in (subst AllFit (sym none.1.same) fits, omega (arith, same))
+failing_begins limits r at steps trace rest lt (inr left) fits =
     let Q : Told FlagAnd → Type 0 = λ told. CalledFits told.line in
     let parts = each_parts Q left.before left.behind (subst AllFit left.rest_is fits) in
-    let declared = declaration_begins limits r left.declaration lt left.declares in
+    let declared = piece_begins (nothing limits) (Failed r) left.declaration (codes "fail " ++ decimal r, (lt, refl)) left.declares in
     let one = declared.1 in
     let whole : calls_in trace ≡ calls_in left.before + (calls_in left.declaration + calls_in left.behind) =
     ap calls_in left.trace_is ∙ (calls_append left.before (left.declaration ++ left.behind) ∙ ap (λ n. calls_in left.before + n) (calls_append left.declaration left.behind)) in
@@ -318,14 +316,14 @@ failing_begins limits r trace rest lt left fits =
     )
 
 -- what a run has written in which a rank was declared in between
-pub failing_legal : (rank number : ℕ) (known old new : Known) → rank < 1024 → RunsFailing rank number known old new → GotLegal old new
-failing_legal rank number known old new lt run =
+pub failing_legal : (at rank number : ℕ) (known old new : Known) → rank < 1024 → RunsFailing at rank number known old new → GotLegal old new
+failing_legal at rank number known old new lt run =
     let limits_are : (script_of failing_scripts run.text).limits ≡ Some run.limits = ap (λ (s : Script ScriptStep). s.limits) run.script_is in
     let items_are : (script_of failing_scripts run.text).items ≡ run.items = ap (λ (s : Script ScriptStep). s.items) run.script_is in
     let spells = subst (Spells run.limits) items_are (text_spells FailsSomewhere FindsOpenBehind run.text run.limits limits_are) in
     let failed = run.has_run in
     let begins = follows_begins (nothing run.limits) run.items failed.rest spells.steps failed.follows in
-    let all = failing_begins run.limits rank failed.trace failed.rest lt failed.left_out begins.0 in
+    let all = failing_begins run.limits rank at failed.steps failed.trace failed.rest lt failed.left_out begins.0 in
     let few = begins.1 in
     let most = spells.few in
     let one = all.1 in

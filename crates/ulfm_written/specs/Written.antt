@@ -48,4 +48,4 @@ WrittenTracesAreLegal = (known left old new : Known) (ended : RunEnd) → RunsSt
 
 -- and with one that ran to its end while a rank was declared failed in between
 abbrev pub FailingTracesAreLegal : Type 0
-FailingTracesAreLegal = (rank number : ℕ) (known old new : Known) → rank < 1024 → RunsFailing rank number known old new → GotLegal old new
+FailingTracesAreLegal = (at rank number : ℕ) (known old new : Known) → rank < 1024 → RunsFailing at rank number known old new → GotLegal old new
