@@ -323,3 +323,38 @@ fn outside_fail(rt: HostRuntime) -> Result<(), Fail> {
 
     Ok(())
 }
+
+#[test]
+fn member_known_fit(rt: HostRuntime) -> Result<(), Fail> {
+    let (_, member) = two(&rt, rt.alloc())?;
+
+    member.known_fit();
+    assert!(rt; member.last_steps() == 0);
+
+    Ok(())
+}
+
+#[test]
+fn in_turn_poll_in_turn(rt: HostRuntime) -> Result<(), Fail> {
+    let alloc = rt.alloc();
+    let words: BookWords<FlagAnd> = BookWords::open(alloc, TWO)?;
+    let (_, mut members) = ulfm_member::open(alloc, words)?;
+    let (Some(mut second), Some(mut first)) = (members.pop(), members.pop()) else {
+        return Ok(());
+    };
+
+    let value = FlagAnd { bits: 0b0110 };
+    first.iagree(0, value)?;
+    second.iagree(0, value)?;
+    let agreed = Polled::Agreed {
+        value,
+        failed: 0,
+        raised: false,
+    };
+    let polled = ulfm_member::poll_in_turn(&mut first, &mut second, 0);
+    assert!(rt; polled == (Ok(agreed), Ok(agreed)));
+    // With two members a round has one block: a load of the list of failures, and one of that block.
+    assert!(rt; second.last_steps() == 2);
+
+    Ok(())
+}

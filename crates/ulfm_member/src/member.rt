@@ -84,6 +84,18 @@ where
         (self.world, self.rank, self.pass)
     }
 
+    /// Its pass is of the words of its world, and its rank's record fits what that has seen. It does nothing: what it ensures is a law.
+    ///
+    /// ```
+    /// member.known_fit();
+    /// assert!(rt; member.last_steps() == 0);
+    /// ```
+    pub fn known_fit(&self)
+        ensures { IsMember P.meld self.now }
+    {
+        let _pass = &self.pass;
+    }
+
     /// The pass that it calls with, to be read. It is no step.
     ///
     /// ```
