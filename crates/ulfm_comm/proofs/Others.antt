@@ -110,21 +110,21 @@ module _ {P : Type 0} where
   counts_none (call.Free rank c) count other kind = kind
 
   -- a reply about no group
-  about_none : (state : State P) (c : ℕ) (group : List ℕ) (reply : Reply P) → ((j context size : ℕ) → reply ≡ Shrunk j context size → ⊥) → ((count : ℕ) → reply ≡ FailedGroup count → ⊥) → IsAbout state c group reply
-  about_none state c group Started made counted = tt
-  about_none state c group Pending made counted = tt
-  about_none state c group (Agreed value count raised) made counted = tt
+  about_none : (state : State P) (c : ℕ) (group : List ℕ) (reply : Reply P) → ((j context size : ℕ) → reply ≡ Shrunk j context size → ⊥) → ((count : ℕ) → reply ≡ FailedGroup count → ⊥) → IsAbout state c group group reply
+  about_none state c group Started made counted = refl
+  about_none state c group Pending made counted = refl
+  about_none state c group (Agreed value count raised) made counted = refl
   about_none state c group (Shrunk j context size) made counted = absurd (made j context size refl)
-  about_none state c group Done made counted = tt
+  about_none state c group Done made counted = refl
   about_none state c group (FailedGroup count) made counted = absurd (counted count refl)
-  about_none state c group (Acked count) made counted = tt
-  about_none state c group Declared made counted = tt
-  about_none state c group AlreadyFailed made counted = tt
-  about_none state c group Revoked made counted = tt
-  about_none state c group AlreadyRevoked made counted = tt
-  about_none state c group (Standing revoked) made counted = tt
-  about_none state c group Freed made counted = tt
-  about_none state c group (Refused refusal) made counted = tt
+  about_none state c group (Acked count) made counted = refl
+  about_none state c group Declared made counted = refl
+  about_none state c group AlreadyFailed made counted = refl
+  about_none state c group Revoked made counted = refl
+  about_none state c group AlreadyRevoked made counted = refl
+  about_none state c group (Standing revoked) made counted = refl
+  about_none state c group Freed made counted = refl
+  about_none state c group (Refused refusal) made counted = refl
 
 module _ {P : Type 0} (meld : P → P → P) (alone : Bool) (name : Name) (before : Sight P) (ranks : List Ranked) (job : IsJob meld name before (records_of ranks)) (asked : Call P) (other : IsOther asked) (i : ℕ) (d : Ranked) (is_rank : i ≡ rank_of asked) (below : i < length ranks) where
   abbrev own : Record
@@ -192,13 +192,13 @@ module _ {P : Type 0} (meld : P → P → P) (alone : Bool) (name : Name) (befor
         poll_made = subst (λ r. Calls meld alone name (call.Poll own.number polled.1) own before r new after) is (subst (λ a. Calls meld alone name a own before reply new after) poll_is other_calls)
 
         -- what the rank holds of the new communicator are its members
-        pub other_made : (c : ℕ) (group : List ℕ) → ((x : Held) → held_at new j ≡ Some x → group ≡ x.group) → IsAbout (state_of name after (records_of (set ranks i left))) c group reply
-        other_made c group has = subst (IsAbout (state_of name after (records_of (set ranks i left))) c group) (sym is) (has_members meld alone name polled.1 own before j context size new after poll_made group has)
+        pub other_made : (c : ℕ) (before_it group : List ℕ) → ((x : Held) → held_at new j ≡ Some x → group ≡ x.group) → IsAbout (state_of name after (records_of (set ranks i left))) c before_it group reply
+        other_made c before_it group has = subst (IsAbout (state_of name after (records_of (set ranks i left))) c before_it group) (sym is) (has_members meld alone name polled.1 own before j context size new after poll_made group has)
 
         -- they are no more than those of its parent
         pub other_few : (y : Held) → held_at new j ≡ Some y → IsOfFew own (comm_of asked) y
         other_few y holds =
             subst (λ a. IsOfFew own (comm_of a) y) (sym poll_is) (made_few meld alone name polled.1 own before j context size new after poll_made (ranked_fits meld alone name before ranks job i d below) y holds)
 
-      pub other_about : (c : ℕ) (group : List ℕ) → ((j context size : ℕ) → reply ≡ Shrunk j context size → ⊥) → ((refusal : Refusal) → reply ≡ Refused refusal → ⊥) → IsAbout (state_of name after (records_of (set ranks i left))) c group reply
+      pub other_about : (c : ℕ) (group : List ℕ) → ((j context size : ℕ) → reply ≡ Shrunk j context size → ⊥) → ((refusal : Refusal) → reply ≡ Refused refusal → ⊥) → IsAbout (state_of name after (records_of (set ranks i left))) c group group reply
       other_about c group made answers = about_none (state_of name after (records_of (set ranks i left))) c group reply made (λ count is. counts_none asked count other (subst (IsKind asked) is (other_kind answers)))

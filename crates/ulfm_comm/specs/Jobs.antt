@@ -26,23 +26,23 @@ pub record StepsBy {P : Type 0} (meld : P → P → P) (alone : Bool) (name : Na
   pub begins : IsPrefix before.seen after.seen
   pub step : IsTrue alone → IsStep meld (state_of name before old) (traits_of asked).by asked reply (state_of name after new)
 
--- The group that a reply to a call on communicator c is about, by the state after it: a failed group, or the members of a new
--- communicator. Other replies are about none.
-abbrev pub IsAbout : {P : Type 0} → State P → ℕ → List ℕ → Reply P → Type 0
-IsAbout state c group Started = ⊤
-IsAbout state c group Pending = ⊤
-IsAbout state c group (Agreed value count raised) = ⊤
-IsAbout state c group (Shrunk j context size) = group ≡ members state.limits.ranks state.history j
-IsAbout state c group Done = ⊤
-IsAbout state c group (FailedGroup count) = group ≡ failed state.limits.ranks state.history c
-IsAbout state c group (Acked count) = ⊤
-IsAbout state c group Declared = ⊤
-IsAbout state c group AlreadyFailed = ⊤
-IsAbout state c group Revoked = ⊤
-IsAbout state c group AlreadyRevoked = ⊤
-IsAbout state c group (Standing revoked) = ⊤
-IsAbout state c group Freed = ⊤
-IsAbout state c group (Refused refusal) = ⊤
+-- What the caller's vector has after a reply to a call on communicator c, by the state then: a failed group, or the members of a new
+-- communicator, where the reply is about them; else what it had.
+abbrev pub IsAbout : {P : Type 0} → State P → ℕ → List ℕ → List ℕ → Reply P → Type 0
+IsAbout state c old group Started = group ≡ old
+IsAbout state c old group Pending = group ≡ old
+IsAbout state c old group (Agreed value count raised) = group ≡ old
+IsAbout state c old group (Shrunk j context size) = group ≡ members state.limits.ranks state.history j
+IsAbout state c old group Done = group ≡ old
+IsAbout state c old group (FailedGroup count) = group ≡ failed state.limits.ranks state.history c
+IsAbout state c old group (Acked count) = group ≡ old
+IsAbout state c old group Declared = group ≡ old
+IsAbout state c old group AlreadyFailed = group ≡ old
+IsAbout state c old group Revoked = group ≡ old
+IsAbout state c old group AlreadyRevoked = group ≡ old
+IsAbout state c old group (Standing revoked) = group ≡ old
+IsAbout state c old group Freed = group ≡ old
+IsAbout state c old group (Refused refusal) = group ≡ old
 
 -- a call of a rank, any but a query of the failed group
 abbrev pub IsOther : {P : Type 0} → Call P → Type 0

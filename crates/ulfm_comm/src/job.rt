@@ -105,7 +105,7 @@ where
 
     /// Answers a call. Where nobody else steps, it is one step of the sequential object. A failed group that was asked for is
     /// put into the vector, in the order of the failures, and so are the members of a communicator that a shrink made, in their
-    /// order. Memory alone can be refused: to a query of the failed group, where the vector has less room than the group has ranks, and to
+    /// order; after any other reply the vector is as it was. Memory alone can be refused: to a query of the failed group, where the vector has less room than the group has ranks, and to
     /// the poll of a shrink. The vector's memory for that poll is taken before it, so that its reply isn't lost. After a refusal the vector
     /// is as it was, and so is each rank, but for what it has seen: the call can be made again.
     ///
@@ -122,7 +122,7 @@ where
         asked: &Call<P>,
         group: &mut Vec<u16, A>,
     ) -> Result<Reply<P>, AllocError>
-        ensures about { IfOk result (IsAbout self.new (comm_of asked.now) group.new.items) }
+        ensures about { IfOk result (IsAbout self.new (comm_of asked.now) group.old.items group.new.items) }
         ensures step { IfOk result (λ reply. IsTrue W.alone → IsStep P.meld self.old (traits_of asked.now).by asked.now reply self.new) }
         ensures memory { OnErr result (MayLack (vec_capacity group.old) self.old asked.now self.new) }
         ensures kept { OnErr result (KeepsRecords self.old.records self.new.records) }
@@ -154,7 +154,7 @@ fn fail_by<P: Packed, A: Allocator + Copy, W: Words<P, A>>(
     rank: u16,
 ) -> Reply<P>
     requires { IsJob P.meld (W.name world.now.words) (W.sight pass.old) (records_of ranks.now) }
-    ensures about { (group : List ℕ) → IsAbout (state_of (W.name world.now.words) (W.sight pass.new) (records_of ranks.now)) 0 group result }
+    ensures about { (group : List ℕ) → IsAbout (state_of (W.name world.now.words) (W.sight pass.new) (records_of ranks.now)) 0 group group result }
     ensures step { StepsBy P.meld W.alone (W.name world.now.words) (FailAsked rank) (W.sight pass.old) (records_of ranks.now) result
         (W.sight pass.new) (records_of ranks.now) }
 {
@@ -180,7 +180,7 @@ fn get_by<P: Packed, A: Allocator + Copy, W: Words<P, A>>(
         (W.sight pass.new) (records_of ranks.new)) }
     ensures job { IsJob P.meld (W.name world.now.words) (W.sight pass.new) (records_of ranks.new) }
     ensures begins { IsPrefix (W.sight pass.old).seen (W.sight pass.new).seen }
-    ensures about { IfOk result (IsAbout (state_of (W.name world.now.words) (W.sight pass.new) (records_of ranks.new)) comm found.new.items) }
+    ensures about { IfOk result (IsAbout (state_of (W.name world.now.words) (W.sight pass.new) (records_of ranks.new)) comm found.old.items found.new.items) }
     ensures memory { OnErr result (vec_capacity found.old < length (failed (W.name world.now.words).limits.ranks (W.sight pass.new).seen comm)) }
     ensures kept { OnErr result (KeepsRecords (records_of ranks.old) (records_of ranks.new)) }
     ensures group { OnErr result (found.new.items ≡ found.old.items) }
@@ -253,7 +253,8 @@ fn call_by<P: Packed, A: Allocator + Copy, W: Words<P, A>>(
         (W.sight pass.new) (records_of ranks.new)) }
     ensures job { IsJob P.meld (W.name world.now.words) (W.sight pass.new) (records_of ranks.new) }
     ensures begins { IsPrefix (W.sight pass.old).seen (W.sight pass.new).seen }
-    ensures about { IfOk result (IsAbout (state_of (W.name world.now.words) (W.sight pass.new) (records_of ranks.new)) (traits_of asked).comm found.new.items) }
+    ensures about { IfOk result (IsAbout (state_of (W.name world.now.words) (W.sight pass.new) (records_of ranks.new)) (comm_of asked)
+        found.old.items found.new.items) }
     ensures memory { OnErr result (PollsShrink (records_of ranks.old) (rank_in asked) asked) }
     ensures kept { OnErr result (KeepsRecords (records_of ranks.old) (records_of ranks.new)) }
     ensures group { OnErr result (found.new.items ≡ found.old.items) }

@@ -202,9 +202,8 @@ impl<P: Packed, A: Allocator + Copy> RankRecord<P, A> {
 
 impl<P: Packed, A: Allocator + Copy> Rank<P, A> {
     /// Begins a call of this rank, any but a declaration, to be taken step by step. It is no step, and takes no memory. The call makes as
-    /// many steps as when it is made whole, at most: with each step fewer are left. Where the rank has seen all ranks of the world and
-    /// wasn't refused for good, it makes one more, in which its look reads the last of them again. A call that was answered leaves no rank
-    /// so, but one that was given up as it read on for a shrink may.
+    /// many steps as when it is made whole, at most: with each step fewer are left. Only where the rank has seen all ranks of the world, as
+    /// one may that read on for a shrink, and wasn't refused for good, it makes one more: its look reads the last of them again.
     ///
     /// ```
     /// let asked = Call::IsRevoked {

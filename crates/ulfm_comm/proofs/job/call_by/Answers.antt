@@ -1,10 +1,10 @@
-use Rattle.std.proofs.Common.{◌≡◌, [], append-nil, slice_set, ap, sym, subst, ◌∙◌, arith}
+use Rattle.std.proofs.Common.{◌≡◌, [], refl, append-nil, slice_set, ap, sym, subst, ◌∙◌, arith}
 use Rattle.std.proofs.lemmas.{List.{set-get_or}, Result.{IfOk-from_err}}
 use Rattle.ulfm_model.specs.declared.event.Caller.TheVariants.{Rank}
 use Rattle.ulfm_model.specs.declared.refusal.Refusal.TheVariants.{OutOfMemory}
 use Rattle.ulfm_model.specs.declared.reply.Reply.TheVariants.{Refused}
-use Rattle.ulfm_model.specs.Answers.{traits_of}
-use Rattle.ulfm_comm.specs.{Counts.{records_of}, Jobs.{IsJob, StepsBy}}
+use Rattle.ulfm_model.specs.Terms.{comm_of}
+use Rattle.ulfm_comm.specs.{Counts.{records_of}, Jobs.{IsAbout, IsJob, StepsBy, state_of}}
 use Rattle.ulfm_comm.proofs.{Jobs.{at_error, ranked_fits, ranked_missing}, Lacking.{keeps_same, polls_shrink}, Others.{by_rank, mine, other_about, other_begins, other_few, other_job, other_keeps, other_made, other_polls, other_step, out_polls}}
 use Rattle.ulfm_comm.proofs.job.call_by.Goals as goal
 use Rattle.ulfm_comm.proofs.job.call_by.Goals.{After-call-reply, After-from_residual-in_err-put_members-in-Shrunk, In-Shrunk}
@@ -21,7 +21,7 @@ pub returns-then-rank-ranks-clause-begins : goal.returns-then-rank-ranks-clause-
 returns-then-rank-ranks-clause-begins g c = ([], append-nil _)
 
 pub returns-then-rank-ranks-clause-about : goal.returns-then-rank-ranks-clause-about
-returns-then-rank-ranks-clause-about g c = tt
+returns-then-rank-ranks-clause-about g c = refl
 
 pub returns-then-rank-ranks-clause-memory : goal.returns-then-rank-ranks-clause-memory
 returns-then-rank-ranks-clause-memory g c = tt
@@ -77,7 +77,7 @@ pub returns-in_default-refusal : goal.returns-in_default-refusal
 returns-in_default-refusal g c =
     let at = (goal.at.returns-in_default-refusal g c).After-call-reply in
     let step = subst (λ r. StepsBy g.P.Meld.meld g.W.Words.alone (g.W.Words.name c.args.world.now.words) c.args.asked (g.W.Words.sight c.args.pass.now) (records_of c.args.ranks.now) r (g.W.Words.sight c.call-reply.new.pass) (records_of (slice_set c.args.ranks.now c.rank_of-rank.result c.call-reply.new.self))) c.in-Refused.is (stepped g at (λ out. c.in_default-refusal.not-OutOfMemory (cc (c.in-Refused.is, out)))) in
-    record { step = step; job = step.job; begins = step.begins; about = tt; memory = tt; kept = tt; group = tt }
+    record { step = step; job = step.job; begins = step.begins; about = c.make_room_for.ensures.kept; memory = tt; kept = tt; group = tt }
 
 -- where a communicator was made
 made : (g : _) (c : In-Shrunk g) → c.call-reply.result ≡ Refused OutOfMemory → ⊥
@@ -87,7 +87,7 @@ pub returns-in_ok-put_members-in-Shrunk : goal.returns-in_ok-put_members-in-Shru
 returns-in_ok-put_members-in-Shrunk g c =
     let at = goal.at.returns-in_ok-put_members-in-Shrunk g c in
     let step = subst (λ r. StepsBy g.P.Meld.meld g.W.Words.alone (g.W.Words.name c.args.world.now.words) c.args.asked (g.W.Words.sight c.args.pass.now) (records_of c.args.ranks.now) r (g.W.Words.sight c.call-reply.new.pass) (records_of (slice_set c.args.ranks.now c.rank_of-rank.result c.call-reply.new.self))) c.in-Shrunk.is (stepped g at.After-call-reply (made g at.In-Shrunk)) in
-    let about = other_made g.P.Meld.meld g.W.Words.alone (g.W.Words.name c.args.world.now.words) (g.W.Words.sight c.args.pass.now) c.args.ranks.now c.requires.job c.args.asked c.requires.other c.rank_of-rank.result c.index-ranks-rank.result c.rank_of-rank.ensures (omega (arith, c.if-rank-ranks.false)) c.call-reply.new.self (g.W.Words.sight c.call-reply.new.pass) c.call-reply.result c.call-reply.ensures.ends (made g at.In-Shrunk) c.in-Shrunk.comm c.in-Shrunk.context c.in-Shrunk.size c.in-Shrunk.is (traits_of c.args.asked).comm c.put_members.new.found.items c.in_ok-put_members-in-Shrunk.ensures.ok in
+    let about = other_made g.P.Meld.meld g.W.Words.alone (g.W.Words.name c.args.world.now.words) (g.W.Words.sight c.args.pass.now) c.args.ranks.now c.requires.job c.args.asked c.requires.other c.rank_of-rank.result c.index-ranks-rank.result c.rank_of-rank.ensures (omega (arith, c.if-rank-ranks.false)) c.call-reply.new.self (g.W.Words.sight c.call-reply.new.pass) c.call-reply.result c.call-reply.ensures.ends (made g at.In-Shrunk) c.in-Shrunk.comm c.in-Shrunk.context c.in-Shrunk.size c.in-Shrunk.is (comm_of c.args.asked) c.args.found.now.items c.put_members.new.found.items c.in_ok-put_members-in-Shrunk.ensures.ok in
     record { step = step; job = step.job; begins = step.begins; about = rw c.in-Shrunk.is at about; memory = tt; kept = tt; group = tt }
 
 pub returns-in_err-put_members-in-Shrunk-clause-job : goal.returns-in_err-put_members-in-Shrunk-clause-job
@@ -125,7 +125,9 @@ returns-in_default g c =
       step = step;
       job = step.job;
       begins = step.begins;
-      about = other_about g.P.Meld.meld g.W.Words.alone (g.W.Words.name c.args.world.now.words) (g.W.Words.sight c.args.pass.now) c.args.ranks.now c.requires.job c.args.asked c.requires.other c.rank_of-rank.result c.index-ranks-rank.result c.rank_of-rank.ensures (omega (arith, c.if-rank-ranks.false)) c.call-reply.new.self (g.W.Words.sight c.call-reply.new.pass) c.call-reply.result c.call-reply.ensures.ends kept (traits_of c.args.asked).comm c.make_room_for.new.found.items c.in_default.not-Shrunk c.in_default.not-Refused;
+      about =
+          subst (λ old. IsAbout (state_of (g.W.Words.name c.args.world.now.words) (g.W.Words.sight c.call-reply.new.pass) (records_of (slice_set c.args.ranks.now c.rank_of-rank.result c.call-reply.new.self))) (comm_of c.args.asked) old c.make_room_for.new.found.items c.call-reply.result) c.make_room_for.ensures.kept
+          (other_about g.P.Meld.meld g.W.Words.alone (g.W.Words.name c.args.world.now.words) (g.W.Words.sight c.args.pass.now) c.args.ranks.now c.requires.job c.args.asked c.requires.other c.rank_of-rank.result c.index-ranks-rank.result c.rank_of-rank.ensures (omega (arith, c.if-rank-ranks.false)) c.call-reply.new.self (g.W.Words.sight c.call-reply.new.pass) c.call-reply.result c.call-reply.ensures.ends kept (comm_of c.args.asked) c.make_room_for.new.found.items c.in_default.not-Shrunk c.in_default.not-Refused);
       memory = tt;
       kept = tt;
       group = tt;

@@ -52,4 +52,4 @@ pub returns-in_default : goal.returns-in_default
 returns-in_default g c =
     let refused = ranked_refused g.P.Meld.meld g.W.Words.alone (g.W.Words.name c.args.world.now.words) (g.W.Words.sight c.args.pass.now) c.args.ranks.now c.requires c.args.rank c.index-ranks-rank.result (omega (arith, c.if-rank-ranks.false))
     c.get_failed.new.self (g.W.Words.sight c.get_failed.new.pass) (λ r. call.GetFailed r c.args.comm) c.in-Err.refusal refl c.in_default.not-OutOfMemory c.in-Err.ensures.gets in
-    record { step = refused; job = refused.job; begins = refused.begins; about = tt; memory = tt; kept = tt; group = tt }
+    record { step = refused; job = refused.job; begins = refused.begins; about = c.in-Err.ensures.kept; memory = tt; kept = tt; group = tt }
