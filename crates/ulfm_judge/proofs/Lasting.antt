@@ -12,7 +12,7 @@ use Rattle.ulfm_model.proofs.Lists.{all_some, any_none, any_same, each_always, e
 use Rattle.ulfm_laws.specs.{Bodies.{body_meld, body_unit}, Combined.{combined}}
 use Rattle.ulfm_history.specs.{declared.decide.Decided.{Decided}, Walked.{decision_of}}
 use Rattle.ulfm_judge.specs.declared.rounds.Done.{Done}
-use Rattle.ulfm_judge.specs.{Groups.{group_at}, Numbers.{by_then, count_by, numbers_from}, Failed.{in_group}, Rounds.{AreDone, IsDone, KeepsSlots, failed_of, settled_then}}
+use Rattle.ulfm_judge.specs.{Groups.{group_at}, Numbers.{by_then, count_by, numbers_from}, Failed.{in_group}, Rounds.{AreDone, IsByRound, IsDone, KeepsSlots, failed_of, settled_then}}
 use Rattle.ulfm_judge.proofs.{Counting.{failed_first}, Tabling.{place_is}}
 
 -- the first of a longer list are the first
@@ -204,6 +204,16 @@ pub done_put : {P A S T X E : Type 0} (meld : P → P → P) (rounds more : Hash
     → AreDone meld rounds slots failures groups → IsDone meld slots failures groups c k done → OnOk result (Updates same_place rounds more (c, k, 0) (Some done)) → OnErr result (IsUnchanged rounds more) → AreDone meld more slots failures groups
 done_put meld rounds more slots failures groups c k done (Ok x) are is ok err = done_kept meld rounds more slots failures groups c k done are is ok.0
 done_put meld rounds more slots failures groups c k done (Err e) are is ok err = λ d l other at. are d l other (ap (lookup (same_place (d, l, 0))) (sym err) ∙ at)
+
+-- a table by rounds stays one after something was put at a round, or memory was refused
+pub by_round_put : {V S X E : Type 0} (old new : HashMap (ℕ × ℕ × ℕ) V S) (c k : ℕ) (v : V) (result : Result X E)
+    → IsByRound old → OnOk result (Updates same_place old new (c, k, 0) (Some v)) → OnErr result (IsUnchanged old new) → IsByRound new
+by_round_put {V} old new c k v (Ok x) are ok err = λ place w at. go place w at (same_place (c, k, 0) place) refl
+  where
+    go : (place : ℕ × ℕ × ℕ) (w : V) → get same_place new place ≡ Some w → (b : Bool) → same_place (c, k, 0) place ≡ b → place.2 ≡ 0
+    go place w at true same = sym (ap (λ (p : ℕ × ℕ × ℕ). p.2) (place_is (c, k, 0) place same))
+    go place w at false apart = are place w (sym (ap (λ (b : Bool). if b then Some v else get same_place old place) apart) ∙ (sym (ok.0 place) ∙ at))
+by_round_put old new c k v (Err e) are ok err = λ place w at. are place w (ap (lookup (same_place place)) (sym err) ∙ at)
 
 -- what was put at a place that nothing stood at leaves the others
 pub put_keeps : {P S : Type 0} (old new : HashMap (ℕ × ℕ × ℕ) (ℕ × Slot P) S) (place : ℕ × ℕ × ℕ) (x : ℕ × Slot P) → get same_place old place ≡ None

@@ -34,3 +34,7 @@ IsDone meld slots failures groups c k done =
 abbrev pub AreDone : {P A S T : Type 0} → (P → P → P) → HashMap (ℕ × ℕ × ℕ) (Done P A) T → HashMap (ℕ × ℕ × ℕ) (ℕ × Slot P) S → List ℕ → List (List ℕ) → Type 0
 AreDone {P} {A} meld rounds slots failures groups =
     (c k : ℕ) (done : Done P A) → get same_place rounds (c, k, 0) ≡ Some done → IsDone meld slots failures groups c k done
+
+-- a table by communicator and round: it has nothing at any rank but 0
+abbrev pub IsByRound : {V S : Type 0} → HashMap (ℕ × ℕ × ℕ) V S → Type 0
+IsByRound {V} table = (place : ℕ × ℕ × ℕ) (value : V) → get same_place table place ≡ Some value → place.2 ≡ 0

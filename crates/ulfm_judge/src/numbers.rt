@@ -11,7 +11,7 @@ ghost use Rattle.ulfm_judge.specs.Numbers.{TellsArrivals, TellsDeclared, TellsFa
 ghost use Rattle.ulfm_judge.specs.Numbers.{AreBefore, Notes, before_then, by_then, count_by, first_noted};
 ghost use Rattle.ulfm_judge.specs.Seen.{decision_in, failed_in, is_decided_in, made_in, settled_in};
 ghost use Rattle.ulfm_judge.specs.Groups.{group_at, items_of};
-ghost use Rattle.ulfm_judge.specs.Rounds.{AreDone, IsDone, KeepsSlots};
+ghost use Rattle.ulfm_judge.specs.Rounds.{AreDone, IsByRound, IsDone, KeepsSlots};
 ghost use Rattle.ulfm_model.specs.History.{History, has, says};
 
 use crate::groups::{Group, declare_in_all, group_of, has_member};
@@ -60,6 +60,8 @@ pub struct Numbers<P: Meld, A: Allocator> {
     /// How many events there are.
     pub count: u64,
     ghost rounds_done: { AreDone P.meld rounds slots failures.items (map members_of groups.items) },
+    ghost rounds_by_round: { IsByRound rounds },
+    ghost hints_by_round: { IsByRound hints },
     ghost failed: { AreFailed failures.items groups.items },
     ghost failed_before: { AreBefore count failed_at.items },
     ghost spawned_before: { AreBefore count spawned_at.items },
