@@ -1,9 +1,7 @@
 // The future of an agree, driven by an executor.
-use crate::twice::is_pending_twice;
 use futures::Future;
 use futures::executor::block_on;
-use futures::future::{join, poll_fn, poll_immediate};
-use futures::task::Poll;
+use futures::future::{join, poll_immediate};
 use std::alloc::{AllocGlobal, Global};
 use std::io;
 use std::process::Abort;
@@ -147,8 +145,8 @@ fn future_pends_twice(rt: HostRuntime) -> Result<(), Fail> {
     if let Some(member) = members.pop() {
         let (world, rank, pass) = member.into_parts();
         let mut future = AgreeFuture::new(&world, pass, rank, 0, FlagAnd { bits: 0xff });
-        let polls = poll_fn(|cx| Poll::Ready(is_pending_twice(&mut future, cx)));
-        assert!(rt; block_on(&rt, polls)?);
+        assert!(rt; polled_once(&rt, &mut future)?.is_none());
+        assert!(rt; polled_once(&rt, &mut future)?.is_none());
     }
     Ok(())
 }
