@@ -187,7 +187,7 @@ polls_are_counted {P} meld alone times old new m started held polls =
     let value = old.agree.value in
     let fresh : AgreeState P = record { agree = record { comm = c; value = value; started = false }; held = Some m } in
     let same : fresh ≡ old =
-        ap (λ b. record { agree = record { comm = c; value = value; started = b }; held = Some m }) (sym started) ∙ ap (λ h. record { agree = old.agree; held = h }) (sym held) in
+    ap (λ b. record { agree = record { comm = c; value = value; started = b }; held = Some m }) (sym started) ∙ ap (λ h. record { agree = old.agree; held = h }) (sym held) in
     let counted = polls_counted meld alone c value times m new (subst (λ f. PendsTimes meld alone (suc times) f new) (sym same) polls) in
     subst (λ agree. HasPolled meld alone (suc times) agree m new) (ap (λ (f : AgreeState P). f.agree) same) counted
 
