@@ -221,7 +221,7 @@ impl<P: Packed, A: Allocator> RankRecord<P, A> {
         requires of { IsOf P.meld (W.name words.now) (W.sight pass.old) }
         requires limits { self.old.limits ≡ (W.name words.now).limits }
         requires look { LookIs (W.name words.now).limits false self.old.seen (W.sight pass.old).seen }
-        ensures goes { Goes P.meld W.alone (W.name words.now) (W.name words.now).limits.ranks (W.sight pass.old) (W.sight pass.new) }
+        ensures goes { Goes P.meld W.alone false (W.name words.now) (W.name words.now).limits.ranks (W.sight pass.old) (W.sight pass.new) }
         ensures takes { LookTakes whole (W.name words.now).limits self.old.seen result self.new.seen (W.sight pass.old) (W.sight pass.new) }
         ensures kept { self.new ≡ record self.old { seen = self.new.seen } }
         ensures look { LookIs (W.name words.now).limits result self.new.seen (W.sight pass.new).seen }
@@ -248,7 +248,7 @@ impl<P: Packed, A: Allocator> RankRecord<P, A> {
         requires may { (x : Held) × (held_at self.old comm ≡ Some x) × MayReadOn x.group count self.old.seen (failures (W.sight pass.old).seen)
             × AtFailure x.group count on.old self.old.seen }
         requires more { on.old.found < count }
-        ensures goes { Goes P.meld W.alone (W.name words.now) (W.name words.now).limits.ranks (W.sight pass.old) (W.sight pass.new) }
+        ensures goes { Goes P.meld W.alone false (W.name words.now) (W.name words.now).limits.ranks (W.sight pass.old) (W.sight pass.new) }
         ensures takes { ReadOnTakes whole (W.name words.now).limits self.old.seen self.new.seen (W.sight pass.old) (W.sight pass.new) }
         ensures further { (W.sight pass.new).steps + length self.old.seen ≡ (W.sight pass.old).steps + length self.new.seen }
         ensures kept { self.new ≡ record self.old { seen = self.new.seen } }

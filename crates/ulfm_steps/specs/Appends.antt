@@ -55,6 +55,7 @@ pub record Appends {P : Type 0} (meld : P → P → P) (alone : Bool) (name : Na
   pub of : IsOf meld name new
   pub outcome : AppendIs alone name.limits item by old.seen new.seen result
   pub cached : IsPrefix old.cached new.cached
+  pub caches : new.caches ≡ old.caches
   pub onward : old.steps ≤ new.steps
   pub steps : new.steps ≤ old.steps + most
 

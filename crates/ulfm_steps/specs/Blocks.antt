@@ -73,7 +73,7 @@ pub record MayPeek {P : Type 0} (meld : P → P → P) (name : Name) (group : Li
 -- knows is known to be set from then on
 pub record PeeksOn {P : Type 0} (meld : P → P → P) (alone whole : Bool) (name : Name) (most : ℕ) (group : List ℕ) (peek : Peek P) (old : Sight P)
     (done : Bool) (left : Peek P) (new : Sight P) : Type 0 where
-  pub goes : Goes meld alone name most old new
+  pub goes : Goes meld alone false name most old new
   pub takes : PeekTakes whole (length group) peek done left old new
   pub comm : left.comm ≡ peek.comm
   pub round : left.round ≡ peek.round
@@ -162,7 +162,7 @@ pub record MayReadBlocks {P : Type 0} (meld : P → P → P) (name : Name) (grou
 -- finds what all members say leaves no block of the round unset.
 pub record ReadsBlocks {P : Type 0} (meld : P → P → P) (alone whole : Bool) (name : Name) (most : ℕ) (group : List ℕ) (reading : ReadBlocks P)
     (old : Sight P) (found : Option (Found P)) (left : ReadBlocks P) (new : Sight P) : Type 0 where
-  pub goes : Goes meld alone name most old new
+  pub goes : Goes meld alone true name most old new
   pub takes : BlocksTake whole group reading found left old new
   pub comm : left.comm ≡ reading.comm
   pub round : left.round ≡ reading.round

@@ -35,6 +35,7 @@ pub record MarkSteps {P : Type 0} (meld : P → P → P) (alone : Bool) (name : 
   pub of : IsOf meld name new
   pub marks : Marks alone number c k ranks old.seen new.seen
   pub cached : IsPrefix old.cached new.cached
+  pub caches : new.caches ≡ old.caches
   pub onward : old.steps ≤ new.steps
   pub steps : new.steps ≤ old.steps + length ranks
 

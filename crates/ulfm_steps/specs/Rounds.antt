@@ -36,7 +36,7 @@ pub record MayReadRound {P : Type 0} (meld : P → P → P) (name : Name) (group
 -- loads of a reading, so many at most, and whether each member that was loaded is settled: what those say together who were read
 pub record ReadsRound {P : Type 0} (meld : P → P → P) (alone whole : Bool) (name : Name) (most : ℕ) (group : List ℕ) (reading : ReadRound P)
     (old : Sight P) (settled : Bool) (left : ReadRound P) (new : Sight P) : Type 0 where
-  pub goes : Goes meld alone name most old new
+  pub goes : Goes meld alone false name most old new
   pub takes : ReadTakes whole group reading settled left old new
   pub comm : left.comm ≡ reading.comm
   pub round : left.round ≡ reading.round

@@ -60,7 +60,7 @@ impl Append {
         requires passed { Passed (W.sight pass.old).seen self.old.item self.old.index }
         requires more { self.old.index < room self.old.item (W.name words.now).limits }
         ensures same { (self.new.item ≡ self.old.item) × (self.new.by ≡ self.old.by) }
-        ensures goes { MatchOption result (Goes P.meld W.alone (W.name words.now) 1 (W.sight pass.old) (W.sight pass.new))
+        ensures goes { MatchOption result (Goes P.meld W.alone false (W.name words.now) 1 (W.sight pass.old) (W.sight pass.new))
             (λ a. Appends P.meld W.alone (W.name words.now) self.old.item self.old.by 1 (W.sight pass.old) a (W.sight pass.new)) }
         ensures takes { AppendTakes false (W.name words.now).limits self.old result self.new (W.sight pass.old) (W.sight pass.new) }
         ensures passed { MatchOption result (Passed (W.sight pass.new).seen self.old.item self.new.index) (λ _. Unit {0}) }
@@ -107,7 +107,7 @@ impl Append {
         requires passed { Passed (W.sight pass.old).seen self.old.item self.old.index }
         requires more { self.old.index < room self.old.item (W.name words.now).limits }
         ensures same { (self.new.item ≡ self.old.item) × (self.new.by ≡ self.old.by) }
-        ensures goes { MatchOption result (Goes P.meld W.alone (W.name words.now) (2 * room self.old.item (W.name words.now).limits) (W.sight pass.old)
+        ensures goes { MatchOption result (Goes P.meld W.alone false (W.name words.now) (2 * room self.old.item (W.name words.now).limits) (W.sight pass.old)
             (W.sight pass.new)) (λ a. Appends P.meld W.alone (W.name words.now) self.old.item self.old.by (2 * room self.old.item (W.name words.now).limits)
             (W.sight pass.old) a (W.sight pass.new)) }
         ensures takes { AppendTakes whole (W.name words.now).limits self.old result self.new (W.sight pass.old) (W.sight pass.new) }

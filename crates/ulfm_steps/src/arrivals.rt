@@ -75,7 +75,7 @@ fn is_there<P: Packed, A: Allocator, W: Words<P, A>>(
 ) -> bool
     requires of { IsOf P.meld (W.name words.now) (W.sight pass.old) }
     requires within { asked ≡ true → IsCell (W.name words.now).limits comm round rank }
-    ensures goes { Goes P.meld W.alone (W.name words.now) 1 (W.sight pass.old) (W.sight pass.new) }
+    ensures goes { Goes P.meld W.alone false (W.name words.now) 1 (W.sight pass.old) (W.sight pass.new) }
     ensures steps { (W.sight pass.new).steps ≡ (W.sight pass.old).steps + (if asked then 1 else 0) }
     ensures arrived { MatchBool result (asked ≡ true → has_arrived (W.sight pass.new).seen comm round rank ≡ true) ((asked ≡ true)
         × (has_arrived (W.sight pass.new).seen comm round rank ≡ false)) }
@@ -102,7 +102,7 @@ fn arrived_from<P: Packed, A: Allocator, W: Words<P, A>>(
     requires round { IsRoundOf (W.name words.now).limits (W.sight pass.old).seen comm round group.now }
     requires within { IsWithin group.now declared.now others start }
     requires before { list_all (has_arrived (W.sight pass.old).seen comm round) (asked_before group.now declared.now others start) ≡ true }
-    ensures goes { Goes P.meld W.alone (W.name words.now)
+    ensures goes { Goes P.meld W.alone false (W.name words.now)
         (length (asked_of group.now declared.now others) - length (asked_before group.now declared.now others start)) (W.sight pass.old) (W.sight pass.new) }
     ensures more { IsAsked group.now declared.now others start → (W.sight pass.old).steps < (W.sight pass.new).steps }
     ensures arrived { result ≡ list_all (has_arrived (W.sight pass.new).seen comm round) (asked_of group.now declared.now others) }
@@ -175,7 +175,7 @@ impl Arrivals {
         requires of { IsOf P.meld (W.name words.now) (W.sight pass.old) }
         requires round { IsRoundOf (W.name words.now).limits (W.sight pass.old).seen self.old.comm self.old.round group.now }
         requires at { AtArrival group.now declared.now self.old (W.sight pass.old).seen }
-        ensures goes { Goes P.meld W.alone (W.name words.now) 1 (W.sight pass.old) (W.sight pass.new) }
+        ensures goes { Goes P.meld W.alone false (W.name words.now) 1 (W.sight pass.old) (W.sight pass.new) }
         ensures takes { ArrivalsTake false group.now declared.now self.old result self.new (W.sight pass.old) (W.sight pass.new) }
         ensures comm { self.new.comm ≡ self.old.comm }
         ensures round { self.new.round ≡ self.old.round }
@@ -216,7 +216,7 @@ impl Arrivals {
         requires of { IsOf P.meld (W.name words.now) (W.sight pass.old) }
         requires round { IsRoundOf (W.name words.now).limits (W.sight pass.old).seen self.old.comm self.old.round group.now }
         requires at { AtArrival group.now declared.now self.old (W.sight pass.old).seen }
-        ensures goes { Goes P.meld W.alone (W.name words.now)
+        ensures goes { Goes P.meld W.alone false (W.name words.now)
             (length (in_order group.now declared.now) - length (asked_before group.now declared.now self.old.others self.old.next)) (W.sight pass.old)
             (W.sight pass.new) }
         ensures takes { ArrivalsTake whole group.now declared.now self.old result self.new (W.sight pass.old) (W.sight pass.new) }
@@ -246,7 +246,7 @@ impl Arrivals {
         requires of { IsOf P.meld (W.name words.now) (W.sight pass.old) }
         requires round { IsRoundOf (W.name words.now).limits (W.sight pass.old).seen self.comm self.round group.now }
         requires at { AtArrival group.now declared.now self (W.sight pass.old).seen }
-        ensures goes { Goes P.meld W.alone (W.name words.now)
+        ensures goes { Goes P.meld W.alone false (W.name words.now)
             (length (in_order group.now declared.now) - length (asked_before group.now declared.now self.others self.next)) (W.sight pass.old)
             (W.sight pass.new) }
         ensures more { (W.sight pass.old).steps < (W.sight pass.new).steps }

@@ -39,7 +39,7 @@ impl Look {
         requires going { self.old.done ≡ false }
         requires look { LookIs (W.name words.now).limits false found.old.items (W.sight pass.old).seen }
         requires room { (W.name words.now).limits.ranks ≤ vec_capacity found.old }
-        ensures goes { Goes P.meld W.alone (W.name words.now) 1 (W.sight pass.old) (W.sight pass.new) }
+        ensures goes { Goes P.meld W.alone false (W.name words.now) 1 (W.sight pass.old) (W.sight pass.new) }
         ensures takes { LookTakes false (W.name words.now).limits found.old.items self.new.done found.new.items (W.sight pass.old) (W.sight pass.new) }
         ensures look { LookIs (W.name words.now).limits self.new.done found.new.items (W.sight pass.new).seen }
         ensures further { self.new.done ≡ false → vec_len found.new ≡ vec_len found.old + 1 }
@@ -68,7 +68,7 @@ impl Look {
         requires going { self.old.done ≡ false }
         requires look { LookIs (W.name words.now).limits false found.old.items (W.sight pass.old).seen }
         requires room { (W.name words.now).limits.ranks ≤ vec_capacity found.old }
-        ensures goes { Goes P.meld W.alone (W.name words.now) (if whole then (W.name words.now).limits.ranks else 1) (W.sight pass.old) (W.sight pass.new) }
+        ensures goes { Goes P.meld W.alone false (W.name words.now) (if whole then (W.name words.now).limits.ranks else 1) (W.sight pass.old) (W.sight pass.new) }
         ensures takes { LookTakes whole (W.name words.now).limits found.old.items self.new.done found.new.items (W.sight pass.old) (W.sight pass.new) }
         ensures look { LookIs (W.name words.now).limits self.new.done found.new.items (W.sight pass.new).seen }
         ensures further { self.new.done ≡ false → vec_len found.new ≡ vec_len found.old + 1 }
@@ -95,7 +95,7 @@ impl Look {
         requires going { self.done ≡ false }
         requires look { LookIs (W.name words.now).limits false found.old.items (W.sight pass.old).seen }
         requires room { (W.name words.now).limits.ranks ≤ vec_capacity found.old }
-        ensures goes { Goes P.meld W.alone (W.name words.now) (W.name words.now).limits.ranks (W.sight pass.old) (W.sight pass.new) }
+        ensures goes { Goes P.meld W.alone false (W.name words.now) (W.name words.now).limits.ranks (W.sight pass.old) (W.sight pass.new) }
         ensures found { found.new.items ≡ failures (W.sight pass.new).seen }
         ensures room { vec_capacity found.old ≤ vec_capacity found.new }
     {

@@ -62,7 +62,7 @@ impl ReadOn {
         requires at { AtFailure group.now count self.old seen.old.items }
         requires more { self.old.found < count }
         requires room { (W.name words.now).limits.ranks ≤ vec_capacity seen.old }
-        ensures goes { Goes P.meld W.alone (W.name words.now) 1 (W.sight pass.old) (W.sight pass.new) }
+        ensures goes { Goes P.meld W.alone false (W.name words.now) 1 (W.sight pass.old) (W.sight pass.new) }
         ensures takes { ReadOnTakes false (W.name words.now).limits seen.old.items seen.new.items (W.sight pass.old) (W.sight pass.new) }
         ensures at { AtFailure group.now count self.new seen.new.items }
         ensures further { vec_len seen.new ≡ vec_len seen.old + 1 }
@@ -94,7 +94,7 @@ impl ReadOn {
         requires at { AtFailure group.now count self.old seen.old.items }
         requires more { self.old.found < count }
         requires room { (W.name words.now).limits.ranks ≤ vec_capacity seen.old }
-        ensures goes { Goes P.meld W.alone (W.name words.now) (W.name words.now).limits.ranks (W.sight pass.old) (W.sight pass.new) }
+        ensures goes { Goes P.meld W.alone false (W.name words.now) (W.name words.now).limits.ranks (W.sight pass.old) (W.sight pass.new) }
         ensures takes { ReadOnTakes whole (W.name words.now).limits seen.old.items seen.new.items (W.sight pass.old) (W.sight pass.new) }
         ensures at { AtFailure group.now count self.new seen.new.items }
         ensures further { (W.sight pass.new).steps + vec_len seen.old ≡ (W.sight pass.old).steps + vec_len seen.new }

@@ -99,7 +99,7 @@ impl<P: Packed> ReadRound<P> {
     ) -> Option<Summary<P>>
         requires may { MayReadRound P.meld (W.name words.now) group.now self (W.sight pass.old) }
         requires within { self.read ≤ length group.now }
-        ensures goes { Goes P.meld W.alone (W.name words.now) (length group.now - self.read) (W.sight pass.old) (W.sight pass.new) }
+        ensures goes { Goes P.meld W.alone false (W.name words.now) (length group.now - self.read) (W.sight pass.old) (W.sight pass.new) }
         ensures loaded { MatchOption result ((W.sight pass.old).steps < (W.sight pass.new).steps) (λ _. Unit {0}) }
         ensures read { MatchOption result (IsMissing (W.sight pass.new).last (W.sight pass.new).seen self.comm self.round group.now)
             (IsSummed P.meld (W.sight pass.new).seen self.comm self.round group.now) }

@@ -59,6 +59,7 @@ pub record LoadsBlock {P : Type 0} (meld : P → P → P) (pack : P → ℕ) (al
   pub of : IsOf meld name new
   pub did : Did alone [] old.seen new.seen
   pub cached : IsPrefix old.cached new.cached
+  pub caches : new.caches ≡ old.caches
   pub steps : new.steps ≡ old.steps + 1
   pub last : new.last ≡ Some (record { at = Site.Block block; word = word; load = true })
   pub stands : IsCached meld pack name.limits.ranks new.seen block word
@@ -71,6 +72,7 @@ pub record Caches {P : Type 0} (meld : P → P → P) (alone : Bool) (name : Nam
   pub of : IsOf meld name new
   pub did : Did alone [] old.seen new.seen
   pub cached : IsPrefix old.cached new.cached
+  pub caches : new.caches ≡ old.caches + 1
   pub steps : new.steps ≡ old.steps + 1
   pub last : new.last ≡ Some (record { at = Site.Block block; word = found result; load = false })
   pub set : has_block new.cached block ≡ true
@@ -87,6 +89,7 @@ pub record Peeks {P : Type 0} (meld : P → P → P) (alone : Bool) (name : Name
   pub of : IsOf meld name new
   pub did : Did alone [] old.seen new.seen
   pub cached : IsPrefix old.cached new.cached
+  pub caches : new.caches ≡ old.caches
   pub steps : new.steps ≡ old.steps + 1
   pub word : ℕ
   pub last : new.last ≡ Some (record { at = Site.Block block; word = word; load = true })

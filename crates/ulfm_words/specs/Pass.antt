@@ -1,5 +1,5 @@
 -- How the words and the journal of a plain pass are tied.
-use Rattle.std.specs.Prelude.{◌≡◌, ◌≢◌, ℕ, ◌+◌, ◌*◌, ◌≤◌, ◌==◌, ◌&&◌, if◌then◌else◌, Bool, true, List, [], ◌∷◌, length, count_by, slice_get, slice_index, take, filter_map, Option, Some, None}
+use Rattle.std.specs.Prelude.{◌≡◌, ◌≢◌, ℕ, ◌+◌, ◌*◌, ◌≤◌, ◌==◌, ◌&&◌, if◌then◌else◌, Bool, not, true, false, List, [], ◌∷◌, length, count_by, slice_get, slice_index, take, filter_map, Option, Some, None}
 use Rattle.std.specs.List.{AllByRecursion}
 use Rattle.ulfm_model.specs.declared.{block.Block.{Block}, block.Side.{Side}, block.Side.TheVariants.{Front, Back}, event.Entry.{Entry}, limits.Limits.{Limits}, place.Place.{Place}}
 use Rattle.ulfm_model.specs.{Blocks.{IsBlockWithin, IsCached, has_block}, History.{History, IsLegal}, Words.{MayOpen, place_of, size_of, word_at, word_of}}
@@ -24,6 +24,15 @@ cached_at (Site.Block block) word load = if load && word == 0 then None else Som
 -- the blocks that a trail knows to be set
 abbrev pub cached_by : List (Last × Bool) → List Block
 cached_by trail = filter_map (λ step. cached_at step.0.at step.0.word step.0.load) trail
+
+-- whether a step was an exchange of a block's word
+abbrev pub is_cache : Site → Bool → Bool
+is_cache (Site.Place place) load = false
+is_cache (Site.Block block) load = not load
+
+-- how many steps of a trail were
+abbrev pub caches_in : List (Last × Bool) → ℕ
+caches_in trail = count_by (λ step. is_cache step.0.at step.0.load) trail
 
 -- where a block's word stands, in a row of two for each round of each communicator
 abbrev pub side_key : Side → ℕ
@@ -62,7 +71,7 @@ module _ {P : Type 0} (unpack : ℕ → Option P) (limits : Limits) where
 
   -- what contracts see of a plain pass
   abbrev pub sight_of : List ℕ → List Setting → List (Last × Bool) → Sight P
-  sight_of words journal trail = record { name = plain_name limits; seen = entries words journal; cached = cached_by trail; steps = length trail; last = last_of trail }
+  sight_of words journal trail = record { name = plain_name limits; seen = entries words journal; cached = cached_by trail; caches = caches_in trail; steps = length trail; last = last_of trail }
 
 -- the words are those of the journal's history, which is legal; no more are set and not set than the world has, and the journal has room
 -- for as many

@@ -1,5 +1,5 @@
 -- What a pass has seen, and what each step does to it.
-use Rattle.std.specs.Prelude.{◌≡◌, ℕ, ◌+◌, ◌≤◌, ◌<◌, Bool, true, false, IsTrue, List, [], ◌∷◌, ◌++◌, Option, Some, None, Result, Ok, Err, MatchResult}
+use Rattle.std.specs.Prelude.{◌≡◌, ℕ, ◌+◌, ◌≤◌, ◌<◌, Bool, true, false, if◌then◌else◌, IsTrue, List, [], ◌∷◌, ◌++◌, Option, Some, None, Result, Ok, Err, MatchResult}
 use mathlib.Core.List.{IsPrefix}
 use Rattle.ulfm_model.specs.declared.{block.Block.{Block}, event.Entry.{Entry}, limits.Limits.{Limits}, place.Place.{Place}}
 use Rattle.ulfm_model.specs.{History.{History, IsLegal, MayFollow}, Runs.{Did}, Words.{MayOpen, place_of, word_at, word_of}}
@@ -13,12 +13,13 @@ pub record Name : Type 0 where
   pub cells : ℕ
   pub limits : Limits
 
--- a pass: whose words it was made by, what it has seen, which blocks it knows to be set, how many atomic steps it has made, and the
--- last of them
+-- a pass: whose words it was made by, what it has seen, which blocks it knows to be set, how many exchanges of blocks' words it has made, how
+-- many atomic steps in all, and the last of them
 pub record Sight (P : Type 0) : Type 0 where
   pub name : Name
   pub seen : History P
   pub cached : List Block
+  pub caches : ℕ
   pub steps : ℕ
   pub last : Option Last
 
@@ -39,14 +40,16 @@ pub record IsNew {P : Type 0} (meld : P → P → P) (name : Name) (pass : Sight
   pub of : IsOf meld name pass
   pub seen : pass.seen ≡ []
   pub cached : pass.cached ≡ []
+  pub caches : pass.caches ≡ 0
   pub steps : pass.steps ≡ 0
   pub last : pass.last ≡ None
 
--- atomic steps that make no event, so many at most: others' events may have come in
-pub record Goes {P : Type 0} (meld : P → P → P) (alone : Bool) (name : Name) (most : ℕ) (old new : Sight P) : Type 0 where
+-- atomic steps that make no event, so many at most, with exchanges of blocks' words among them or not: others' events may have come in
+pub record Goes {P : Type 0} (meld : P → P → P) (alone caching : Bool) (name : Name) (most : ℕ) (old new : Sight P) : Type 0 where
   pub of : IsOf meld name new
   pub did : Did alone [] old.seen new.seen
   pub cached : IsPrefix old.cached new.cached
+  pub caches : new.caches ≡ (if caching then new.caches else old.caches)
   pub onward : old.steps ≤ new.steps
   pub steps : new.steps ≤ old.steps + most
 
@@ -55,6 +58,7 @@ pub record Loads {P : Type 0} (meld : P → P → P) (pack : P → ℕ) (alone :
   pub of : IsOf meld name new
   pub did : Did alone [] old.seen new.seen
   pub cached : IsPrefix old.cached new.cached
+  pub caches : new.caches ≡ old.caches
   pub steps : new.steps ≡ old.steps + 1
   pub last : new.last ≡ Some (record { at = Site.Place place; word = word_at pack new.seen place; load = true })
 
@@ -97,6 +101,7 @@ pub record Sets {P : Type 0} (meld : P → P → P) (pack : P → ℕ) (unpack :
   pub of : IsOf meld name new
   pub outcome : MatchResult result (λ _. Wins pack unpack alone s old.seen new.seen) (λ w. Loses pack alone s.place w old.seen new.seen)
   pub cached : IsPrefix old.cached new.cached
+  pub caches : new.caches ≡ old.caches
   pub steps : new.steps ≡ old.steps + 1
   pub last : new.last ≡ Some (record { at = Site.Place s.place; word = found result; load = false })
 
@@ -113,6 +118,7 @@ pub record Learns {P : Type 0} (meld : P → P → P) (alone : Bool) (name : Nam
   pub did : Did alone [] old.seen new.seen
   pub hears : IsPrefix told.seen new.seen
   pub cached : IsPrefix old.cached new.cached
+  pub caches : new.caches ≡ old.caches
   pub hears_cached : IsPrefix told.cached new.cached
   pub steps : new.steps ≡ old.steps
   pub last : new.last ≡ old.last

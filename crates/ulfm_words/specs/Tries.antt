@@ -14,6 +14,7 @@ pub record Tries {P : Type 0} (meld : P → P → P) (pack : P → ℕ) (alone :
   pub of : IsOf meld name new
   pub outcome : MatchBool won (IsAdded alone entry old.seen new.seen) (Did alone [] old.seen new.seen)
   pub cached : IsPrefix old.cached new.cached
+  pub caches : new.caches ≡ old.caches
   pub steps : new.steps ≡ old.steps + 1
   pub last : new.last ≡ Some (record { at = Site.Place place; word = if won then 0 else word_at pack new.seen place; load = false })
 
