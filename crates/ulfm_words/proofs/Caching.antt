@@ -6,8 +6,8 @@ use Rattle.ulfm_model.specs.declared.{block.Block.{Block}, limits.Limits.{Limits
 use Rattle.ulfm_model.specs.Blocks.{IsBlock, IsBlockWithin, IsCached, has_block}
 use Rattle.ulfm_model.proofs.Blocks.{one_block}
 use Rattle.ulfm_words.specs.declared.{plain.Setting.{Setting}, step.Last.{Last}}
-use Rattle.ulfm_words.specs.{Blocks.{Caches, LoadsBlock}, Pass.{AreStood, IsTied, block_key, cached_by, entries, last_of, sight_of}, Steps.{Sight}}
-use Rattle.ulfm_words.proofs.{Standing.{at_block, block_key_lt, cached_found, cached_nothing, cached_set, now_has, stood_found, stood_later, stood_set}, Growing.{prefix_self}, Telling.{last_of-push}, Trails.{did_none}}
+use Rattle.ulfm_words.specs.{Blocks.{Caches, LoadsBlock}, Pass.{AreStood, IsTied, block_key, cached_by, caches_in, entries, last_of, sight_of}, Steps.{Sight}}
+use Rattle.ulfm_words.proofs.{Standing.{at_block, block_key_lt, cached_found, cached_nothing, cached_set, caches_loaded, caches_set, now_has, stood_found, stood_later, stood_set}, Growing.{prefix_self}, Telling.{last_of-push}, Trails.{did_none}}
 
 any_default : (xs : List ℕ) (i d e : ℕ) → i < length xs → get_or xs i d ≡ get_or xs i e
 any_default [] i d e lt = absurd (omega (arith, lt))
@@ -64,6 +64,7 @@ module _ {P : Type 0} (meld : P → P → P) (pack : P → ℕ) (unpack : ℕ �
           of = record { name_is = refl; may_open = tied.may_open; legal = tied.legal };
           did = did_none true (entries unpack limits ws ms);
           cached = (known (either v)).0;
+          caches = ap caches_in is ∙ caches_loaded ts b v;
           steps = ap length is ∙ length-append ts (at_block b v true ∷ []);
           last = ap last_of is ∙ last_of-push ts (at_block b v true);
           stands = stands;
@@ -95,6 +96,7 @@ module _ {P : Type 0} (meld : P → P → P) (pack : P → ℕ) (unpack : ℕ �
           of = record { name_is = refl; may_open = tied.may_open; legal = tied.legal };
           did = did_none true (entries unpack limits ws ms);
           cached = (b ∷ [], sym more);
+          caches = ap caches_in is ∙ caches_set ts b v;
           steps = ap length is ∙ length-append ts (at_block b v false ∷ []);
           last = ap last_of is ∙ last_of-push ts (at_block b v false);
           set = set;
@@ -111,6 +113,7 @@ module _ {P : Type 0} (meld : P → P → P) (pack : P → ℕ) (unpack : ℕ �
           of = record { name_is = refl; may_open = tied.may_open; legal = tied.legal };
           did = did_none true (entries unpack limits ws ms);
           cached = (b ∷ [], sym more);
+          caches = ap caches_in is ∙ caches_set ts b v;
           steps = ap length is ∙ length-append ts (at_block b v false ∷ []);
           last = ap last_of stamped ∙ last_of-push ts (at_block b 0 false);
           set = set;

@@ -1,17 +1,18 @@
 -- What stands at the blocks of plain words, and what a pass knows to be set.
-use Rattle.std.proofs.Common.{◌≡◌, ◌≢◌, ◌⊎◌, inl, inr, ℕ, zero, suc, ◌+◌, ◌*◌, ◌<◌, ◌==◌, ◌||◌, Bool, true, false, List, [], ◌∷◌, ◌++◌, length, replicate, refl, ap, sym, ◌∙◌, subst, arith, get_or-set_other, get_or-set_same, append-nil}
+use Rattle.std.proofs.Common.{◌≡◌, ◌≢◌, ◌⊎◌, inl, inr, ℕ, zero, suc, ◌+◌, ◌*◌, ◌<◌, ◌==◌, ◌||◌, cond, Bool, true, false, List, [], ◌∷◌, ◌++◌, length, replicate, refl, ap, sym, ◌∙◌, subst, arith, get_or-set_other, get_or-set_same, append-nil}
 use Rattle.std.specs.Prelude.{slice_index, slice_set}
 use Rattle.std.proofs.Math.ListN.{length-set}
 use Rattle.std.proofs.lemmas.List.{length-replicate}
 use Rattle.std.proofs.lemmas.Nat.{mul-add-lt}
 use Rattle.std.proofs.lemmas.Bool.{eqb-true, eq-eqb}
 use Rattle.std.proofs.lemmas.List.Elements.{filter_map-append}
+use Rattle.std.proofs.lemmas.List.Sums.{sum_by_push}
 use mathlib.Core.List.{IsPrefix}
 use Rattle.ulfm_model.specs.declared.{block.Block.{Block}, block.Side.{Side}, block.Side.TheVariants.{Front, Back}, limits.Limits.{Limits}, place.Place.{Place}}
 use Rattle.ulfm_model.specs.{Blocks.{IsBlock, IsBlockWithin, IsCached, has_block, same_block}, History.{History}}
 use Rattle.ulfm_model.proofs.Blocks.{block_self, block_some, cached_stays, has_block_push, same_block_is}
 use Rattle.ulfm_words.specs.declared.{step.Last.{Last}, step.Site.{Site}}
-use Rattle.ulfm_words.specs.Pass.{AreStood, block_key, cached_at, cached_by, side_key}
+use Rattle.ulfm_words.specs.Pass.{AreStood, block_key, cached_at, cached_by, caches_in, is_cache, side_key}
 use Rattle.ulfm_words.proofs.Numbering.{digits}
 
 -- a step at a place knows of no block
@@ -34,6 +35,25 @@ cached_found ts b w some = filter_map-append (λ step. cached_at step.0.at step.
 
 pub cached_set : (ts : List (Last × Bool)) (b : Block) (w : ℕ) → cached_by (ts ++ at_block b w false ∷ []) ≡ cached_by ts ++ b ∷ []
 cached_set ts b w = filter_map-append (λ step. cached_at step.0.at step.0.word step.0.load) ts _
+
+-- a step is one exchange of a block's word more, or none
+caches_push : (ts : List (Last × Bool)) (step : Last × Bool) → caches_in (ts ++ step ∷ []) ≡ caches_in ts + cond (is_cache step.0.at step.0.load) 1 0
+caches_push ts step = sum_by_push (λ s. cond (is_cache s.0.at s.0.load) 1 0) ts step
+
+-- a step at a place is none, nor is a load of a block's word
+pub caches_place : (ts : List (Last × Bool)) (p : Place) (w : ℕ) (load : Bool) → caches_in (ts ++ (record { at = Site.Place p; word = w; load = load }, load) ∷ []) ≡ caches_in ts
+caches_place ts p w load =
+    let more : caches_in (ts ++ (record { at = Site.Place p; word = w; load = load }, load) ∷ []) ≡ caches_in ts + 0 = caches_push ts (record { at = Site.Place p; word = w; load = load }, load) in
+    omega (arith, more)
+
+pub caches_loaded : (ts : List (Last × Bool)) (b : Block) (w : ℕ) → caches_in (ts ++ at_block b w true ∷ []) ≡ caches_in ts
+caches_loaded ts b w =
+    let more : caches_in (ts ++ at_block b w true ∷ []) ≡ caches_in ts + 0 = caches_push ts (at_block b w true) in
+    omega (arith, more)
+
+-- an exchange of a block's word is one
+pub caches_set : (ts : List (Last × Bool)) (b : Block) (w : ℕ) → caches_in (ts ++ at_block b w false ∷ []) ≡ caches_in ts + 1
+caches_set ts b w = caches_push ts (at_block b w false)
 
 pub now_has : (bs : List Block) (b : Block) → has_block (bs ++ b ∷ []) b ≡ true
 now_has bs b = has_block_push bs b b ∙ elim (has_block bs b) as (λ t. (t || same_block b b) ≡ true) [ true ↦ refl | false ↦ block_self b ]

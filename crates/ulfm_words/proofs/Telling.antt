@@ -4,9 +4,9 @@ use Rattle.std.specs.List.{slice_index}
 use Rattle.ulfm_model.specs.declared.{event.Entry.{Entry}, limits.Limits.{Limits}, place.Place.{Place}}
 use Rattle.ulfm_model.specs.{Words.{word_at}}
 use Rattle.ulfm_words.specs.declared.{plain.Setting.{Setting}, step.Last.{Last}, step.Site.{Site}, step.Step.{Step}}
-use Rattle.ulfm_words.specs.{Entries.{entry_of}, Pass.{cached_by, entries, last_of, sight_of, IsTied}, Places.{IsWithin, key_in}, Steps.{Sight, Loads, Sets}}
+use Rattle.ulfm_words.specs.{Entries.{entry_of}, Pass.{cached_by, caches_in, entries, last_of, sight_of, IsTied}, Places.{IsWithin, key_in}, Steps.{Sight, Loads, Sets}}
 use mathlib.Core.List.{IsPrefix}
-use Rattle.ulfm_words.proofs.{Standing.{cached_place}, Trails.{did_none}}
+use Rattle.ulfm_words.proofs.{Standing.{cached_place, caches_place}, Trails.{did_none}}
 
 pub last_of-push : (xs : List (Last × Bool)) (x : Last × Bool) → last_of (xs ++ x ∷ []) ≡ Some x.0
 last_of-push [] x = refl
@@ -19,6 +19,9 @@ module _ {P : Type 0} (meld : P → P → P) (pack : P → ℕ) (unpack : ℕ �
 
   cached_same : (ts ts' : List (Last × Bool)) (p : Place) (w : ℕ) (load : Bool) → ts' ≡ ts ++ made p w load ∷ [] → IsPrefix (cached_by ts) (cached_by ts')
   cached_same ts ts' p w load is = ([], append-nil (cached_by ts) ∙ (sym (cached_place ts p w load) ∙ ap cached_by (sym is)))
+
+  caches_same : (ts ts' : List (Last × Bool)) (p : Place) (w : ℕ) (load : Bool) → ts' ≡ ts ++ made p w load ∷ [] → caches_in ts' ≡ caches_in ts
+  caches_same ts ts' p w load is = ap caches_in is ∙ caches_place ts p w load
 
   -- the limits that the pass shows are its own
   pub within_is : (old : Sight P) (ws : List ℕ) (ms : List Setting) (ts : List (Last × Bool)) (p : Place) → sight_of unpack limits ws ms ts ≡ old → IsWithin old.name.limits p → IsWithin limits p
@@ -34,6 +37,7 @@ module _ {P : Type 0} (meld : P → P → P) (pack : P → ℕ) (unpack : ℕ �
           of = record { name_is = refl; may_open = tied.may_open; legal = tied.legal };
           did = did_none true h;
           cached = cached_same ts ts' p w true is;
+          caches = caches_same ts ts' p w true is;
           steps = ap length is ∙ length-append ts (made p w true ∷ []);
           last = ap last_of is ∙ (last_of-push ts (made p w true) ∙ ap (λ n. Some (made p n true).0) word);
         }),
@@ -48,6 +52,7 @@ module _ {P : Type 0} (meld : P → P → P) (pack : P → ℕ) (unpack : ℕ �
         of = record { name_is = refl; may_open = tied.may_open; legal = tied.legal };
         outcome = record { some = omega (arith, some); stands = sym (at ∙ tied.same s.place (within_is old ws ms ts s.place e within)); did = did_none true h };
         cached = cached_same ts ts' s.place w false is;
+        caches = caches_same ts ts' s.place w false is;
         steps = ap length is ∙ length-append ts (made s.place w false ∷ []);
         last = ap last_of is ∙ last_of-push ts (made s.place w false);
       })
@@ -67,6 +72,7 @@ module _ {P : Type 0} (meld : P → P → P) (pack : P → ℕ) (unpack : ℕ �
           stands = sym (tied.same s.place (within_is old ws ms ts s.place e within)) ∙ set;
         };
         cached = cached_same ts ts' s.place 0 false stamped;
+        caches = caches_same ts ts' s.place 0 false stamped;
         steps = ap length stamped ∙ length-append ts (made s.place 0 false ∷ []);
         last = ap last_of stamped ∙ last_of-push ts (made s.place 0 false);
       })

@@ -71,7 +71,8 @@ module _ {P : Type 0} (unpack : ℕ → Option P) (limits : Limits) where
 
   -- what contracts see of a plain pass
   abbrev pub sight_of : List ℕ → List Setting → List (Last × Bool) → Sight P
-  sight_of words journal trail = record { name = plain_name limits; seen = entries words journal; cached = cached_by trail; caches = caches_in trail; steps = length trail; last = last_of trail }
+  sight_of words journal trail =
+      record { name = plain_name limits; seen = entries words journal; cached = cached_by trail; caches = caches_in trail; steps = length trail; last = last_of trail }
 
 -- the words are those of the journal's history, which is legal; no more are set and not set than the world has, and the journal has room
 -- for as many

@@ -20,6 +20,7 @@ returns-in-Ok-clause-tries g c =
       of = c.set_once.ensures.of;
       outcome = won_by g.P.Packed.pack g.P.Packed.unpack g.W.Words.alone step _ (g.W.Words.sight c.args.pass.now).seen (g.W.Words.sight c.set_once.new.pass).seen reads sets.outcome;
       cached = c.set_once.ensures.cached;
+      caches = c.set_once.ensures.caches;
       steps = c.set_once.ensures.steps;
       last = sets.last;
     }
