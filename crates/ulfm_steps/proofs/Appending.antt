@@ -96,9 +96,9 @@ module _ {P : Type 0} (meld : P → P → P) (limits : Limits) where
   append_stays seen longer item begins may more further legal = may more (prefix_trans seen longer more begins further) legal
 
 -- steps before it that made no event
-pub appends_later : {P : Type 0} (meld : P → P → P) (alone : Bool) (name : Name) (item : Item) (by : Caller) (few most : ℕ) (result : Appended) (x y z : Sight P) → Did alone [] x.seen y.seen → IsPrefix x.cached y.cached → x.steps ≤ y.steps → y.steps + few ≤ x.steps + most
+pub appends_later : {P : Type 0} (meld : P → P → P) (alone : Bool) (name : Name) (item : Item) (by : Caller) (few most : ℕ) (result : Appended) (x y z : Sight P) → Did alone [] x.seen y.seen → IsPrefix x.cached y.cached → y.caches ≡ x.caches → x.steps ≤ y.steps → y.steps + few ≤ x.steps + most
     → Appends meld alone name item by few y result z → Appends meld alone name item by most x result z
-appends_later {P} meld alone name item by few most result x y z did kept onward fewer ends = record { of = ends.of; outcome = later result ends.outcome; cached = prefix_trans x.cached y.cached z.cached kept ends.cached; onward = omega (arith, onward, ends.onward); steps = omega (arith, fewer, ends.steps) }
+appends_later {P} meld alone name item by few most result x y z did kept same onward fewer ends = record { of = ends.of; outcome = later result ends.outcome; cached = prefix_trans x.cached y.cached z.cached kept ends.cached; caches = ends.caches ∙ same; onward = omega (arith, onward, ends.onward); steps = omega (arith, fewer, ends.steps) }
   where
     later : (r : Appended) → AppendIs alone name.limits item by y.seen z.seen r → AppendIs alone name.limits item by x.seen z.seen r
     later (Won i) is = (added_after alone (entry by (event_at item i)) x.seen y.seen z.seen did is.0, is.1)
@@ -106,11 +106,11 @@ appends_later {P} meld alone name item by few most result x y z did kept onward 
     later Full is = (did_wait alone [] x.seen y.seen z.seen did is.0, is.1)
 
 -- .. and one more step, whether it was the last or not
-pub appends_next : {P : Type 0} (meld : P → P → P) (alone : Bool) (name : Name) (item : Item) (by : Caller) (most : ℕ) (result : Option Appended) (x y z : Sight P) → Did alone [] x.seen y.seen → IsPrefix x.cached y.cached → x.steps ≤ y.steps → y.steps + 1 ≤ x.steps + most
-    → MatchOption result (Goes meld alone name 1 y z) (λ a. Appends meld alone name item by 1 y a z) → MatchOption result (Goes meld alone name most x z) (λ a. Appends meld alone name item by most x a z)
-appends_next meld alone name item by most None x y z did kept onward fewer went =
-    record { of = went.of; did = did_wait alone [] x.seen y.seen z.seen did went.did; cached = prefix_trans x.cached y.cached z.cached kept went.cached; onward = omega (arith, onward, went.onward); steps = omega (arith, fewer, went.steps) }
-appends_next meld alone name item by most (Some a) x y z did kept onward fewer ends = appends_later meld alone name item by 1 most a x y z did kept onward fewer ends
+pub appends_next : {P : Type 0} (meld : P → P → P) (alone : Bool) (name : Name) (item : Item) (by : Caller) (most : ℕ) (result : Option Appended) (x y z : Sight P) → Did alone [] x.seen y.seen → IsPrefix x.cached y.cached → y.caches ≡ x.caches → x.steps ≤ y.steps → y.steps + 1 ≤ x.steps + most
+    → MatchOption result (Goes meld alone false name 1 y z) (λ a. Appends meld alone name item by 1 y a z) → MatchOption result (Goes meld alone false name most x z) (λ a. Appends meld alone name item by most x a z)
+appends_next meld alone name item by most None x y z did kept same onward fewer went =
+    record { of = went.of; did = did_wait alone [] x.seen y.seen z.seen did went.did; cached = prefix_trans x.cached y.cached z.cached kept went.cached; caches = went.caches ∙ same; onward = omega (arith, onward, went.onward); steps = omega (arith, fewer, went.steps) }
+appends_next meld alone name item by most (Some a) x y z did kept same onward fewer ends = appends_later meld alone name item by 1 most a x y z did kept same onward fewer ends
 
 -- at a place of the list there is a step to take
 pub turns_some : (places : ℕ) (a : Append) → a.index < places → 1 ≤ turns_left places a

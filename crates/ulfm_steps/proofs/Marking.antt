@@ -248,9 +248,9 @@ module _ {P : Type 0} (alone : Bool) (number c k : ℕ) where
       → Tries meld pack alone name (SlotAt c k r) (entry (ByRank number) (Mark c k r mark)) won old new
       → MatchBool won (slot new.seen c k r ≡ Some (Marked mark)) ((s : Slot P) × (slot new.seen c k r ≡ Some s)) → MarkSteps meld alone name number c k (r ∷ []) old new
   marks_try meld pack name r mark true old new tries stands =
-      record { of = tries.of; marks = marks_won meld name.limits r mark (Marked mark) old.seen new.seen tries.outcome tries.of.legal stands; cached = tries.cached; onward = omega (arith, tries.steps); steps = omega (arith, tries.steps) }
+      record { of = tries.of; marks = marks_won meld name.limits r mark (Marked mark) old.seen new.seen tries.outcome tries.of.legal stands; cached = tries.cached; caches = tries.caches; onward = omega (arith, tries.steps); steps = omega (arith, tries.steps) }
   marks_try meld pack name r mark false old new tries stands =
-      record { of = tries.of; marks = marks_lost r stands.0 old.seen new.seen tries.outcome stands.1; cached = tries.cached; onward = omega (arith, tries.steps); steps = omega (arith, tries.steps) }
+      record { of = tries.of; marks = marks_lost r stands.0 old.seen new.seen tries.outcome stands.1; cached = tries.cached; caches = tries.caches; onward = omega (arith, tries.steps); steps = omega (arith, tries.steps) }
 
 -- what may be marked may be marked later
 pub may_stays : {P : Type 0} (limits : Limits) (h longer : History P) (c k : ℕ) (group declared : List ℕ) → IsPrefix h longer → MayMarkAll limits h c k group declared → MayMarkAll limits longer c k group declared
@@ -261,7 +261,7 @@ may_stays limits h longer c k group declared begins may =
 pub steps_push : {P : Type 0} (meld : P → P → P) (alone : Bool) (name : Name) (number c k : ℕ) (xs : List ℕ) (r : ℕ) (x y z : Sight P) → has xs r ≡ false → MarkSteps meld alone name number c k xs x y → MarkSteps meld alone name number c k (r ∷ []) y z
     → MarkSteps meld alone name number c k (xs ++ r ∷ []) x z
 steps_push meld alone name number c k xs r x y z out first last =
-    record { of = last.of; marks = marks_push alone number c k xs r x.seen y.seen z.seen out first.marks last.marks; cached = prefix_trans x.cached y.cached z.cached first.cached last.cached; onward = omega (arith, first.onward, last.onward); steps = omega (arith, first.steps, last.steps, length-append xs (r ∷ [])) }
+    record { of = last.of; marks = marks_push alone number c k xs r x.seen y.seen z.seen out first.marks last.marks; cached = prefix_trans x.cached y.cached z.cached first.cached last.cached; caches = last.caches ∙ first.caches; onward = omega (arith, first.onward, last.onward); steps = omega (arith, first.steps, last.steps, length-append xs (r ∷ [])) }
 
 -- a marking that has marked nobody
 pub marked_none : {P : Type 0} (meld : P → P → P) (alone : Bool) (name : Name) (start : MarkAll) (group declared : List ℕ) (x : Sight P) → IsOf meld name x → HasMarked meld alone name start group declared start.next x x
@@ -269,7 +269,7 @@ marked_none meld alone name start group declared x of =
     record {
       between = [];
       members_are = sym (append-nil (members_in group declared start.next));
-      marks = record { of = of; marks = marks_none alone start.rank start.comm start.round x.seen; cached = prefix_self x.cached; onward = omega arith; steps = omega arith };
+      marks = record { of = of; marks = marks_none alone start.rank start.comm start.round x.seen; cached = prefix_self x.cached; caches = refl; onward = omega arith; steps = omega arith };
     }
 
 -- .. and one that has marked one more

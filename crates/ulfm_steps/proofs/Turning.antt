@@ -1,5 +1,5 @@
 -- The steps of machines.
-use Rattle.std.proofs.Common.{◌≡◌, ℕ, ◌+◌, ◌-◌, ◌≤◌, Bool, true, false, [], refl, ap, subst, arith}
+use Rattle.std.proofs.Common.{◌≡◌, ℕ, ◌+◌, ◌-◌, ◌≤◌, Bool, true, false, [], refl, ap, subst, ◌∙◌, arith}
 use Rattle.ulfm_model.specs.declared.{event.Entry.{Entry}, place.Place.{Place}}
 use Rattle.ulfm_model.proofs.Lists.{prefix_trans}
 use Rattle.ulfm_words.specs.{Steps.{Goes, IsOf, Loads, Name, Sight}, Tries.{Tries}}
@@ -20,23 +20,24 @@ module _ {P : Type 0} (meld : P → P → P) (pack : P → ℕ) (alone : Bool) (
       record { one = λ _. record { steps = tries.steps; word = _; last = tries.last }; some = omega (arith, tries.steps); turns = omega (arith, tries.steps, fewer) }
 
 -- a load makes no event
-pub load_goes : {P : Type 0} (meld : P → P → P) (pack : P → ℕ) (alone : Bool) (name : Name) (place : Place) (old new : Sight P) → Loads meld pack alone name place old new → Goes meld alone name 1 old new
-load_goes meld pack alone name place old new loads = record { of = loads.of; did = loads.did; cached = loads.cached; onward = omega (arith, loads.steps); steps = omega (arith, loads.steps) }
+pub load_goes : {P : Type 0} (meld : P → P → P) (pack : P → ℕ) (alone : Bool) (name : Name) (place : Place) (old new : Sight P) → Loads meld pack alone name place old new → Goes meld alone false name 1 old new
+load_goes meld pack alone name place old new loads = record { of = loads.of; did = loads.did; cached = loads.cached; caches = loads.caches; onward = omega (arith, loads.steps); steps = omega (arith, loads.steps) }
 
 -- steps that make no event, and more of them
-pub goes_then : {P : Type 0} (meld : P → P → P) (alone : Bool) (name : Name) (a b c : ℕ) (x y z : Sight P) → a ≤ b → b ≤ c → Goes meld alone name (b - a) x y → Goes meld alone name (c - b) y z → Goes meld alone name (c - a) x z
+pub goes_then : {P : Type 0} (meld : P → P → P) (alone : Bool) (name : Name) (a b c : ℕ) (x y z : Sight P) → a ≤ b → b ≤ c → Goes meld alone false name (b - a) x y → Goes meld alone false name (c - b) y z → Goes meld alone false name (c - a) x z
 goes_then meld alone name a b c x y z ab bc first then =
     record {
       of = then.of;
       did = did_wait alone [] x.seen y.seen z.seen first.did then.did;
       cached = prefix_trans x.cached y.cached z.cached first.cached then.cached;
+      caches = then.caches ∙ first.caches;
       onward = omega (arith, first.onward, then.onward);
       steps = omega (arith, ab, bc, first.steps, then.steps);
     }
 
 -- .. none
-pub goes_none : {P : Type 0} (meld : P → P → P) (alone : Bool) (name : Name) (most : ℕ) (x : Sight P) → IsOf meld name x → Goes meld alone name most x x
-goes_none meld alone name most x of = record { of = of; did = did_none alone x.seen; cached = prefix_self x.cached; onward = omega arith; steps = omega arith }
+pub goes_none : {P : Type 0} (meld : P → P → P) (alone : Bool) (name : Name) (most : ℕ) (x : Sight P) → IsOf meld name x → Goes meld alone false name most x x
+goes_none meld alone name most x of = record { of = of; did = did_none alone x.seen; cached = prefix_self x.cached; caches = refl; onward = omega arith; steps = omega arith }
 
 -- steps that a machine had made before, unless it makes one alone
 pub takes_on_at : {P : Type 0} (whole : Bool) (site at : Site) (load kind : Bool) (before between after : ℕ) (x y z : Sight P) → (whole ≡ false → (x.steps ≡ y.steps) × (at ≡ site) × (kind ≡ load)) → x.steps ≤ y.steps → y.steps + between ≤ x.steps + before

@@ -1,5 +1,5 @@
 -- What reading a round asks for, and tells.
-use Rattle.std.specs.Prelude.{◌≡◌, ℕ, ◌-◌, ◌<◌, Bool, true, List, Option, Some, None, IsTrue, MatchBool, length, slice_index, take, if◌then◌else◌}
+use Rattle.std.specs.Prelude.{◌≡◌, ℕ, ◌-◌, ◌<◌, Bool, true, false, List, Option, Some, None, IsTrue, MatchBool, length, slice_index, take, if◌then◌else◌}
 use Rattle.ulfm_model.specs.declared.{limits.Limits.{Limits}, place.Place.TheVariants.{Slot as SlotAt}}
 use Rattle.ulfm_model.specs.{Blocks.{IsSummed}, History.{Exists, History, has, members, slot}}
 use Rattle.ulfm_words.specs.{Steps.{Goes, IsOf, Name, Sight}, declared.{step.Last.{Last}, step.Site.{Site}}}

@@ -74,6 +74,7 @@ impl<P: Packed> Intruder<P> {
         ensures of { IsOf P.meld (plain_name self.now.plain.limits) pass.new.plain }
         ensures did { Did false [] pass.old.plain.seen pass.new.plain.seen }
         ensures cached { IsPrefix pass.old.plain.cached pass.new.plain.cached }
+        ensures caches { pass.new.plain.caches ≡ pass.old.plain.caches }
         ensures trail { pass.new.trail ≡ pass.old.trail }
     {
         match pass.left {
@@ -124,6 +125,7 @@ impl<P: Packed> Intruder<P> {
         ensures of { IsOf P.meld (plain_name self.now.plain.limits) pass.new.plain }
         ensures did { Did false [] pass.old.plain.seen pass.new.plain.seen }
         ensures cached { IsPrefix pass.old.plain.cached pass.new.plain.cached }
+        ensures caches { pass.new.plain.caches ≡ pass.old.plain.caches }
         ensures trail { pass.new.trail ≡ pass.old.trail }
     {
         let Ok(group) = first_ranks(pass.alloc, self.plain.limits.ranks) else {
@@ -151,7 +153,14 @@ impl<P: Packed, A: Allocator + Copy + Drop> Words<P, A> for Intruder<P> {
 
     ghost alone = { false };
 
-    ghost sight = { λ p. record { name = p.plain.name; seen = p.plain.seen; cached = p.plain.cached; steps = length p.trail.log.items; last = last_of p.trail.log.items } };
+    ghost sight = { λ p. record {
+      name = p.plain.name;
+      seen = p.plain.seen;
+      cached = p.plain.cached;
+      caches = p.plain.caches;
+      steps = length p.trail.log.items;
+      last = last_of p.trail.log.items;
+    } };
 
     fn limits(&self) -> Limits {
         self.plain.limits

@@ -52,6 +52,7 @@ returns-then-not-is_there-clause-goes g c =
       of = goes.of;
       did = did_wait g.W.Words.alone [] (g.W.Words.sight c.args.pass.now).seen (g.W.Words.sight c.loop-at.pass).seen (g.W.Words.sight c.is_there.new.pass).seen i.did goes.did;
       cached = prefix_trans _ _ _ i.cached goes.cached;
+      caches = goes.caches ∙ i.caches;
       onward = omega (arith, i.onward, goes.onward);
       steps = omega (arith, i.steps, goes.steps, fewer);
     }
@@ -82,6 +83,7 @@ loop-at-preserved g c =
       did = did_wait g.W.Words.alone [] (g.W.Words.sight c.args.pass.now).seen h later i.did e.goes.did;
       round_of = round_stays (g.W.Words.name c.args.words.now).limits h later c.args.comm c.args.round group begins i.round_of;
       cached = prefix_trans _ _ _ i.cached e.goes.cached;
+      caches = e.goes.caches ∙ i.caches;
       onward = omega (arith, i.onward, e.goes.onward);
       steps = omega (arith, i.steps, e.steps, counted);
       arrived = arrived_on group declared others at (below g before) (has_arrived later c.args.comm c.args.round) asked (asks_it g before) (arrivals_stay h later c.args.comm c.args.round (asked_before group declared others at) begins i.arrived)

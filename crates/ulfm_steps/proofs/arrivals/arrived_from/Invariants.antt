@@ -11,6 +11,7 @@ invariant-loop-at g l = record {
   of : IsOf g.P.Meld.meld (g.W.Words.name l.words) (g.W.Words.sight l.pass);
   did : Did g.W.Words.alone [] (g.W.Words.sight l.initial.pass).seen (g.W.Words.sight l.pass).seen;
   cached : IsPrefix (g.W.Words.sight l.initial.pass).cached (g.W.Words.sight l.pass).cached;
+  caches : (g.W.Words.sight l.pass).caches ≡ (g.W.Words.sight l.initial.pass).caches;
   round_of : IsRoundOf (g.W.Words.name l.words).limits (g.W.Words.sight l.pass).seen l.comm l.round l.group;
   onward : (g.W.Words.sight l.initial.pass).steps ≤ (g.W.Words.sight l.pass).steps;
   steps : (g.W.Words.sight l.pass).steps + length (asked_before l.group l.declared l.others l.start) ≡ (g.W.Words.sight l.initial.pass).steps + length (asked_before l.group l.declared l.others l.at);

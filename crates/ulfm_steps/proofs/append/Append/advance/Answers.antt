@@ -15,7 +15,7 @@ returns-then-not-whole-clause-goes g c =
     let some = turns_some (room c.loop-end.self.item name.limits) c.loop-end.self inv.within in
     let few = turns_most places c.args.self.now in
     appends_next g.P.Meld.meld g.W.Words.alone name c.args.self.now.item c.args.self.now.by (2 * places) c.step-end.result (g.W.Words.sight c.args.pass.now) (g.W.Words.sight c.loop-end.pass) (g.W.Words.sight c.step-end.new.pass)
-    inv.did inv.cached inv.onward (omega (arith, some, few, inv.steps)) (rw (← inv.item, ← inv.by) c.step-end.ensures.goes)
+    inv.did inv.cached inv.caches inv.onward (omega (arith, some, few, inv.steps)) (rw (← inv.item, ← inv.by) c.step-end.ensures.goes)
 
 pub returns-then-not-whole-clause-passed : goal.returns-then-not-whole-clause-passed
 returns-then-not-whole-clause-passed g c = rw (← c.loop-end.invariant.item) c.step-end.ensures.passed
@@ -29,7 +29,7 @@ loop-end-preserved g c =
     let inv = c.loop-end.invariant in
     let e = c.step-end.ensures in
     let going : c.step-end.result ≡ None = none_of c.step-end.result (sym c.is_some.ensures ∙ c.if-is_some.false) in
-    let went : Goes g.P.Meld.meld g.W.Words.alone name 1 (g.W.Words.sight c.loop-end.pass) (g.W.Words.sight c.step-end.new.pass) = rw going at e.goes in
+    let went : Goes g.P.Meld.meld g.W.Words.alone false name 1 (g.W.Words.sight c.loop-end.pass) (g.W.Words.sight c.step-end.new.pass) = rw going at e.goes in
     let passed = rw going at e.passed in
     let within = rw going at e.within in
     let turns = (rw going at e.takes).turns in
@@ -40,6 +40,7 @@ loop-end-preserved g c =
       of = went.of;
       did = did_wait g.W.Words.alone [] first now after inv.did went.did;
       cached = prefix_trans _ _ _ inv.cached went.cached;
+      caches = went.caches ∙ inv.caches;
       may = rw same.0 (append_stays g.P.Meld.meld name.limits now after c.loop-end.self.item (did_prefix g.W.Words.alone _ now after went.did) inv.may);
       passed = rw same.0 passed;
       within = rw same.0 within;

@@ -17,10 +17,10 @@ returns-in-None-clause-passed g c =
     passed_stays c.args.self.now.item c.args.self.now.index old new (did_prefix g.W.Words.alone _ old new c.load_item.ensures.loads.did) c.requires.passed
 
 -- whichever step it was, another item stands at the place
-goes : (g : _) (c : After-eq g) → Goes g.P.Meld.meld g.W.Words.alone (g.W.Words.name c.args.words.now) 1 (g.W.Words.sight c.args.pass.now) (g.W.Words.sight c.if-self.pass)
+goes : (g : _) (c : After-eq g) → Goes g.P.Meld.meld g.W.Words.alone false (g.W.Words.name c.args.words.now) 1 (g.W.Words.sight c.args.pass.now) (g.W.Words.sight c.if-self.pass)
 goes g c = elim c.if-self.branch [
-  | then-self+in-Err w ↦ let t = w.in-Err.ensures.tries in rw w.pass-is (record { of = t.of; did = t.outcome; cached = t.cached; onward = omega (arith, t.steps); steps = omega (arith, t.steps) })
-  | else-self+in-Some w ↦ let l = w.load_item.ensures.loads in rw w.pass-is (record { of = l.of; did = l.did; cached = l.cached; onward = omega (arith, l.steps); steps = omega (arith, l.steps) })
+  | then-self+in-Err w ↦ let t = w.in-Err.ensures.tries in rw w.pass-is (record { of = t.of; did = t.outcome; cached = t.cached; caches = t.caches; onward = omega (arith, t.steps); steps = omega (arith, t.steps) })
+  | else-self+in-Some w ↦ let l = w.load_item.ensures.loads in rw w.pass-is (record { of = l.of; did = l.did; cached = l.cached; caches = l.caches; onward = omega (arith, l.steps); steps = omega (arith, l.steps) })
 ]
 
 -- .. and it was one step
@@ -62,7 +62,7 @@ returns-then-self-room_for-clause-goes g c =
     let other : c.if-self.standing ≢ c.args.self.now.item = search rules in
     let all : c.args.self.now.index + 1 ≡ room c.args.self.now.item (g.W.Words.name c.args.words.now).limits = c.if-self-room_for.true ∙ (c.room_for.ensures ∙ ap (room c.args.self.now.item) c.limits.ensures.limits) in
     let went = goes g at in
-    record { of = went.of; outcome = (went.did, rw (← all) (passed g at other)); cached = went.cached; onward = went.onward; steps = went.steps }
+    record { of = went.of; outcome = (went.did, rw (← all) (passed g at other)); cached = went.cached; caches = went.caches; onward = went.onward; steps = went.steps }
 
 pub returns-clause-passed : goal.returns-clause-passed
 returns-clause-passed g c =

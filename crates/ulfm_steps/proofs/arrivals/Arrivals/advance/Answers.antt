@@ -6,4 +6,4 @@ pub returns-clause-goes : goal.returns-clause-goes
 returns-clause-goes g c =
     let goes = c.step.ensures.goes in
     let left = asked_left c.args.group.now c.args.declared.now c.args.self.now.others c.args.self.now.next c.requires.at.asked in
-    record { of = goes.of; did = goes.did; cached = goes.cached; onward = goes.onward; steps = omega (arith, goes.steps, left) }
+    record { of = goes.of; did = goes.did; cached = goes.cached; caches = goes.caches; onward = goes.onward; steps = omega (arith, goes.steps, left) }

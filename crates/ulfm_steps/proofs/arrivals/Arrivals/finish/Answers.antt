@@ -1,4 +1,4 @@
-use Rattle.std.proofs.Common.{◌≡◌, ◌⊎◌, inl, inr, ℕ, ◌-◌, ◌<◌, ◌≤◌, true, [], filter, length, ap, sym, ◌∙◌, subst, arith}
+use Rattle.std.proofs.Common.{◌≡◌, ◌⊎◌, inl, inr, ℕ, ◌-◌, ◌<◌, ◌≤◌, true, false, [], filter, length, ap, sym, ◌∙◌, subst, arith}
 use Rattle.std.specs.List.{list_all}
 use Rattle.ulfm_model.specs.History.{has, has_arrived}
 use Rattle.ulfm_words.specs.Steps.{Goes}
@@ -23,7 +23,7 @@ returns-then-not-arrived_from-clause-goes g c =
     let a = c.args.self in
     let e = c.arrived_from.ensures.goes in
     let before = ap (λ b. length (asked_before c.args.group.now c.args.declared.now b a.next)) (turned_off a.others c.if-not-self.true) in
-    record { of = e.of; did = e.did; cached = e.cached; onward = e.onward; steps = omega (arith, e.steps, before, listed_few c.args.group.now c.args.declared.now) }
+    record { of = e.of; did = e.did; cached = e.cached; caches = e.caches; onward = e.onward; steps = omega (arith, e.steps, before, listed_few c.args.group.now c.args.declared.now) }
 
 pub returns-then-not-arrived_from-clause-more : goal.returns-then-not-arrived_from-clause-more
 returns-then-not-arrived_from-clause-more g c =
@@ -109,7 +109,7 @@ left g c =
 
 -- one load was made for each in between, at most
 went : (g : _) (c : Joined-not-self g)
-    → Goes g.P.Meld.meld g.W.Words.alone (g.W.Words.name c.args.words.now) (length (asked_before c.args.group.now c.args.declared.now true c.if-not-self.start) - length (asked_before c.args.group.now c.args.declared.now c.args.self.others c.args.self.next))
+    → Goes g.P.Meld.meld g.W.Words.alone false (g.W.Words.name c.args.words.now) (length (asked_before c.args.group.now c.args.declared.now true c.if-not-self.start) - length (asked_before c.args.group.now c.args.declared.now c.args.self.others c.args.self.next))
     (g.W.Words.sight c.args.pass.now) (g.W.Words.sight c.if-not-self.pass)
 went g c =
     let a = c.args.self in
@@ -119,7 +119,7 @@ went g c =
       | then-not-self+else-not-arrived_from w ↦
           let e = w.arrived_from.ensures.goes in
           let same = ap (λ b. length (asked_before group declared b a.next)) (turned_off a.others w.if-not-self.true) in
-          rw (w.pass-is, w.start-is) (record { of = e.of; did = e.did; cached = e.cached; onward = e.onward; steps = omega (arith, e.steps, same, ap length (others_first group declared)) })
+          rw (w.pass-is, w.start-is) (record { of = e.of; did = e.did; cached = e.cached; caches = e.caches; onward = e.onward; steps = omega (arith, e.steps, same, ap length (others_first group declared)) })
       | else-not-self w ↦ rw w.pass-is (goes_none g.P.Meld.meld g.W.Words.alone (g.W.Words.name c.args.words.now) _ (g.W.Words.sight c.args.pass.now) c.requires.of)
     ]
 

@@ -1,4 +1,4 @@
-use Rattle.std.proofs.Common.{◌≡◌, None, [], length, ap, sym, ◌∙◌, arith, nat_lt, rules}
+use Rattle.std.proofs.Common.{◌≡◌, None, [], length, refl, ap, sym, ◌∙◌, arith, nat_lt, rules}
 use Rattle.ulfm_model.proofs.Lists.{none_of, prefix_trans}
 use Rattle.ulfm_words.proofs.Trails.{did_prefix, did_wait}
 use Rattle.ulfm_steps.specs.Blocks.{blocks_left, site_of}
@@ -20,6 +20,7 @@ returns-then-not-whole g c =
         of = e.goes.of;
         did = did_wait g.W.Words.alone [] (g.W.Words.sight c.args.pass.now).seen (g.W.Words.sight c.loop-found.pass).seen (g.W.Words.sight c.step-found.new.pass).seen inv.did e.goes.did;
         cached = prefix_trans _ _ _ inv.cached e.goes.cached;
+        caches = refl;
         onward = omega (arith, inv.onward, e.goes.onward);
         steps = omega (arith, inv.steps, e.goes.steps, most);
       };

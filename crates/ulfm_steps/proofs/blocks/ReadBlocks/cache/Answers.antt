@@ -38,8 +38,8 @@ known g c =
     are_with g.P.Meld.meld old new c.args.group.now c.args.self.now (did_prefix g.W.Words.alone _ old new c.cache.ensures.did) c.requires.may.at c.requires.all
 
 -- it is one step, which makes no event
-went : (g : _) (c : Joined-self g) → Goes g.P.Meld.meld g.W.Words.alone (g.W.Words.name c.args.words.now) 1 (g.W.Words.sight c.args.pass.now) (g.W.Words.sight c.cache.new.pass)
-went g c = let e = c.cache.ensures in record { of = e.of; did = e.did; cached = e.cached; onward = omega (arith, e.steps); steps = omega (arith, e.steps) }
+went : (g : _) (c : Joined-self g) → Goes g.P.Meld.meld g.W.Words.alone true (g.W.Words.name c.args.words.now) 1 (g.W.Words.sight c.args.pass.now) (g.W.Words.sight c.cache.new.pass)
+went g c = let e = c.cache.ensures in record { of = e.of; did = e.did; cached = e.cached; caches = refl; onward = omega (arith, e.steps); steps = omega (arith, e.steps) }
 
 took : (g : _) (c : Joined-self g) (after : ℕ) → after + 1 ≤ blocks_left (length c.args.group.now) c.args.self.now
     → TakesAt false (site_of c.args.group.now c.args.self.now) (nat_lt c.args.self.now.read c.args.self.now.width) (blocks_left (length c.args.group.now) c.args.self.now) after (g.W.Words.sight c.args.pass.now) (g.W.Words.sight c.cache.new.pass)

@@ -1,8 +1,9 @@
-use Rattle.std.proofs.Common.{◌≡◌, ℕ, ◌+◌, ◌≤◌, [], ◌∷◌, ◌++◌, false, take, slice_index_or, nat_lt, ap, sym, ◌∙◌, arith, rules}
+use Rattle.std.proofs.Common.{◌≡◌, ℕ, ◌+◌, ◌≤◌, [], ◌∷◌, ◌++◌, false, true, take, slice_index_or, nat_lt, refl, ap, sym, ◌∙◌, arith, rules}
 use Rattle.std.specs.Prelude.{length}
 use Rattle.ulfm_laws.specs.Summaries.{summary_meld}
 use Rattle.ulfm_model.specs.{Blocks.{block_of}, Laws.{summary_of}, declared.{place.Place.TheVariants.{Slot as SlotAt}}}
 use Rattle.ulfm_model.proofs.Summed.{summed_later, summed_push}
+use Rattle.ulfm_words.specs.Steps.{Goes}
 use Rattle.ulfm_words.proofs.Trails.{did_prefix}
 use Rattle.ulfm_steps.specs.{Blocks.{blocks_left, site_of}, Turns.{TakesAt}}
 use Rattle.ulfm_steps.proofs.{InBlocks.{are_later, block_index, block_length, few_members, rank_is, rank_within, takes_member}, KnownBlocks.{set_later}, Reading.{has_at, member_within, missing_at, take_one_more}, Turning.{takes_load}}
@@ -42,12 +43,16 @@ takes g c after fewer =
     takes_member c.args.group.now r before after old new (omega (arith, c.requires.more, c.requires.may.at.wide))
     (takes_load g.P.Meld.meld g.P.Packed.pack g.W.Words.alone (g.W.Words.name c.args.words.now) _ old new _ before after c.load_summary.ensures.loads (ap (λ x. SlotAt r.comm r.round x) (rank_is g.P.Meld.meld old.seen c.args.group.now r c.requires.may.at)) fewer)
 
+-- .. which makes no event
+went : (g : _) (c : After-load_summary g) → Goes g.P.Meld.meld g.W.Words.alone true (g.W.Words.name c.args.words.now) 1 (g.W.Words.sight c.args.pass.now) (g.W.Words.sight c.load_summary.new.pass)
+went g c = let l = c.load_summary.ensures.loads in record { of = l.of; did = l.did; cached = l.cached; caches = refl; onward = omega (arith, l.steps); steps = omega (arith, l.steps) }
+
 pub returns-in-None : goal.returns-in-None
 returns-in-None g c =
     let r = c.args.self.now in
     let lt = rank_within g.P.Meld.meld (g.W.Words.sight c.args.pass.now).seen c.args.group.now r c.requires.may.at c.requires.more in
     record {
-      goes = search rules;
+      goes = went g (goal.at.returns-in-None g c).After-load_summary;
       takes = takes g (goal.at.returns-in-None g c).After-load_summary 0 (omega arith);
       comm = search rules;
       round = search rules;
@@ -75,7 +80,7 @@ returns-in-Some g c =
     let same : slice_index_or block r.read 0 ≡ rank = block_index r.side r.read group c.requires.more ∙ sym (rank_is meld old group r at) in
     let push : take (r.read + 1) block ≡ done ++ rank ∷ [] = take_one_more block r.read 0 (omega (arith, c.requires.more, block_length r.side group)) ∙ ap (λ x. done ++ x ∷ []) same in
     record {
-      goes = search rules;
+      goes = went g (goal.at.returns-in-Some g c).After-load_summary;
       takes = takes g (goal.at.returns-in-Some g c).After-load_summary _ (omega (arith, c.requires.more));
       comm = search rules;
       round = search rules;

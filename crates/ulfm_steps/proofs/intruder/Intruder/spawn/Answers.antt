@@ -44,7 +44,7 @@ returns-in_default-finish-clause-did g c = unalone true [] c.args.pass.now.plain
 pub returns-in_default-body : goal.returns-in_default-body
 returns-in_default-body g c =
     let went = c.finish.ensures.goes in
-    record { of = went.of; did = unalone true [] c.args.pass.now.plain.seen c.finish.new.pass.seen went.did; cached = went.cached; trail = refl }
+    record { of = went.of; did = unalone true [] c.args.pass.now.plain.seen c.finish.new.pass.seen went.did; cached = went.cached; caches = went.caches; trail = refl }
 
 pub returns-clause-did : goal.returns-clause-did
 returns-clause-did g c = unalone true [] c.args.pass.now.plain.seen c.finish.new.pass.seen c.finish.ensures.goes.did
@@ -58,3 +58,6 @@ returns-then-mask-ne0-clause-did g c =
 
 pub returns-then-mask-ne0-clause-cached : goal.returns-then-mask-ne0-clause-cached
 returns-then-mask-ne0-clause-cached g c = prefix_trans _ _ _ c.finish.ensures.goes.cached c.finish-then-mask-ne0.ensures.cached
+
+pub returns-then-mask-ne0-clause-caches : goal.returns-then-mask-ne0-clause-caches
+returns-then-mask-ne0-clause-caches g c = c.finish-then-mask-ne0.ensures.caches ∙ c.finish.ensures.goes.caches

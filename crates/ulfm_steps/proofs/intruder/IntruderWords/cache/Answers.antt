@@ -21,6 +21,7 @@ returns-in-Ok g c =
       of = record { name_is = e.of.name_is ∙ first.of.name_is; may_open = first.of.may_open; legal = subst (λ n. IsLegal g.P.Meld.meld n.limits new.seen) first.of.name_is e.of.legal };
       did = did_wait false _ old.seen mid.seen new.seen first.did (record { since = e.did.since; goes_on = e.did.goes_on; stands = e.did.stands; quiet = λ alone. absurd (cc alone) });
       cached = prefix_trans old.cached mid.cached new.cached first.cached e.cached;
+      caches = e.caches ∙ ap (λ n. n + 1) first.caches;
       steps = c.note.ensures.count ∙ ap (λ t. length t.log.items + 1) first.trail;
       last = c.note.ensures.last;
       set = e.set;

@@ -25,6 +25,7 @@ returns-in-Ok g c =
       of = record { name_is = e.of.name_is ∙ first.of.name_is; may_open = first.of.may_open; legal = subst (λ n. IsLegal g.P.Meld.meld n.limits new.seen) first.of.name_is e.of.legal };
       outcome = wins_before g.P.Packed.pack g.P.Packed.unpack true c.args.step old.seen mid.seen new.seen first.did c.in-Ok.ensures.outcome;
       cached = prefix_trans old.cached mid.cached new.cached first.cached e.cached;
+      caches = e.caches ∙ first.caches;
       steps = c.note.ensures.count ∙ ap (λ t. length t.log.items + 1) first.trail;
       last = c.note.ensures.last;
     })
@@ -40,6 +41,7 @@ returns-in-Err g c =
       of = record { name_is = e.of.name_is ∙ first.of.name_is; may_open = first.of.may_open; legal = subst (λ n. IsLegal g.P.Meld.meld n.limits new.seen) first.of.name_is e.of.legal };
       outcome = loses_before g.P.Packed.pack true c.args.step.place c.in-Err.word old.seen mid.seen new.seen first.did c.in-Err.ensures.outcome;
       cached = prefix_trans old.cached mid.cached new.cached first.cached e.cached;
+      caches = e.caches ∙ first.caches;
       steps = c.note-in-Err.ensures.count ∙ ap (λ t. length t.log.items + 1) first.trail;
       last = c.note-in-Err.ensures.last;
     })

@@ -10,6 +10,7 @@ invariant-loop-self g l = record {
   of : IsOf g.P.Meld.meld (g.W.Words.name l.words) (g.W.Words.sight l.pass);
   did : Did g.W.Words.alone [] (g.W.Words.sight l.initial.pass).seen (g.W.Words.sight l.pass).seen;
   cached : IsPrefix (g.W.Words.sight l.initial.pass).cached (g.W.Words.sight l.pass).cached;
+  caches : (g.W.Words.sight l.pass).caches ≡ (g.W.Words.sight l.initial.pass).caches;
   room : (g.W.Words.name l.words).limits.ranks ≤ vec_capacity l.found;
   kept : vec_capacity l.initial.found ≤ vec_capacity l.found;
   look : LookIs (g.W.Words.name l.words).limits l.self.done l.found.items (g.W.Words.sight l.pass).seen;

@@ -1,4 +1,4 @@
-use Rattle.std.proofs.Common.{◌≡◌, ◌-◌, ◌≤◌, true, [], length, vec_len, refl, ap, arith}
+use Rattle.std.proofs.Common.{◌≡◌, ◌-◌, ◌≤◌, true, [], length, vec_len, refl, ap, ◌∙◌, arith}
 use Rattle.ulfm_model.specs.{History.{failures}, declared.place.Place.TheVariants.{List as ListAt}}
 use Rattle.ulfm_model.proofs.Lists.{length_prefix, prefix_trans}
 use Rattle.ulfm_words.proofs.{Growing.{prefix_self}, Ranks.{failures_le}, Trails.{did_none, did_prefix, did_wait}}
@@ -20,6 +20,7 @@ loop-self-init g c =
       of = c.requires.of;
       did = did_none g.W.Words.alone (g.W.Words.sight c.args.pass.now).seen;
       cached = prefix_self _;
+      caches = refl;
       may = c.requires.may;
       at = c.requires.at;
       more = c.requires.more;
@@ -64,6 +65,7 @@ returns-then-not-whole-clause-goes g c =
       of = e.goes.of;
       did = did_wait g.W.Words.alone [] (g.W.Words.sight c.args.pass.now).seen (g.W.Words.sight c.loop-self.pass).seen (g.W.Words.sight c.step.new.pass).seen i.did e.goes.did;
       cached = prefix_trans _ _ _ i.cached e.goes.cached;
+      caches = e.goes.caches ∙ i.caches;
       onward = omega (arith, i.onward, e.goes.onward);
       steps = omega (arith, i.steps, (e.takes.one refl).steps, e.further, all);
     }
@@ -87,6 +89,7 @@ loop-self-preserved g c =
       goes_on = prefix_trans c.args.seen.now.items c.loop-self.seen.items c.step.new.seen.items i.goes_on e.goes_on;
       steps = omega (arith, i.steps, (e.takes.one refl).steps, e.further);
       cached = prefix_trans _ _ _ i.cached e.goes.cached;
+      caches = e.goes.caches ∙ i.caches;
       onward = omega (arith, i.onward, e.goes.onward);
       first = λ single. let whole = c.if-not-whole.false in absurd (cc (whole, single));
       room = omega (arith, i.room, e.room);

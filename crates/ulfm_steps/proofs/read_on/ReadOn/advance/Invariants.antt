@@ -10,6 +10,7 @@ invariant-loop-self g l = record {
   of : IsOf g.P.Meld.meld (g.W.Words.name l.words) (g.W.Words.sight l.pass);
   did : Did g.W.Words.alone [] (g.W.Words.sight l.initial.pass).seen (g.W.Words.sight l.pass).seen;
   cached : IsPrefix (g.W.Words.sight l.initial.pass).cached (g.W.Words.sight l.pass).cached;
+  caches : (g.W.Words.sight l.pass).caches ≡ (g.W.Words.sight l.initial.pass).caches;
   may : MayReadOn l.group l.count l.seen.items (failures (g.W.Words.sight l.pass).seen);
   at : AtFailure l.group l.count l.self l.seen.items;
   more : l.self.found < l.count;

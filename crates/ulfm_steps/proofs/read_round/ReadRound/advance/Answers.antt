@@ -18,6 +18,7 @@ loop-reading-preserved g c =
       of = e.goes.of;
       did = did_wait g.W.Words.alone [] first now after inv.did e.goes.did;
       cached = prefix_trans _ _ _ inv.cached e.goes.cached;
+      caches = e.goes.caches ∙ inv.caches;
       comm = e.comm ∙ inv.comm;
       round = e.round ∙ inv.round;
       round_of = rw (e.comm, e.round) (round_stays (g.W.Words.name c.args.words.now).limits now after c.loop-reading.reading.comm c.loop-reading.reading.round c.args.group.now (did_prefix g.W.Words.alone [] now after e.goes.did) inv.round_of);
