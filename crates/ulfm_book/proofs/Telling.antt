@@ -6,8 +6,8 @@ use Rattle.logbook.specs.Pages.{Book}
 use Rattle.ulfm_model.specs.declared.{block.Block.{Block}, event.Entry.{Entry}, place.Place.{Place}}
 use Rattle.ulfm_model.specs.{Blocks.{IsBlockWithin, IsCached}, History.{History, IsLegal}, Runs.{Did}, Words.{MayOpen, word_at}}
 use Rattle.ulfm_words.specs.declared.{step.Last.{Last}, step.Site.{Site}, step.Step.{Step}}
-use Rattle.ulfm_words.specs.{Blocks.{Caches, LoadsBlock}, Entries.{entry_of}, Pass.{last_of}, Places.{IsWithin}, Steps.{Heard, IsOf, Learns, Loads, Sets, Sight}}
-use Rattle.ulfm_words.proofs.Telling.{last_of-push}
+use Rattle.ulfm_words.specs.{Blocks.{Caches, LoadsBlock}, Entries.{entry_of}, Pass.{caches_in, last_of}, Places.{IsWithin}, Steps.{Heard, IsOf, Learns, Loads, Sets, Sight}}
+use Rattle.ulfm_words.proofs.{Standing.{caches_loaded, caches_place, caches_set}, Telling.{last_of-push}}
 use Rattle.ulfm_book.specs.declared.{line.Line.{Line}, line.Line.TheVariants.{Made}}
 use Rattle.ulfm_book.specs.{Logs.{IsLog, cached_in, history_in, limits_in}, Rules.{IsAddedBlock, IsBlockFound, IsFound, IsLast, IsOfBlock, Sees, heard_of, name_of, sight_of}, Seats.{block_seat, seat_in}}
 use Rattle.ulfm_book.proofs.Growing.{cached_in-append, history_in-append, sees}
@@ -55,6 +55,7 @@ module _ {P : Type 0} (meld : P → P → P) (pack : P → ℕ) where
           of = still same of.may_open s;
           did = others (history_in old) (history_in new) s.history;
           cached = s.cached;
+          caches = ap caches_in is ∙ caches_place trail p found true;
           steps = one_more (made (Site.Place p) found true) is;
           last = last_is (made (Site.Place p) found true) is ∙ ap (λ n. Some (made (Site.Place p) n true).0) word;
         })
@@ -87,6 +88,7 @@ module _ {P : Type 0} (meld : P → P → P) (pack : P → ℕ) where
             stands = found_at old new s.place k s.word finds.0 within key won.1;
           };
           cached = finds.0.cached;
+          caches = ap caches_in stamped ∙ caches_place trail s.place 0 false;
           steps = one_more (made (Site.Place s.place) 0 false) stamped;
           last = last_is (made (Site.Place s.place) 0 false) stamped;
         })
@@ -109,6 +111,7 @@ module _ {P : Type 0} (meld : P → P → P) (pack : P → ℕ) where
             did = others (history_in old) (history_in new) finds.0.history;
           };
           cached = finds.0.cached;
+          caches = ap caches_in is ∙ caches_place trail s.place found false;
           steps = one_more (made (Site.Place s.place) found false) is;
           last = last_is (made (Site.Place s.place) found false) is;
         })
@@ -135,6 +138,7 @@ module _ {P : Type 0} (meld : P → P → P) (pack : P → ℕ) where
           of = still same of.may_open s;
           did = others (history_in old) (history_in new) s.history;
           cached = s.cached;
+          caches = ap caches_in is ∙ caches_loaded trail block found;
           steps = one_more (made (Site.Block block) found true) is;
           last = last_is (made (Site.Block block) found true) is;
           stands = subst (λ n. IsCached meld pack n.ranks (history_in new) block found) s.limits stands.stands;
@@ -158,6 +162,7 @@ module _ {P : Type 0} (meld : P → P → P) (pack : P → ℕ) where
           of = still same of.may_open s;
           did = others (history_in old) (history_in new) s.history;
           cached = s.cached;
+          caches = ap caches_in is ∙ caches_set trail block found;
           steps = one_more (made (Site.Block block) found false) is;
           last = last_is (made (Site.Block block) found false) is ∙ ap (λ n. Some (made (Site.Block block) n false).0) zero;
           set = added.set;
@@ -174,6 +179,7 @@ module _ {P : Type 0} (meld : P → P → P) (pack : P → ℕ) where
           of = still same of.may_open s;
           did = others (history_in old) (history_in new) s.history;
           cached = s.cached;
+          caches = ap caches_in is ∙ caches_set trail block found;
           steps = one_more (made (Site.Block block) found false) is;
           last = last_is (made (Site.Block block) found false) is;
           set = added.set;
@@ -194,6 +200,7 @@ module _ {P : Type 0} (meld : P → P → P) (pack : P → ℕ) where
           did = others (history_in old) (history_in new) s.history;
           hears = subst (λ (h : Heard P). IsPrefix h.seen (history_in new)) f (sees_told from);
           cached = s.cached;
+          caches = refl;
           hears_cached = subst (λ (h : Heard P). IsPrefix h.cached (cached_in new)) f (cached_told from);
           steps = refl;
           last = refl;

@@ -6,7 +6,7 @@ use Rattle.ulfm_model.specs.declared.{block.Block.{Block}, limits.Limits.{Limits
 use Rattle.ulfm_model.specs.declared.{place.Place.{Place}}
 use Rattle.ulfm_model.specs.{Blocks.{IsBlockWithin, IsCached, has_block}, Words.{IsUnfit, MayOpen, word_at}}
 use Rattle.ulfm_words.specs.declared.step.Last.{Last}
-use Rattle.ulfm_words.specs.{Pass.{last_of}, Places.{IsWithin}, Steps.{Heard, Name, Sight}}
+use Rattle.ulfm_words.specs.{Pass.{caches_in, last_of}, Places.{IsWithin}, Steps.{Heard, Name, Sight}}
 use Rattle.ulfm_book.specs.declared.line.Line.{Line}
 use Rattle.ulfm_book.specs.{Logs.{IsLog, cached_in, history_in, limits_in}, Seats.{block_seat, row_of, seat_in}}
 
@@ -41,7 +41,14 @@ word_named book key = record { tracked = true; key = key; book = book }
 -- what contracts see of a pass, and of a told value
 abbrev pub sight_of : {P : Type 0} → Book → List (Line P) → List (Last × Bool) → Sight P
 sight_of book log trail =
-    record { name = name_of book (limits_in log); seen = history_in log; cached = cached_in log; steps = length trail; last = last_of trail }
+    record {
+      name = name_of book (limits_in log);
+      seen = history_in log;
+      cached = cached_in log;
+      caches = caches_in trail;
+      steps = length trail;
+      last = last_of trail;
+    }
 
 abbrev pub heard_of : {P : Type 0} → Book → List (Line P) → Heard P
 heard_of book log = record { name = name_of book (limits_in log); seen = history_in log; cached = cached_in log }
