@@ -267,8 +267,8 @@ fn agree<G: Gate, R: Wait>(
         → SaysAgree plan rank.old.own.number round said rank.new.own pass.new.seen reply) }
     ensures asks { IfOk result (λ reply. WasLet (G.may_say gate.now rank.old.own.number) (reply ∷ [])) }
     ensures stops { IfErr result (StopsFor
-        (IsAwaited flag_meld false world.now.words 0 (Agree rank.old.own.number 0 (flag_of rank.old.own.number round)) rank.old.own pass.old (Err Refusal.OutOfMemory)
-        rank.new.own pass.new)
+        (IsAwaited flag_meld false world.now.words 0 (Agree rank.old.own.number 0 (flag_of rank.old.own.number round)) rank.old.own pass.old
+        (Err Refusal.OutOfMemory) rank.new.own pass.new)
         (G.may_say gate.now rank.old.own.number)) }
 {
     let number = rank.number();

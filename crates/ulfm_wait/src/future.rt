@@ -111,7 +111,8 @@ impl<'a, W: Words<P, A>, P: Packed, A: Allocator + Copy> Future for AgreeFuture<
         ensures woken { OnPending result (cx.new.is_woken ≡ true) }
         ensures value { IfReady result (⟦<AgreeFuture<'a, W, P, A> as Future>⟧.gives self.old) }
         ensures again { OnPending result (⟦<AgreeFuture<'a, W, P, A> as Future>⟧.can_poll self.new) }
-        ensures same { OnPending result ((out : _) → ⟦<AgreeFuture<'a, W, P, A> as Future>⟧.gives self.new out → ⟦<AgreeFuture<'a, W, P, A> as Future>⟧.gives self.old out) }
+        ensures same { OnPending result ((out : _) → ⟦<AgreeFuture<'a, W, P, A> as Future>⟧.gives self.new out
+            → ⟦<AgreeFuture<'a, W, P, A> as Future>⟧.gives self.old out) }
         ensures registered { OnPending result (Covers cx.new (λ _. ⊥)) }
         ensures kept { Keeps cx.old cx.new }
     {
@@ -160,8 +161,8 @@ fn step<W: Words<P, A>, P: Packed, A: Allocator + Copy>(
 ) -> Result<Polled<P>, Refusal>
     requires of { IsOf P.meld (W.name world.now.words) (W.sight pass.old) }
     requires fits { Fits P.meld (W.name world.now.words).limits (W.sight pass.old).seen rank.old.own }
-    ensures { TakesTurn P.meld W.alone (record { comm = comm; value = value; started = started }) (member_of (W.name world.now.words) rank.old (W.sight pass.old))
-        result (member_of (W.name world.now.words) rank.new (W.sight pass.new)) }
+    ensures { TakesTurn P.meld W.alone (record { comm = comm; value = value; started = started })
+        (member_of (W.name world.now.words) rank.old (W.sight pass.old)) result (member_of (W.name world.now.words) rank.new (W.sight pass.new)) }
 {
     if started {
         return rank.poll(world, pass, comm);
