@@ -140,13 +140,13 @@ impl<P: Packed> BookPass<P> {
             .seen
             .plain::<Nothing, Block, AddBlock<P>>(&block);
         let found = word.load::<LookBlock<P>, Nothing>(&mut self.seen, &mut offer);
-        let load = true;
+        let is_load = true;
         let last = Last {
             at: Site::Block(block),
             word: found,
-            load,
+            load: is_load,
         };
-        self.trail = self.trail.and(&last, &load);
+        self.trail = self.trail.and(&last, &is_load);
         found
     }
 
@@ -174,13 +174,13 @@ impl<P: Packed> BookPass<P> {
             &mut offer,
             &mut pen,
         );
-        let load = false;
+        let is_load = false;
         let last = Last {
             at: Site::Block(block),
             word: stood,
-            load,
+            load: is_load,
         };
-        self.trail = self.trail.and(&last, &load);
+        self.trail = self.trail.and(&last, &is_load);
         if stood == 0 { Ok(()) } else { Err(stood) }
     }
 
