@@ -1,6 +1,6 @@
 -- How many steps a call makes at most beside a load for each failure that its rank has seen more.
-use Rattle.std.proofs.Common.{◌≡◌, ℕ, ◌+◌, ◌-◌, ◌*◌, ◌<◌, ◌≤◌, Bool, true, false, List, [], length, take, min, Option, Some, None, IsTrue, is_some, if◌then◌else◌, refl, ap, sym, ◌∙◌, subst, append-nil, arith}
-use Rattle.std.proofs.lemmas.List.{length-take}
+use Rattle.std.proofs.Common.{◌≡◌, ℕ, ◌+◌, ◌-◌, ◌*◌, ◌<◌, ◌≤◌, Bool, true, false, List, [], length, take, min, nat_lt, Option, Some, None, IsTrue, is_some, if◌then◌else◌, refl, ap, sym, ◌∙◌, subst, append-nil, arith}
+use Rattle.std.proofs.lemmas.{Bool.{lt-ltb, ltb-true}, List.{length-take}}
 use mathlib.Core.List.{IsPrefix}
 use Rattle.ulfm_model.specs.declared.call.Call.TheVariants as call
 use Rattle.ulfm_model.specs.declared.{block.Block.{Block}, block.Side.{Side}, block.Side.TheVariants.{Front, Back}}
@@ -12,7 +12,7 @@ use Rattle.ulfm_steps.specs.{Appends.{turns_left}, Arriving.{arrivals_left, in_o
 use Rattle.ulfm_steps.specs.declared.{append.Append.{Append}, arrivals.Arrivals.{Arrivals}, arrivals.Missing.{Missing}, blocks.Peek.{Peek}, read_on.ReadOn.{ReadOn}}
 use Rattle.ulfm_steps.proofs.{Arriving.{in_order_few}, InBlocks.{apart_lt, peek_some}}
 use Rattle.ulfm_comm.specs.AlsoLeft.{AlsoFollows, AlsoLooks, AlsoSpends, AlsoTurns, FindsSetIn, FindsSetNext, also_after_look, also_after_round, also_behind_look, also_in, also_left, also_polling}
-use Rattle.ulfm_comm.specs.{Requests.{BlocksStand}, Bound.{also_bound, also_call_bound, also_poll_bound}, Look.{Passes}, Phase.{NextBelow, is_looking}, Step.{LooksOn}, Requests.{agreement}, StepsLeft.{FewerLeft, Spends, group_of, steps_left}}
+use Rattle.ulfm_comm.specs.{Begins.{reads_again}, Requests.{BlocksStand}, Bound.{also_bound, also_call_bound, also_poll_bound}, Look.{Passes}, Phase.{NextBelow, is_looking}, Step.{LooksOn}, Requests.{agreement}, StepsLeft.{FewerLeft, Spends, group_of, steps_left}}
 use Rattle.ulfm_comm.specs.declared.{phases.phase.Made.{Made}, phases.phase.Next.{Next}, phases.phase.Next.TheVariants.{Goes, Ends}, phases.phase.Phase.{Phase}}
 use Rattle.ulfm_comm.specs.declared.phases.phase.Phase.TheVariants.{Over, Begun, Looking, Settling, Arriving, Revoking, Asking, Peeking, Marking, Reading, ReadingOn, Spawning, Waiting, Checking}
 use Rattle.ulfm_comm.proofs.StepsLeft.{passes_none, refusal_same}
@@ -58,19 +58,32 @@ module _ {P : Type 0} (limits : Limits) (own new : Record) (seen : List ℕ) (as
         sets = λ stand. follows.sets after.cached (blocks_stay after.cached after.cached ([], append-nil after.cached) stand);
       }
 
+-- where not all ranks were seen, none is read again
+reads_none : (ranks : ℕ) (seen : List ℕ) → length seen < ranks → reads_again ranks seen ≡ 0
+reads_none ranks seen more = ap (λ b. if b then 0 else 1) (lt-ltb (length seen) ranks more)
+
+-- what a look reads again was seen
+reads_enough : (ranks : ℕ) (seen : List ℕ) → length seen ≤ ranks → length seen ≤ min (ranks - 1) (length seen) + reads_again ranks seen
+reads_enough ranks seen within = go (nat_lt (length seen) ranks) refl
+  where
+    go : (b : Bool) → nat_lt (length seen) ranks ≡ b → length seen ≤ min (ranks - 1) (length seen) + (if b then 0 else 1)
+    go true is = omega (arith, ltb-true (length seen) ranks is)
+    go false is = omega (arith, within)
+
 -- a call that begins its look, behind what was seen or at the last of all ranks
 module _ {P : Type 0} (limits : Limits) (own resumed : Record) (asked : Call P) (ranks : own.limits.ranks ≡ limits.ranks) (is : resumed ≡ record own { seen = take (own.limits.ranks - 1) own.seen }) where
   -- how much it has seen then
   resumed_size : length resumed.seen ≡ min (own.limits.ranks - 1) (length own.seen)
   resumed_size = ap (λ (w : Record). length w.seen) is ∙ length-take (own.limits.ranks - 1) own.seen
 
-  pub also_resumes : (now after : Sight P) (next : Next P) (new : Record) → AlsoLooks (also_left limits resumed asked Looking) limits asked resumed now next new after → AlsoLooks (also_left limits own asked Begun) limits asked own now next new after
-  also_resumes now after next new looks =
+  pub also_resumes : length own.seen ≤ limits.ranks → (now after : Sight P) (next : Next P) (new : Record) → AlsoLooks (also_left limits resumed asked Looking) limits asked resumed now next new after → AlsoLooks (also_left limits own asked Begun) limits asked own now next new after
+  also_resumes within now after next new looks =
       let seen = take (own.limits.ranks - 1) own.seen in
       let few = looks.few in
       let same = also_after_same limits own resumed seen asked is in
+      let again = reads_enough limits.ranks own.seen within in
       record {
-        few = omega (arith, few, same, resumed_size, ranks);
+        few = omega (arith, few, same, resumed_size, ranks, again);
         sets = λ stand. looks.sets (blocks_stay limits own resumed seen asked is after.cached after.cached ([], append-nil after.cached) stand);
       }
 
@@ -273,27 +286,33 @@ also_begun {P} limits own asked f in_use more some =
     subst (λ b. also_left limits own asked Begun + f ≤ (if b then 0 else (if is_some (refusal_of own asked) then f + 1 else also_call_bound f n limits.comms request asked)))
     (sym in_use) (by_refusal (is_some (refusal_of own asked)))
   where
-    by_request : (n : ℕ) (request : Option Request) → length own.seen - (limits.ranks - 1) + 1 + also_polling limits n request + f ≤ also_poll_bound f n limits.comms request
-    by_request n None = omega (arith, more)
-    by_request n (Some (Agree k)) = omega (arith, more)
-    by_request n (Some (Shrink k)) = omega (arith, more, some)
-    by_request n (Some (Barrier k)) = omega (arith, more)
+    again : ℕ
+    again = reads_again limits.ranks own.seen
 
-    by_call : (asked : Call P) → length own.seen - (limits.ranks - 1) + 1 + also_behind_look limits own asked + f ≤ also_call_bound f (length (group_of (held_at own (comm_of asked)))) limits.comms (request_of (held_at own (comm_of asked))) asked
-    by_call (call.Fail rank) = omega (arith, more)
-    by_call (call.GetFailed rank c) = omega (arith, more)
-    by_call (call.Ack rank c count) = omega (arith, more)
-    by_call (call.Agree rank c value) = omega (arith, more)
-    by_call (call.Shrink rank c) = omega (arith, more)
-    by_call (call.Barrier rank c) = omega (arith, more)
+    none : again ≡ 0
+    none = reads_none limits.ranks own.seen more
+
+    by_request : (n : ℕ) (request : Option Request) → again + 1 + also_polling limits n request + f ≤ also_poll_bound f n limits.comms request
+    by_request n None = omega (arith, none)
+    by_request n (Some (Agree k)) = omega (arith, none)
+    by_request n (Some (Shrink k)) = omega (arith, none, some)
+    by_request n (Some (Barrier k)) = omega (arith, none)
+
+    by_call : (asked : Call P) → again + 1 + also_behind_look limits own asked + f ≤ also_call_bound f (length (group_of (held_at own (comm_of asked)))) limits.comms (request_of (held_at own (comm_of asked))) asked
+    by_call (call.Fail rank) = omega (arith, none)
+    by_call (call.GetFailed rank c) = omega (arith, none)
+    by_call (call.Ack rank c count) = omega (arith, none)
+    by_call (call.Agree rank c value) = omega (arith, none)
+    by_call (call.Shrink rank c) = omega (arith, none)
+    by_call (call.Barrier rank c) = omega (arith, none)
     by_call (call.Poll rank c) = by_request (length (group_of (held_at own c))) (request_of (held_at own c))
-    by_call (call.Revoke rank c) = omega (arith, more)
-    by_call (call.IsRevoked rank c) = omega (arith, more)
-    by_call (call.Free rank c) = omega (arith, more)
+    by_call (call.Revoke rank c) = omega (arith, none)
+    by_call (call.IsRevoked rank c) = omega (arith, none)
+    by_call (call.Free rank c) = omega (arith, none)
 
-    by_refusal : (b : Bool) → length own.seen - (limits.ranks - 1) + 1 + (if b then 0 else also_behind_look limits own asked) + f
+    by_refusal : (b : Bool) → again + 1 + (if b then 0 else also_behind_look limits own asked) + f
         ≤ (if b then f + 1 else also_call_bound f (length (group_of (held_at own (comm_of asked)))) limits.comms (request_of (held_at own (comm_of asked))) asked)
-    by_refusal true = omega (arith, more)
+    by_refusal true = omega (arith, none)
     by_refusal false = by_call asked
 
 -- so a call that has ended has made no more

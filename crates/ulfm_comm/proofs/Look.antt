@@ -178,6 +178,19 @@ starts_shrink {P} asked rank c own mid seen x round ids is mid_is free at =
     as_offer : CtxMask → Offer P
     as_offer i = Ctx i
 
+-- a call that begins has seen what is a beginning of the list of failures
+begun_seen : {P : Type 0} (meld : P → P → P) (alone : Bool) (name : Name) (asked : Call P) (old : Record) (before : Sight P) (group : List ℕ) (own : Record) (now : Sight P)
+    → Stands meld alone name old before (record { asked = asked; phase = Begun; group = group }) own now → IsPrefix own.seen (failures now.seen)
+begun_seen meld alone name asked old before group own now u =
+    let grown = failures_begin before.seen now.seen (did_prefix alone [] before.seen now.seen u.at.2) in
+    subst (λ (w : Record). IsPrefix w.seen (failures now.seen)) (sym u.at.1) (prefix_trans old.seen (failures before.seen) (failures now.seen) u.fits.seen grown)
+
+-- that is all ranks, at most
+pub begun_within : {P : Type 0} (meld : P → P → P) (alone : Bool) (name : Name) (asked : Call P) (old : Record) (before : Sight P) (group : List ℕ) (own : Record) (now : Sight P) → IsOf meld name now
+    → Stands meld alone name old before (record { asked = asked; phase = Begun; group = group }) own now → length own.seen ≤ name.limits.ranks
+begun_within meld alone name asked old before group own now of u =
+    omega (arith, length_prefix own.seen (failures now.seen) (begun_seen meld alone name asked old before group own now u), failures_le meld name.limits now.seen of.legal)
+
 -- a look begins behind what was seen, or at the last of all ranks
 pub begins_looking : {P : Type 0} (meld : P → P → P) (alone : Bool) (name : Name) (asked : Call P) (old : Record) (before : Sight P) (group : List ℕ) (own new : Record) (now : Sight P) → IsOf meld name now
     → new ≡ record own { seen = take (own.limits.ranks - 1) own.seen }
@@ -187,8 +200,7 @@ begins_looking meld alone name asked old before group own new now of is u =
     let some : 0 < name.limits.ranks = omega (arith, of.may_open.in_range.some_ranks) in
     let limits_are : own.limits.ranks ≡ name.limits.ranks = ap (λ (w : Record). w.limits.ranks) u.at.1 ∙ ap (λ l. l.ranks) u.fits.same_limits in
     let seen : new.seen ≡ take n own.seen = ap (λ (w : Record). w.seen) is in
-    let grown = failures_begin before.seen now.seen (did_prefix alone [] before.seen now.seen u.at.2) in
-    let begins : IsPrefix own.seen (failures now.seen) = subst (λ (w : Record). IsPrefix w.seen (failures now.seen)) (sym u.at.1) (prefix_trans old.seen (failures before.seen) (failures now.seen) u.fits.seen grown) in
+    let begins = begun_seen meld alone name asked old before group own now u in
     let fewer : length (take n own.seen) < name.limits.ranks = omega (arith, length-take n own.seen, limits_are, some) in
     record {
       fits = u.fits;

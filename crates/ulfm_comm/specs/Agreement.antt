@@ -1,6 +1,7 @@
 -- The poll of an agreement: its peek at the round's blocks, its marks, and its reading of those blocks that aren't known.
 use Rattle.std.specs.Prelude.{◌≡◌, ℕ, ◌≤◌, Bool, false, [], Some, length, nat_lt}
-use Rattle.ulfm_laws.specs.declared.{summary.Body.{Body}, summary.Body.TheVariants.{Unit as Nothing, Flag as OfFlag, Ctx as OfIds, Clash}, summary.Summary.{Summary}}
+use Rattle.ulfm_laws.specs.declared.{summary.Body.{Body}, summary.Summary.{Summary}}
+use Rattle.ulfm_laws.specs.declared.summary.Body.TheVariants.{Unit as Nothing, Flag as OfFlag, Ctx as OfIds, Clash}
 use Rattle.ulfm_model.specs.declared.call.Call.TheVariants as call
 use Rattle.ulfm_model.specs.declared.{call.Call.{Call}, limits.Limits.{Limits}, refusal.Refusal.TheVariants.{Mismatch}, reply.Reply.{Reply}}
 use Rattle.ulfm_model.specs.declared.reply.Reply.TheVariants.{Agreed, Refused}

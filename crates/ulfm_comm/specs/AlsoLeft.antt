@@ -5,7 +5,7 @@ use Rattle.ulfm_model.specs.declared.{call.Call.{Call}, call.Request.{Request}, 
 use Rattle.ulfm_model.specs.{Answers.{refusal_of}, Blocks.{has_block}, Records.{Record, held_at}, Terms.{comm_of, request_of}}
 use Rattle.ulfm_words.specs.Steps.{Sight}
 use Rattle.ulfm_steps.specs.{Blocks.{block_at, has_back, peeks_left}, declared.blocks.Peek.{Peek}}
-use Rattle.ulfm_comm.specs.{Requests.{BlocksStand}, StepsLeft.{behind, group_of, steps_left}}
+use Rattle.ulfm_comm.specs.{Begins.{reads_again}, Requests.{BlocksStand}, StepsLeft.{behind, group_of, steps_left}}
 use Rattle.ulfm_comm.specs.declared.{phases.phase.Next.{Next}, phases.phase.Next.TheVariants.{Goes, Ends}, phases.phase.Phase.{Phase}}
 use Rattle.ulfm_comm.specs.declared.phases.phase.Phase.TheVariants.{Begun, Looking, Peeking, Marking, Reading, ReadingOn}
 
@@ -33,7 +33,7 @@ also_after_look limits own asked = if is_some (refusal_of own asked) then 0 else
 -- it had seen. For marks and readings of members nothing is said: a poll that knows its round's blocks doesn't come there. What else it may do
 -- loads no list of failures, and takes the steps that are left.
 abbrev pub also_left : {P : Type 0} → Limits → Record → Call P → Phase P → ℕ
-also_left limits own asked Begun = length own.seen - (limits.ranks - 1) + 1 + also_after_look limits own asked
+also_left limits own asked Begun = reads_again limits.ranks own.seen + 1 + also_after_look limits own asked
 also_left limits own asked Looking = 1 + also_after_look limits own asked
 also_left limits own asked (Peeking peek shrinks) =
     peeks_left (length (group_of (held_at own (comm_of asked)))) peek.side + also_after_round limits shrinks

@@ -17,6 +17,7 @@ pub mod Bound
 pub mod AlsoLeft
 pub mod Agreement
 pub mod Phase
+pub mod Missing
 pub mod Known
 pub mod Step
 pub mod Counts

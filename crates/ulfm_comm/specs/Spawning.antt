@@ -13,7 +13,8 @@ use Rattle.ulfm_steps.specs.declared.{append.Append.{Append}, item.Item.TheVaria
 use Rattle.ulfm_model.specs.Blocks.{IsSummed}
 use Rattle.ulfm_steps.specs.{Appends.{Passed, room, MayAppend, turns_left}, ReadsOn.{ReadsOn}, Turns.{Takes}}
 use Rattle.ulfm_comm.specs.Polls.{HasMarked}
-use Rattle.ulfm_comm.specs.declared.{phases.phase.Made.{Made}, phases.phase.Next.{Next}, phases.phase.Next.TheVariants.{Ends}, phases.spawning.Spawned.{Spawned}}
+use Rattle.ulfm_comm.specs.declared.{phases.phase.Made.{Made}, phases.phase.Next.{Next}, phases.phase.Next.TheVariants.{Ends}}
+use Rattle.ulfm_comm.specs.declared.phases.spawning.Spawned.{Spawned}
 use Rattle.ulfm_comm.specs.declared.phases.spawning.Spawned.TheVariants as spawned
 use Rattle.std.specs.List.{AllByRecursion}
 
@@ -87,7 +88,8 @@ SpawnTakes whole limits old result new =
 
 -- the round's communicator isn't found yet; or it is made and held; or there is no room for it
 abbrev pub SpawnIs : {P : Type 0} → (P → P → P) → Bool → Name → ℕ → ℕ → ℕ → Append → Append → List ℕ → Record → Sight P → Spawned → Record → Sight P → Type 0
-SpawnIs meld alone name c k context append next group old before spawned.Unknown new after = IsSoughtBy meld alone name c k append before next after × (new ≡ old)
+SpawnIs meld alone name c k context append next group old before spawned.Unknown new after =
+    IsSoughtBy meld alone name c k append before next after × (new ≡ old)
 SpawnIs meld alone name c k context append next group old before (spawned.Made j size) new after =
     IsMadeBy meld alone name append.by c k before j after × Holds c context group old j size new
 SpawnIs meld alone name c k context append next group old before spawned.Full new after = IsFullBy meld alone name c k before after × (new ≡ old)

@@ -1,18 +1,18 @@
 -- What one step of a call does.
 use Rattle.std.specs.Prelude.{◌≡◌, ◌⊎◌, ℕ, ◌+◌, ◌-◌, ◌<◌, ◌≤◌, Bool, true, false, List, [], ◌∷◌, Some, Option, IsTrue, length, max, ⊤}
 use mathlib.Core.List.{IsPrefix}
-use Rattle.ulfm_model.specs.declared.call.Call.TheVariants as call
-use Rattle.ulfm_model.specs.declared.{block.Block.{Block}, call.Call.{Call}, event.Caller.TheVariants.{Rank}, event.Event.{Event}, limits.Limits.{Limits}, refusal.Refusal.TheVariants.{SelfFailed}}
-use Rattle.ulfm_model.specs.declared.{reply.Reply.{Reply}, reply.Reply.TheVariants.{Refused, Revoked, Started}}
-use Rattle.ulfm_model.specs.{Answers.{CallAdds, polled_by, traits_of}, History.{History, entries_by, failures, has}, Records.{Fits, Held, Record, held_at, is_shrink}, Runs.{Did}, Terms.{comm_of}}
+use Rattle.ulfm_model.specs.declared.{block.Block.{Block}, call.Call.{Call}, event.Caller.TheVariants.{Rank}, event.Event.{Event}, limits.Limits.{Limits}}
+use Rattle.ulfm_model.specs.declared.{refusal.Refusal.TheVariants.{SelfFailed}, reply.Reply.{Reply}, reply.Reply.TheVariants.{Refused, Revoked, Started}}
+use Rattle.ulfm_model.specs.{Answers.{CallAdds, polled_by, traits_of}, History.{History, entries_by, failures, has}}
+use Rattle.ulfm_model.specs.{Records.{Held, Record, held_at, is_shrink}, Runs.{Did}, Terms.{comm_of}}
 use Rattle.ulfm_words.specs.Steps.{IsOf, Name, Sight}
-use Rattle.ulfm_steps.specs.declared.{arrivals.Arrivals.{Arrivals}, arrivals.Missing.{Missing}}
-use Rattle.ulfm_comm.specs.{Look.{JustLooked}, StepsLeft.{FewerLeft, MakesStep, Spends, steps_left}, Barrier.{IsChecking, AnswersEarly}}
+use Rattle.ulfm_comm.specs.{Look.{JustLooked}, StepsLeft.{FewerLeft, MakesStep, Spends, steps_left}}
+use Rattle.ulfm_comm.specs.Missing.{AnsweredNow, AnswersMissing, FindsMissing, FoundNow}
 use Rattle.ulfm_comm.specs.{AlsoLeft.{AlsoTurns, FindsSetIn, also_left}, Known.{KnowsIn, KnowsNext}, Requests.{BlocksStand, LeavesSet}}
 use Rattle.ulfm_comm.specs.Phase.{Answered, UnderWay, is_looking, next_step, IsFurther, IsPast, LeadsTo, NextIs, reply_in, Stands, Turns}
 use Rattle.ulfm_comm.specs.declared.{phases.phase.Next.{Next}, phases.phase.Next.TheVariants.{Goes, Ends}, phases.phase.Phase.{Phase}}
 use Rattle.ulfm_comm.specs.declared.phases.phase.Phase.TheVariants.{Over, Begun, Looking, Settling, Arriving, Revoking, Marking, ReadingOn}
-use Rattle.ulfm_comm.specs.declared.phases.phase.Phase.TheVariants.{Spawning, Waiting, Checking}
+use Rattle.ulfm_comm.specs.declared.phases.phase.Phase.TheVariants.{Spawning}
 
 -- steps of one rank, with own events alone where nobody else steps; what was known to be set still is
 pub record Walks {P : Type 0} (meld : P → P → P) (quiet : Bool) (name : Name) (rank : ℕ) (old new : Sight P) : Type 0 where
@@ -89,14 +89,8 @@ pub record Stepped {P : Type 0} (meld : P → P → P) (quiet : Bool) (name : Na
   pub looks : is_looking was.phase ≡ true → LooksOn name.limits own now next new after
   pub knows : KnowsIn own was.asked now.cached was.phase → KnowsNext own was.asked after.cached next
   pub leads : LeadsTo was.phase next
-  pub checks : (arrivals : Arrivals) → was.phase ≡ Waiting arrivals → (missing : Missing) → next ≡ Goes (Checking missing)
-      → (alone : Bool) → (IsTrue alone → IsTrue quiet) → (old : Record) → (before : Sight P) → Stands meld alone name old before was own now
-      → IsChecking meld name.limits alone (comm_of was.asked) missing after.seen old before.seen new after.seen
-  pub early : (missing : Missing) → was.phase ≡ Checking missing → (reply : Reply P) → next ≡ Ends reply
-      → (alone : Bool) → (IsTrue alone → IsTrue quiet) → (old : Record) → (before : Sight P) → Fits meld name.limits before.seen old
-      → was.asked ≡ call.Poll old.number (comm_of was.asked)
-      → (earlier : History P) → IsChecking meld name.limits alone (comm_of was.asked) missing earlier old before.seen own now.seen
-      → AnswersEarly meld name.limits alone was.asked missing earlier old before.seen reply new
+  pub checks : FoundNow (FindsMissing meld quiet name (record { doing = was; own = own; pass = now }) new after) was.phase next
+  pub early : AnsweredNow (AnswersMissing meld quiet name (record { doing = was; own = own; pass = now }) new) was.phase next
 
 -- A call takes its turn in a phase, by one step or by all of them: it walks on, by the step that is named, comes nearer to its reply, spends
 -- no more steps than it may, also by what it sees more, adds and sees what the phase may, knows no block that isn't known to be set, does what

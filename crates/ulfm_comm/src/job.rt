@@ -105,9 +105,10 @@ where
 
     /// Answers a call. Where nobody else steps, it is one step of the sequential object. A failed group that was asked for is
     /// put into the vector, in the order of the failures, and so are the members of a communicator that a shrink made, in their
-    /// order; after any other reply the vector is as it was. Memory alone can be refused: to a query of the failed group, where the vector has less room than the group has ranks, and to
-    /// the poll of a shrink. The vector's memory for that poll is taken before it, so that its reply isn't lost. After a refusal the vector
-    /// is as it was, and so is each rank, but for what it has seen: the call can be made again.
+    /// order; after any other reply the vector is as it was. Memory alone can be refused: to a query of the failed group, where the
+    /// vector has less room than the group has ranks, and to the poll of a shrink. The vector's memory for that poll is taken before
+    /// it, so that its reply isn't lost. After a refusal the vector is as it was, and so is each rank, but for what it has seen: the
+    /// call can be made again.
     ///
     /// ```
     /// let mut group = Vec::new(alloc);

@@ -1,4 +1,5 @@
-ghost use Rattle.std.specs.Prelude.{◌≡◌, ◌≢◌, ◌<◌, ◌≤◌, ◌+◌, ◌-◌, ◌==◌, ℕ, [], true, false, filter, length, map, nat_eq, not, take, Some, None, MatchOption, IfOk};
+ghost use Rattle.std.specs.Prelude.{◌≡◌, ◌≢◌, ◌<◌, ◌≤◌, ◌+◌, ◌-◌, ◌==◌, ℕ, [], true, false, filter, length, map, nat_eq, not, take, Some, None};
+ghost use Rattle.std.specs.Prelude.{MatchOption, IfOk};
 ghost use Rattle.std.specs.List.{IsDistinct};
 ghost use mathlib.Core.List.{IsPrefix};
 ghost use Rattle.ulfm_model.specs.{Records.{Held, free_ids, held_at, new_record, with_held}, History.{failures, first_ranks, without}, Words.{MayOpen}};

@@ -11,7 +11,7 @@ use Rattle.ulfm_model.proofs.{Histories.{legal_parts}, Lists.{prefix_trans}}
 use Rattle.ulfm_words.specs.Steps.{IsOf, Name, Sight}
 use Rattle.ulfm_words.proofs.Trails.{did_prefix, did_quiet}
 use Rattle.ulfm_steps.specs.declared.{arrivals.Missing.{Missing}}
-use Rattle.ulfm_comm.specs.{Barrier.{AnswersEarly, IsChecking}, Calls.{Replied, RepliedAs, HasReplied, wants_memory}, Ends.{IsEarlyRun, IsEndRun, IsRefusedAgain}, Phase.{Answered, LeadsTo, Stands, StandsAt, UnderWay, Waits, is_checking, is_making, next_of, reply_in}, Step.{Adds, Makes, StepAdds, Stepped}, StepsLeft.{FewerLeft, steps_left}}
+use Rattle.ulfm_comm.specs.{Barrier.{AnswersEarly, IsChecking}, Missing.{AnsweredNow, AnswersMissing, FindsMissing, FoundNow, Midway}, Calls.{Replied, RepliedAs, HasReplied, wants_memory}, Ends.{IsEarlyRun, IsEndRun, IsRefusedAgain}, Phase.{Answered, LeadsTo, Stands, StandsAt, UnderWay, Waits, is_checking, is_making, next_of, reply_in}, Step.{Adds, Makes, StepAdds, Stepped}, StepsLeft.{FewerLeft, steps_left}}
 use Rattle.ulfm_comm.specs.declared.phases.phase.{Phase.{Phase}, Phase.TheVariants.{Over, Begun, Looking, Settling, Arriving, Revoking, Asking, Peeking, Marking, Reading, ReadingOn, Spawning, Waiting, Checking}}
 use Rattle.ulfm_comm.proofs.{StepAdds.{adds_none}, AmongOthers.{waits_none}, Stands.{stands_lasts}}
 use Rattle.ulfm_trace_model.specs.declared.line.Line.TheVariants.{Happened}
@@ -313,7 +313,10 @@ module _ {P : Type 0} (meld : P → P → P) (name : Name) (now : Traced P) (pas
 
         go : IsBarrier doing.phase → FoundIn (Checking missing)
         go (inl (arrivals, was)) =
-            let here = s.checks arrivals was missing next_is false (λ alone. absurd (cc alone)) h.old h.before stands_now in
+            let at : Midway P = record { doing = doing; own = own; pass = pass } in
+            let found = subst (λ next. FoundNow (FindsMissing meld true name at own' after_it) (Waiting arrivals) next) next_is
+            (subst (λ phase. FoundNow (FindsMissing meld true name at own' after_it) phase (next_of result doing'.phase)) was s.checks) in
+            let here = found false (λ alone. absurd (cc alone)) h.old h.before stands_now in
             (after_it.seen, subst (λ (a : Call P). IsChecking meld name.limits false (comm_of a) missing after_it.seen h.old start own' after_it.seen) (sym asked') here, sym found_is)
         go (inr (before, was)) =
             let fewer = subst (λ next. FewerLeft (steps_left name.limits own doing.asked doing.phase) name.limits own' doing.asked next) next_is s.nearer in
@@ -346,7 +349,12 @@ module _ {P : Type 0} (meld : P → P → P) (name : Name) (now : Traced P) (pas
 
     -- the last load of a barrier's poll
     checked : (missing : Missing) → doing.phase ≡ Checking missing → SaysReply (point_of found (length after_it.seen) true reply)
-    checked missing phase_is = by_clause (s.early missing phase_is reply (ap (λ r. next_of r doing'.phase) is) false (λ alone. absurd (cc alone)) h.old h.before h.stands.fits polls there.0 there.1)
+    checked missing phase_is =
+        let at : Midway P = record { doing = doing; own = own; pass = pass } in
+        let answered = subst (λ next. AnsweredNow (AnswersMissing meld true name at own') (Checking missing) next) (ap (λ r. next_of r doing'.phase) is)
+        (subst (λ phase. AnsweredNow (AnswersMissing meld true name at own') phase (next_of result doing'.phase)) phase_is s.early) in
+        by_clause
+        (answered false (λ alone. absurd (cc alone)) (record { old = h.old; before = start; fits = h.stands.fits; polls = polls; earlier = there.0; checking = there.1 }))
       where
         polls : doing.asked ≡ call.Poll h.old.number (comm_of doing.asked)
         polls = let at = subst (λ phase. StandsAt meld false name doing.asked h.old h.before phase doing.group own h.stood) phase_is h.stands.at in at.0

@@ -1,7 +1,8 @@
 // The steps of an agreement's poll: loads of the round's blocks; and, where not all are set, marks, and readings of those that aren't.
 ghost use Rattle.std.specs.Prelude.{ℕ, Bool, List, ◌≡◌, ◌+◌, ◌<◌, ◌≤◌, false, true};
 ghost use Rattle.ulfm_model.specs.{Answers.{closed}, Records.{Record}, Terms.{comm_of}};
-ghost use Rattle.ulfm_comm.specs.{Phase.{IsPast, NextBelow, NextIs, StillStands, is_looking, left}, Agreement.{HasPeeked, HasReadAll, agreed_reply}, Step.{TakesTurn}};
+ghost use Rattle.ulfm_comm.specs.{Phase.{IsPast, NextBelow, NextIs, StillStands, is_looking, left}, Step.{TakesTurn}};
+ghost use Rattle.ulfm_comm.specs.Agreement.{HasPeeked, HasReadAll, agreed_reply};
 ghost use Rattle.ulfm_model.specs.declared.block.Block.{Block};
 ghost use Rattle.ulfm_comm.specs.StepsLeft.{FewerLeft, after_peek, after_round, steps_left};
 ghost use Rattle.ulfm_comm.specs.{AlsoLeft.{also_after_round, also_in}, Known.{KnowsIn}};

@@ -1,12 +1,8 @@
 // The steps of a barrier's poll: loads of arrivals, and last that of the revocation.
-ghost use Rattle.std.specs.Prelude.{ℕ, Bool, List, ◌≡◌, IsTrue};
-ghost use Rattle.ulfm_model.specs.{History.{History}, Records.{Fits, Record}, Terms.{comm_of}};
-ghost use Rattle.ulfm_model.specs.declared.call.Call.TheVariants.{Poll as AskedPoll};
-ghost use Rattle.ulfm_steps.specs.declared.arrivals.Missing.{Missing};
-ghost use Rattle.ulfm_comm.specs.{Barrier.{AnswersEarly, IsChecking}, Phase.{Stands, StillStands}, Step.{EndsTurn, TakesTurn}};
-ghost use Rattle.ulfm_comm.specs.declared.phases.phase.Next.TheVariants.{Goes as NextGoes};
+ghost use Rattle.std.specs.Prelude.{ℕ, List};
+ghost use Rattle.ulfm_comm.specs.{Missing.{AnswersMissing, FindsMissing, FoundNow}, Phase.{StillStands}, Step.{EndsTurn, TakesTurn}};
 ghost use Rattle.ulfm_comm.specs.declared.phases.phase.Phase.TheVariants.{Waiting as AtWaiting, Checking as AtChecking};
-ghost use Rattle.ulfm_words.specs.Steps.{IsOf, Sight};
+ghost use Rattle.ulfm_words.specs.Steps.{IsOf};
 
 use crate::phases::phase::{Next, Phase};
 use crate::rank::RankRecord;
@@ -34,11 +30,9 @@ impl<P: Packed, A: Allocator> RankRecord<P, A> {
         requires stands { (group : List ℕ) × StillStands P.meld (W.name world.now.words) asked.now (AtWaiting arrivals) group self.now (W.sight pass.old) }
         ensures turn { (group : List ℕ) → TakesTurn P.meld W.alone whole (W.name world.now.words) asked.now (AtWaiting arrivals) group self.now
             (W.sight pass.old) result group self.now (W.sight pass.new) }
-        ensures checks { (missing : Missing) → result ≡ NextGoes (AtChecking missing) → (group : List ℕ) → (alone : Bool) → (IsTrue alone → IsTrue W.alone)
-            → (old : Record) → (before : Sight P)
-            → Stands P.meld alone (W.name world.now.words) old before (record { asked = asked.now; phase = AtWaiting arrivals; group = group }) self.now
-            (W.sight pass.old) → IsChecking P.meld (W.name world.now.words).limits alone (comm_of asked.now) missing (W.sight pass.new).seen old before.seen
-            self.now (W.sight pass.new).seen }
+        ensures checks { (group : List ℕ) → FoundNow (FindsMissing P.meld W.alone (W.name world.now.words)
+            (record { doing = record { asked = asked.now; phase = AtWaiting arrivals; group = group }; own = self.now; pass = W.sight pass.old }) self.now
+            (W.sight pass.new)) (AtWaiting arrivals) result }
     {
         let x = self.held_comm(comm_of(asked));
         let mut arrivals = arrivals;
@@ -61,10 +55,9 @@ impl<P: Packed, A: Allocator> RankRecord<P, A> {
         requires stands { (group : List ℕ) × StillStands P.meld (W.name world.now.words) asked.now (AtChecking missing) group self.old (W.sight pass.old) }
         ensures turn { EndsTurn P.meld W.alone (W.name world.now.words) asked.now (AtChecking missing) self.old (W.sight pass.old) result self.new
             (W.sight pass.new) }
-        ensures early { (alone : Bool) → (IsTrue alone → IsTrue W.alone) → (old : Record) → (before : Sight P)
-            → Fits P.meld (W.name world.now.words).limits before.seen old → asked.now ≡ AskedPoll old.number (comm_of asked.now) → (earlier : History P)
-            → IsChecking P.meld (W.name world.now.words).limits alone (comm_of asked.now) missing earlier old before.seen self.old (W.sight pass.old).seen
-            → AnswersEarly P.meld (W.name world.now.words).limits alone asked.now missing earlier old before.seen result self.new }
+        ensures early { (group : List ℕ) → AnswersMissing P.meld W.alone (W.name world.now.words)
+            (record { doing = record { asked = asked.now; phase = AtChecking missing; group = group }; own = self.old; pass = W.sight pass.old }) self.new
+            missing result }
     {
         let comm = comm_of(asked);
         if load_revocation(&world.words, pass, comm) {

@@ -1,15 +1,15 @@
 // Calls, step by step and whole.
 ghost use Rattle.std.specs.Prelude.{◌≡◌, ◌+◌, ◌<◌, ◌≤◌, [], Bool, false, length, IsTrue, MatchOption, OnSome, if◌then◌else◌};
-ghost use Rattle.ulfm_model.specs.declared.{event.Caller.TheVariants.{Rank as OfRank}, call.Call.TheVariants.{Poll as AskedPoll}};
+ghost use Rattle.ulfm_model.specs.declared.event.Caller.TheVariants.{Rank as OfRank};
 ghost use Rattle.ulfm_model.specs.declared.{refusal.Refusal.TheVariants.{SelfFailed}, reply.Reply.TheVariants.{Refused}};
-ghost use Rattle.ulfm_model.specs.{Answers.{traits_of}, Records.{Fits, Record}, History.{History}, Terms.{comm_of}};
+ghost use Rattle.ulfm_model.specs.{Answers.{traits_of}, Records.{Fits, Record}};
 ghost use Rattle.ulfm_comm.specs.{Begins.{loads_again}, Bound.{also_bound, step_bound}, AlsoLeft.{also_left}, Counts.{CountsStep, MakesSteps, TakesSteps}};
 ghost use Rattle.ulfm_comm.specs.{StepsLeft.{Spends, steps_left}, Step.{RunsOn, TakesTurn, Stepped}, Calls.{EndsReply}, Polls.{PendsIn}};
-ghost use Rattle.ulfm_comm.specs.{Phase.{Answered, is_looking, next_of, Stands, StillStands, Waits}, Barrier.{AnswersEarly, IsChecking}};
+ghost use Rattle.ulfm_comm.specs.Phase.{Answered, is_looking, next_of, Stands, StillStands, Waits};
+ghost use Rattle.ulfm_comm.specs.Missing.{AnsweredNow, AnswersMissing, FindsMissing, FoundNow};
 ghost use Rattle.ulfm_words.specs.Steps.{IsOf, Name, Sight};
-ghost use Rattle.ulfm_steps.specs.declared.{arrivals.Arrivals.{Arrivals}, arrivals.Missing.{Missing}};
-ghost use Rattle.ulfm_comm.specs.declared.phases.phase.Next.TheVariants.{Ends as NextEnds, Goes as NextGoes};
-ghost use Rattle.ulfm_comm.specs.declared.phases.phase.Phase.TheVariants.{Begun as AtBegun, Checking as AtChecking, Over as AtOver, Waiting as AtWaiting};
+ghost use Rattle.ulfm_comm.specs.declared.phases.phase.Next.TheVariants.{Ends as NextEnds};
+ghost use Rattle.ulfm_comm.specs.declared.phases.phase.Phase.TheVariants.{Begun as AtBegun, Over as AtOver};
 
 use crate::phases::phase::{Doing, Next, Phase, Way};
 use crate::rank::{Rank, RankRecord};
@@ -66,16 +66,12 @@ impl<P: Packed, A: Allocator + Copy> RankRecord<P, A> {
         ensures turn { TakesTurn P.meld W.alone whole (W.name world.now.words) asked.now phase group.old.items self.old (W.sight pass.old) result
             group.new.items self.new (W.sight pass.new) }
         ensures over { phase ≡ AtOver → (result ≡ NextEnds (Refused SelfFailed)) × (self.new ≡ self.old) }
-        ensures checks { (arrivals : Arrivals) → phase ≡ AtWaiting arrivals → (missing : Missing) → result ≡ NextGoes (AtChecking missing) → (alone : Bool)
-            → (IsTrue alone → IsTrue W.alone) → (old : Record) → (before : Sight P)
-            → Stands P.meld alone (W.name world.now.words) old before (record { asked = asked.now; phase = phase; group = group.old.items }) self.old
-            (W.sight pass.old) → IsChecking P.meld (W.name world.now.words).limits alone (comm_of asked.now) missing (W.sight pass.new).seen old before.seen
-            self.new (W.sight pass.new).seen }
-        ensures early { (missing : Missing) → phase ≡ AtChecking missing → (reply : Reply P) → result ≡ NextEnds reply → (alone : Bool)
-            → (IsTrue alone → IsTrue W.alone) → (old : Record) → (before : Sight P) → Fits P.meld (W.name world.now.words).limits before.seen old
-            → asked.now ≡ AskedPoll old.number (comm_of asked.now) → (earlier : History P)
-            → IsChecking P.meld (W.name world.now.words).limits alone (comm_of asked.now) missing earlier old before.seen self.old (W.sight pass.old).seen
-            → AnswersEarly P.meld (W.name world.now.words).limits alone asked.now missing earlier old before.seen reply self.new }
+        ensures checks { FoundNow (FindsMissing P.meld W.alone (W.name world.now.words)
+            (record { doing = record { asked = asked.now; phase = phase; group = group.old.items }; own = self.old; pass = W.sight pass.old }) self.new
+            (W.sight pass.new)) phase result }
+        ensures early { AnsweredNow (AnswersMissing P.meld W.alone (W.name world.now.words)
+            (record { doing = record { asked = asked.now; phase = phase; group = group.old.items }; own = self.old; pass = W.sight pass.old }) self.new)
+            phase result }
     {
         match phase {
             Phase::Over => Next::Ends(Reply::Refused(Refusal::SelfFailed)),

@@ -1,15 +1,12 @@
-use Rattle.std.proofs.Common.{rules, append-nil, [], ◌∙◌, ◌≡◌, arith, ap, inl, refl, subst, sym, Bool, true, false, ℕ, List, IsTrue}
+use Rattle.std.proofs.Common.{rules, append-nil, [], ◌∙◌, ◌≡◌, arith, ap, inl, refl, subst, sym, Bool, true, false, ℕ, List}
 use Rattle.std.proofs.lemmas.Bool.{false≢true}
-use Rattle.ulfm_model.specs.declared.{call.Call.{Call}, reply.Reply.{Reply}}
+use Rattle.ulfm_model.specs.declared.call.Call.{Call}
 use Rattle.ulfm_model.specs.Records.{Record}
 use Rattle.ulfm_words.specs.Steps.{Name, Sight}
-use Rattle.ulfm_steps.specs.declared.arrivals.Missing.{Missing}
-use Rattle.ulfm_comm.specs.{Barrier.{AnswersEarly, IsChecking}, Phase.{is_checking}}
-use Rattle.ulfm_comm.specs.declared.{phases.phase.Next.{Next}, phases.phase.Next.TheVariants.{Ends}, phases.phase.Phase.{Phase}}
-use Rattle.ulfm_comm.specs.declared.phases.phase.Phase.TheVariants.{Checking, Over, Waiting}
+use Rattle.ulfm_comm.specs.declared.{phases.phase.Phase.{Phase}, phases.phase.Phase.TheVariants.{Over}}
 use Rattle.ulfm_model.specs.{declared.reply.Reply.TheVariants.{Standing}, History.{is_revoked}, Terms.{comm_of}}
 use Rattle.ulfm_words.proofs.Trails.{did_none}
-use Rattle.ulfm_comm.specs.{Look.{HasLooked}, Phase.{Answered, StillStands, Stands}}
+use Rattle.ulfm_comm.specs.{Look.{HasLooked}, Phase.{Answered, StillStands}}
 use Rattle.ulfm_comm.proofs.{AlsoLeft.{also_ends}, Exchange.{asked_answered, asked_below, walks_none}}
 use Rattle.ulfm_comm.proofs.rank.RankRecord.go.Goals as goal
 
@@ -17,11 +14,6 @@ use Rattle.ulfm_comm.proofs.rank.RankRecord.go.Goals as goal
 abbrev is_over : {P : Type 0} → Phase P → Bool
 is_over Over = true
 is_over _ = false
-
--- whether a barrier's poll reads who has arrived
-abbrev is_waiting : {P : Type 0} → Phase P → Bool
-is_waiting (Waiting arrivals) = true
-is_waiting _ = false
 
 -- a call stands in one phase
 elsewhere : {P : Type 0} (test : Phase P → Bool) (phase here there : Phase P) → phase ≡ here → test here ≡ false → phase ≡ there → test there ≡ true → ⊥
@@ -31,16 +23,6 @@ elsewhere test phase here there is unlike at alike = false≢true (sym unlike �
 still : {P : Type 0} (meld : P → P → P) (name : Name) (asked : Call P) (group : List ℕ) (own : Record) (now : Sight P) (phase here : Phase P) → phase ≡ here → StillStands meld name asked phase group own now
     → StillStands meld name asked here group own now
 still meld name asked group own now phase here is stands = subst (λ at. StillStands meld name asked at group own now) is stands
-
--- who is missing, in the last phase of a barrier's poll; this value in any other
-abbrev missing_in : {P : Type 0} → Missing → Phase P → Missing
-missing_in known (Checking missing) = missing
-missing_in known _ = known
-
--- the reply that a call ends with; this one where it goes on
-abbrev ended : {P : Type 0} → Reply P → Next P → Reply P
-ended known (Ends reply) = reply
-ended known _ = known
 
 pub returns-in-Over-clause-turn : goal.returns-in-Over-clause-turn
 returns-in-Over-clause-turn g c =
@@ -134,10 +116,7 @@ pub returns-in-Checking-clause-turn : goal.returns-in-Checking-clause-turn
 returns-in-Checking-clause-turn g c = rw c.in-Checking.is (c.go_checking.ensures.turn c.args.group.now.items c.args.whole)
 
 pub returns-in-Waiting-clause-checks : goal.returns-in-Waiting-clause-checks
-returns-in-Waiting-clause-checks g c =
-    λ arrivals is which ends alone only old before u.
-    c.go_waiting.ensures.checks which ends c.args.group.now.items alone only old before
-    (subst (λ phase. Stands g.P.Meld.meld alone (g.W.Words.name c.args.world.now.words) old before (record { asked = c.args.asked.now; phase = phase; group = c.args.group.now.items }) c.args.self.now (g.W.Words.sight c.args.pass.now)) c.in-Waiting.is u)
+returns-in-Waiting-clause-checks g c = rw c.in-Waiting.is (c.go_waiting.ensures.checks c.args.group.now.items)
 
 pub go_begun-requires-clause-stands : goal.go_begun-requires-clause-stands
 go_begun-requires-clause-stands g c = (c.args.group.now.items, still g.P.Meld.meld (g.W.Words.name c.args.world.now.words) c.args.asked.now c.args.group.now.items c.args.self.now (g.W.Words.sight c.args.pass.now) c.args.phase _ c.in-Begun.is c.requires.stands)
@@ -218,90 +197,82 @@ pub returns-in-Checking-clause-over : goal.returns-in-Checking-clause-over
 returns-in-Checking-clause-over g c = λ at. absurd (elsewhere is_over _ _ _ c.in-Checking.is refl at refl)
 
 pub returns-in-Over-clause-checks : goal.returns-in-Over-clause-checks
-returns-in-Over-clause-checks g c = λ arrivals at. absurd (elsewhere is_waiting _ _ _ c.in-Over.is refl at refl)
+returns-in-Over-clause-checks g c = rw c.in-Over.is tt
 
 pub returns-in-Begun-clause-checks : goal.returns-in-Begun-clause-checks
-returns-in-Begun-clause-checks g c = λ arrivals at. absurd (elsewhere is_waiting _ _ _ c.in-Begun.is refl at refl)
+returns-in-Begun-clause-checks g c = rw c.in-Begun.is tt
 
 pub returns-in-Looking-clause-checks : goal.returns-in-Looking-clause-checks
-returns-in-Looking-clause-checks g c = λ arrivals at. absurd (elsewhere is_waiting _ _ _ c.in-Looking.is refl at refl)
+returns-in-Looking-clause-checks g c = rw c.in-Looking.is tt
 
 pub returns-in-Settling-clause-checks : goal.returns-in-Settling-clause-checks
-returns-in-Settling-clause-checks g c = λ arrivals at. absurd (elsewhere is_waiting _ _ _ c.in-Settling.is refl at refl)
+returns-in-Settling-clause-checks g c = rw c.in-Settling.is tt
 
 pub returns-in-Arriving-clause-checks : goal.returns-in-Arriving-clause-checks
-returns-in-Arriving-clause-checks g c = λ arrivals at. absurd (elsewhere is_waiting _ _ _ c.in-Arriving.is refl at refl)
+returns-in-Arriving-clause-checks g c = rw c.in-Arriving.is tt
 
 pub returns-in-Revoking-clause-checks : goal.returns-in-Revoking-clause-checks
-returns-in-Revoking-clause-checks g c = λ arrivals at. absurd (elsewhere is_waiting _ _ _ c.in-Revoking.is refl at refl)
+returns-in-Revoking-clause-checks g c = rw c.in-Revoking.is tt
 
 pub returns-in-Asking-clause-checks : goal.returns-in-Asking-clause-checks
-returns-in-Asking-clause-checks g c = λ arrivals at. absurd (elsewhere is_waiting _ _ _ c.in-Asking.is refl at refl)
+returns-in-Asking-clause-checks g c = rw c.in-Asking.is tt
 
 pub returns-in-Peeking-clause-checks : goal.returns-in-Peeking-clause-checks
-returns-in-Peeking-clause-checks g c = λ arrivals at. absurd (elsewhere is_waiting _ _ _ c.in-Peeking.is refl at refl)
+returns-in-Peeking-clause-checks g c = rw c.in-Peeking.is tt
 
 pub returns-in-Marking-clause-checks : goal.returns-in-Marking-clause-checks
-returns-in-Marking-clause-checks g c = λ arrivals at. absurd (elsewhere is_waiting _ _ _ c.in-Marking.is refl at refl)
+returns-in-Marking-clause-checks g c = rw c.in-Marking.is tt
 
 pub returns-in-Reading-clause-checks : goal.returns-in-Reading-clause-checks
-returns-in-Reading-clause-checks g c = λ arrivals at. absurd (elsewhere is_waiting _ _ _ c.in-Reading.is refl at refl)
+returns-in-Reading-clause-checks g c = rw c.in-Reading.is tt
 
 pub returns-in-ReadingOn-clause-checks : goal.returns-in-ReadingOn-clause-checks
-returns-in-ReadingOn-clause-checks g c = λ arrivals at. absurd (elsewhere is_waiting _ _ _ c.in-ReadingOn.is refl at refl)
+returns-in-ReadingOn-clause-checks g c = rw c.in-ReadingOn.is tt
 
 pub returns-in-Spawning-clause-checks : goal.returns-in-Spawning-clause-checks
-returns-in-Spawning-clause-checks g c = λ arrivals at. absurd (elsewhere is_waiting _ _ _ c.in-Spawning.is refl at refl)
+returns-in-Spawning-clause-checks g c = rw c.in-Spawning.is tt
 
 pub returns-in-Checking-clause-checks : goal.returns-in-Checking-clause-checks
-returns-in-Checking-clause-checks g c = λ arrivals at. absurd (elsewhere is_waiting _ _ _ c.in-Checking.is refl at refl)
+returns-in-Checking-clause-checks g c = rw c.in-Checking.is tt
 
 pub returns-in-Over-clause-early : goal.returns-in-Over-clause-early
-returns-in-Over-clause-early g c = λ missing at. absurd (elsewhere is_checking _ _ _ c.in-Over.is refl at refl)
+returns-in-Over-clause-early g c = rw c.in-Over.is tt
 
 pub returns-in-Begun-clause-early : goal.returns-in-Begun-clause-early
-returns-in-Begun-clause-early g c = λ missing at. absurd (elsewhere is_checking _ _ _ c.in-Begun.is refl at refl)
+returns-in-Begun-clause-early g c = rw c.in-Begun.is tt
 
 pub returns-in-Looking-clause-early : goal.returns-in-Looking-clause-early
-returns-in-Looking-clause-early g c = λ missing at. absurd (elsewhere is_checking _ _ _ c.in-Looking.is refl at refl)
+returns-in-Looking-clause-early g c = rw c.in-Looking.is tt
 
 pub returns-in-Settling-clause-early : goal.returns-in-Settling-clause-early
-returns-in-Settling-clause-early g c = λ missing at. absurd (elsewhere is_checking _ _ _ c.in-Settling.is refl at refl)
+returns-in-Settling-clause-early g c = rw c.in-Settling.is tt
 
 pub returns-in-Arriving-clause-early : goal.returns-in-Arriving-clause-early
-returns-in-Arriving-clause-early g c = λ missing at. absurd (elsewhere is_checking _ _ _ c.in-Arriving.is refl at refl)
+returns-in-Arriving-clause-early g c = rw c.in-Arriving.is tt
 
 pub returns-in-Revoking-clause-early : goal.returns-in-Revoking-clause-early
-returns-in-Revoking-clause-early g c = λ missing at. absurd (elsewhere is_checking _ _ _ c.in-Revoking.is refl at refl)
+returns-in-Revoking-clause-early g c = rw c.in-Revoking.is tt
 
 pub returns-in-Asking-clause-early : goal.returns-in-Asking-clause-early
-returns-in-Asking-clause-early g c = λ missing at. absurd (elsewhere is_checking _ _ _ c.in-Asking.is refl at refl)
+returns-in-Asking-clause-early g c = rw c.in-Asking.is tt
 
 pub returns-in-Peeking-clause-early : goal.returns-in-Peeking-clause-early
-returns-in-Peeking-clause-early g c = λ missing at. absurd (elsewhere is_checking _ _ _ c.in-Peeking.is refl at refl)
+returns-in-Peeking-clause-early g c = rw c.in-Peeking.is tt
 
 pub returns-in-Marking-clause-early : goal.returns-in-Marking-clause-early
-returns-in-Marking-clause-early g c = λ missing at. absurd (elsewhere is_checking _ _ _ c.in-Marking.is refl at refl)
+returns-in-Marking-clause-early g c = rw c.in-Marking.is tt
 
 pub returns-in-Reading-clause-early : goal.returns-in-Reading-clause-early
-returns-in-Reading-clause-early g c = λ missing at. absurd (elsewhere is_checking _ _ _ c.in-Reading.is refl at refl)
+returns-in-Reading-clause-early g c = rw c.in-Reading.is tt
 
 pub returns-in-ReadingOn-clause-early : goal.returns-in-ReadingOn-clause-early
-returns-in-ReadingOn-clause-early g c = λ missing at. absurd (elsewhere is_checking _ _ _ c.in-ReadingOn.is refl at refl)
+returns-in-ReadingOn-clause-early g c = rw c.in-ReadingOn.is tt
 
 pub returns-in-Spawning-clause-early : goal.returns-in-Spawning-clause-early
-returns-in-Spawning-clause-early g c = λ missing at. absurd (elsewhere is_checking _ _ _ c.in-Spawning.is refl at refl)
+returns-in-Spawning-clause-early g c = rw c.in-Spawning.is tt
 
 pub returns-in-Waiting-clause-early : goal.returns-in-Waiting-clause-early
-returns-in-Waiting-clause-early g c = λ missing at. absurd (elsewhere is_checking _ _ _ c.in-Waiting.is refl at refl)
+returns-in-Waiting-clause-early g c = rw c.in-Waiting.is tt
 
 pub returns-in-Checking-clause-early : goal.returns-in-Checking-clause-early
-returns-in-Checking-clause-early g c =
-    λ missing at reply ends alone only old before fits polls earlier checking.
-    let name = g.W.Words.name c.args.world.now.words in
-    let same : c.in-Checking.missing ≡ missing = ap (missing_in missing) (sym c.in-Checking.is ∙ at) in
-    let replied : c.go_checking.result ≡ reply = ap (ended reply) ends in
-    subst (λ r. AnswersEarly g.P.Meld.meld name.limits alone c.args.asked.now missing earlier old before.seen r c.go_checking.new.self) replied
-    (subst (λ m. IsChecking g.P.Meld.meld name.limits alone (comm_of c.args.asked.now) m earlier old before.seen c.args.self.now (g.W.Words.sight c.args.pass.now).seen
-    → AnswersEarly g.P.Meld.meld name.limits alone c.args.asked.now m earlier old before.seen c.go_checking.result c.go_checking.new.self) same
-    (c.go_checking.ensures.early alone only old before fits polls earlier) checking)
+returns-in-Checking-clause-early g c = rw c.in-Checking.is (c.go_checking.ensures.early c.args.group.now.items)

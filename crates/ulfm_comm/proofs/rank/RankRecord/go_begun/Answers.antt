@@ -2,7 +2,7 @@ use Rattle.std.proofs.Common.{rules, ◌≡◌, ◌≤◌, ap, arith, refl, subs
 use Rattle.ulfm_model.specs.Records.{Record, held_at}
 use Rattle.ulfm_comm.specs.{Step.{Walks}, StepsLeft.{steps_left}}
 use Rattle.ulfm_comm.specs.declared.phases.phase.Phase.TheVariants.{Begun, Looking}
-use Rattle.ulfm_comm.proofs.{AlsoLeft.{also_resumes, looks_resumed}, Known.{next_same}, Look.{begins_looking}, StepsLeft.{fewer_more, resumed_left}}
+use Rattle.ulfm_comm.proofs.{AlsoLeft.{also_resumes, looks_resumed}, Known.{next_same}, Look.{begins_looking, begun_within}, StepsLeft.{fewer_more, resumed_left}}
 use Rattle.ulfm_comm.proofs.rank.RankRecord.go_begun.Goals as goal
 use Rattle.ulfm_comm.proofs.rank.RankRecord.go_begun.Goals.{After-resume}
 
@@ -40,12 +40,14 @@ returns-clause-turn g c =
     let same = ranks g (goal.at.returns-clause-turn g c).After-resume in
     let limits = (g.W.Words.name c.args.world.now.words).limits in
     let own = c.args.self.now in
+    let stood = c.requires.stands in
+    let within = begun_within g.P.Meld.meld false (g.W.Words.name c.args.world.now.words) c.args.asked.now stood.1.0 stood.1.1 stood.0 own now c.requires.of stood.1.2 in
     record {
       walks = subst (λ (w : Record). Walks g.P.Meld.meld g.W.Words.alone (g.W.Words.name c.args.world.now.words) w.number now after) c.resume.ensures t.walks;
       named = t.named;
       nearer = λ single. fewer_more (g.W.Words.name c.args.world.now.words).limits c.go_looking.new.self c.args.asked.now _ _ fewer c.go_looking.result (t.nearer single);
       spends = omega (arith, fewer, t.spends);
-      also = also_resumes limits own c.resume.new.self c.args.asked.now same c.resume.ensures now after c.go_looking.result c.go_looking.new.self t.also;
+      also = also_resumes limits own c.resume.new.self c.args.asked.now same c.resume.ensures within now after c.go_looking.result c.go_looking.new.self t.also;
       further = search rules;
       adds = t.adds;
       sees = search rules;

@@ -16,20 +16,20 @@ load_revocation-requires-clause-within g c =
     c.comm_of-comm.result c.comm_of-comm.ensures
 
 pub returns-then-load_revocation-clause-early : goal.returns-then-load_revocation-clause-early
-returns-then-load_revocation-clause-early g c = λ alone only old before fits polls earlier i. inr (inl refl)
+returns-then-load_revocation-clause-early g c = λ group alone only found. inr (inl refl)
 
 pub returns-in-Nobody-clause-early : goal.returns-in-Nobody-clause-early
-returns-in-Nobody-clause-early g c = λ alone only old before fits polls earlier i. inl (c.in-Nobody.is, refl)
+returns-in-Nobody-clause-early g c = λ group alone only found. inl (c.in-Nobody.is, refl)
 
 pub returns-in-Others-clause-early : goal.returns-in-Others-clause-early
-returns-in-Others-clause-early g c = λ alone only old before fits polls earlier i.
-    inr (inr (checking_early g.P.Meld.meld (g.W.Words.name c.args.world.now.words).limits alone g.W.Words.alone only c.args.asked.now c.args.missing earlier old before.seen c.args.self.now (g.W.Words.sight c.args.pass.now).seen (g.W.Words.sight c.load_revocation.new.pass).seen
-    polls i c.load_revocation.ensures.loads.did c.comm_of-comm.result c.comm_of-comm.ensures (sym c.load_revocation.ensures.revoked ∙ c.if-load_revocation.false) Others c.in-Others.is c.args.self.now refl))
+returns-in-Others-clause-early g c = λ group alone only found.
+    inr (inr (checking_early g.P.Meld.meld (g.W.Words.name c.args.world.now.words).limits alone g.W.Words.alone only c.args.asked.now c.args.missing found.earlier found.old found.before c.args.self.now (g.W.Words.sight c.args.pass.now).seen (g.W.Words.sight c.load_revocation.new.pass).seen
+    found.polls found.checking c.load_revocation.ensures.loads.did c.comm_of-comm.result c.comm_of-comm.ensures (sym c.load_revocation.ensures.revoked ∙ c.if-load_revocation.false) Others c.in-Others.is c.args.self.now refl))
 
 pub returns-in-Declared-clause-early : goal.returns-in-Declared-clause-early
-returns-in-Declared-clause-early g c = λ alone only old before fits polls earlier i.
-    inr (inr (checking_early g.P.Meld.meld (g.W.Words.name c.args.world.now.words).limits alone g.W.Words.alone only c.args.asked.now c.args.missing earlier old before.seen c.args.self.now (g.W.Words.sight c.args.pass.now).seen (g.W.Words.sight c.load_revocation.new.pass).seen
-    polls i c.load_revocation.ensures.loads.did c.comm_of-comm.result c.comm_of-comm.ensures (sym c.load_revocation.ensures.revoked ∙ c.if-load_revocation.false) Declared c.in-Declared.is c.close-in-Declared.new.self c.close-in-Declared.ensures))
+returns-in-Declared-clause-early g c = λ group alone only found.
+    inr (inr (checking_early g.P.Meld.meld (g.W.Words.name c.args.world.now.words).limits alone g.W.Words.alone only c.args.asked.now c.args.missing found.earlier found.old found.before c.args.self.now (g.W.Words.sight c.args.pass.now).seen (g.W.Words.sight c.load_revocation.new.pass).seen
+    found.polls found.checking c.load_revocation.ensures.loads.did c.comm_of-comm.result c.comm_of-comm.ensures (sym c.load_revocation.ensures.revoked ∙ c.if-load_revocation.false) Declared c.in-Declared.is c.close-in-Declared.new.self c.close-in-Declared.ensures))
 
 -- the call ends by its load, which leaves what the rank has seen
 ends : (g : _) (c : After-load_revocation g) (reply : Reply g.row.P.Denot) (new : Record) → new.seen ≡ c.args.self.now.seen → is_of_round reply ≡ false

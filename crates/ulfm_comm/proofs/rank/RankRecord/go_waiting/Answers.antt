@@ -1,14 +1,13 @@
 use Rattle.std.proofs.Common.{◌≡◌, ◌+◌, ◌<◌, ◌≤◌, ℕ, Bool, List, [], Some, true, false, refl, ap, sym, ◌∙◌, subst, arith}
 use Rattle.std.proofs.lemmas.Bool.{false≢true}
-use Rattle.ulfm_comm.specs.{Phase.{IsFurther, LeadsTo, Turns, is_checking, next_step}, Step.{TakesTurn}, StepsLeft.{FewerLeft, MakesStep, Spends, group_of, steps_left}}
-use Rattle.ulfm_comm.specs.declared.{phases.phase.Next.{Next}, phases.phase.Next.TheVariants.{Goes}, phases.phase.Phase.{Phase}, phases.phase.Phase.TheVariants.{Checking, Waiting}}
-use Rattle.ulfm_comm.specs.Barrier.{IsChecking}
+use Rattle.ulfm_comm.specs.{Phase.{IsFurther, LeadsTo, Turns, next_step}, Step.{TakesTurn}, StepsLeft.{FewerLeft, MakesStep, Spends, group_of, steps_left}}
+use Rattle.ulfm_comm.specs.declared.{phases.phase.Next.{Next}, phases.phase.Phase.TheVariants.{Waiting}}
 use Rattle.ulfm_model.specs.Terms.{comm_of}
 use Rattle.ulfm_model.specs.Records.{Held, Record, held_at}
 use Rattle.ulfm_model.specs.declared.{call.Call.{Call}, limits.Limits.{Limits}, place.Place.TheVariants.{Arrival}}
 use Rattle.ulfm_words.specs.Steps.{Sight}
 use Rattle.ulfm_steps.specs.{Arriving.{arrivals_left}, Turns.{IsOneStep}}
-use Rattle.ulfm_steps.specs.declared.arrivals.{Arrivals.{Arrivals}, Missing.{Missing}}
+use Rattle.ulfm_steps.specs.declared.arrivals.Arrivals.{Arrivals}
 use Rattle.ulfm_comm.specs.{AlsoLeft.{AlsoSpends, also_left}, Known.{KnowsNext}}
 use Rattle.ulfm_comm.proofs.AlsoLeft.{also_checks, also_waits}
 use Rattle.ulfm_comm.proofs.Barrier.{waiting_checks, waiting_ends, waiting_goes, waiting_may}
@@ -57,20 +56,6 @@ module _ {P : Type 0} (limits : Limits) (own : Record) (asked : Call P) (x : Hel
 wait_named : {P : Type 0} (arrivals : Arrivals) (rank c member : ℕ) (old new : Sight P) → arrivals.comm ≡ c → IsOneStep (Arrival arrivals.comm arrivals.round member) true old new → MakesStep (next_step {P = P} (Waiting arrivals)) rank c old new
 wait_named arrivals rank c member old new there one = (arrivals.round, member, subst (λ w. IsOneStep (Arrival w arrivals.round member) true old new) there one)
 
--- whether a barrier's poll makes its last load next
-abbrev checks_next : {P : Type 0} → Next P → Bool
-checks_next (Goes phase) = is_checking phase
-checks_next _ = false
-
--- who is missing, in the last phase of a barrier's poll; this value in any other
-abbrev missing_at : {P : Type 0} → Missing → Phase P → Missing
-missing_at known (Checking missing) = missing
-missing_at known _ = known
-
-abbrev missing_in : {P : Type 0} → Missing → Next P → Missing
-missing_in known (Goes phase) = missing_at known phase
-missing_in known _ = known
-
 -- the members that the code reads
 members : (g : _) (c : After-deref g) → c.deref.result.now ≡ c.held_comm-x.result.now.group
 members g c = c.deref.ensures.value ∙ ap (λ (y : Held). y.group) c.x.view_is
@@ -82,16 +67,13 @@ advance-requires-clause-round g c =
     c.held_comm-x.result.now c.comm_of.result c.held_comm-x.ensures c.comm_of.ensures c.deref.result.now c.failures.result.now (members g (goal.at.advance-requires-clause-round g c).After-deref) c.failures.ensures false stands.0 stands.1 stands.2
 
 pub returns-in-None-clause-checks : goal.returns-in-None-clause-checks
-returns-in-None-clause-checks g c = λ which is group alone only old before stands. absurd (false≢true (ap checks_next is))
+returns-in-None-clause-checks g c = λ group. tt
 
 pub returns-in-Some-clause-checks : goal.returns-in-Some-clause-checks
-returns-in-Some-clause-checks g c = λ which is group alone only old before stands.
-    let same : c.in-Some.missing ≡ which = ap (missing_in which) is in
-    let after = g.W.Words.sight c.advance.new.pass in
-    subst (λ m. IsChecking g.P.Meld.meld (g.W.Words.name c.args.world.now.words).limits alone (comm_of c.args.asked.now) m after.seen old before.seen c.args.self.now after.seen) same
-    (waiting_checks g.P.Meld.meld (g.W.Words.name c.args.world.now.words) c.args.asked.now c.args.arrivals group c.args.self.now (g.W.Words.sight c.args.pass.now) c.requires.of
+returns-in-Some-clause-checks g c = λ group alone only old before stands.
+    waiting_checks g.P.Meld.meld (g.W.Words.name c.args.world.now.words) c.args.asked.now c.args.arrivals group c.args.self.now (g.W.Words.sight c.args.pass.now) c.requires.of
     c.held_comm-x.result.now c.comm_of.result c.held_comm-x.ensures c.comm_of.ensures c.deref.result.now c.failures.result.now (members g (goal.at.returns-in-Some-clause-checks g c).After-deref) c.failures.ensures alone old before stands
-    g.W.Words.alone only after c.advance.ensures.goes.did c.advance.ensures.goes.onward c.in-Some.missing c.in-Some.ensures.are c.advance.ensures.goes.of.legal)
+    g.W.Words.alone only (g.W.Words.sight c.advance.new.pass) c.advance.ensures.goes.did c.advance.ensures.goes.onward c.in-Some.missing c.in-Some.ensures.are c.advance.ensures.goes.of.legal
 
 -- the communicator is held
 held : (g : _) (c : After-deref g) → held_at c.args.self.now (comm_of c.args.asked.now) ≡ Some c.held_comm-x.result.now

@@ -1,0 +1,46 @@
+-- What the poll of a barrier finds at its last load of an arrival, and how it is answered after that.
+use Rattle.std.specs.Prelude.{◌≡◌, ℕ, Bool, IsTrue, ⊤}
+use Rattle.ulfm_model.specs.declared.{call.Call.TheVariants as call, reply.Reply.{Reply}}
+use Rattle.ulfm_model.specs.{History.{History}, Records.{Fits, Record}, Terms.{comm_of}}
+use Rattle.ulfm_words.specs.Steps.{Name, Sight}
+use Rattle.ulfm_steps.specs.declared.arrivals.Missing.{Missing}
+use Rattle.ulfm_comm.specs.{Barrier.{AnswersEarly, IsChecking}, Phase.{Stands, UnderWay}}
+use Rattle.ulfm_comm.specs.declared.{phases.phase.Next.{Next}, phases.phase.Next.TheVariants.{Goes, Ends}, phases.phase.Phase.{Phase}}
+use Rattle.ulfm_comm.specs.declared.phases.phase.Phase.TheVariants.{Waiting, Checking}
+
+-- a call between two steps: what it does, its rank's record, and its pass
+pub record Midway (P : Type 0) : Type 0 where
+  pub doing : UnderWay P
+  pub own : Record
+  pub pass : Sight P
+
+-- A step of a call that stood so finds who is missing: whenever the call began, it was found when this had been seen.
+abbrev pub FindsMissing : {P : Type 0} → (P → P → P) → Bool → Name → Midway P → Record → Sight P → Missing → Type 0
+FindsMissing {P} meld quiet name at new after missing =
+    (alone : Bool) → (IsTrue alone → IsTrue quiet) → (old : Record) → (before : Sight P) → Stands meld alone name old before at.doing at.own at.pass
+    → IsChecking meld name.limits alone (comm_of at.doing.asked) missing after.seen old before.seen new after.seen
+
+-- so a step does that ends the reading of a barrier's arrivals; of any other nothing is said
+abbrev pub FoundNow : {P : Type 0} → (Missing → Type 0) → Phase P → Next P → Type 0
+FoundNow Finds (Waiting arrivals) (Goes (Checking missing)) = Finds missing
+FoundNow Finds _ _ = ⊤
+
+-- The call that stands so is a poll that began with this record, when this had been seen, and has found who is missing.
+pub record HasFound {P : Type 0} (meld : P → P → P) (alone : Bool) (name : Name) (at : Midway P) (missing : Missing) : Type 0 where
+  pub old : Record
+  pub before : History P
+  pub fits : Fits meld name.limits before old
+  pub polls : at.doing.asked ≡ call.Poll old.number (comm_of at.doing.asked)
+  pub earlier : History P
+  pub checking : IsChecking meld name.limits alone (comm_of at.doing.asked) missing earlier old before at.own at.pass.seen
+
+-- A step answers such a call as it was answered when that was found, unless nobody was missing, or it finds a revocation.
+abbrev pub AnswersMissing : {P : Type 0} → (P → P → P) → Bool → Name → Midway P → Record → Missing → Reply P → Type 0
+AnswersMissing meld quiet name at new missing reply =
+    (alone : Bool) → (IsTrue alone → IsTrue quiet) → (found : HasFound meld alone name at missing)
+    → AnswersEarly meld name.limits alone at.doing.asked missing found.earlier found.old found.before reply new
+
+-- so the last step of a barrier's poll does; of any other nothing is said
+abbrev pub AnsweredNow : {P : Type 0} → (Missing → Reply P → Type 0) → Phase P → Next P → Type 0
+AnsweredNow Answers (Checking missing) (Ends reply) = Answers missing reply
+AnsweredNow Answers _ _ = ⊤
