@@ -6,12 +6,12 @@ use mathlib.Core.List.{IsPrefix}
 use Rattle.ulfm_model.specs.declared.call.Call.TheVariants as call
 use Rattle.ulfm_model.specs.declared.{block.Block.{Block}, block.Side.{Side}, block.Side.TheVariants.{Front, Back}, call.Call.{Call}, call.Request.{Request}, call.Request.TheVariants.{Agree, Shrink}, contribution.Slot.{Slot}, contribution.Slot.TheVariants.{Given, Mark}}
 use Rattle.ulfm_model.specs.declared.{refusal.Refusal.{Refusal}, refusal.Refusal.TheVariants.{OutOfMemory}, reply.Reply.{Reply}, reply.Reply.TheVariants.{Refused, Started}}
-use Rattle.ulfm_model.specs.{Answers.{first_refusal, polled_by}, Blocks.{IsSide, has_block}, Records.{Held, Record, held_at, is_shrink}, Terms.{comm_of, tests_of}}
+use Rattle.ulfm_model.specs.{Answers.{first_refusal, polled_by}, Blocks.{IsSide, has_block}, Records.{Held, Record, held_at, is_shrink}, Terms.{comm_of, request_of, tests_of}}
 use Rattle.ulfm_model.proofs.{Blocks.{has_block_stays}, Lists.{prefix_trans}}
 use Rattle.ulfm_words.specs.Steps.{Name, Sight}
 use Rattle.ulfm_steps.specs.{Blocks.{AllSet, AreSet, block_at}, declared.blocks.RoundBlocks.{RoundBlocks}}
 use Rattle.ulfm_comm.specs.{Calls.{EndsAs, EndsReply, HasReplied, RepliedAs, is_out_of_memory, reply_of, wants_memory}, Exchange.{start_result}, Known.{KnowsIn, KnowsNext}, Phase.{GoesOn, IsMaking, IsPast, LeadsTo, NextBelow, is_looking}}
-use Rattle.ulfm_comm.specs.{Requests.{BlocksStand, LeavesSet, agreement, is_of_round, is_round_refusal}, Revokes.{revoked}, Step.{HasReadOn, StepSees}}
+use Rattle.ulfm_comm.specs.{Requests.{BlocksStand, LeavesSet, agreement, is_agreement, is_of_round, is_round_refusal, may_cache}, Revokes.{revoked}, Step.{HasReadOn, StepSees}}
 use Rattle.ulfm_comm.specs.declared.{phases.phase.Next.{Next}, phases.phase.Next.TheVariants.{Goes, Ends}, phases.phase.Phase.{Phase}}
 use Rattle.ulfm_comm.specs.declared.phases.phase.Phase.TheVariants.{Over, Begun, Looking, Settling, Arriving, Revoking, Asking, Peeking, Marking, Reading, ReadingOn, Spawning, Waiting, Checking}
 use Rattle.ulfm_comm.proofs.Look.{idle_poll}
@@ -51,6 +51,16 @@ round_known {P} own asked rank polls x held shrinks k open_is c there members me
     let requests : Some (agreement shrinks k) ≡ Some (agreement other j) = sym open_is ∙ (ap (λ (z : Held). z.request) same ∙ open') in
     let round : k ≡ j = one_round shrinks other k j (cc requests) in
     subst (λ (z : Held). AllSet cached (comm_of asked) j z.group) same (subst (λ i. AllSet cached (comm_of asked) i x.group) round here))
+
+-- the poll of an open agree or shrink may cache blocks
+pub agreement_caches : {P : Type 0} (own : Record) (asked : Call P) (rank : ℕ) → asked ≡ call.Poll rank (comm_of asked) → (x : Held) → held_at own (comm_of asked) ≡ Some x → (shrinks : Bool) (k : ℕ) → x.request ≡ Some (agreement shrinks k)
+    → may_cache own asked ≡ true
+agreement_caches own asked rank polls x held shrinks k open_is =
+    ap (may_cache own) polls ∙ (ap (λ h. is_agreement (request_of h)) held ∙ (ap is_agreement open_is ∙ by_kind shrinks))
+  where
+    by_kind : (b : Bool) → is_agreement (Some (agreement b k)) ≡ true
+    by_kind false = refl
+    by_kind true = refl
 
 -- once a poll knows its round's decision, all that it knows is of blocks that are set
 pub known_next : {P : Type 0} (own : Record) (asked : Call P) (cached : List Block) (next : Next P) → NextBelow 5 next → BlocksStand own asked cached → KnowsNext own asked cached next
@@ -196,9 +206,10 @@ memory_of_round _ wants = absurd (cc wants)
 
 -- a whole call, by what it comes to
 module _ {P : Type 0} (meld : P → P → P) (alone : Bool) (name : Name) (asked : Call P) (old : Record) (before : Sight P) (reply : Reply P) (new : Record) (after : Sight P) where
-  pub whole_ends : HasReplied meld alone name asked old before reply new after → IsPrefix before.cached after.cached → LeavesSet old asked reply after.cached → EndsReply meld alone name asked old before reply new after
-  whole_ends replied begins knows = go (wants_memory reply) refl replied
+  pub whole_ends : HasReplied meld alone name asked old before reply new after → IsPrefix before.cached after.cached → (may_cache old asked ≡ false → after.caches ≡ before.caches) → LeavesSet old asked reply after.cached
+      → EndsReply meld alone name asked old before reply new after
+  whole_ends replied begins caches knows = go (wants_memory reply) refl replied
     where
       go : (b : Bool) → wants_memory reply ≡ b → RepliedAs meld alone name asked old before reply b new after → EndsAs meld alone name asked old before reply b new after
-      go true wants ended = (record { of = ended.0.of; onward = ended.0.onward; fits = ended.0.fits; run_out = ended.0.run_out; cached = begins; knows = knows (memory_of_round reply wants) }, ended.1)
-      go false wants ended = record { of = ended.of; onward = ended.onward; fits = ended.fits; ends = ended.ends; cached = begins; knows = knows }
+      go true wants ended = (record { of = ended.0.of; onward = ended.0.onward; fits = ended.0.fits; run_out = ended.0.run_out; cached = begins; caches = caches; knows = knows (memory_of_round reply wants) }, ended.1)
+      go false wants ended = record { of = ended.of; onward = ended.onward; fits = ended.fits; ends = ended.ends; cached = begins; caches = caches; knows = knows }

@@ -58,6 +58,7 @@ module _ {P : Type 0} (meld : P → P → P) (alone : Bool) (name : Name) (by : 
         made = ap (slice_get (spawns after.seen)) one_more ∙ round_at (spawns after.seen) i c k appends.outcome.1;
         onward = appends.onward;
         cached = appends.cached;
+        caches = appends.caches;
       }
 
   -- it had been made
@@ -74,6 +75,7 @@ module _ {P : Type 0} (meld : P → P → P) (alone : Bool) (name : Name) (by : 
         made = ap (slice_get (spawns after.seen)) one_more ∙ round_at (spawns after.seen) i c k appends.outcome.1;
         onward = appends.onward;
         cached = appends.cached;
+        caches = appends.caches;
       }
 
   -- one or the other
@@ -90,7 +92,7 @@ module _ {P : Type 0} (meld : P → P → P) (alone : Bool) (name : Name) (by : 
       let some = appends.of.may_open.in_range.some_comms in
       let few = spawns_below meld name.limits after.seen appends.of.legal some in
       let full : length (spawns after.seen) + 1 ≡ name.limits.comms = omega (arith, many, few, some) in
-      record { of = appends.of; did = appends.outcome.0; full = full; unmade = none_made (spawns after.seen) c k (λ j lt. passed j (omega (arith, lt, full))); onward = appends.onward; cached = appends.cached }
+      record { of = appends.of; did = appends.outcome.0; full = full; unmade = none_made (spawns after.seen) c k (λ j lt. passed j (omega (arith, lt, full))); onward = appends.onward; cached = appends.cached; caches = appends.caches }
 
   -- its number is small
   pub number_fits : (j : ℕ) → IsMadeBy meld alone name by c k before j after → j < 2 ^ 16

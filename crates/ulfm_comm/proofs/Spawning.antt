@@ -60,7 +60,7 @@ pub full_alone : {P : Type 0} (meld : P → P → P) (alone : Bool) (name : Name
 full_alone meld alone name c k now of one =
     let below = spawns_below meld name.limits now.seen of.legal of.may_open.in_range.some_comms in
     let none : length (spawns now.seen) ≡ 0 = omega (arith, below, one) in
-    record { of = of; did = did_none alone now.seen; full = omega (arith, none, one); unmade = none_made (spawns now.seen) c k none; onward = omega arith; cached = ([], append-nil now.cached) }
+    record { of = of; did = did_none alone now.seen; full = omega (arith, none, one); unmade = none_made (spawns now.seen) c k none; onward = omega arith; cached = ([], append-nil now.cached); caches = refl }
 
 -- the ids of a mask are below 32
 id_below : (mask : CtxMask) (i : ℕ) → IsLowestId mask.bits i → i < 32
@@ -329,6 +329,12 @@ module _ {P : Type 0} (meld : P → P → P) (alone quiet : Bool) (only : IsTrue
         record { of = is.0.of; own = is.0.own; did = subst (λ by. Did quiet (entries_by by is.0.own) now.seen after.seen) rank_is is.0.did; onward = is.0.onward; cached = is.0.cached }
     spawn_walks spawned.Full is = record { of = is.0.of; own = []; did = is.0.did; onward = is.0.onward; cached = is.0.cached }
 
+    -- no block is cached
+    pub spawn_caches : (result : Spawned) → SpawnIs meld quiet name comm s.at.1.round context append next group own now result new after → after.caches ≡ now.caches
+    spawn_caches spawned.Unknown is = is.0.caches
+    spawn_caches (spawned.Made j size) is = is.0.caches
+    spawn_caches spawned.Full is = is.0.caches
+
     -- and add nothing, or the communicator
     pub spawn_adds : (reply : Option (Reply P)) (result : Spawned) → SpawnIs meld quiet name comm s.at.1.round context append next group own now result new after → Adds quiet [] own asked reply now.seen after.seen
     spawn_adds reply spawned.Unknown is = adds_none quiet [] own asked reply now.seen after.seen is.0.did
@@ -411,6 +417,7 @@ module _ {P : Type 0} (meld : P → P → P) (alone quiet : Bool) (only : IsTrue
           made = made.made;
           onward = made.onward;
           cached = made.cached;
+          caches = made.caches;
         }) in
         ends_made meld alone name asked i.round i.mask i.x i.count reach old before own now of s.onward s.fits s.at.0 i.decided i.reads j context size group new after mine
         (subst (λ n. Holds n context group own j size new) there is.1) i.lowest i.left i.stays
@@ -422,5 +429,5 @@ module _ {P : Type 0} (meld : P → P → P) (alone quiet : Bool) (only : IsTrue
         let full = is.0 in
         let loosely : IsFullBy meld alone name (comm_of asked) i.round now after =
         subst (λ n. IsFullBy meld alone name n i.round now after) there
-        (record { of = full.of; did = did_loosely alone quiet only [] now.seen after.seen full.did; full = full.full; unmade = full.unmade; onward = full.onward; cached = full.cached }) in
+        (record { of = full.of; did = did_loosely alone quiet only [] now.seen after.seen full.did; full = full.full; unmade = full.unmade; onward = full.onward; cached = full.cached; caches = full.caches }) in
         ends_full meld alone name asked i.round i.mask i.x i.count reach old before own now of s.onward s.fits s.at.0 i.decided i.reads ended after loosely i.stays (closes ∙ ap₂ closed is.1 there)

@@ -68,6 +68,7 @@ module _ {P : Type 0} (meld : P → P → P) (alone : Bool) (name : Name) (rank 
             record_is = is;
           };
           cached = called.cached;
+          caches = called.caches;
           knows = tt;
         };
       }

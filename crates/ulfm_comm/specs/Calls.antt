@@ -11,7 +11,7 @@ use Rattle.ulfm_model.specs.{Answers.{MayOwn, Sees, polled_by, printed, refusal_
 use Rattle.ulfm_model.specs.{Records.{Fits, Record, is_shrink}, Runs.{IsSpan}}
 use Rattle.ulfm_model.specs.Terms.{comm_of}
 use Rattle.ulfm_words.specs.Steps.{IsOf, Name, Sight}
-use Rattle.ulfm_comm.specs.{Ends.{IsEarlyRun, IsEndRun, IsRefusedAgain}, Requests.{BlocksStand, LeavesSet}}
+use Rattle.ulfm_comm.specs.{Ends.{IsEarlyRun, IsEndRun, IsRefusedAgain}, Requests.{BlocksStand, LeavesSet, may_cache}}
 
 -- the reply that a result stands for
 abbrev pub reply_of : {P X : Type 0} → (X → Reply P) → Result X Refusal → Reply P
@@ -32,7 +32,7 @@ pub record Replied {P : Type 0} (meld : P → P → P) (alone : Bool) (name : Na
       ⊎ IsEarlyRun meld name.limits alone before.seen after.seen old asked reply new)
 
 -- A whole call of a rank comes to that. What was known to be set still is; and a poll that was answered by its round, also by one that ranks
--- can't agree in, leaves all blocks of that known.
+-- can't agree in, leaves all blocks of that known. A call caches no block, unless it is the poll of an open agree or shrink.
 pub record Calls {P : Type 0} (meld : P → P → P) (alone : Bool) (name : Name)
     (asked : Call P) (old : Record) (before : Sight P) (reply : Reply P) (new : Record) (after : Sight P) : Type 0 where
   pub of : IsOf meld name after
@@ -42,6 +42,7 @@ pub record Calls {P : Type 0} (meld : P → P → P) (alone : Bool) (name : Name
       ⊎ (IsEndRun meld name.limits alone before.seen after.seen old asked reply new
       ⊎ IsEarlyRun meld name.limits alone before.seen after.seen old asked reply new)
   pub cached : IsPrefix before.cached after.cached
+  pub caches : may_cache old asked ≡ false → after.caches ≡ before.caches
   pub knows : LeavesSet old asked reply after.cached
 
 -- a shrink's round is decided for rank r: on free context ids, and the rank isn't in its failed group
@@ -82,7 +83,8 @@ pub record RanOut {P : Type 0} (meld : P → P → P) (alone : Bool) (name : Nam
   pub fits : Fits meld name.limits after.seen new
   pub run_out : IsRunOut meld name.limits alone before.seen after.seen old asked new
 
--- A whole call that ran out of memory. What was known to be set still is; and if it was the poll of a shrink, all blocks of its round are.
+-- A whole call that ran out of memory. What was known to be set still is; and if it was the poll of a shrink, all blocks of its round are. It
+-- caches no block, unless it is such a poll.
 pub record RunsOut {P : Type 0} (meld : P → P → P) (alone : Bool) (name : Name)
     (asked : Call P) (old : Record) (before : Sight P) (new : Record) (after : Sight P) : Type 0 where
   pub of : IsOf meld name after
@@ -90,6 +92,7 @@ pub record RunsOut {P : Type 0} (meld : P → P → P) (alone : Bool) (name : Na
   pub fits : Fits meld name.limits after.seen new
   pub run_out : IsRunOut meld name.limits alone before.seen after.seen old asked new
   pub cached : IsPrefix before.cached after.cached
+  pub caches : may_cache old asked ≡ false → after.caches ≡ before.caches
   pub knows : BlocksStand old asked after.cached
 
 -- whether a call ran out of memory, by the refusal's number

@@ -36,7 +36,7 @@ PollIs meld alone name asked old before (Err refusal) new after = EndsBy meld al
 
 -- A poll: whatever it answers, the pass is of these words still, and the record fits what it has seen. Only that of a shrink may
 -- run out of memory. What was known to be set still is; a poll that was answered by its round, also by one that ranks can't agree in, leaves
--- all blocks of that known.
+-- all blocks of that known. Where no agree and no shrink is open, it caches no block.
 pub record Polls {P : Type 0} (meld : P → P → P) (alone : Bool) (name : Name) (asked : Call P) (old : Record) (before : Sight P)
     (result : Result (Polled P) Refusal) (new : Record) (after : Sight P) : Type 0 where
   pub of : IsOf meld name after
@@ -44,6 +44,7 @@ pub record Polls {P : Type 0} (meld : P → P → P) (alone : Bool) (name : Name
   pub run : PollIs meld alone name asked old before result new after
   pub memory : result ≡ Err OutOfMemory → IsTrue (is_shrink (polled_by old asked))
   pub cached : IsPrefix before.cached after.cached
+  pub caches : may_cache old asked ≡ false → after.caches ≡ before.caches
   pub knows : LeavesSet old asked (reply_of polled result) after.cached
 
 -- A poll under way: it has looked, and has marked each declared member in the round of its open request; since then there were

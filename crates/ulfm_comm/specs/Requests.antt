@@ -1,10 +1,10 @@
 -- Requests of agreement rounds, and what of their rounds' blocks a poll knows.
-use Rattle.std.specs.Prelude.{◌≡◌, ℕ, Bool, true, false, List, Some, ⊤}
+use Rattle.std.specs.Prelude.{◌≡◌, ℕ, Bool, true, false, List, Option, Some, ⊤}
 use Rattle.ulfm_model.specs.declared.call.Call.TheVariants as call
 use Rattle.ulfm_model.specs.declared.{block.Block.{Block}, call.Call.{Call}, call.Request.{Request}, call.Request.TheVariants.{Agree, Shrink}}
 use Rattle.ulfm_model.specs.declared.{refusal.Refusal.{Refusal}, refusal.Refusal.TheVariants.{Mismatch, NoContext, NoRoom, OutOfMemory}}
 use Rattle.ulfm_model.specs.declared.{reply.Reply.{Reply}, reply.Reply.TheVariants.{Agreed, Refused, Shrunk}}
-use Rattle.ulfm_model.specs.Records.{Held, Record, held_at}
+use Rattle.ulfm_model.specs.{Answers.{polled_by}, Records.{Held, Record, held_at}}
 use Rattle.ulfm_steps.specs.Blocks.{AllSet}
 
 -- an agree or a shrink in round k
@@ -17,6 +17,16 @@ abbrev pub BlocksStand : {P : Type 0} → Record → Call P → List Block → T
 BlocksStand own (call.Poll rank c) cached =
     (x : Held) (shrinks : Bool) (k : ℕ) → held_at own c ≡ Some x → x.request ≡ Some (agreement shrinks k) → AllSet cached c k x.group
 BlocksStand own _ cached = ⊤
+
+-- whether a request is an agree or a shrink
+abbrev pub is_agreement : Option Request → Bool
+is_agreement (Some (Agree k)) = true
+is_agreement (Some (Shrink k)) = true
+is_agreement _ = false
+
+-- a call may cache blocks where it is the poll of an open agree or shrink
+abbrev pub may_cache : {P : Type 0} → Record → Call P → Bool
+may_cache own asked = is_agreement (polled_by own asked)
 
 -- a refusal that the poll of an agree or of a shrink gives only once it knows what its whole round says
 abbrev pub is_round_refusal : Refusal → Bool

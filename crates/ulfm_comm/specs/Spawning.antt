@@ -34,7 +34,7 @@ pub record MayHold (own : Record) (c context size : ℕ) : Type 0 where
   pub id : context < 32
   pub fresh : AllByRecursion (λ i. nat_eq i context ≡ false) (contexts_of own.held)
 
--- communicator j was made of the round, by this call or before
+-- communicator j was made of the round, by this call or before; no block was cached
 pub record IsMadeBy {P : Type 0} (meld : P → P → P) (alone : Bool) (name : Name) (by : Caller) (c k : ℕ) (before : Sight P) (j : ℕ) (after : Sight P)
     : Type 0 where
   pub of : IsOf meld name after
@@ -47,8 +47,9 @@ pub record IsMadeBy {P : Type 0} (meld : P → P → P) (alone : Bool) (name : N
   pub made : slice_get (spawns after.seen) (j - 1) ≡ Some (c, k)
   pub onward : before.steps ≤ after.steps
   pub cached : IsPrefix before.cached after.cached
+  pub caches : after.caches ≡ before.caches
 
--- all communicators that there may be were made, and not of this round
+-- all communicators that there may be were made, and not of this round; no block was cached
 pub record IsFullBy {P : Type 0} (meld : P → P → P) (alone : Bool) (name : Name) (c k : ℕ) (before after : Sight P) : Type 0 where
   pub of : IsOf meld name after
   pub did : Did alone [] before.seen after.seen
@@ -56,8 +57,9 @@ pub record IsFullBy {P : Type 0} (meld : P → P → P) (alone : Bool) (name : N
   pub unmade : IsFalse (is_made after.seen c k)
   pub onward : before.steps ≤ after.steps
   pub cached : IsPrefix before.cached after.cached
+  pub caches : after.caches ≡ before.caches
 
--- it isn't found yet, and the next step may be made
+-- it isn't found yet, and the next step may be made; no block was cached
 pub record IsSoughtBy {P : Type 0} (meld : P → P → P) (alone : Bool) (name : Name) (c k : ℕ) (old : Append) (before : Sight P) (new : Append) (after : Sight P)
     : Type 0 where
   pub of : IsOf meld name after
@@ -68,6 +70,7 @@ pub record IsSoughtBy {P : Type 0} (meld : P → P → P) (alone : Bool) (name :
   pub more : new.index < name.limits.comms - 1
   pub onward : before.steps ≤ after.steps
   pub cached : IsPrefix before.cached after.cached
+  pub caches : after.caches ≡ before.caches
 
 -- the rank holds communicator j, with these members, in place of the request on its parent
 pub record Holds (c context : ℕ) (group : List ℕ) (old : Record) (j size : ℕ) (new : Record) : Type 0 where

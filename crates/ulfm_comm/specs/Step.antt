@@ -8,7 +8,7 @@ use Rattle.ulfm_model.specs.{Records.{Held, Record, held_at, is_shrink}, Runs.{D
 use Rattle.ulfm_words.specs.Steps.{IsOf, Name, Sight}
 use Rattle.ulfm_comm.specs.{Look.{JustLooked}, StepsLeft.{FewerLeft, MakesStep, Spends, steps_left}}
 use Rattle.ulfm_comm.specs.Missing.{AnsweredNow, AnswersMissing, FindsMissing, FoundNow}
-use Rattle.ulfm_comm.specs.{AlsoLeft.{AlsoTurns, FindsSetIn, also_left}, Known.{KnowsIn, KnowsNext}, Requests.{BlocksStand, LeavesSet}}
+use Rattle.ulfm_comm.specs.{AlsoLeft.{AlsoTurns, FindsSetIn, also_left}, Known.{KnowsIn, KnowsNext}, Requests.{BlocksStand, LeavesSet, may_cache}}
 use Rattle.ulfm_comm.specs.Phase.{Answered, UnderWay, is_looking, next_step, IsFurther, IsPast, LeadsTo, NextIs, reply_in, Stands, Turns}
 use Rattle.ulfm_comm.specs.declared.{phases.phase.Next.{Next}, phases.phase.Next.TheVariants.{Goes, Ends}, phases.phase.Phase.{Phase}}
 use Rattle.ulfm_comm.specs.declared.phases.phase.Phase.TheVariants.{Over, Begun, Looking, Settling, Arriving, Revoking, Marking, ReadingOn}
@@ -80,6 +80,7 @@ pub record Stepped {P : Type 0} (meld : P → P → P) (quiet : Bool) (name : Na
   pub of : IsOf meld name after
   pub onward : now.steps ≤ after.steps
   pub cached : IsPrefix now.cached after.cached
+  pub caches : may_cache own was.asked ≡ false → after.caches ≡ now.caches
   pub named : MakesStep (next_step was.phase) own.number (comm_of was.asked) now after
   pub nearer : FewerLeft (steps_left name.limits own was.asked was.phase) name.limits new was.asked next
   pub also : AlsoTurns name.limits was.asked was.phase own now next new after
@@ -98,6 +99,7 @@ pub record Stepped {P : Type 0} (meld : P → P → P) (quiet : Bool) (name : Na
 pub record TakesTurn {P : Type 0} (meld : P → P → P) (quiet whole : Bool) (name : Name) (asked : Call P) (phase : Phase P) (group : List ℕ) (own : Record)
     (now : Sight P) (next : Next P) (left : List ℕ) (new : Record) (after : Sight P) : Type 0 where
   pub walks : Walks meld quiet name own.number now after
+  pub caches : may_cache own asked ≡ false → after.caches ≡ now.caches
   pub named : whole ≡ false → MakesStep (next_step phase) own.number (comm_of asked) now after
   pub nearer : whole ≡ false → FewerLeft (steps_left name.limits own asked phase) name.limits new asked next
   pub spends : Spends (steps_left name.limits own asked phase) name.limits new asked next now after
@@ -123,6 +125,7 @@ pub record RunsOn {P : Type 0} (meld : P → P → P) (alone : Bool) (name : Nam
   pub of : IsOf meld name after
   pub begins : IsPrefix now.seen after.seen
   pub cached : IsPrefix now.cached after.cached
+  pub caches : may_cache own asked ≡ false → after.caches ≡ now.caches
   pub onward : now.steps ≤ after.steps
   pub spends : after.steps ≤ now.steps + steps_left name.limits own asked phase
   pub also : FindsSetIn own asked now.cached phase → after.steps + length own.seen ≤ now.steps + also_left name.limits own asked phase + length new.seen

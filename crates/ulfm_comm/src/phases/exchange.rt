@@ -124,6 +124,7 @@ impl<P: Packed, A: Allocator> RankRecord<P, A> {
         requires room { x.now.next_agreement < (W.name world.now.words).limits.rounds }
         ensures of { IsOf P.meld (W.name world.now.words) (W.sight pass.new) }
         ensures cached { IsPrefix (W.sight pass.old).cached (W.sight pass.new).cached }
+        ensures caches { (W.sight pass.new).caches ≡ (W.sight pass.old).caches }
         ensures one { IsOneStep (SlotAt x.now.comm x.now.next_agreement self.now.number) false (W.sight pass.old) (W.sight pass.new) }
         ensures settles { Settles W.alone (W.sight pass.old).seen (W.sight pass.new).seen self.now x.now offer result }
     {

@@ -6,7 +6,7 @@ use Rattle.ulfm_model.specs.{Answers.{polled_by}, History.{failures, has}, Recor
 use Rattle.ulfm_model.proofs.Lists.{prefix_trans}
 use Rattle.ulfm_words.specs.Steps.{Name, Sight}
 use Rattle.ulfm_words.proofs.Trails.{did_none, did_prefix}
-use Rattle.ulfm_comm.specs.{Calls.{HasReplied}, AlsoLeft.{AlsoFew, FindsSetNext, also_left}, Counts.{IsLook}, Ends.{IsRefusedAgain}, Known.{KnowsIn, KnowsNext}, Phase.{Answered, IsPast, NextIs, Stands, Waits}, Step.{HasReadOn}, StepsLeft.{Spends, steps_left}}
+use Rattle.ulfm_comm.specs.{Calls.{HasReplied}, AlsoLeft.{AlsoFew, FindsSetNext, also_left}, Counts.{IsLook}, Ends.{IsRefusedAgain}, Known.{KnowsIn, KnowsNext}, Phase.{Answered, IsPast, NextIs, Stands, Waits}, Requests.{may_cache}, Step.{HasReadOn}, StepsLeft.{Spends, steps_left}}
 use Rattle.ulfm_comm.specs.declared.phases.phase.Phase.TheVariants.{Begun}
 use Rattle.ulfm_comm.proofs.{AlsoLeft.{also_ended}, Known.{blocks_of, knows_same, whole_ends}, Look.{full_seen, has_place_left, has_seen_all}, Stands.{stands_own}, StepsLeft.{begun_bound}}
 use Rattle.ulfm_comm.proofs.rank.RankRecord.call.Goals as goal
@@ -83,7 +83,7 @@ returns-in-Ends-clause-ends g c =
     let turn = c.go_begun.ensures.turn [] in
     whole_ends g.P.Meld.meld g.W.Words.alone name c.args.asked c.args.self.now before c.in-Ends.reply c.go_begun.new.self after
     (has_ended g.P.Meld.meld g.W.Words.alone name c.args.asked c.args.self.now before c.in-Ends.reply c.go_begun.new.self after (in_use g at.After-is_refused c.if-is_refused.false) (answered g at.In-Ends c.if-is_refused.false))
-    turn.walks.cached (subst (λ next. KnowsNext c.args.self.now c.args.asked after.cached next) c.in-Ends.is (turn.knows tt))
+    turn.walks.cached turn.caches (subst (λ next. KnowsNext c.args.self.now c.args.asked after.cached next) c.in-Ends.is (turn.knows tt))
 
 pub returns-in-Ends-clause-pending : goal.returns-in-Ends-clause-pending
 returns-in-Ends-clause-pending g c = (answered g (goal.at.returns-in-Ends-clause-pending g c).In-Ends c.if-is_refused.false).pending
@@ -150,6 +150,9 @@ returns-in-Goes-clause-ends g c =
     whole_ends g.P.Meld.meld g.W.Words.alone name c.args.asked own before c.run_on.result c.run_on.new.self after
     (has_ended g.P.Meld.meld g.W.Words.alone name c.args.asked own before c.run_on.result c.run_on.new.self after (in_use g at.After-is_refused c.if-is_refused.false) answered)
     (prefix_trans before.cached looked.cached after.cached (c.go_begun.ensures.turn []).walks.cached run.cached)
+    (λ none.
+    let same : may_cache c.go_begun.new.self c.args.asked ≡ may_cache own c.args.asked = ap (λ (w : Record). may_cache w c.args.asked) (kept g at.In-Goes c.if-is_refused.false) in
+    run.caches (same ∙ none) ∙ (c.go_begun.ensures.turn []).caches none)
     (λ of.
     blocks_of c.go_begun.new.self own c.args.asked after.cached after.cached (λ comm. sym (ap (λ (w : Record). held_at w comm) (kept g at.In-Goes c.if-is_refused.false))) ([], append-nil after.cached)
     (run.knows (knows g at.In-Goes c.if-is_refused.false) of))
@@ -209,7 +212,7 @@ returns-then-is_refused-clause-ends g c =
     let now = g.W.Words.sight c.args.pass.now in
     whole_ends g.P.Meld.meld g.W.Words.alone (g.W.Words.name c.args.world.now.words) c.args.asked c.args.self.now now (Refused SelfFailed) c.args.self.now now
     (record { of = c.requires.of; onward = omega arith; fits = c.requires.fits; ends = inl (record { refused = sym c.is_refused.ensures ∙ c.if-is_refused.true; reply_is = refl; record_is = refl }, refl) })
-    ([], append-nil now.cached) (λ of. absurd (cc of))
+    ([], append-nil now.cached) (λ none. refl) (λ of. absurd (cc of))
 
 pub returns-then-is_refused-clause-steps : goal.returns-then-is_refused-clause-steps
 returns-then-is_refused-clause-steps g c =
@@ -237,7 +240,7 @@ returns-then-has_seen_all-clause-ends g c =
     whole_ends g.P.Meld.meld g.W.Words.alone name c.args.asked c.args.self.now now (Refused SelfFailed) c.refuse.new.self now
     (has_seen_all g.P.Meld.meld g.W.Words.alone name c.args.asked c.args.self.now c.refuse.new.self now c.requires.of c.requires.fits (in_use g at c.if-is_refused.false)
     c.has_seen_all.ensures.below (eqb-true _ _ (sym c.has_seen_all.ensures.all ∙ c.if-has_seen_all.true)) c.refuse.ensures)
-    ([], append-nil now.cached) (λ of. absurd (cc of))
+    ([], append-nil now.cached) (λ none. refl) (λ of. absurd (cc of))
 
 pub returns-then-has_seen_all-clause-steps : goal.returns-then-has_seen_all-clause-steps
 returns-then-has_seen_all-clause-steps g c =

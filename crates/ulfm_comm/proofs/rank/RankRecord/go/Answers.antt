@@ -28,6 +28,7 @@ pub returns-in-Over-clause-turn : goal.returns-in-Over-clause-turn
 returns-in-Over-clause-turn g c =
     rw c.in-Over.is (record {
       walks = record { of = c.requires.of; own = []; did = did_none g.W.Words.alone (g.W.Words.sight c.args.pass.now).seen; onward = omega arith; cached = ([], append-nil (g.W.Words.sight c.args.pass.now).cached) };
+      caches = λ none. refl;
       named = λ not. refl;
       nearer = λ not. tt;
       spends = omega arith;
@@ -71,6 +72,7 @@ returns-in-Asking-clause-turn g c =
     rw c.in-Asking.is (record {
       walks = walks_none g.P.Meld.meld g.W.Words.alone (g.W.Words.name c.args.world.now.words) c.args.self.now.number (g.W.Words.sight c.args.pass.now) (g.W.Words.sight c.load_revocation.new.pass)
           c.load_revocation.ensures.loads.of c.load_revocation.ensures.loads.steps c.load_revocation.ensures.loads.cached c.load_revocation.ensures.loads.did;
+      caches = λ none. c.load_revocation.ensures.loads.caches;
       named = search rules;
       nearer = λ not. tt;
       spends = omega (arith, c.load_revocation.ensures.loads.steps);

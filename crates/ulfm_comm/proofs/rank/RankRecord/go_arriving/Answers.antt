@@ -42,6 +42,7 @@ returns-then-not-set_arrival g c =
     λ group whole.
     record {
       walks = walks g (goal.at.returns-then-not-set_arrival g c).After-set_arrival;
+      caches = λ none. c.set_arrival.ensures.tries.caches;
       named = search rules;
       nearer = search rules;
       spends = omega (arith, c.set_arrival.ensures.tries.steps);
@@ -73,6 +74,7 @@ returns g c =
     λ group whole.
     record {
       walks = walks g (goal.at.returns g c).After-set_arrival;
+      caches = λ none. c.set_arrival.ensures.tries.caches;
       named = search rules;
       nearer = search rules;
       spends = omega (arith, c.set_arrival.ensures.tries.steps);

@@ -1,6 +1,6 @@
-use Rattle.std.proofs.Common.{rules, ◌≡◌, ◌≤◌, ap, arith, refl, subst, sym, ◌∙◌}
+use Rattle.std.proofs.Common.{rules, ◌≡◌, ◌≤◌, false, ap, arith, refl, subst, sym, ◌∙◌}
 use Rattle.ulfm_model.specs.Records.{Record, held_at}
-use Rattle.ulfm_comm.specs.{Step.{Walks}, StepsLeft.{steps_left}}
+use Rattle.ulfm_comm.specs.{Requests.{may_cache}, Step.{Walks}, StepsLeft.{steps_left}}
 use Rattle.ulfm_comm.specs.declared.phases.phase.Phase.TheVariants.{Begun, Looking}
 use Rattle.ulfm_comm.proofs.{AlsoLeft.{also_resumes, looks_resumed}, Known.{next_same}, Look.{begins_looking, begun_within}, StepsLeft.{fewer_more, resumed_left}}
 use Rattle.ulfm_comm.proofs.rank.RankRecord.go_begun.Goals as goal
@@ -44,6 +44,7 @@ returns-clause-turn g c =
     let within = begun_within g.P.Meld.meld false (g.W.Words.name c.args.world.now.words) c.args.asked.now stood.1.0 stood.1.1 stood.0 own now c.requires.of stood.1.2 in
     record {
       walks = subst (λ (w : Record). Walks g.P.Meld.meld g.W.Words.alone (g.W.Words.name c.args.world.now.words) w.number now after) c.resume.ensures t.walks;
+      caches = subst (λ (w : Record). may_cache w c.args.asked.now ≡ false → after.caches ≡ now.caches) c.resume.ensures t.caches;
       named = t.named;
       nearer = λ single. fewer_more (g.W.Words.name c.args.world.now.words).limits c.go_looking.new.self c.args.asked.now _ _ fewer c.go_looking.result (t.nearer single);
       spends = omega (arith, fewer, t.spends);

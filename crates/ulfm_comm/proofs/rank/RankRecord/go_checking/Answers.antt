@@ -36,7 +36,7 @@ ends : (g : _) (c : After-load_revocation g) (reply : Reply g.row.P.Denot) (new 
     → ((group : List ℕ) → Turns g.P.Meld.meld g.W.Words.alone (g.W.Words.name c.args.world.now.words) c.args.asked.now (Checking c.args.missing) group c.args.self.now (g.W.Words.sight c.args.pass.now) (Ends reply) group new (g.W.Words.sight c.load_revocation.new.pass))
     → (group : List ℕ) (whole : Bool) → TakesTurn g.P.Meld.meld g.W.Words.alone whole (g.W.Words.name c.args.world.now.words) c.args.asked.now (Checking c.args.missing) group c.args.self.now (g.W.Words.sight c.args.pass.now) (Ends reply) group new (g.W.Words.sight c.load_revocation.new.pass)
 ends g c reply new sees none turns = λ group whole.
-    record { walks = search rules; named = search rules; nearer = λ not. tt; spends = omega (arith, c.load_revocation.ensures.loads.steps); also = λ all. also_ends 1 (g.W.Words.name c.args.world.now.words).limits c.args.asked.now c.args.self.now new (g.W.Words.sight c.args.pass.now) (g.W.Words.sight c.load_revocation.new.pass) reply (omega (arith, c.load_revocation.ensures.loads.steps)) sees; further = search rules; adds = search rules; sees = sees; looks = λ at. absurd (cc at); knows = λ known of. absurd (false≢true (sym none ∙ of)); leads = search rules; turns = turns group }
+    record { walks = search rules; caches = λ none. c.load_revocation.ensures.loads.caches; named = search rules; nearer = λ not. tt; spends = omega (arith, c.load_revocation.ensures.loads.steps); also = λ all. also_ends 1 (g.W.Words.name c.args.world.now.words).limits c.args.asked.now c.args.self.now new (g.W.Words.sight c.args.pass.now) (g.W.Words.sight c.load_revocation.new.pass) reply (omega (arith, c.load_revocation.ensures.loads.steps)) sees; further = search rules; adds = search rules; sees = sees; looks = λ at. absurd (cc at); knows = λ known of. absurd (false≢true (sym none ∙ of)); leads = search rules; turns = turns group }
 
 pub returns-then-load_revocation-clause-turn : goal.returns-then-load_revocation-clause-turn
 returns-then-load_revocation-clause-turn g c = ends g (goal.at.returns-then-load_revocation-clause-turn g c).After-load_revocation _ c.close.new.self (ap (λ (w : Record). w.seen) c.close.ensures) refl (λ group alone only old before stands.

@@ -66,6 +66,7 @@ returns-then-not-look_on-clause-turn g c =
     subst (λ done. after.steps + looks_left limits done c.look_on.new.self.seen ≤ now.steps + looks_left limits false c.args.self.now.seen) c.if-not-look_on.true c.look_on.ensures.takes.turns in
     record {
       walks = search rules;
+      caches = λ none. c.look_on.ensures.goes.caches;
       named = search rules;
       nearer = search rules;
       spends = looks_on (g.W.Words.name c.args.world.now.words).limits c.args.self.now c.look_on.new.self c.args.asked.now c.look_on.ensures.kept (g.W.Words.sight c.args.pass.now).steps (g.W.Words.sight c.look_on.new.pass).steps
@@ -95,6 +96,7 @@ returns-then-has_rank-clause-turn g c =
     λ group.
     record {
       walks = search rules;
+      caches = λ none. c.look_on.ensures.goes.caches;
       named = search rules;
       nearer = search rules;
       spends = ends_look g (goal.at.returns-then-has_rank-clause-turn g c).After-look_on c.if-not-look_on.false c.refuse.new.self (Ends (Refused SelfFailed)) tt;
@@ -124,6 +126,7 @@ returns-clause-turn g c =
     λ group.
     record {
       walks = search rules;
+      caches = λ none. c.look_on.ensures.goes.caches;
       named = search rules;
       nearer = λ single.
           let name = g.W.Words.name c.args.world.now.words in

@@ -39,6 +39,7 @@ returns-then-marks-seen g c =
     λ group.
     record {
       walks = search rules;
+      caches = λ none. c.advance.ensures.marks.marks.caches;
       named = search rules;
       nearer = search rules;
       spends = search rules;
@@ -89,6 +90,7 @@ returns g c =
     λ group.
     record {
       walks = search rules;
+      caches = λ none. c.advance.ensures.marks.marks.caches;
       named = search rules;
       nearer = λ single. omega (arith, left, takes.some);
       spends = left;

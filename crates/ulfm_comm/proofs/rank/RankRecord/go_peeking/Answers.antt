@@ -59,6 +59,7 @@ peeks g c next left new nearer spends further sees leads also knows turns =
     let now = g.W.Words.sight c.args.pass.now in
     record {
       walks = record { of = goes.of; own = []; did = goes.did; onward = goes.onward; cached = goes.cached };
+      caches = λ none. goes.caches;
       named = λ single. peek_named c.args.peek c.args.shrinks c.args.self.now.number (comm_of c.args.asked.now) now (g.W.Words.sight c.advance.new.pass) c.requires.stands.2.at.1.there (c.advance.ensures.takes.one single);
       nearer = nearer;
       spends = spends;

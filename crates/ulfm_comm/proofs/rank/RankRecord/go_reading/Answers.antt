@@ -4,7 +4,8 @@ use Rattle.ulfm_steps.specs.Blocks.{AllSet, AreSet}
 use Rattle.ulfm_comm.specs.{Known.{KnowsNext}, Phase.{IsFurther, IsPast, NextBelow, Turns}, Requests.{agreement}, Step.{TakesTurn}, StepsLeft.{FewerLeft, Spends, steps_left}}
 use Rattle.ulfm_model.specs.declared.reply.Reply.TheVariants.{Pending}
 use Rattle.ulfm_comm.specs.declared.{phases.phase.Next.{Next}, phases.phase.Next.TheVariants.{Ends}, phases.phase.Phase.TheVariants.{Reading}}
-use Rattle.ulfm_comm.proofs.{Known.{known_next, round_known}, Agreement.{reading_ends, reading_goes, reading_may, reading_pends, reads_named}, StepsLeft.{reads_fewer, reads_on, reads_spend}}
+use Rattle.std.proofs.lemmas.Bool.{false≢true}
+use Rattle.ulfm_comm.proofs.{Known.{agreement_caches, known_next, round_known}, Agreement.{reading_ends, reading_goes, reading_may, reading_pends, reads_named}, StepsLeft.{reads_fewer, reads_on, reads_spend}}
 use Rattle.ulfm_comm.proofs.rank.RankRecord.go_reading.Goals as goal
 use Rattle.ulfm_comm.proofs.rank.RankRecord.go_reading.Goals.{After-deref, After-advance}
 
@@ -41,8 +42,12 @@ reads : (g : _) (c : After-advance g) (next : Next g.row.P.Denot) (left : List �
 reads g c next left new nearer spends further sees leads knows turns =
     let goes = c.advance.ensures.goes in
     let now = g.W.Words.sight c.args.pass.now in
+    let stands = c.requires.stands in
+    let at = stands.2.at.1 in
     record {
       walks = record { of = goes.of; own = []; did = goes.did; onward = goes.onward; cached = goes.cached };
+      caches = λ none.
+          absurd (false≢true (sym none ∙ agreement_caches c.args.self.now c.args.asked.now stands.0.number stands.2.at.0 at.x at.marked.held c.args.shrinks c.args.reading.round at.marked.open_is));
       named = λ single. reads_named c.deref.result.now c.args.reading c.args.shrinks c.args.self.now.number (comm_of c.args.asked.now) now (g.W.Words.sight c.advance.new.pass) c.requires.stands.2.at.1.there (c.advance.ensures.takes.one single);
       nearer = nearer;
       spends = spends;

@@ -63,6 +63,7 @@ returns-then-on-made g c =
     record {
       walks = let goes = c.read_on.ensures.goes in
           record { of = goes.of; own = []; did = goes.did; onward = goes.onward; cached = goes.cached };
+      caches = λ none. c.read_on.ensures.goes.caches;
       named = search rules;
       nearer = search rules;
       spends = search rules;
@@ -87,6 +88,7 @@ returns g c =
     record {
       walks = let goes = c.read_on.ensures.goes in
           record { of = goes.of; own = []; did = goes.did; onward = goes.onward; cached = goes.cached };
+      caches = λ none. c.read_on.ensures.goes.caches;
       named = search rules;
       nearer = search rules;
       spends = search rules;

@@ -52,6 +52,7 @@ ends g c reply is = λ group whole.
     let s = c.requires.stands.1 in
     subst (λ r. TakesTurn g.P.Meld.meld g.W.Words.alone whole name c.args.asked.now Revoking group own now (Ends r) group own after) is (record {
       walks = walks g c;
+      caches = λ none. c.set_revocation.ensures.tries.caches;
       named = search rules;
       nearer = λ not. tt;
       spends = omega (arith, c.set_revocation.ensures.tries.steps);

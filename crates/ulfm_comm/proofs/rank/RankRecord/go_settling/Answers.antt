@@ -76,6 +76,7 @@ ends g c reply is = λ group whole.
     record {
       walks = walks_settled g.P.Meld.meld g.W.Words.alone (g.W.Words.name c.args.world.now.words) c.args.self.now.number (g.W.Words.sight c.args.pass.now) (g.W.Words.sight c.contribute-settled.new.pass)
           c.contribute-settled.ensures.of c.contribute-settled.ensures.one.steps c.contribute-settled.ensures.cached c.args.self.now c.held_comm-x.result.now c.args.offer c.contribute-settled.result refl c.contribute-settled.ensures.settles;
+      caches = λ none. c.contribute-settled.ensures.caches;
       named = λ not. named g c;
       nearer = λ not. tt;
       spends = omega (arith, c.contribute-settled.ensures.one.steps);

@@ -4,7 +4,7 @@ use Rattle.ulfm_steps.specs.declared.item.Item.TheVariants.{Comm as OfComm}
 use Rattle.ulfm_comm.specs.{Phase.{IsFurther, IsMaking, Turns, reply_in}, Spawning.{SpawnIs}, Step.{TakesTurn}, StepsLeft.{FewerLeft, Spends, steps_left}}
 use Rattle.ulfm_comm.specs.AlsoLeft.{AlsoSpends, FindsSetIn, also_left}
 use Rattle.ulfm_comm.proofs.{AlsoLeft.{also_ends, also_spawns}, Known.{blocks_later, known_making}}
-use Rattle.ulfm_comm.proofs.Spawning.{item_is, may_step, may_take, spawn_adds, spawn_full, spawn_goes_on, spawn_makes, spawn_walks}
+use Rattle.ulfm_comm.proofs.Spawning.{item_is, may_step, may_take, spawn_adds, spawn_caches, spawn_full, spawn_goes_on, spawn_makes, spawn_walks}
 use Rattle.ulfm_comm.specs.declared.{phases.phase.Next.{Next}, phases.phase.Phase.TheVariants.{Spawning}, phases.spawning.Spawned.{Spawned}}
 use Rattle.ulfm_comm.specs.declared.phases.spawning.Spawned.TheVariants as spawned
 use Rattle.ulfm_comm.proofs.rank.RankRecord.go_spawning.Goals as goal
@@ -47,6 +47,10 @@ spawns g c result next left new is nearer spends further sees leads also turns =
     c.spawn.new.append c.spawn.new.self (g.W.Words.sight c.spawn.new.pass) result is in
     record {
       walks = walks;
+      caches = λ none.
+          spawn_caches g.P.Meld.meld false g.W.Words.alone (λ here. absurd (cc here)) (g.W.Words.name c.args.world.now.words) c.args.asked.now c.args.append c.args.context c.args.reach c.args.group.now.items s.0 s.1 c.args.self.now (g.W.Words.sight c.args.pass.now)
+          c.requires.of s.2 c.comm_of-comm.result c.comm_of-comm.ensures
+          c.spawn.new.append c.spawn.new.self (g.W.Words.sight c.spawn.new.pass) result is;
       named = search rules;
       nearer = nearer;
       spends = spends;

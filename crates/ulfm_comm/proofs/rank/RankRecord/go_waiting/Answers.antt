@@ -90,6 +90,7 @@ waits g c next nearer spends further leads knows also turns = λ group.
     let goes = c.advance.ensures.goes in
     record {
       walks = record { of = goes.of; own = []; did = goes.did; onward = goes.onward; cached = goes.cached };
+      caches = λ none. goes.caches;
       named = λ single. wait_named c.args.arrivals c.args.self.now.number (comm_of c.args.asked.now) _ (g.W.Words.sight c.args.pass.now) (g.W.Words.sight c.advance.new.pass) c.requires.stands.1.2.at.1 (c.advance.ensures.takes.one single);
       nearer = nearer;
       spends = spends;

@@ -4,7 +4,7 @@ use mathlib.Core.List.{IsPrefix}
 use Rattle.ulfm_model.specs.{Answers.{polled_by}, Records.{Record, held_at, is_shrink}}
 use Rattle.ulfm_model.proofs.Lists.{prefix_trans}
 use Rattle.ulfm_words.proofs.Trails.{did_prefix}
-use Rattle.ulfm_comm.specs.{AlsoLeft.{AlsoSpends, also_left}, Known.{KnowsIn, KnowsNext}, Phase.{IsPast, NextBelow, NextIs, left}, Step.{HasReadOn}, StepsLeft.{Spends, steps_left}}
+use Rattle.ulfm_comm.specs.{AlsoLeft.{AlsoSpends, also_left}, Known.{KnowsIn, KnowsNext}, Phase.{IsPast, NextBelow, NextIs, left}, Requests.{may_cache}, Step.{HasReadOn}, StepsLeft.{Spends, steps_left}}
 use Rattle.ulfm_comm.specs.declared.phases.phase.Next.{Next}
 use Rattle.ulfm_comm.proofs.{AlsoLeft.{also_behind, also_first, also_on}, Known.{knows_same, leads_past, next_same, sees_next}, Stands.{stands_own, stands_shrinks}}
 use Rattle.ulfm_comm.proofs.rank.RankRecord.run_on.Goals as goal
@@ -29,6 +29,13 @@ knows g c known =
     next_same mid own c.args.asked.now (g.W.Words.sight c.go.new.pass).cached (λ comm. sym (held g c comm)) c.go.result
     (c.go.ensures.turn.knows (knows_same own mid c.args.asked.now (g.W.Words.sight c.loop-next.pass).cached (held g c) c.loop-next.phase (c.loop-next.invariant.knows known)))
 
+-- no block was cached that may not be
+caches : (g : _) (c : After-go g) → may_cache c.args.self.now c.args.asked.now ≡ false → (g.W.Words.sight c.go.new.pass).caches ≡ (g.W.Words.sight c.args.pass.now).caches
+caches g c none =
+    let inv = c.loop-next.invariant in
+    let same : may_cache c.loop-next.self c.args.asked.now ≡ may_cache c.args.self.now c.args.asked.now = ap (λ (w : Record). may_cache w c.args.asked.now) inv.kept in
+    c.go.ensures.turn.caches (same ∙ none) ∙ inv.caches none
+
 -- what was seen
 sees : (g : _) (c : After-go g) → KnowsIn c.args.self.now c.args.asked.now (g.W.Words.sight c.args.pass.now).cached c.args.phase
     → (c.go.new.self.seen ≡ c.args.self.now.seen) ⊎ HasReadOn c.args.self.now c.args.asked.now c.args.self.now.seen c.go.new.self.seen (g.W.Words.sight c.go.new.pass).cached
@@ -49,6 +56,7 @@ loop-next-init g c =
       of = c.requires.of;
       begins = ([], append-nil now.seen);
       cached = ([], append-nil now.cached);
+      caches = λ none. refl;
       onward = omega arith;
       past = c.requires.past;
       stands = search rules;
@@ -84,6 +92,7 @@ loop-next-preserved g c =
       of = turn.walks.of;
       begins = prefix_trans start.seen now.seen after.seen inv.begins (did_prefix g.W.Words.alone _ now.seen after.seen turn.walks.did);
       cached = prefix_trans start.cached now.cached after.cached inv.cached turn.walks.cached;
+      caches = caches g at;
       onward = within _ _ _ inv.onward turn.walks.onward;
       past = subst (λ next. IsPast next) c.in-Goes.is (leads_past c.loop-next.phase c.go.result inv.past turn.leads);
       stands = λ old before u. subst (λ next. NextIs g.P.Meld.meld g.W.Words.alone name asked old before next c.go.new.group.items new after) c.in-Goes.is (turn.turns g.W.Words.alone (λ here. here) old before (inv.stands old before u));
@@ -120,6 +129,7 @@ returns-in-Ends g c =
       of = walks.of;
       begins = prefix_trans start.seen now.seen after.seen inv.begins (did_prefix g.W.Words.alone _ now.seen after.seen walks.did);
       cached = prefix_trans start.cached now.cached after.cached inv.cached walks.cached;
+      caches = caches g at;
       onward = within _ _ _ inv.onward walks.onward;
       spends = omega (arith, spends, inv.spent);
       also = λ all.

@@ -2,7 +2,7 @@ use Rattle.std.proofs.Common.{◌≡◌, ◌⊎◌, ◌+◌, ◌≤◌, [], fals
 use mathlib.Core.List.{IsPrefix}
 use Rattle.ulfm_model.specs.Records.{Record}
 use Rattle.ulfm_words.specs.Steps.{IsOf, Sight}
-use Rattle.ulfm_comm.specs.{AlsoLeft.{AlsoSpends, FindsSetIn, also_left}, Known.{KnowsIn}, Phase.{Stands, StillStands, is_looking, left}, Step.{HasReadOn}, StepsLeft.{steps_left}}
+use Rattle.ulfm_comm.specs.{AlsoLeft.{AlsoSpends, FindsSetIn, also_left}, Known.{KnowsIn}, Phase.{Stands, StillStands, is_looking, left}, Requests.{may_cache}, Step.{HasReadOn}, StepsLeft.{steps_left}}
 use Rattle.ulfm_comm.specs.declared.{phases.phase.Next.TheVariants.{Goes}}
 use Rattle.ulfm_comm.proofs.rank.RankRecord.run_on.Given as goal
 
@@ -16,6 +16,7 @@ invariant-loop-next g l =
       of : IsOf g.P.Meld.meld name now;
       begins : IsPrefix start.seen now.seen;
       cached : IsPrefix start.cached now.cached;
+      caches : may_cache own l.asked ≡ false → now.caches ≡ start.caches;
       onward : start.steps ≤ now.steps;
       past : is_looking l.phase ≡ false;
       stands : (old : Record) (before : Sight g.row.P.Denot) → Stands g.P.Meld.meld g.W.Words.alone name old before (record { asked = l.asked; phase = l.initial.phase; group = [] }) own start

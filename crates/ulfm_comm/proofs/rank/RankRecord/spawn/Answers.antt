@@ -29,6 +29,7 @@ returns-in_default-clause-spawns g c = λ k is.
         more = subst (λ (item : Item). c.advance.new.self.index < room item (g.W.Words.name c.args.words.now).limits) is ensures.within;
         onward = ensures.goes.onward;
         cached = ensures.goes.cached;
+        caches = ensures.goes.caches;
       },
       refl,
     )

@@ -58,6 +58,7 @@ stepped g c =
       of = c.go.ensures.turn.walks.of;
       onward = c.go.ensures.turn.walks.onward;
       cached = c.go.ensures.turn.walks.cached;
+      caches = c.go.ensures.turn.caches;
       named = c.go.ensures.turn.named refl;
       nearer = c.go.ensures.turn.nearer refl;
       also = c.go.ensures.turn.also;
