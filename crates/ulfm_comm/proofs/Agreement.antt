@@ -1,6 +1,8 @@
 -- The poll of an agreement, step by step.
-use Rattle.std.proofs.Common.{◌≡◌, ℕ, ◌<◌, ◌≤◌, ◌++◌, Bool, true, false, List, [], ◌∷◌, length, filter, Some, nat_lt, refl, ap, ap₂, sym, ◌∙◌, subst, arith, inr, IsTrue, if◌then◌else◌}
-use Rattle.ulfm_laws.specs.declared.{summary.Body.{Body}, summary.Body.TheVariants.{Unit as NoBody, Flag as OfFlags, Ctx as OfIds, Clash}, summary.Summary.{Summary}}
+use Rattle.std.proofs.Common.{◌≡◌, ℕ, ◌<◌, ◌≤◌, ◌++◌, Bool, true, false, List, [], ◌∷◌, length, filter, Some, nat_lt, refl, ap, ap₂, sym, ◌∙◌, subst, arith}
+use Rattle.std.proofs.Common.{inr, IsTrue, if◌then◌else◌}
+use Rattle.ulfm_laws.specs.declared.{summary.Body.{Body}, summary.Body.TheVariants.{Unit as NoBody, Flag as OfFlags, Ctx as OfIds, Clash}}
+use Rattle.ulfm_laws.specs.declared.summary.Summary.{Summary}
 use Rattle.ulfm_model.specs.declared.call.Call.TheVariants as call
 use Rattle.ulfm_model.specs.declared.{call.Call.{Call}, event.Caller.TheVariants.{Rank}, limits.Limits.{Limits}, refusal.Refusal.TheVariants.{Mismatch}}
 use Rattle.ulfm_model.specs.declared.{reply.Reply.{Reply}, reply.Reply.TheVariants.{Agreed, Pending, Refused}}
@@ -12,16 +14,19 @@ use Rattle.ulfm_model.specs.declared.place.Place.TheVariants.{Slot as SlotAt}
 use Rattle.ulfm_model.specs.declared.step_name.StepName.TheVariants as step
 use Rattle.ulfm_words.proofs.Trails.{did_none, did_prefix, did_wait}
 use Rattle.ulfm_steps.specs.declared.{mark_all.MarkAll.{MarkAll}, blocks.ReadBlocks.{ReadBlocks}, blocks.RoundBlocks.{RoundBlocks}}
-use Rattle.ulfm_steps.specs.{Blocks.{AreOf, AtBlock, MayReadBlocks, block_at, is_whole, next_of, site_of, starts_at}, Marks.{HasMarked as MarkedOn, IsAt, Marks, MayMarkAll, members_in}, Rounds.{IsMissing, IsRoundOf}, Turns.{IsStepAt}}
+use Rattle.ulfm_steps.specs.Blocks.{AreOf, AtBlock, MayReadBlocks, block_at, is_whole, next_of, site_of, starts_at}
+use Rattle.ulfm_steps.specs.{Marks.{HasMarked as MarkedOn, IsAt, Marks, MayMarkAll, members_in}, Rounds.{IsMissing, IsRoundOf}, Turns.{IsStepAt}}
 use Rattle.ulfm_model.specs.Blocks.{IsSummed}
 use Rattle.ulfm_steps.proofs.{InBlocks.{are_later, few_members, starts}, Marking.{marks_join, marks_wait, new_members, take_all}}
-use Rattle.ulfm_comm.specs.{Polls.{HasMarked}, Requests.{agreement}, Phase.{Answered, Stands, next_step}, StepsLeft.{MakesStep}, Agreement.{HasReadAll, IsMarking, IsReading, agreed_reply}}
+use Rattle.ulfm_comm.specs.{Polls.{HasMarked}, Requests.{agreement}, Phase.{Answered, Stands, next_step}, StepsLeft.{MakesStep}}
+use Rattle.ulfm_comm.specs.Agreement.{HasReadAll, IsMarking, IsReading, agreed_reply}
 use Rattle.ulfm_comm.specs.declared.phases.phase.Phase.TheVariants.{Marking, Reading}
 use Rattle.ulfm_comm.proofs.{CallRuns.{calls_is}, Holding.{exists_is, group_is, holds, same_held}, AmongOthers.{did_loosely, marks_loosely}}
 use Rattle.ulfm_comm.proofs.Polls.{held_first, later, not_found, not_marked, open_round, poll_agreed, poll_mismatch, poll_pending}
 
 -- the poll of a rank is one in its own name
-pub poll_mine : {P : Type 0} (asked : Call P) (old : Record) (rank comm : ℕ) → asked ≡ call.Poll rank comm → (traits_of asked).by ≡ Rank old.number → asked ≡ call.Poll old.number (comm_of asked)
+pub poll_mine : {P : Type 0} (asked : Call P) (old : Record) (rank comm : ℕ) → asked ≡ call.Poll rank comm → (traits_of asked).by ≡ Rank old.number
+    → asked ≡ call.Poll old.number (comm_of asked)
 poll_mine {P} asked old rank comm is mine =
     let by : Rank rank ≡ Rank old.number = sym (ap (λ (a : Call P). (traits_of a).by) is) ∙ mine in
     let same : rank ≡ old.number = cc by in
@@ -38,8 +43,10 @@ all_in group declared n within past =
     let last : n ≡ length declared = omega (arith, within, past) in ap (members_in group declared) last ∙ ap (filter (has group)) (take_all declared)
 
 -- a poll under way, after others' events
-marked_later : {P : Type 0} (meld : P → P → P) (limits : Limits) (alone : Bool) (c : ℕ) (shrinks : Bool) (k : ℕ) (x : Held) (old : Record) (before : History P) (mid : Record) (now after : History P)
-    → HasMarked meld limits alone c shrinks k x old before mid now → Did alone [] now after → IsLegal meld limits after → HasMarked meld limits alone c shrinks k x old before mid after
+marked_later : {P : Type 0} (meld : P → P → P) (limits : Limits) (alone : Bool) (c : ℕ) (shrinks : Bool) (k : ℕ) (x : Held) (old : Record) (before : History P)
+    (mid : Record) (now after : History P)
+    → HasMarked meld limits alone c shrinks k x old before mid now → Did alone [] now after → IsLegal meld limits after
+    → HasMarked meld limits alone c shrinks k x old before mid after
 marked_later meld limits alone c shrinks k x old before mid now after p did legal =
     record {
       look = p.look;
@@ -54,8 +61,10 @@ marked_later meld limits alone c shrinks k x old before mid now after p did lega
     }
 
 -- once all declared members are marked, the reading of those blocks begins that aren't known
-pub reading_begins : {P : Type 0} (meld : P → P → P) (limits : Limits) (alone : Bool) (c : ℕ) (shrinks : Bool) (k : ℕ) (x : Held) (old : Record) (before : History P) (mid : Record) (now : History P)
-    → HasMarked meld limits alone c shrinks k x old before mid now → (blocks : RoundBlocks P) (comm round members : ℕ) → AreOf meld now comm round x.group blocks → is_whole blocks (length x.group) ≡ false
+pub reading_begins : {P : Type 0} (meld : P → P → P) (limits : Limits) (alone : Bool) (c : ℕ) (shrinks : Bool) (k : ℕ) (x : Held) (old : Record)
+    (before : History P) (mid : Record) (now : History P)
+    → HasMarked meld limits alone c shrinks k x old before mid now → (blocks : RoundBlocks P) (comm round members : ℕ)
+    → AreOf meld now comm round x.group blocks → is_whole blocks (length x.group) ≡ false
     → (reading : ReadBlocks P) → reading ≡ starts_at comm round blocks members → comm ≡ c → round ≡ k → members ≡ length x.group
     → IsReading meld limits alone c shrinks reading old before mid now
 reading_begins {P} meld limits alone c shrinks k x old before mid now p blocks comm round members are unknown reading is there at size =
@@ -70,7 +79,8 @@ reading_begins {P} meld limits alone c shrinks k x old before mid now p blocks c
     subst (λ (r : ReadBlocks P). IsReading meld limits alone c shrinks r old before mid now) (sym (is ∙ ap (starts_at comm round blocks) size)) begun
 
 -- between two marks
-module _ {P : Type 0} (meld : P → P → P) (limits : Limits) (alone : Bool) (c : ℕ) (shrinks : Bool) (marks : MarkAll) (blocks : RoundBlocks P) (old : Record) (before : History P) (own : Record) (now : History P) (legal : IsLegal meld limits now)
+module _ {P : Type 0} (meld : P → P → P) (limits : Limits) (alone : Bool) (c : ℕ) (shrinks : Bool) (marks : MarkAll) (blocks : RoundBlocks P) (old : Record)
+    (before : History P) (own : Record) (now : History P) (legal : IsLegal meld limits now)
     (p : IsMarking meld limits alone c shrinks marks blocks old before own now) where
   marking_fits : Fits meld limits now own
   marking_fits =
@@ -95,15 +105,18 @@ module _ {P : Type 0} (meld : P → P → P) (limits : Limits) (alone : Bool) (c
       record { round = subst (λ w. IsRoundOf limits now w marks.round p.x.group) (sym p.there) round; begins = marking_fits.seen }
 
   -- after more of them
-  module _ (quiet : Bool) (only : IsTrue alone → IsTrue quiet) (after : History P) (n : ℕ) (between : List ℕ) (members_are : members_in p.x.group own.seen n ≡ members_in p.x.group own.seen marks.next ++ between)
+  module _ (quiet : Bool) (only : IsTrue alone → IsTrue quiet) (after : History P) (n : ℕ) (between : List ℕ)
+      (members_are : members_in p.x.group own.seen n ≡ members_in p.x.group own.seen marks.next ++ between)
       (last : Marks quiet marks.rank marks.comm marks.round between now after) where
     marks_further : Marks alone old.number c marks.round (members_in p.x.group found n) p.look after
     marks_further =
         let before = members_in p.x.group found marks.next in
-        let all : members_in p.x.group found n ≡ before ++ between = subst (λ s. members_in p.x.group s n ≡ members_in p.x.group s marks.next ++ between) marking_seen members_are in
+        let all : members_in p.x.group found n ≡ before ++ between = subst (λ s. members_in p.x.group s n ≡ members_in p.x.group s marks.next ++ between)
+        marking_seen members_are in
         let mine : Marks quiet old.number c marks.round between now after =
         subst (λ r. Marks quiet r c marks.round between now after) p.mine (subst (λ w. Marks quiet marks.rank w marks.round between now after) p.there last) in
-        let first : Marks alone old.number c marks.round before p.look now = marks_wait alone old.number c marks.round before p.look p.marked now p.has_marked p.waited in
+        let first : Marks alone old.number c marks.round before p.look now = marks_wait alone old.number c marks.round before p.look p.marked now p.has_marked
+        p.waited in
         subst (λ rs. Marks alone old.number c marks.round rs p.look after) (sym all)
         (marks_join alone old.number c marks.round before between p.look now after (new_members meld limits p.look p.x.group n before between p.legal all) first
         (marks_loosely alone quiet only old.number c marks.round between now after mine))
@@ -111,11 +124,13 @@ module _ {P : Type 0} (meld : P → P → P) (limits : Limits) (alone : Bool) (c
     -- what is known of the blocks is so still
     marks_blocks : (next : MarkAll) → next.comm ≡ marks.comm → next.round ≡ marks.round → AreOf meld after next.comm next.round p.x.group blocks
     marks_blocks next comm round =
-        let longer = are_later meld now after marks.comm marks.round p.x.group blocks (did_prefix quiet (entries_by (Rank marks.rank) last.own) now after last.did) p.are in
+        let longer = are_later meld now after marks.comm marks.round p.x.group blocks
+        (did_prefix quiet (entries_by (Rank marks.rank) last.own) now after last.did) p.are in
         subst (λ k. AreOf meld after next.comm k p.x.group blocks) (sym round) (subst (λ w. AreOf meld after w marks.round p.x.group blocks) (sym comm) longer)
 
     -- it goes on
-    marking_on : (next : MarkAll) → next.next ≡ n → next.rank ≡ marks.rank → next.comm ≡ marks.comm → next.round ≡ marks.round → IsAt p.x.group own.seen next.next next.known → IsMarking meld limits alone c shrinks next blocks old before own after
+    marking_on : (next : MarkAll) → next.next ≡ n → next.rank ≡ marks.rank → next.comm ≡ marks.comm → next.round ≡ marks.round
+        → IsAt p.x.group own.seen next.next next.known → IsMarking meld limits alone c shrinks next blocks old before own after
     marking_on next n_is rank comm round at =
         record {
           look = p.look;
@@ -129,14 +144,16 @@ module _ {P : Type 0} (meld : P → P → P) (limits : Limits) (alone : Bool) (c
           there = comm ∙ p.there;
           at = subst (λ s. IsAt p.x.group s next.next next.known) marking_seen at;
           marked = after;
-          has_marked = subst (λ k. Marks alone old.number c k (members_in p.x.group found next.next) p.look after) (sym round) (subst (λ m. Marks alone old.number c marks.round (members_in p.x.group found m) p.look after) (sym n_is) marks_further);
+          has_marked = subst (λ k. Marks alone old.number c k (members_in p.x.group found next.next) p.look after) (sym round)
+              (subst (λ m. Marks alone old.number c marks.round (members_in p.x.group found m) p.look after) (sym n_is) marks_further);
           waited = did_none alone after;
           are = marks_blocks next comm round;
           unknown = p.unknown;
         }
 
     -- or all are marked
-    marking_ends : (known : ℕ) → IsAt p.x.group own.seen n known → length own.seen ≤ n → IsLegal meld limits after → HasMarked meld limits alone c shrinks marks.round p.x old before own after
+    marking_ends : (known : ℕ) → IsAt p.x.group own.seen n known → length own.seen ≤ n → IsLegal meld limits after
+        → HasMarked meld limits alone c shrinks marks.round p.x old before own after
     marking_ends known at past longer =
         let all = all_in p.x.group found n (subst (λ s. n ≤ length s) marking_seen at.within) (subst (λ s. length s ≤ n) marking_seen past) in
         record {
@@ -152,7 +169,8 @@ module _ {P : Type 0} (meld : P → P → P) (limits : Limits) (alone : Bool) (c
         }
 
 -- a call that stands between two marks, by what the code knows of the communicator
-module _ {P : Type 0} (meld : P → P → P) (name : Name) (asked : Call P) (marks : MarkAll) (blocks : RoundBlocks P) (shrinks : Bool) (group : List ℕ) (own : Record) (now : Sight P) (of : IsOf meld name now) (y : Held) (w : ℕ) (found : held_at own w ≡ Some y) (w_is : w ≡ comm_of asked)
+module _ {P : Type 0} (meld : P → P → P) (name : Name) (asked : Call P) (marks : MarkAll) (blocks : RoundBlocks P) (shrinks : Bool) (group : List ℕ)
+    (own : Record) (now : Sight P) (of : IsOf meld name now) (y : Held) (w : ℕ) (found : held_at own w ≡ Some y) (w_is : w ≡ comm_of asked)
     (members declared : List ℕ) (members_are : members ≡ y.group) (declared_are : declared ≡ own.seen) (alone : Bool) (old : Record) (before : Sight P)
     (st : Stands meld alone name old before (record { asked = asked; phase = Marking marks blocks shrinks; group = group }) own now) where
   abbrev marking : IsMarking meld name.limits alone (comm_of asked) shrinks marks blocks old before.seen own now.seen
@@ -165,20 +183,23 @@ module _ {P : Type 0} (meld : P → P → P) (name : Name) (asked : Call P) (mar
   pub marking_may_on : MayMarkAll name.limits now.seen marks.comm marks.round members declared
   marking_may_on =
       let may = marking_may meld name.limits alone (comm_of asked) shrinks marks blocks old before.seen own now.seen of.legal marking in
-      subst (λ ms. MayMarkAll name.limits now.seen marks.comm marks.round ms declared) (sym group_same) (subst (λ s. MayMarkAll name.limits now.seen marks.comm marks.round marking.x.group s) (sym declared_are) may)
+      subst (λ ms. MayMarkAll name.limits now.seen marks.comm marks.round ms declared) (sym group_same)
+      (subst (λ s. MayMarkAll name.limits now.seen marks.comm marks.round marking.x.group s) (sym declared_are) may)
 
   -- the members are some, and no more than ranks
   pub marking_few : length members ≤ 1024
   marking_few = few_members name.limits now.seen marks.comm marks.round members of.may_open marking_may_on.round
 
   pub marking_any : 0 < length members
-  marking_any = subst (λ ms. 0 < length ms) (sym group_same) (some_member marking.x.group own.number (holds meld name.limits marking.look own (comm_of asked) marking.x marking.fits marking.held).member)
+  marking_any = subst (λ ms. 0 < length ms) (sym group_same) (some_member marking.x.group own.number
+      (holds meld name.limits marking.look own (comm_of asked) marking.x marking.fits marking.held).member)
 
   -- not all blocks were set
   pub marking_unknown : is_whole blocks (length members) ≡ false
   marking_unknown = subst (λ ms. is_whole blocks (length ms) ≡ false) (sym group_same) marking.unknown
 
-  module _ (quiet : Bool) (only : IsTrue alone → IsTrue quiet) (after : Sight P) (next : MarkAll) (rank : next.rank ≡ marks.rank) (comm : next.comm ≡ marks.comm) (round : next.round ≡ marks.round) (at : IsAt members declared next.next next.known)
+  module _ (quiet : Bool) (only : IsTrue alone → IsTrue quiet) (after : Sight P) (next : MarkAll) (rank : next.rank ≡ marks.rank)
+      (comm : next.comm ≡ marks.comm) (round : next.round ≡ marks.round) (at : IsAt members declared next.next next.known)
       (marked : MarkedOn meld quiet name marks members declared next.next now after) where
     at_next : IsAt marking.x.group own.seen next.next next.known
     at_next = subst (λ ms. IsAt ms own.seen next.next next.known) group_same (subst (λ s. IsAt members s next.next next.known) declared_are at)
@@ -189,37 +210,52 @@ module _ {P : Type 0} (meld : P → P → P) (name : Name) (asked : Call P) (mar
         (subst (λ s. members_in members s next.next ≡ members_in members s marks.next ++ marked.between) declared_are marked.members_are)
 
     -- more are left
-    pub marking_goes : next.next < length declared → Stands meld alone name old before (record { asked = asked; phase = Marking next blocks shrinks; group = group }) own after
+    pub marking_goes : next.next < length declared → Stands meld alone name old before (record {
+      asked = asked;
+      phase = Marking next blocks shrinks;
+      group = group;
+    }) own after
     unfolding marking_on
     marking_goes more =
-        let on = marking_on meld name.limits alone (comm_of asked) shrinks marks blocks old before.seen own now.seen of.legal marking quiet only after.seen next.next marked.between members_next marked.marks.marks next refl rank comm round at_next in
-        record {
-          fits = st.fits;
-          mine = st.mine;
-          onward = omega (arith, st.onward, marked.marks.onward);
-          at = (st.at.0, on, subst (λ s. next.next < length s) (declared_are ∙ marking_seen meld name.limits alone (comm_of asked) shrinks marks blocks old before.seen own now.seen of.legal marking) more);
-        }
-
-    -- none is left
-    pub marking_reads : (reading : ReadBlocks P) (size : ℕ) → reading ≡ starts_at next.comm next.round blocks size → size ≡ length members → length declared ≤ next.next
-        → Stands meld alone name old before (record { asked = asked; phase = Reading reading shrinks; group = group }) own after
-    marking_reads reading size is size_is past =
-        let ended = marking_ends meld name.limits alone (comm_of asked) shrinks marks blocks old before.seen own now.seen of.legal marking quiet only after.seen next.next marked.between members_next marked.marks.marks next.known at_next
-        (subst (λ s. length s ≤ next.next) declared_are past) marked.marks.of.legal in
-        let are = marks_blocks meld name.limits alone (comm_of asked) shrinks marks blocks old before.seen own now.seen of.legal marking quiet only after.seen next.next marked.between members_next marked.marks.marks next comm round in
+        let on = marking_on meld name.limits alone (comm_of asked) shrinks marks blocks old before.seen own now.seen of.legal marking quiet only after.seen
+        next.next marked.between members_next marked.marks.marks next refl rank comm round at_next in
         record {
           fits = st.fits;
           mine = st.mine;
           onward = omega (arith, st.onward, marked.marks.onward);
           at = (
             st.at.0,
-            reading_begins meld name.limits alone (comm_of asked) shrinks marks.round marking.x old before.seen own after.seen ended blocks next.comm next.round size are marking.unknown reading is (comm ∙ marking.there) round
+            on,
+            subst (λ s. next.next < length s) (declared_are ∙ marking_seen meld name.limits alone
+                (comm_of asked) shrinks marks blocks old before.seen own now.seen of.legal marking) more,
+          );
+        }
+
+    -- none is left
+    pub marking_reads : (reading : ReadBlocks P) (size : ℕ) → reading ≡ starts_at next.comm next.round blocks size → size ≡ length members
+        → length declared ≤ next.next
+        → Stands meld alone name old before (record { asked = asked; phase = Reading reading shrinks; group = group }) own after
+    marking_reads reading size is size_is past =
+        let ended = marking_ends meld name.limits alone (comm_of asked) shrinks marks blocks old before.seen own now.seen of.legal marking quiet only after.seen
+        next.next marked.between members_next marked.marks.marks next.known at_next
+        (subst (λ s. length s ≤ next.next) declared_are past) marked.marks.of.legal in
+        let are = marks_blocks meld name.limits alone (comm_of asked) shrinks marks blocks old before.seen own now.seen of.legal marking quiet only after.seen
+        next.next marked.between members_next marked.marks.marks next comm round in
+        record {
+          fits = st.fits;
+          mine = st.mine;
+          onward = omega (arith, st.onward, marked.marks.onward);
+          at = (
+            st.at.0,
+            reading_begins meld name.limits alone (comm_of asked) shrinks marks.round marking.x old before.seen own after.seen ended blocks next.comm next.round
+                size are marking.unknown reading is (comm ∙ marking.there) round
                 (size_is ∙ ap length group_same),
           );
         }
 
 -- one step of the reading
-module _ {P : Type 0} (meld : P → P → P) (limits : Limits) (alone : Bool) (c : ℕ) (shrinks : Bool) (reading : ReadBlocks P) (old : Record) (before : History P) (own : Record) (now : History P) (p : IsReading meld limits alone c shrinks reading old before own now) where
+module _ {P : Type 0} (meld : P → P → P) (limits : Limits) (alone : Bool) (c : ℕ) (shrinks : Bool) (reading : ReadBlocks P) (old : Record) (before : History P)
+    (own : Record) (now : History P) (p : IsReading meld limits alone c shrinks reading old before own now) where
   -- the round is one of the members' that the rank holds
   reading_round : IsRoundOf limits now reading.comm reading.round p.x.group
   reading_round =
@@ -234,20 +270,29 @@ module _ {P : Type 0} (meld : P → P → P) (limits : Limits) (alone : Bool) (c
 
   module _ (quiet : Bool) (only : IsTrue alone → IsTrue quiet) (after : History P) (did : Did quiet [] now after) (legal : IsLegal meld limits after) where
     reading_marked : HasMarked meld limits alone c shrinks reading.round p.x old before own after
-    reading_marked = marked_later meld limits alone c shrinks reading.round p.x old before own now after p.marked (did_loosely alone quiet only [] now after did) legal
+    reading_marked = marked_later meld limits alone c shrinks reading.round p.x old before own now after p.marked
+        (did_loosely alone quiet only [] now after did) legal
 
     -- it goes on
-    reading_on : (next : ReadBlocks P) → next.comm ≡ reading.comm → next.round ≡ reading.round → AtBlock meld after p.x.group next → IsReading meld limits alone c shrinks next old before own after
+    reading_on : (next : ReadBlocks P) → next.comm ≡ reading.comm → next.round ≡ reading.round → AtBlock meld after p.x.group next
+        → IsReading meld limits alone c shrinks next old before own after
     reading_on next comm round at =
-        record { x = p.x; marked = subst (λ k. HasMarked meld limits alone c shrinks k p.x old before own after) (sym round) reading_marked; there = comm ∙ p.there; at = at }
+        record {
+          x = p.x;
+          marked = subst (λ k. HasMarked meld limits alone c shrinks k p.x old before own after) (sym round) reading_marked;
+          there = comm ∙ p.there;
+          at = at;
+        }
 
 -- the poll of an agreement that was read
-module _ {P : Type 0} (meld : P → P → P) (alone : Bool) (name : Name) (c k : ℕ) (old : Record) (before : Sight P) (mid : Record) (after : Sight P) (fits : Fits meld name.limits before.seen old) (of : IsOf meld name after) (onward : before.steps ≤ after.steps) where
+module _ {P : Type 0} (meld : P → P → P) (alone : Bool) (name : Name) (c k : ℕ) (old : Record) (before : Sight P) (mid : Record) (after : Sight P)
+    (fits : Fits meld name.limits before.seen old) (of : IsOf meld name after) (onward : before.steps ≤ after.steps) where
   abbrev polling : Call P
   polling = call.Poll old.number c
 
   -- one of its members is missing
-  answers_pending : (shrinks : Bool) (x : Held) → HasMarked meld name.limits alone c shrinks k x old before.seen mid after.seen → before.steps < after.steps → IsMissing after.last after.seen c k x.group → Answered meld alone name polling old before Pending mid after
+  answers_pending : (shrinks : Bool) (x : Held) → HasMarked meld name.limits alone c shrinks k x old before.seen mid after.seen → before.steps < after.steps
+      → IsMissing after.last after.seen c k x.group → Answered meld alone name polling old before Pending mid after
   answers_pending shrinks x m in_call one =
       let limits = name.limits in
       let ended = poll_pending meld limits alone before.seen old mid c shrinks k x after.seen m one.rank mid one.member one.empty refl in
@@ -272,7 +317,8 @@ module _ {P : Type 0} (meld : P → P → P) (alone : Bool) (name : Name) (c k :
       }
 
   -- an agree is decided
-  answers_agreed : (x : Held) → HasMarked meld name.limits alone c false k x old before.seen mid after.seen → (all : Summary P) → IsSummed meld after.seen c k x.group all → (new : Record) → new ≡ closed mid c → (reply : Reply P) → reply ≡ agreed_reply all all.body
+  answers_agreed : (x : Held) → HasMarked meld name.limits alone c false k x old before.seen mid after.seen → (all : Summary P)
+      → IsSummed meld after.seen c k x.group all → (new : Record) → new ≡ closed mid c → (reply : Reply P) → reply ≡ agreed_reply all all.body
       → Answered meld alone name polling old before reply new after
   answers_agreed x m all read new left reply reply_is =
       subst (λ (r : Reply P). Answered meld alone name polling old before r new after) (sym reply_is) (by_body all.body refl)
@@ -280,7 +326,8 @@ module _ {P : Type 0} (meld : P → P → P) (alone : Bool) (name : Name) (c k :
       mismatch : ((flag : P) → all.body ≡ OfFlags flag → ⊥) → Answered meld alone name polling old before (Refused Mismatch) new after
       mismatch other =
           record {
-            ends = inr (calls_is meld alone name before after onward polling old (Refused Mismatch) new of fits (poll_mismatch meld name.limits alone before.seen old mid c k x after.seen m all new read other left));
+            ends = inr (calls_is meld alone name before after onward polling old (Refused Mismatch) new of fits
+                (poll_mismatch meld name.limits alone before.seen old mid c k x after.seen m all new read other left));
             pending = λ is agrees. absurd (cc is);
           }
 
@@ -290,15 +337,21 @@ module _ {P : Type 0} (meld : P → P → P) (alone : Bool) (name : Name) (c k :
           let count = all.known.count in
           let raised = nat_lt all.acked.count count in
           record {
-            ends = inr (calls_is meld alone name before after onward polling old (Agreed value count raised) new of fits (poll_agreed meld name.limits alone before.seen old mid c k x after.seen m all new read value is left));
+            ends = inr (calls_is meld alone name before after onward polling old (Agreed value count raised) new of fits
+                (poll_agreed meld name.limits alone before.seen old mid c k x after.seen m all new read value is left));
             pending = λ same agrees. absurd (cc same);
           }
       by_body (OfIds mask) is = mismatch (λ flag same. absurd (cc (is, same)))
       by_body Clash is = mismatch (λ flag same. absurd (cc (is, same)))
 
 -- a call that reads its round's blocks, by what the code knows of the communicator
-module _ {P : Type 0} (meld : P → P → P) (name : Name) (asked : Call P) (reading : ReadBlocks P) (shrinks : Bool) (group : List ℕ) (own : Record) (now : Sight P) (y : Held) (w : ℕ) (found : held_at own w ≡ Some y) (w_is : w ≡ comm_of asked)
-    (members : List ℕ) (members_are : members ≡ y.group) (alone : Bool) (old : Record) (before : Sight P) (st : Stands meld alone name old before (record { asked = asked; phase = Reading reading shrinks; group = group }) own now) where
+module _ {P : Type 0} (meld : P → P → P) (name : Name) (asked : Call P) (reading : ReadBlocks P) (shrinks : Bool) (group : List ℕ) (own : Record)
+    (now : Sight P) (y : Held) (w : ℕ) (found : held_at own w ≡ Some y) (w_is : w ≡ comm_of asked)
+    (members : List ℕ) (members_are : members ≡ y.group) (alone : Bool) (old : Record) (before : Sight P) (st : Stands meld alone name old before (record {
+      asked = asked;
+      phase = Reading reading shrinks;
+      group = group;
+    }) own now) where
   abbrev reads : IsReading meld name.limits alone (comm_of asked) shrinks reading old before.seen own now.seen
   reads = st.at.1
 
@@ -310,32 +363,40 @@ module _ {P : Type 0} (meld : P → P → P) (name : Name) (asked : Call P) (rea
   reading_may of =
       record {
         of = of;
-        round = subst (λ ms. IsRoundOf name.limits now.seen reading.comm reading.round ms) (sym read_same) (reading_round meld name.limits alone (comm_of asked) shrinks reading old before.seen own now.seen reads);
+        round = subst (λ ms. IsRoundOf name.limits now.seen reading.comm reading.round ms) (sym read_same)
+            (reading_round meld name.limits alone (comm_of asked) shrinks reading old before.seen own now.seen reads);
         at = subst (λ ms. AtBlock meld now.seen ms reading) (sym read_same) reads.at;
       }
 
-  module _ (quiet : Bool) (only : IsTrue alone → IsTrue quiet) (after : Sight P) (of : IsOf meld name after) (did : Did quiet [] now.seen after.seen) (steps : now.steps ≤ after.steps) where
+  module _ (quiet : Bool) (only : IsTrue alone → IsTrue quiet) (after : Sight P) (of : IsOf meld name after) (did : Did quiet [] now.seen after.seen)
+      (steps : now.steps ≤ after.steps) where
     marked_on : HasMarked meld name.limits alone (comm_of asked) shrinks reading.round reads.x old before.seen own after.seen
     marked_on = reading_marked meld name.limits alone (comm_of asked) shrinks reading old before.seen own now.seen reads quiet only after.seen did of.legal
 
     module _ (next : ReadBlocks P) (comm : next.comm ≡ reading.comm) (round : next.round ≡ reading.round) where
       -- a member is missing
-      pub reading_pends : now.steps < after.steps → IsMissing after.last after.seen next.comm next.round members → Answered meld alone name asked old before Pending own after
+      pub reading_pends : now.steps < after.steps → IsMissing after.last after.seen next.comm next.round members
+          → Answered meld alone name asked old before Pending own after
       reading_pends further missing =
           let there : IsMissing after.last after.seen (comm_of asked) reading.round reads.x.group =
           subst (λ ms. IsMissing after.last after.seen (comm_of asked) reading.round ms) read_same
-          (subst (λ c. IsMissing after.last after.seen c reading.round members) (comm ∙ reads.there) (subst (λ k. IsMissing after.last after.seen next.comm k members) round missing)) in
+          (subst (λ c. IsMissing after.last after.seen c reading.round members) (comm ∙ reads.there)
+          (subst (λ k. IsMissing after.last after.seen next.comm k members) round missing)) in
           subst (λ (a : Call P). Answered meld alone name a old before Pending own after) (sym st.at.0)
-          (answers_pending meld alone name (comm_of asked) reading.round old before own after st.fits of (omega (arith, st.onward, steps)) shrinks reads.x marked_on (omega (arith, st.onward, further)) there)
+          (answers_pending meld alone name (comm_of asked) reading.round old before own after st.fits of (omega (arith, st.onward, steps)) shrinks reads.x
+          marked_on (omega (arith, st.onward, further)) there)
 
       -- more is left
-      pub reading_goes : AtBlock meld after.seen members next → Stands meld alone name old before (record { asked = asked; phase = Reading next shrinks; group = group }) own after
+      pub reading_goes : AtBlock meld after.seen members next → Stands meld alone name old before
+          (record { asked = asked; phase = Reading next shrinks; group = group }) own after
       reading_goes at =
-          let on = reading_on meld name.limits alone (comm_of asked) shrinks reading old before.seen own now.seen reads quiet only after.seen did of.legal next comm round (subst (λ ms. AtBlock meld after.seen ms next) read_same at) in
+          let on = reading_on meld name.limits alone (comm_of asked) shrinks reading old before.seen own now.seen reads quiet only after.seen did of.legal next
+          comm round (subst (λ ms. AtBlock meld after.seen ms next) read_same at) in
           record { fits = st.fits; mine = st.mine; onward = omega (arith, st.onward, steps); at = (st.at.0, on) }
 
       -- nothing is left: this is what all say
-      pub reading_ends : (all : Summary P) → IsSummed meld after.seen next.comm next.round members all → HasReadAll meld alone name asked shrinks next.round all old before own after
+      pub reading_ends : (all : Summary P) → IsSummed meld after.seen next.comm next.round members all
+          → HasReadAll meld alone name asked shrinks next.round all old before own after
       reading_ends all read =
           record {
             fits = st.fits;
@@ -343,27 +404,35 @@ module _ {P : Type 0} (meld : P → P → P) (name : Name) (asked : Call P) (rea
             onward = omega (arith, st.onward, steps);
             x = reads.x;
             marked = subst (λ k. HasMarked meld name.limits alone (comm_of asked) shrinks k reads.x old before.seen own after.seen) (sym round) marked_on;
-            read = subst (λ c. IsSummed meld after.seen c next.round reads.x.group all) (comm ∙ reads.there) (subst (λ ms. IsSummed meld after.seen next.comm next.round ms all) read_same read);
+            read = subst (λ c. IsSummed meld after.seen c next.round reads.x.group all) (comm ∙ reads.there)
+                (subst (λ ms. IsSummed meld after.seen next.comm next.round ms all) read_same read);
           }
 
 -- the step that a reading makes is the one that is named
-pub reads_named : {P : Type 0} (members : List ℕ) (r : ReadBlocks P) (shrinks : Bool) (rank c : ℕ) (old new : Sight P) → r.comm ≡ c → IsStepAt (site_of members r) (nat_lt r.read r.width) old new → MakesStep (next_step (Reading r shrinks)) rank c old new
+pub reads_named : {P : Type 0} (members : List ℕ) (r : ReadBlocks P) (shrinks : Bool) (rank c : ℕ) (old new : Sight P) → r.comm ≡ c
+    → IsStepAt (site_of members r) (nat_lt r.read r.width) old new → MakesStep (next_step (Reading r shrinks)) rank c old new
 reads_named {P} members r shrinks rank c old new there one = go (nat_lt r.read r.width) one
   where
-    go : (b : Bool) → IsStepAt (if b then Site.Place (SlotAt r.comm r.round (next_of members r)) else Site.Block (block_at r.comm r.round r.side)) b old new → MakesStep (Some (if b then step.Slot else step.Cache)) rank c old new
+    go : (b : Bool) → IsStepAt (if b then Site.Place (SlotAt r.comm r.round (next_of members r)) else Site.Block (block_at r.comm r.round r.side)) b old new
+        → MakesStep (Some (if b then step.Slot else step.Cache)) rank c old new
     go true at = (r.round, next_of members r, subst (λ w. IsStepAt (Site.Place (SlotAt w r.round (next_of members r))) true old new) there at)
     go false at = (r.round, r.side, subst (λ w. IsStepAt (Site.Block (block_at w r.round r.side)) false old new) there at)
 
 -- an agree is answered once all that its round's members say is known
-pub round_agrees : {P : Type 0} (meld : P → P → P) (alone : Bool) (name : Name) (asked : Call P) (shrinks : Bool) (k : ℕ) (all : Summary P) (old : Record) (before : Sight P) (mid : Record) (now : Sight P) → IsOf meld name now
-    → HasReadAll meld alone name asked shrinks k all old before mid now → shrinks ≡ false → (w : ℕ) → w ≡ comm_of asked → (new : Record) → new ≡ closed mid w → (reply : Reply P) → reply ≡ agreed_reply all all.body
+pub round_agrees : {P : Type 0} (meld : P → P → P) (alone : Bool) (name : Name) (asked : Call P) (shrinks : Bool) (k : ℕ) (all : Summary P) (old : Record)
+    (before : Sight P) (mid : Record) (now : Sight P) → IsOf meld name now
+    → HasReadAll meld alone name asked shrinks k all old before mid now → shrinks ≡ false → (w : ℕ) → w ≡ comm_of asked → (new : Record) → new ≡ closed mid w
+    → (reply : Reply P) → reply ≡ agreed_reply all all.body
     → Answered meld alone name asked old before reply new now
 round_agrees {P} meld alone name asked shrinks k all old before mid now of r is w w_is new left reply reply_is =
     subst (λ (a : Call P). Answered meld alone name a old before reply new now) (sym r.polls)
-    (answers_agreed meld alone name (comm_of asked) k old before mid now r.fits of r.onward r.x (subst (λ b. HasMarked meld name.limits alone (comm_of asked) b k r.x old before.seen mid now.seen) is r.marked) all r.read new (left ∙ ap (closed mid) w_is) reply
+    (answers_agreed meld alone name (comm_of asked) k old before mid now r.fits of r.onward r.x
+    (subst (λ b. HasMarked meld name.limits alone (comm_of asked) b k r.x old before.seen mid now.seen) is r.marked) all r.read new
+    (left ∙ ap (closed mid) w_is) reply
     reply_is)
 
 -- a shrink's goes on
-pub round_shrinks : {P : Type 0} (meld : P → P → P) (alone : Bool) (name : Name) (asked : Call P) (shrinks : Bool) (k : ℕ) (all : Summary P) (old : Record) (before : Sight P) (mid : Record) (now : Sight P)
+pub round_shrinks : {P : Type 0} (meld : P → P → P) (alone : Bool) (name : Name) (asked : Call P) (shrinks : Bool) (k : ℕ) (all : Summary P) (old : Record)
+    (before : Sight P) (mid : Record) (now : Sight P)
     → HasReadAll meld alone name asked shrinks k all old before mid now → shrinks ≡ true → HasReadAll meld alone name asked true k all old before mid now
 round_shrinks meld alone name asked shrinks k all old before mid now r is = subst (λ b. HasReadAll meld alone name asked b k all old before mid now) is r

@@ -1,20 +1,27 @@
 -- How many steps a call makes at most beside a load for each failure that its rank has seen more.
-use Rattle.std.proofs.Common.{◌≡◌, ℕ, ◌+◌, ◌-◌, ◌*◌, ◌<◌, ◌≤◌, Bool, true, false, List, [], length, take, min, nat_lt, Option, Some, None, IsTrue, is_some, if◌then◌else◌, refl, ap, sym, ◌∙◌, subst, append-nil, arith}
+use Rattle.std.proofs.Common.{◌≡◌, ℕ, ◌+◌, ◌-◌, ◌*◌, ◌<◌, ◌≤◌, Bool, true, false, List, [], length, take, min, nat_lt, Option, Some, None, IsTrue, is_some}
+use Rattle.std.proofs.Common.{if◌then◌else◌, refl, ap, sym, ◌∙◌, subst, append-nil, arith}
 use Rattle.std.proofs.lemmas.{Bool.{lt-ltb, ltb-true}, List.{length-take}}
 use mathlib.Core.List.{IsPrefix}
 use Rattle.ulfm_model.specs.declared.call.Call.TheVariants as call
 use Rattle.ulfm_model.specs.declared.{block.Block.{Block}, block.Side.{Side}, block.Side.TheVariants.{Front, Back}}
-use Rattle.ulfm_model.specs.declared.{call.Call.{Call}, call.Request.{Request}, call.Request.TheVariants.{Agree, Shrink, Barrier}, limits.Limits.{Limits}, refusal.Refusal.{Refusal}, reply.Reply.{Reply}}
-use Rattle.ulfm_model.specs.{Answers.{refusal_of}, Blocks.{has_block, width}, History.{History, IsLegal, failures, has}, Records.{Held, Record, held_at}, Terms.{comm_of, request_of}}
+use Rattle.ulfm_model.specs.declared.{call.Call.{Call}, call.Request.{Request}, call.Request.TheVariants.{Agree, Shrink, Barrier}, limits.Limits.{Limits}}
+use Rattle.ulfm_model.specs.declared.{refusal.Refusal.{Refusal}, reply.Reply.{Reply}}
+use Rattle.ulfm_model.specs.{Answers.{refusal_of}, Blocks.{has_block, width}, History.{History, IsLegal, failures, has}, Records.{Held, Record, held_at}}
+use Rattle.ulfm_model.specs.Terms.{comm_of, request_of}
 use Rattle.ulfm_model.proofs.Blocks.{has_block_stays}
 use Rattle.ulfm_words.specs.Steps.{Sight}
 use Rattle.ulfm_steps.specs.{Appends.{turns_left}, Arriving.{arrivals_left, in_order}, Blocks.{FindsSet, block_at, has_back, is_whole, peeks_left}}
-use Rattle.ulfm_steps.specs.declared.{append.Append.{Append}, arrivals.Arrivals.{Arrivals}, arrivals.Missing.{Missing}, blocks.Peek.{Peek}, read_on.ReadOn.{ReadOn}}
+use Rattle.ulfm_steps.specs.declared.{append.Append.{Append}, arrivals.Arrivals.{Arrivals}, arrivals.Missing.{Missing}, blocks.Peek.{Peek}}
+use Rattle.ulfm_steps.specs.declared.read_on.ReadOn.{ReadOn}
 use Rattle.ulfm_steps.proofs.{Arriving.{in_order_few}, InBlocks.{apart_lt, peek_some}}
-use Rattle.ulfm_comm.specs.AlsoLeft.{AlsoFollows, AlsoLooks, AlsoSpends, AlsoTurns, FindsSetIn, FindsSetNext, also_after_look, also_after_round, also_behind_look, also_in, also_left, also_polling}
-use Rattle.ulfm_comm.specs.{Begins.{reads_again}, Requests.{BlocksStand}, Bound.{also_bound, also_call_bound, also_poll_bound}, Look.{Passes}, Phase.{NextBelow, is_looking}, Step.{LooksOn}, Requests.{agreement}, StepsLeft.{FewerLeft, Spends, group_of, steps_left}}
+use Rattle.ulfm_comm.specs.AlsoLeft.{AlsoFollows, AlsoLooks, AlsoSpends, AlsoTurns, FindsSetIn, FindsSetNext, also_after_look, also_after_round}
+use Rattle.ulfm_comm.specs.AlsoLeft.{also_behind_look, also_in, also_left, also_polling}
+use Rattle.ulfm_comm.specs.{Begins.{reads_again}, Requests.{BlocksStand}, Bound.{also_bound, also_call_bound, also_poll_bound}, Look.{Passes}}
+use Rattle.ulfm_comm.specs.{Phase.{NextBelow, is_looking}, Step.{LooksOn}, Requests.{agreement}, StepsLeft.{FewerLeft, Spends, group_of, steps_left}}
 use Rattle.ulfm_comm.specs.declared.{phases.phase.Made.{Made}, phases.phase.Next.{Next}, phases.phase.Next.TheVariants.{Goes, Ends}, phases.phase.Phase.{Phase}}
-use Rattle.ulfm_comm.specs.declared.phases.phase.Phase.TheVariants.{Over, Begun, Looking, Settling, Arriving, Revoking, Asking, Peeking, Marking, Reading, ReadingOn, Spawning, Waiting, Checking}
+use Rattle.ulfm_comm.specs.declared.phases.phase.Phase.TheVariants.{Over, Begun, Looking, Settling, Arriving, Revoking, Asking, Peeking, Marking, Reading}
+use Rattle.ulfm_comm.specs.declared.phases.phase.Phase.TheVariants.{ReadingOn, Spawning, Waiting, Checking}
 use Rattle.ulfm_comm.proofs.StepsLeft.{passes_none, refusal_same}
 
 module _ {P : Type 0} (limits : Limits) (own new : Record) (seen : List ℕ) (asked : Call P) (kept : new ≡ record own { seen = seen }) where
@@ -38,19 +45,23 @@ module _ {P : Type 0} (limits : Limits) (own new : Record) (seen : List ℕ) (as
       go (call.Agree rank c value) stand = tt
       go (call.Shrink rank c) stand = tt
       go (call.Barrier rank c) stand = tt
-      go (call.Poll rank c) stand = λ x shrinks k held open_is side is. has_block_stays cached longer (block_at c k side) begins (stand x shrinks k (sym (same c) ∙ held) open_is side is)
+      go (call.Poll rank c) stand = λ x shrinks k held open_is side is. has_block_stays cached longer (block_at c k side) begins
+          (stand x shrinks k (sym (same c) ∙ held) open_is side is)
       go (call.Revoke rank c) stand = tt
       go (call.IsRevoked rank c) stand = tt
       go (call.Free rank c) stand = tt
 
   -- a look that goes on makes as many loads as it finds
-  pub also_looks_on : (now after : Sight P) → length own.seen < limits.ranks → length new.seen < limits.ranks → after.steps + (limits.ranks - length new.seen) ≤ now.steps + (limits.ranks - length own.seen)
+  pub also_looks_on : (now after : Sight P) → length own.seen < limits.ranks → length new.seen < limits.ranks
+      → after.steps + (limits.ranks - length new.seen) ≤ now.steps + (limits.ranks - length own.seen)
       → AlsoLooks (also_left limits own asked Looking) limits asked own now (Goes Looking) new after
   also_looks_on now after more still few = record { few = omega (arith, also_after_same, more, still, few); sets = λ stand. tt }
 
   -- one that has ended makes one more, at most
-  pub also_looks_over : (now after : Sight P) → length own.seen < limits.ranks → length new.seen ≤ limits.ranks → after.steps + (limits.ranks - length new.seen - 1) ≤ now.steps + (limits.ranks - length own.seen)
-      → (left : Record) (next : Next P) → AlsoFollows limits asked new next left → AlsoLooks (also_left limits own asked Looking) limits asked own now next left after
+  pub also_looks_over : (now after : Sight P) → length own.seen < limits.ranks → length new.seen ≤ limits.ranks
+      → after.steps + (limits.ranks - length new.seen - 1) ≤ now.steps + (limits.ranks - length own.seen)
+      → (left : Record) (next : Next P) → AlsoFollows limits asked new next left
+      → AlsoLooks (also_left limits own asked Looking) limits asked own now next left after
   also_looks_over now after more within few left next follows =
       let rest = follows.few in
       record {
@@ -71,12 +82,15 @@ reads_enough ranks seen within = go (nat_lt (length seen) ranks) refl
     go false is = omega (arith, within)
 
 -- a call that begins its look, behind what was seen or at the last of all ranks
-module _ {P : Type 0} (limits : Limits) (own resumed : Record) (asked : Call P) (ranks : own.limits.ranks ≡ limits.ranks) (is : resumed ≡ record own { seen = take (own.limits.ranks - 1) own.seen }) where
+module _ {P : Type 0} (limits : Limits) (own resumed : Record) (asked : Call P) (ranks : own.limits.ranks ≡ limits.ranks)
+    (is : resumed ≡ record own { seen = take (own.limits.ranks - 1) own.seen }) where
   -- how much it has seen then
   resumed_size : length resumed.seen ≡ min (own.limits.ranks - 1) (length own.seen)
   resumed_size = ap (λ (w : Record). length w.seen) is ∙ length-take (own.limits.ranks - 1) own.seen
 
-  pub also_resumes : length own.seen ≤ limits.ranks → (now after : Sight P) (next : Next P) (new : Record) → AlsoLooks (also_left limits resumed asked Looking) limits asked resumed now next new after → AlsoLooks (also_left limits own asked Begun) limits asked own now next new after
+  pub also_resumes : length own.seen ≤ limits.ranks → (now after : Sight P) (next : Next P) (new : Record)
+      → AlsoLooks (also_left limits resumed asked Looking) limits asked resumed now next new after
+      → AlsoLooks (also_left limits own asked Begun) limits asked own now next new after
   also_resumes within now after next new looks =
       let seen = take (own.limits.ranks - 1) own.seen in
       let few = looks.few in
@@ -88,7 +102,8 @@ module _ {P : Type 0} (limits : Limits) (own resumed : Record) (asked : Call P) 
       }
 
   -- its loads are those of a look that goes on from there
-  pub looks_resumed : 0 < limits.ranks → (now after : Sight P) (next : Next P) (new : Record) → LooksOn limits resumed now next new after → LooksOn limits own now next new after
+  pub looks_resumed : 0 < limits.ranks → (now after : Sight P) (next : Next P) (new : Record) → LooksOn limits resumed now next new after
+      → LooksOn limits own now next new after
   looks_resumed some now after next new looks =
       let few = looks.few in
       record {
@@ -107,19 +122,27 @@ module _ {P : Type 0} (limits : Limits) (own : Record) (asked : Call P) where
   also_passed passed = ap (λ (r : Option Refusal). if is_some r then 0 else also_behind_look limits own asked) passed
 
   -- a call that makes one step after its look
-  pub follows_one : (phase : Phase P) → also_left limits own asked phase ≡ 1 → ((cached : List Block) → FindsSetIn own asked cached phase) → Passes own asked → also_behind_look limits own asked ≡ 1 → AlsoFollows limits asked own (Goes phase) own
-  follows_one phase one sets p is = record { few = omega (arith, also_passed (passes_none own asked p), one, is); sees = refl; sets = λ cached stand. sets cached }
+  pub follows_one : (phase : Phase P) → also_left limits own asked phase ≡ 1 → ((cached : List Block) → FindsSetIn own asked cached phase) → Passes own asked
+      → also_behind_look limits own asked ≡ 1 → AlsoFollows limits asked own (Goes phase) own
+  follows_one phase one sets p is = record {
+    few = omega (arith, also_passed (passes_none own asked p), one, is);
+    sees = refl;
+    sets = λ cached stand. sets cached;
+  }
 
 -- the poll of a request, right after its look
-module _ (P : Type 0) (limits : Limits) (own : Record) (rank c : ℕ) (passed : refusal_of {P = P} own (call.Poll rank c) ≡ None) (x : Held) (held : held_at own c ≡ Some x) where
+module _ (P : Type 0) (limits : Limits) (own : Record) (rank c : ℕ) (passed : refusal_of {P = P} own (call.Poll rank c) ≡ None) (x : Held)
+    (held : held_at own c ≡ Some x) where
   abbrev polls : Call P
   polls = call.Poll rank c
 
   poll_after : (request : Option Request) → x.request ≡ request → also_after_look limits own polls ≡ also_polling limits (length x.group) request
   poll_after request is_open =
-      also_passed limits own polls passed ∙ (ap (λ h. also_polling limits (length (group_of h)) (request_of h)) held ∙ ap (also_polling limits (length x.group)) is_open)
+      also_passed limits own polls passed ∙ (ap (λ h. also_polling limits (length (group_of h)) (request_of h)) held
+      ∙ ap (also_polling limits (length x.group)) is_open)
 
-  poll_waits : (meld : P → P → P) (h : History P) (legal : IsLegal meld limits h) (begins : IsPrefix own.seen (failures h)) (k : ℕ) (arrivals : Arrivals) → x.request ≡ Some (Barrier k) → AlsoFollows limits polls own (Goes (Waiting arrivals)) own
+  poll_waits : (meld : P → P → P) (h : History P) (legal : IsLegal meld limits h) (begins : IsPrefix own.seen (failures h)) (k : ℕ) (arrivals : Arrivals)
+      → x.request ≡ Some (Barrier k) → AlsoFollows limits polls own (Goes (Waiting arrivals)) own
   poll_waits meld h legal begins k arrivals is_open =
       let few : length (in_order x.group own.seen) ≤ length x.group = in_order_few meld limits h x.group own.seen legal begins in
       let all = poll_after (Some (Barrier k)) is_open in
@@ -129,18 +152,23 @@ module _ (P : Type 0) (limits : Limits) (own : Record) (rank c : ℕ) (passed : 
         sets = λ cached stand. tt;
       }
 
-  poll_peeks : (k : ℕ) (shrinks : Bool) (peek : Peek P) → x.request ≡ Some (agreement shrinks k) → peek.comm ≡ c → peek.round ≡ k → peek.side ≡ Front → 0 < length x.group → AlsoFollows limits polls own (Goes (Peeking peek shrinks)) own
+  poll_peeks : (k : ℕ) (shrinks : Bool) (peek : Peek P) → x.request ≡ Some (agreement shrinks k) → peek.comm ≡ c → peek.round ≡ k → peek.side ≡ Front
+      → 0 < length x.group → AlsoFollows limits polls own (Goes (Peeking peek shrinks)) own
   poll_peeks k shrinks peek is_open comm round side any =
       record {
-        few = subst (λ s. peeks_left (length (group_of (held_at own c))) s + also_after_round limits shrinks ≤ also_after_look limits own polls) (sym side) (by_kind shrinks is_open);
+        few = subst (λ s. peeks_left (length (group_of (held_at own c))) s + also_after_round limits shrinks ≤ also_after_look limits own polls) (sym side)
+            (by_kind shrinks is_open);
         sees = refl;
         sets = λ cached stand.
             record {
-              front = λ at. subst (λ j. has_block cached (block_at j peek.round Front) ≡ true) (sym comm) (subst (λ j. has_block cached (block_at c j Front) ≡ true) (sym round) (stand x shrinks k held is_open Front any));
+              front = λ at. subst (λ j. has_block cached (block_at j peek.round Front) ≡ true) (sym comm)
+                  (subst (λ j. has_block cached (block_at c j Front) ≡ true) (sym round) (stand x shrinks k held is_open Front any));
               known = λ at. let other : Front ≡ Back = sym side ∙ at in absurd (cc other);
               back = λ apart.
-                  let some : width (length x.group) < length x.group = apart_lt (length x.group) (subst (λ g. has_back (length g) ≡ true) (ap group_of held) apart) in
-                  subst (λ j. has_block cached (block_at j peek.round Back) ≡ true) (sym comm) (subst (λ j. has_block cached (block_at c j Back) ≡ true) (sym round) (stand x shrinks k held is_open Back some));
+                  let some : width (length x.group) < length x.group = apart_lt (length x.group)
+                  (subst (λ g. has_back (length g) ≡ true) (ap group_of held) apart) in
+                  subst (λ j. has_block cached (block_at j peek.round Back) ≡ true) (sym comm)
+                  (subst (λ j. has_block cached (block_at c j Back) ≡ true) (sym round) (stand x shrinks k held is_open Back some));
             };
       }
     where
@@ -151,20 +179,25 @@ module _ (P : Type 0) (limits : Limits) (own : Record) (rank c : ℕ) (passed : 
           go true = omega arith
           go false = omega arith
 
-      by_kind : (b : Bool) → x.request ≡ Some (agreement b k) → peeks_left (length (group_of (held_at own c))) Front + also_after_round limits b ≤ also_after_look limits own polls
+      by_kind : (b : Bool) → x.request ≡ Some (agreement b k) → peeks_left (length (group_of (held_at own c))) Front + also_after_round limits b ≤
+          also_after_look limits own polls
       by_kind false is_open = let all = poll_after (Some (Agree k)) is_open in omega (arith, all, two (length (group_of (held_at own c))))
       by_kind true is_open = let all = poll_after (Some (Shrink k)) is_open in omega (arith, all, two (length (group_of (held_at own c))))
 
 -- .. by what the code knows of the call
-module _ {P : Type 0} (limits : Limits) (own : Record) (asked : Call P) (rank c : ℕ) (is : asked ≡ call.Poll rank c) (passed : refusal_of own asked ≡ None) (x : Held) (held : held_at own (comm_of asked) ≡ Some x) where
-  pub follows_waits : (meld : P → P → P) (h : History P) (legal : IsLegal meld limits h) (begins : IsPrefix own.seen (failures h)) (k : ℕ) (arrivals : Arrivals) → x.request ≡ Some (Barrier k) → AlsoFollows limits asked own (Goes (Waiting arrivals)) own
+module _ {P : Type 0} (limits : Limits) (own : Record) (asked : Call P) (rank c : ℕ) (is : asked ≡ call.Poll rank c) (passed : refusal_of own asked ≡ None)
+    (x : Held) (held : held_at own (comm_of asked) ≡ Some x) where
+  pub follows_waits : (meld : P → P → P) (h : History P) (legal : IsLegal meld limits h) (begins : IsPrefix own.seen (failures h)) (k : ℕ) (arrivals : Arrivals)
+      → x.request ≡ Some (Barrier k) → AlsoFollows limits asked own (Goes (Waiting arrivals)) own
   follows_waits meld h legal begins k arrivals is_open =
       subst (λ (a : Call P). refusal_of own a ≡ None → held_at own (comm_of a) ≡ Some x → AlsoFollows limits a own (Goes (Waiting arrivals)) own) (sym is)
       (λ passed held. poll_waits P limits own rank c passed x held meld h legal begins k arrivals is_open) passed held
 
-  pub follows_peeks : (k : ℕ) (shrinks : Bool) (peek : Peek P) → x.request ≡ Some (agreement shrinks k) → peek.comm ≡ comm_of asked → peek.round ≡ k → peek.side ≡ Front → 0 < length x.group → AlsoFollows limits asked own (Goes (Peeking peek shrinks)) own
+  pub follows_peeks : (k : ℕ) (shrinks : Bool) (peek : Peek P) → x.request ≡ Some (agreement shrinks k) → peek.comm ≡ comm_of asked → peek.round ≡ k
+      → peek.side ≡ Front → 0 < length x.group → AlsoFollows limits asked own (Goes (Peeking peek shrinks)) own
   follows_peeks k shrinks peek is_open comm round side any =
-      subst (λ (a : Call P). refusal_of own a ≡ None → held_at own (comm_of a) ≡ Some x → peek.comm ≡ comm_of a → AlsoFollows limits a own (Goes (Peeking peek shrinks)) own) (sym is)
+      subst (λ (a : Call P). refusal_of own a ≡ None → held_at own (comm_of a) ≡ Some x → peek.comm ≡ comm_of a
+      → AlsoFollows limits a own (Goes (Peeking peek shrinks)) own) (sym is)
       (λ passed held comm. poll_peeks P limits own rank c passed x held k shrinks peek is_open comm round side any) passed held comm
 
 -- a poll that knows its round's decision doesn't load its blocks any more
@@ -186,7 +219,8 @@ sets_next own asked cached (Goes (Waiting arrivals)) below = tt
 sets_next own asked cached (Goes (Checking missing)) below = tt
 
 -- a shrink that has read on has no more left than its way through the list of communicators
-pub also_reached : {P : Type 0} (limits : Limits) (own : Record) (asked : Call P) (next : Next P) → NextBelow 4 next → FewerLeft (2 * (limits.comms - 1) + 1) limits own asked next → also_in limits own asked next ≤ also_after_round limits true
+pub also_reached : {P : Type 0} (limits : Limits) (own : Record) (asked : Call P) (next : Next P) → NextBelow 4 next
+    → FewerLeft (2 * (limits.comms - 1) + 1) limits own asked next → also_in limits own asked next ≤ also_after_round limits true
 also_reached limits own asked (Ends reply) below fewer = omega arith
 also_reached limits own asked (Goes Over) below fewer = omega arith
 also_reached limits own asked (Goes Begun) below fewer = absurd (omega (arith, below))
@@ -204,19 +238,23 @@ also_reached limits own asked (Goes (Waiting arrivals)) below fewer = omega (ari
 also_reached limits own asked (Goes (Checking missing)) below fewer = omega (arith, fewer)
 
 -- the loads of a round's blocks
-module _ {P : Type 0} (limits : Limits) (own : Record) (asked : Call P) (x : Held) (held : held_at own (comm_of asked) ≡ Some x) (shrinks : Bool) (members : List ℕ) (members_are : members ≡ x.group)
-    (peek next : Peek P) (now after : Sight P) (comm : next.comm ≡ peek.comm) (round : next.round ≡ peek.round) (front : peek.side ≡ Front → FindsSet now.cached next Front) (kept : peek.side ≡ Back → next.blocks.front ≡ peek.blocks.front)
+module _ {P : Type 0} (limits : Limits) (own : Record) (asked : Call P) (x : Held) (held : held_at own (comm_of asked) ≡ Some x) (shrinks : Bool)
+    (members : List ℕ) (members_are : members ≡ x.group)
+    (peek next : Peek P) (now after : Sight P) (comm : next.comm ≡ peek.comm) (round : next.round ≡ peek.round) (front : peek.side ≡ Front
+    → FindsSet now.cached next Front) (kept : peek.side ≡ Back → next.blocks.front ≡ peek.blocks.front)
     (all : FindsSetIn own asked now.cached (Peeking peek shrinks)) where
   size : length members ≡ length (group_of (held_at own (comm_of asked)))
   size = ap length (members_are ∙ sym (ap group_of held))
 
   -- the front block is known after its load
   front_known : (s : Side) → peek.side ≡ s → is_some next.blocks.front ≡ true
-  front_known Front at = front at (subst (λ j. has_block now.cached (block_at j next.round Front) ≡ true) (sym comm) (subst (λ j. has_block now.cached (block_at peek.comm j Front) ≡ true) (sym round) (all.front at)))
+  front_known Front at = front at (subst (λ j. has_block now.cached (block_at j next.round Front) ≡ true) (sym comm)
+      (subst (λ j. has_block now.cached (block_at peek.comm j Front) ≡ true) (sym round) (all.front at)))
   front_known Back at = ap is_some (kept at) ∙ all.known at
 
   -- a peek that goes on
-  pub also_peeks_on : IsPrefix now.cached after.cached → now.steps < after.steps → after.steps + peeks_left (length members) next.side ≤ now.steps + peeks_left (length members) peek.side
+  pub also_peeks_on : IsPrefix now.cached after.cached → now.steps < after.steps
+      → after.steps + peeks_left (length members) next.side ≤ now.steps + peeks_left (length members) peek.side
       → AlsoSpends (also_left limits own asked (Peeking peek shrinks)) limits asked own now (Goes (Peeking next shrinks)) own after
   also_peeks_on begins some turns =
       let few = subst (λ n. after.steps + peeks_left n next.side ≤ now.steps + peeks_left n peek.side) size turns in
@@ -227,7 +265,8 @@ module _ {P : Type 0} (limits : Limits) (own : Record) (asked : Call P) (x : Hel
           known = λ at. front_known peek.side refl;
           back = λ apart.
               has_block_stays now.cached after.cached (block_at next.comm next.round Back) begins
-              (subst (λ j. has_block now.cached (block_at j next.round Back) ≡ true) (sym comm) (subst (λ j. has_block now.cached (block_at peek.comm j Back) ≡ true) (sym round) (all.back apart)));
+              (subst (λ j. has_block now.cached (block_at j next.round Back) ≡ true) (sym comm)
+              (subst (λ j. has_block now.cached (block_at peek.comm j Back) ≡ true) (sym round) (all.back apart)));
         };
       }
     where
@@ -237,30 +276,36 @@ module _ {P : Type 0} (limits : Limits) (own : Record) (asked : Call P) (x : Hel
 
       not_front : next.side ≡ Front → ⊥
       not_front at =
-          let left : after.steps + peeks_left (length members) Front ≤ now.steps + peeks_left (length members) peek.side = subst (λ s. after.steps + peeks_left (length members) s ≤ now.steps + peeks_left (length members) peek.side) at turns in
+          let left : after.steps + peeks_left (length members) Front ≤ now.steps + peeks_left (length members) peek.side =
+          subst (λ s. after.steps + peeks_left (length members) s ≤ now.steps + peeks_left (length members) peek.side) at turns in
           omega (arith, some, left, no_more (length members) peek.side)
 
   -- one that has ended knows all blocks
   pub also_whole : (has_back (length members) ≡ true → FindsSet now.cached next Back) → is_whole next.blocks (length members) ≡ true
   also_whole back = go (has_back (length members)) refl
     where
-      go : (b : Bool) → has_back (length members) ≡ b → (if b then (if is_some next.blocks.front then is_some next.blocks.back else false) else is_some next.blocks.front) ≡ true
+      go : (b : Bool) → has_back (length members) ≡ b → (if b then (if is_some next.blocks.front then is_some next.blocks.back else false) else is_some
+          next.blocks.front) ≡ true
       go true apart =
           let behind : is_some next.blocks.back ≡ true =
-          back apart (subst (λ j. has_block now.cached (block_at j next.round Back) ≡ true) (sym comm) (subst (λ j. has_block now.cached (block_at peek.comm j Back) ≡ true) (sym round) (all.back (subst (λ n. has_back n ≡ true) size apart)))) in
+          back apart (subst (λ j. has_block now.cached (block_at j next.round Back) ≡ true) (sym comm)
+          (subst (λ j. has_block now.cached (block_at peek.comm j Back) ≡ true) (sym round) (all.back (subst (λ n. has_back n ≡ true) size apart)))) in
           ap (λ t. if t then is_some next.blocks.back else false) (front_known peek.side refl) ∙ behind
       go false whole = front_known peek.side refl
 
   -- with what comes next
-  pub also_peeks_over : after.steps ≤ now.steps + peeks_left (length members) peek.side → (new : Record) (following : Next P) → new.seen ≡ own.seen → NextBelow 5 following → also_in limits new asked following ≤ also_after_round limits shrinks
+  pub also_peeks_over : after.steps ≤ now.steps + peeks_left (length members) peek.side → (new : Record) (following : Next P) → new.seen ≡ own.seen
+      → NextBelow 5 following → also_in limits new asked following ≤ also_after_round limits shrinks
       → AlsoSpends (also_left limits own asked (Peeking peek shrinks)) limits asked own now following new after
   also_peeks_over turns new following sees below rest =
       let few = subst (λ n. after.steps ≤ now.steps + peeks_left n peek.side) size turns in
       record { few = omega (arith, few, rest, ap length sees); sets = sets_next new asked after.cached following below }
 
 -- a call goes on from where it stood
-pub also_on : {P : Type 0} (most : ℕ) (limits : Limits) (asked : Call P) (own mid new : Record) (now between after : Sight P) (phase : Phase P) (next : Next P) → AlsoSpends most limits asked own now (Goes phase) mid between
-    → (FindsSetIn mid asked between.cached phase → AlsoSpends (also_left limits mid asked phase) limits asked mid between next new after) → AlsoSpends most limits asked own now next new after
+pub also_on : {P : Type 0} (most : ℕ) (limits : Limits) (asked : Call P) (own mid new : Record) (now between after : Sight P) (phase : Phase P) (next : Next P)
+    → AlsoSpends most limits asked own now (Goes phase) mid between
+    → (FindsSetIn mid asked between.cached phase → AlsoSpends (also_left limits mid asked phase) limits asked mid between next new after)
+    → AlsoSpends most limits asked own now next new after
 also_on most limits asked own mid new now between after phase next stood turn =
     let last = turn stood.sets in
     let few = stood.few in
@@ -268,22 +313,26 @@ also_on most limits asked own mid new now between after phase next stood turn =
     record { few = omega (arith, few, more); sets = last.sets }
 
 -- a call that goes on behind its look
-pub also_first : {P : Type 0} (limits : Limits) (asked : Call P) (own : Record) (now : Sight P) (phase : Phase P) → FindsSetIn own asked now.cached phase → AlsoSpends (also_left limits own asked phase) limits asked own now (Goes phase) own now
+pub also_first : {P : Type 0} (limits : Limits) (asked : Call P) (own : Record) (now : Sight P) (phase : Phase P) → FindsSetIn own asked now.cached phase
+    → AlsoSpends (also_left limits own asked phase) limits asked own now (Goes phase) own now
 also_first limits asked own now phase all = record { few = omega arith; sets = all }
 
 -- what its turn spends
-pub also_behind : {P : Type 0} (limits : Limits) (asked : Call P) (phase : Phase P) (own : Record) (now : Sight P) (next : Next P) (new : Record) (after : Sight P) → is_looking phase ≡ false → AlsoTurns limits asked phase own now next new after
+pub also_behind : {P : Type 0} (limits : Limits) (asked : Call P) (phase : Phase P) (own : Record) (now : Sight P) (next : Next P) (new : Record)
+    (after : Sight P) → is_looking phase ≡ false → AlsoTurns limits asked phase own now next new after
     → FindsSetIn own asked now.cached phase → AlsoSpends (also_left limits own asked phase) limits asked own now next new after
 also_behind limits asked Begun own now next new after past turn = absurd (cc past)
 also_behind limits asked Looking own now next new after past turn = absurd (cc past)
 also_behind limits asked _ own now next new after past turn = turn
 
 -- it may make as many steps as its bound says
-also_begun : {P : Type 0} (limits : Limits) (own : Record) (asked : Call P) (f : ℕ) → own.refused ≡ false → length own.seen < limits.ranks → 0 < limits.comms → also_left limits own asked Begun + f ≤ also_bound limits own asked f
+also_begun : {P : Type 0} (limits : Limits) (own : Record) (asked : Call P) (f : ℕ) → own.refused ≡ false → length own.seen < limits.ranks → 0 < limits.comms
+    → also_left limits own asked Begun + f ≤ also_bound limits own asked f
 also_begun {P} limits own asked f in_use more some =
     let n = length (group_of (held_at own (comm_of asked))) in
     let request = request_of (held_at own (comm_of asked)) in
-    subst (λ b. also_left limits own asked Begun + f ≤ (if b then 0 else (if is_some (refusal_of own asked) then f + 1 else also_call_bound f n limits.comms request asked)))
+    subst (λ b. also_left limits own asked Begun + f ≤ (if b then 0 else (if is_some (refusal_of own asked) then f + 1 else also_call_bound f n limits.comms
+    request asked)))
     (sym in_use) (by_refusal (is_some (refusal_of own asked)))
   where
     again : ℕ
@@ -298,7 +347,8 @@ also_begun {P} limits own asked f in_use more some =
     by_request n (Some (Shrink k)) = omega (arith, none, some)
     by_request n (Some (Barrier k)) = omega (arith, none)
 
-    by_call : (asked : Call P) → again + 1 + also_behind_look limits own asked + f ≤ also_call_bound f (length (group_of (held_at own (comm_of asked)))) limits.comms (request_of (held_at own (comm_of asked))) asked
+    by_call : (asked : Call P) → again + 1 + also_behind_look limits own asked + f ≤ also_call_bound f (length (group_of (held_at own (comm_of asked))))
+        limits.comms (request_of (held_at own (comm_of asked))) asked
     by_call (call.Fail rank) = omega (arith, none)
     by_call (call.GetFailed rank c) = omega (arith, none)
     by_call (call.Ack rank c count) = omega (arith, none)
@@ -311,43 +361,56 @@ also_begun {P} limits own asked f in_use more some =
     by_call (call.Free rank c) = omega (arith, none)
 
     by_refusal : (b : Bool) → again + 1 + (if b then 0 else also_behind_look limits own asked) + f
-        ≤ (if b then f + 1 else also_call_bound f (length (group_of (held_at own (comm_of asked)))) limits.comms (request_of (held_at own (comm_of asked))) asked)
+        ≤ (if b then f + 1 else also_call_bound f (length (group_of (held_at own (comm_of asked)))) limits.comms
+        (request_of (held_at own (comm_of asked))) asked)
     by_refusal true = omega (arith, none)
     by_refusal false = by_call asked
 
 -- so a call that has ended has made no more
-pub also_ended : {P : Type 0} (limits : Limits) (asked : Call P) (own new : Record) (now after : Sight P) → own.refused ≡ false → length own.seen < limits.ranks → 0 < limits.comms
-    → after.steps + length own.seen ≤ now.steps + also_left limits own asked Begun + length new.seen → after.steps ≤ now.steps + also_bound limits own asked (length new.seen - length own.seen)
+pub also_ended : {P : Type 0} (limits : Limits) (asked : Call P) (own new : Record) (now after : Sight P) → own.refused ≡ false → length own.seen < limits.ranks
+    → 0 < limits.comms
+    → after.steps + length own.seen ≤ now.steps + also_left limits own asked Begun + length new.seen
+    → after.steps ≤ now.steps + also_bound limits own asked (length new.seen - length own.seen)
 also_ended limits asked own new now after in_use more some few =
     let bound = also_begun limits own asked (length new.seen - length own.seen) in_use more some in
     omega (arith, few, bound)
 
 -- a phase that ends the call, by so many steps at most
-pub also_ends : {P : Type 0} (most : ℕ) (limits : Limits) (asked : Call P) (own new : Record) (now after : Sight P) (reply : Reply P) → after.steps ≤ now.steps + most → new.seen ≡ own.seen → AlsoSpends most limits asked own now (Ends reply) new after
+pub also_ends : {P : Type 0} (most : ℕ) (limits : Limits) (asked : Call P) (own new : Record) (now after : Sight P) (reply : Reply P)
+    → after.steps ≤ now.steps + most → new.seen ≡ own.seen → AlsoSpends most limits asked own now (Ends reply) new after
 also_ends most limits asked own new now after reply few sees = record { few = omega (arith, few, ap length sees); sets = tt }
 
 -- a reading of arrivals that goes on, or has ended
-pub also_waits : {P : Type 0} (limits : Limits) (asked : Call P) (own : Record) (now after : Sight P) (arrivals next : Arrivals) → Spends (steps_left limits own asked (Waiting arrivals)) limits own asked (Goes (Waiting next)) now after
+pub also_waits : {P : Type 0} (limits : Limits) (asked : Call P) (own : Record) (now after : Sight P) (arrivals next : Arrivals)
+    → Spends (steps_left limits own asked (Waiting arrivals)) limits own asked (Goes (Waiting next)) now after
     → AlsoSpends (also_left limits own asked (Waiting arrivals)) limits asked own now (Goes (Waiting next)) own after
 also_waits limits asked own now after arrivals next spends = record { few = omega (arith, spends); sets = tt }
 
-pub also_checks : {P : Type 0} (limits : Limits) (asked : Call P) (own : Record) (now after : Sight P) (arrivals : Arrivals) (missing : Missing) → Spends (steps_left limits own asked (Waiting arrivals)) limits own asked (Goes (Checking missing)) now after
+pub also_checks : {P : Type 0} (limits : Limits) (asked : Call P) (own : Record) (now after : Sight P) (arrivals : Arrivals) (missing : Missing)
+    → Spends (steps_left limits own asked (Waiting arrivals)) limits own asked (Goes (Checking missing)) now after
     → AlsoSpends (also_left limits own asked (Waiting arrivals)) limits asked own now (Goes (Checking missing)) own after
 also_checks limits asked own now after arrivals missing spends = record { few = omega (arith, spends); sets = tt }
 
 -- a step on the way through the list of communicators
-pub also_spawns : {P : Type 0} (limits : Limits) (asked : Call P) (own new : Record) (now after : Sight P) (append next : Append) (context reach : ℕ) → after.steps + turns_left (limits.comms - 1) next ≤ now.steps + turns_left (limits.comms - 1) append → new ≡ own
+pub also_spawns : {P : Type 0} (limits : Limits) (asked : Call P) (own new : Record) (now after : Sight P) (append next : Append) (context reach : ℕ)
+    → after.steps + turns_left (limits.comms - 1) next ≤ now.steps + turns_left (limits.comms - 1) append → new ≡ own
     → AlsoSpends (also_left limits own asked (Spawning append context reach)) limits asked own now (Goes (Spawning next context reach)) new after
-also_spawns limits asked own new now after append next context reach few same = record { few = omega (arith, few, ap (λ (w : Record). length w.seen) same); sets = tt }
+also_spawns limits asked own new now after append next context reach few same = record {
+  few = omega (arith, few, ap (λ (w : Record). length w.seen) same);
+  sets = tt;
+}
 
 -- loads on in the list of failures
-pub also_reads_on : {P : Type 0} (limits : Limits) (asked : Call P) (own mid new : Record) (now after : Sight P) (on : ReadOn) (made : Made) (next : Next P) → after.steps + length own.seen ≡ now.steps + length mid.seen → new.seen ≡ mid.seen
-    → also_in limits new asked next ≤ also_after_round limits true → NextBelow 5 next → AlsoSpends (also_left limits own asked (ReadingOn on made)) limits asked own now next new after
+pub also_reads_on : {P : Type 0} (limits : Limits) (asked : Call P) (own mid new : Record) (now after : Sight P) (on : ReadOn) (made : Made) (next : Next P)
+    → after.steps + length own.seen ≡ now.steps + length mid.seen → new.seen ≡ mid.seen
+    → also_in limits new asked next ≤ also_after_round limits true → NextBelow 5 next
+    → AlsoSpends (also_left limits own asked (ReadingOn on made)) limits asked own now next new after
 also_reads_on limits asked own mid new now after on made next loads sees few below =
     record { few = omega (arith, loads, ap length sees, few); sets = sets_next new asked after.cached next below }
 
 -- whatever a call does first
-pub also_first_bound : {P : Type 0} (limits : Limits) (own : Record) (asked : Call P) → length own.seen < limits.ranks → 0 < limits.comms → also_left limits own asked (if own.refused then Over else Begun) ≤ also_bound limits own asked 0
+pub also_first_bound : {P : Type 0} (limits : Limits) (own : Record) (asked : Call P) → length own.seen < limits.ranks → 0 < limits.comms
+    → also_left limits own asked (if own.refused then Over else Begun) ≤ also_bound limits own asked 0
 also_first_bound {P} limits own asked more some = go own.refused refl
   where
     go : (b : Bool) → own.refused ≡ b → also_left limits own asked (if own.refused then Over else Begun) ≤ also_bound limits own asked 0

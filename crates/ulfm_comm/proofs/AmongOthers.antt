@@ -17,7 +17,8 @@ module _ {P : Type 0} (alone quiet : Bool) (only : IsTrue alone → IsTrue quiet
   added_loosely entry x y added = record { before = added.before; did = did_loosely [] x added.before added.did; is = added.is }
 
   -- an exchange that was won or lost
-  pub tried_loosely : (won : Bool) (entry : Entry P) (x y : History P) → MatchBool won (IsAdded quiet entry x y) (Did quiet [] x y) → MatchBool won (IsAdded alone entry x y) (Did alone [] x y)
+  pub tried_loosely : (won : Bool) (entry : Entry P) (x y : History P) → MatchBool won (IsAdded quiet entry x y) (Did quiet [] x y)
+      → MatchBool won (IsAdded alone entry x y) (Did alone [] x y)
   tried_loosely true entry x y outcome = added_loosely entry x y outcome
   tried_loosely false entry x y outcome = did_loosely [] x y outcome
 

@@ -17,16 +17,23 @@ use Rattle.ulfm_comm.proofs.{BarrierPolls.{awaited_round, barrier_polled, barrie
 use Rattle.ulfm_comm.proofs.{Revokes.{held_below, standing_before}, Holding.{same_held}}
 
 -- the poll of a barrier, under way
-module _ {P : Type 0} (meld : P → P → P) (limits : Limits) (alone : Bool) (c k : ℕ) (x : Held) (old : Record) (before : History P) (own : Record) (now : History P) (p : IsWaiting meld limits alone c k x old before own now) where
+module _ {P : Type 0} (meld : P → P → P) (limits : Limits) (alone : Bool) (c k : ℕ) (x : Held) (old : Record) (before : History P) (own : Record)
+    (now : History P) (p : IsWaiting meld limits alone c k x old before own now) where
   abbrev waiting_awaits : IsLegal meld limits now → Awaits meld limits now c k own
-  waiting_awaits legal = record { fits = fits_stays meld limits p.look now own (did_prefix alone [] p.look now p.waited) legal p.fits; x = x; held = p.held; open_is = p.open_is }
+  waiting_awaits legal = record {
+    fits = fits_stays meld limits p.look now own (did_prefix alone [] p.look now p.waited) legal p.fits;
+    x = x;
+    held = p.held;
+    open_is = p.open_is;
+  }
 
   -- the round is one of the members' that the rank holds
   waiting_round : IsLegal meld limits now → IsRoundOf limits now c k x.group
   waiting_round legal = awaited_round meld limits now c k own legal (waiting_awaits legal)
 
   -- after others' events
-  waiting_on : (quiet : Bool) → (IsTrue alone → IsTrue quiet) → (after : History P) → Did quiet [] now after → IsWaiting meld limits alone c k x old before own after
+  waiting_on : (quiet : Bool) → (IsTrue alone → IsTrue quiet) → (after : History P) → Did quiet [] now after
+      → IsWaiting meld limits alone c k x old before own after
   waiting_on quiet only after did =
       record {
         look = p.look;
@@ -39,7 +46,8 @@ module _ {P : Type 0} (meld : P → P → P) (limits : Limits) (alone : Bool) (c
       }
 
 -- a call that stands between two loads of arrivals, by what the code knows of the communicator
-module _ {P : Type 0} (meld : P → P → P) (name : Name) (asked : Call P) (arrivals : Arrivals) (group : List ℕ) (own : Record) (now : Sight P) (of : IsOf meld name now) (y : Held) (w : ℕ) (found : held_at own w ≡ Some y) (w_is : w ≡ comm_of asked)
+module _ {P : Type 0} (meld : P → P → P) (name : Name) (asked : Call P) (arrivals : Arrivals) (group : List ℕ) (own : Record) (now : Sight P)
+    (of : IsOf meld name now) (y : Held) (w : ℕ) (found : held_at own w ≡ Some y) (w_is : w ≡ comm_of asked)
     (members declared : List ℕ) (members_are : members ≡ y.group) (declared_are : declared ≡ own.seen) (alone : Bool) (old : Record) (before : Sight P)
     (st : Stands meld alone name old before (record { asked = asked; phase = Waiting arrivals; group = group }) own now) where
   abbrev waits : IsWaiting meld name.limits alone (comm_of asked) arrivals.round st.at.2 old before.seen own now.seen
@@ -52,14 +60,17 @@ module _ {P : Type 0} (meld : P → P → P) (name : Name) (asked : Call P) (arr
   pub waiting_may : IsRoundOf name.limits now.seen arrivals.comm arrivals.round members
   waiting_may =
       let round = waiting_round meld name.limits alone (comm_of asked) arrivals.round st.at.2 old before.seen own now.seen waits of.legal in
-      subst (λ c. IsRoundOf name.limits now.seen c arrivals.round members) (sym st.at.1) (subst (λ ms. IsRoundOf name.limits now.seen (comm_of asked) arrivals.round ms) (sym arrived_same) round)
+      subst (λ c. IsRoundOf name.limits now.seen c arrivals.round members) (sym st.at.1)
+      (subst (λ ms. IsRoundOf name.limits now.seen (comm_of asked) arrivals.round ms) (sym arrived_same) round)
 
-  module _ (quiet : Bool) (only : IsTrue alone → IsTrue quiet) (after : Sight P) (did : Did quiet [] now.seen after.seen) (steps : now.steps ≤ after.steps) where
+  module _ (quiet : Bool) (only : IsTrue alone → IsTrue quiet) (after : Sight P) (did : Did quiet [] now.seen after.seen)
+      (steps : now.steps ≤ after.steps) where
     waits_on : IsWaiting meld name.limits alone (comm_of asked) arrivals.round st.at.2 old before.seen own after.seen
     waits_on = waiting_on meld name.limits alone (comm_of asked) arrivals.round st.at.2 old before.seen own now.seen waits quiet only after.seen did
 
     -- more are left
-    pub waiting_goes : (next : Arrivals) → next.comm ≡ arrivals.comm → next.round ≡ arrivals.round → AtArrival members declared next after.seen → Stands meld alone name old before (record { asked = asked; phase = Waiting next; group = group }) own after
+    pub waiting_goes : (next : Arrivals) → next.comm ≡ arrivals.comm → next.round ≡ arrivals.round → AtArrival members declared next after.seen
+        → Stands meld alone name old before (record { asked = asked; phase = Waiting next; group = group }) own after
     waiting_goes next comm round at =
         record {
           fits = st.fits;
@@ -78,12 +89,14 @@ module _ {P : Type 0} (meld : P → P → P) (name : Name) (asked : Call P) (arr
     pub waiting_checks : (missing : Missing) → MissingAre after.seen arrivals.comm arrivals.round members declared missing → IsLegal meld name.limits after.seen
         → IsChecking meld name.limits alone (comm_of asked) missing after.seen old before.seen own after.seen
     waiting_checks missing are legal =
-        let there : MissingAre after.seen (comm_of asked) arrivals.round members declared missing = subst (λ c. MissingAre after.seen c arrivals.round members declared missing) st.at.1 are in
+        let there : MissingAre after.seen (comm_of asked) arrivals.round members declared missing =
+        subst (λ c. MissingAre after.seen c arrivals.round members declared missing) st.at.1 are in
         record {
           x = st.at.2;
           k = arrivals.round;
           waits = waits_on;
-          are = subst (λ ms. MissingAre after.seen (comm_of asked) arrivals.round ms own.seen missing) arrived_same (subst (λ s. MissingAre after.seen (comm_of asked) arrivals.round members s missing) declared_are there);
+          are = subst (λ ms. MissingAre after.seen (comm_of asked) arrivals.round ms own.seen missing) arrived_same
+              (subst (λ s. MissingAre after.seen (comm_of asked) arrivals.round members s missing) declared_are there);
           legal = legal;
           waited = did_none alone after.seen;
         }
@@ -100,8 +113,10 @@ module _ {P : Type 0} (meld : P → P → P) (name : Name) (asked : Call P) (arr
         }
 
 -- its answer, by the revocation
-module _ {P : Type 0} (meld : P → P → P) (alone : Bool) (name : Name) (c k : ℕ) (x : Held) (old : Record) (before : Sight P) (own : Record) (earlier : History P) (after : Sight P) (fits : Fits meld name.limits before.seen old)
-    (p : IsWaiting meld name.limits alone c k x old before.seen own earlier) (of : IsOf meld name after) (onward : before.steps ≤ after.steps) (wait : Did alone [] earlier after.seen) where
+module _ {P : Type 0} (meld : P → P → P) (alone : Bool) (name : Name) (c k : ℕ) (x : Held) (old : Record) (before : Sight P) (own : Record)
+    (earlier : History P) (after : Sight P) (fits : Fits meld name.limits before.seen old)
+    (p : IsWaiting meld name.limits alone c k x old before.seen own earlier) (of : IsOf meld name after) (onward : before.steps ≤ after.steps)
+    (wait : Did alone [] earlier after.seen) where
   abbrev asked : Call P
   asked = call.Poll old.number c
 
@@ -115,39 +130,47 @@ module _ {P : Type 0} (meld : P → P → P) (alone : Bool) (name : Name) (c k :
   no_agreement : (reply : Reply P) (new : Record) → reply ≡ Pending → IsAgreement (polled_by old asked) → EndsInMissing meld alone name c old before new after
   no_agreement reply new is agrees = absurd (subst IsAgreement (barrier_polled meld name.limits alone before.seen p.look old own p.looked c k awaits) agrees)
 
-  answers_revoked : is_revoked after.seen c ≡ true → (new : Record) → new ≡ closed own c → Answered meld alone name asked old before (Refused IsRevoked) new after
+  answers_revoked : is_revoked after.seen c ≡ true → (new : Record) → new ≡ closed own c
+      → Answered meld alone name asked old before (Refused IsRevoked) new after
   answers_revoked is new left =
       record {
-        ends = inr (polls_revoked meld alone name before look after old own fits p.looked c k awaits of onward new (did_wait alone [] p.look earlier after.seen p.waited wait) is left);
+        ends = inr (polls_revoked meld alone name before look after old own fits p.looked c k awaits of onward new
+            (did_wait alone [] p.look earlier after.seen p.waited wait) is left);
         pending = no_agreement (Refused IsRevoked) new;
       }
 
-  answers_missing : is_revoked after.seen c ≡ false → (missing : Missing) → MissingAre earlier c k x.group own.seen missing → IsLegal meld name.limits earlier → (new : Record) → new ≡ missing_leaves own c missing
+  answers_missing : is_revoked after.seen c ≡ false → (missing : Missing) → MissingAre earlier c k x.group own.seen missing → IsLegal meld name.limits earlier
+      → (new : Record) → new ≡ missing_leaves own c missing
       → Answered meld alone name asked old before (missing_reply missing) new after
   answers_missing standing missing are legal new left =
       record {
-        ends = inr (by_missing missing (calls_missing_at meld alone name before look after old own fits p.looked c k awaits of onward earlier x.group own.seen missing new p.waited legal wait standing refl refl are left));
+        ends = inr (by_missing missing (calls_missing_at meld alone name before look after old own fits p.looked c k awaits of onward earlier x.group own.seen
+            missing new p.waited legal wait standing refl refl are left));
         pending = no_agreement (missing_reply missing) new;
       }
     where
-      by_missing : (missing : Missing) → Replied meld alone name asked old before (missing_reply missing) new after → HasReplied meld alone name asked old before (missing_reply missing) new after
+      by_missing : (missing : Missing) → Replied meld alone name asked old before (missing_reply missing) new after
+          → HasReplied meld alone name asked old before (missing_reply missing) new after
       by_missing Nobody called = called
       by_missing Others called = called
       by_missing Declared called = called
 
 -- a call that stands before the load of the revocation
-module _ {P : Type 0} (meld : P → P → P) (alone : Bool) (name : Name) (asked : Call P) (missing : Missing) (group : List ℕ) (own : Record) (now : Sight P) (of : IsOf meld name now) (old : Record) (before : Sight P)
+module _ {P : Type 0} (meld : P → P → P) (alone : Bool) (name : Name) (asked : Call P) (missing : Missing) (group : List ℕ) (own : Record) (now : Sight P)
+    (of : IsOf meld name now) (old : Record) (before : Sight P)
     (st : Stands meld alone name old before (record { asked = asked; phase = Checking missing; group = group }) own now) where
   -- the communicator has a place of its own
   pub checking_within : (w : ℕ) → w ≡ comm_of asked → w < name.limits.comms
   checking_within w is =
       let i = st.at.2 in
       let p = i.waits in
-      let fits = fits_stays meld name.limits p.look now.seen own (did_prefix alone [] p.look now.seen (did_wait alone [] p.look st.at.1 now.seen p.waited i.waited)) of.legal p.fits in
+      let fits = fits_stays meld name.limits p.look now.seen own (did_prefix alone [] p.look now.seen
+      (did_wait alone [] p.look st.at.1 now.seen p.waited i.waited)) of.legal p.fits in
       let within = held_below meld name.limits now.seen own (comm_of asked) i.x fits p.held of.legal of.may_open in
       omega (arith, is, within)
 
-  module _ (quiet : Bool) (only : IsTrue alone → IsTrue quiet) (after : Sight P) (of_after : IsOf meld name after) (did : Did quiet [] now.seen after.seen) (went : now.steps ≤ after.steps) (w : ℕ) (w_is : w ≡ comm_of asked) (new : Record) where
+  module _ (quiet : Bool) (only : IsTrue alone → IsTrue quiet) (after : Sight P) (of_after : IsOf meld name after) (did : Did quiet [] now.seen after.seen)
+      (went : now.steps ≤ after.steps) (w : ℕ) (w_is : w ≡ comm_of asked) (new : Record) where
     abbrev i : IsChecking meld name.limits alone (comm_of asked) missing st.at.1 old before.seen own now.seen
     i = st.at.2
 
@@ -157,24 +180,31 @@ module _ {P : Type 0} (meld : P → P → P) (alone : Bool) (name : Name) (asked
     wait : Did alone [] st.at.1 after.seen
     wait = did_wait alone [] st.at.1 now.seen after.seen i.waited (did_loosely alone quiet only [] now.seen after.seen did)
 
-    named : (reply : Reply P) → Answered meld alone name (call.Poll old.number (comm_of asked)) old before reply new after → Answered meld alone name asked old before reply new after
+    named : (reply : Reply P) → Answered meld alone name (call.Poll old.number (comm_of asked)) old before reply new after
+        → Answered meld alone name asked old before reply new after
     named reply answered = subst (λ (a : Call P). Answered meld alone name a old before reply new after) (sym st.at.0) answered
 
     pub checking_revoked : is_revoked after.seen w ≡ true → new ≡ closed own w → Answered meld alone name asked old before (Refused IsRevoked) new after
     checking_revoked is left =
         named (Refused IsRevoked)
-        (answers_revoked meld alone name (comm_of asked) i.k i.x old before own st.at.1 after st.fits i.waits of_after onward wait (sym (ap (is_revoked after.seen) w_is) ∙ is) new (left ∙ ap (closed own) w_is))
+        (answers_revoked meld alone name (comm_of asked) i.k i.x old before own st.at.1 after st.fits i.waits of_after onward wait
+        (sym (ap (is_revoked after.seen) w_is) ∙ is) new (left ∙ ap (closed own) w_is))
 
-    pub checking_missing : is_revoked after.seen w ≡ false → (which : Missing) → missing ≡ which → new ≡ missing_leaves own w which → Answered meld alone name asked old before (missing_reply which) new after
+    pub checking_missing : is_revoked after.seen w ≡ false → (which : Missing) → missing ≡ which → new ≡ missing_leaves own w which
+        → Answered meld alone name asked old before (missing_reply which) new after
     checking_missing standing which is left =
         named (missing_reply which)
-        (answers_missing meld alone name (comm_of asked) i.k i.x old before own st.at.1 after st.fits i.waits of_after onward wait (sym (ap (is_revoked after.seen) w_is) ∙ standing) which
+        (answers_missing meld alone name (comm_of asked) i.k i.x old before own st.at.1 after st.fits i.waits of_after onward wait
+        (sym (ap (is_revoked after.seen) w_is) ∙ standing) which
         (subst (MissingAre st.at.1 (comm_of asked) i.k i.x.group own.seen) is i.are) i.legal new (left ∙ ap (λ c. missing_leaves own c which) w_is))
 
 -- where the communicator isn't revoked, the answer holds when it was found who was missing
-pub checking_early : {P : Type 0} (meld : P → P → P) (limits : Limits) (alone quiet : Bool) (only : IsTrue alone → IsTrue quiet) (asked : Call P) (missing : Missing) (earlier : History P) (old : Record) (before : History P) (own : Record) (now after : History P)
-    → asked ≡ call.Poll old.number (comm_of asked) → (i : IsChecking meld limits alone (comm_of asked) missing earlier old before own now) → Did quiet [] now after → (w : ℕ) → w ≡ comm_of asked → is_revoked after w ≡ false
-    → (which : Missing) → missing ≡ which → (new : Record) → new ≡ missing_leaves own w which → IsEndRun meld limits alone before earlier old asked (missing_reply which) new
+pub checking_early : {P : Type 0} (meld : P → P → P) (limits : Limits) (alone quiet : Bool) (only : IsTrue alone → IsTrue quiet) (asked : Call P)
+    (missing : Missing) (earlier : History P) (old : Record) (before : History P) (own : Record) (now after : History P)
+    → asked ≡ call.Poll old.number (comm_of asked) → (i : IsChecking meld limits alone (comm_of asked) missing earlier old before own now)
+    → Did quiet [] now after → (w : ℕ) → w ≡ comm_of asked → is_revoked after w ≡ false
+    → (which : Missing) → missing ≡ which → (new : Record) → new ≡ missing_leaves own w which
+    → IsEndRun meld limits alone before earlier old asked (missing_reply which) new
 checking_early {P} meld limits alone quiet only asked missing earlier old before own now after polls i did w w_is standing which is new left =
     let c = comm_of asked in
     let p = i.waits in
@@ -183,5 +213,7 @@ checking_early {P} meld limits alone quiet only asked missing earlier old before
     let here = sym (ap (is_revoked after) w_is) ∙ standing in
     let seen = ap (λ (r : Record). r.seen) p.looked.record_is in
     subst (λ (a : Call P). IsEndRun meld limits alone before earlier old a (missing_reply which) new) (sym polls)
-    (barrier_waits meld limits alone before p.look old own p.looked c i.k awaits earlier p.waited i.legal which new (standing_before earlier after c (did_prefix alone [] earlier after wait) here)
-    (subst (λ s. MissingAre earlier c i.k i.x.group s which) seen (subst (MissingAre earlier c i.k i.x.group own.seen) is i.are)) (left ∙ ap (λ n. missing_leaves own n which) w_is))
+    (barrier_waits meld limits alone before p.look old own p.looked c i.k awaits earlier p.waited i.legal which new
+    (standing_before earlier after c (did_prefix alone [] earlier after wait) here)
+    (subst (λ s. MissingAre earlier c i.k i.x.group s which) seen (subst (MissingAre earlier c i.k i.x.group own.seen) is i.are))
+    (left ∙ ap (λ n. missing_leaves own n which) w_is))

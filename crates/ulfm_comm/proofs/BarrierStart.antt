@@ -2,8 +2,10 @@
 use Rattle.std.proofs.Common.{◌≡◌, ℕ, ◌≤◌, ◌<◌, Bool, true, false, [], ◌∷◌, Some, None, refl, ap, ap₂, sym, ◌∙◌, subst, inl, inr, IsTrue, MatchBool}
 use mathlib.Core.List.{IsPrefix}
 use Rattle.ulfm_model.specs.declared.call.Call.TheVariants as call
-use Rattle.ulfm_model.specs.declared.{call.Request.TheVariants.{Barrier}, event.Caller.TheVariants.{Rank}, event.Event.TheVariants.{Arrive}, limits.Limits.{Limits}, refusal.Refusal.TheVariants.{Twice}, reply.Reply.TheVariants.{Refused, Started}}
-use Rattle.ulfm_model.specs.{Answers.{first_refusal, opened}, History.{History, IsLegal, IsPlace, has, has_arrived}, Records.{Fits, Held, Record, held_at, with_held}, Runs.{Did}, Words.{MayOpen}}
+use Rattle.ulfm_model.specs.declared.{call.Request.TheVariants.{Barrier}, event.Caller.TheVariants.{Rank}, event.Event.TheVariants.{Arrive}}
+use Rattle.ulfm_model.specs.declared.{limits.Limits.{Limits}, refusal.Refusal.TheVariants.{Twice}, reply.Reply.TheVariants.{Refused, Started}}
+use Rattle.ulfm_model.specs.{Answers.{first_refusal, opened}, History.{History, IsLegal, IsPlace, has, has_arrived}}
+use Rattle.ulfm_model.specs.{Records.{Fits, Held, Record, held_at, with_held}, Runs.{Did}, Words.{MayOpen}}
 use Rattle.ulfm_model.proofs.{Stable.{arrive_stays}}
 use Rattle.ulfm_model.specs.Terms.{tests_of}
 use Rattle.ulfm_words.specs.{Places.{IsCell}, Steps.{IsAdded, IsOf, Name, Sight}, Tries.{MayCome}}
@@ -30,7 +32,8 @@ when_lost X Y true is outcome = absurd (cc is)
 when_lost X Y false is outcome = outcome
 
 -- what the exchange asks for
-module _ {P : Type 0} (meld : P → P → P) (limits : Limits) (look : History P) (own : Record) (c : ℕ) (x : Held) (fits : Fits meld limits look own) (held : held_at own c ≡ Some x) (room : x.next_barrier < limits.rounds) where
+module _ {P : Type 0} (meld : P → P → P) (limits : Limits) (look : History P) (own : Record) (c : ℕ) (x : Held) (fits : Fits meld limits look own)
+    (held : held_at own c ≡ Some x) (room : x.next_barrier < limits.rounds) where
   barrier_place : IsPlace limits look c x.next_barrier own.number
   barrier_place =
       record {
@@ -45,10 +48,13 @@ module _ {P : Type 0} (meld : P → P → P) (limits : Limits) (look : History P
 
   -- and the rank may arrive there while it hasn't
   pub barrier_may_come : MayCome meld limits look c x.next_barrier own.number
-  barrier_may_come more begins legal absent = arrive_stays meld limits look more c x.next_barrier own.number begins legal (barrier_place, absent_before look more c x.next_barrier own.number begins absent) absent
+  barrier_may_come more begins legal absent = arrive_stays meld limits look more c x.next_barrier own.number begins legal
+      (barrier_place, absent_before look more c x.next_barrier own.number begins absent) absent
 
-module _ {P : Type 0} (meld : P → P → P) (alone : Bool) (name : Name) (before look after : Sight P) (onward : before.steps ≤ after.steps) (rank c : ℕ) (old mid : Record) (fits : Fits meld name.limits before.seen old)
-    (looked : Looked alone before.seen look.seen old mid) (now : Fits meld name.limits look.seen mid) (x : Held) (held : held_at mid c ≡ Some x) (passed : first_refusal (tests_of {P = P} old x (call.Barrier rank c)) ≡ None)
+module _ {P : Type 0} (meld : P → P → P) (alone : Bool) (name : Name) (before look after : Sight P) (onward : before.steps ≤ after.steps) (rank c : ℕ)
+    (old mid : Record) (fits : Fits meld name.limits before.seen old)
+    (looked : Looked alone before.seen look.seen old mid) (now : Fits meld name.limits look.seen mid) (x : Held) (held : held_at mid c ≡ Some x)
+    (passed : first_refusal (tests_of {P = P} old x (call.Barrier rank c)) ≡ None)
     (of : IsOf meld name after) (stands : IsTrue (has_arrived after.seen c x.next_barrier mid.number)) where
   mine : mid.number ≡ old.number
   mine = ap (λ (w : Record). w.number) looked.record_is
@@ -60,17 +66,23 @@ module _ {P : Type 0} (meld : P → P → P) (alone : Bool) (name : Name) (befor
   arrived = ap₂ (λ w n. has_arrived after.seen w x.next_barrier n) at (sym mine) ∙ stands
 
   -- the rank has arrived by this call
-  pub calls_entered : (new : Record) → IsAdded alone (record { by = Rank mid.number; event = Arrive c x.next_barrier mid.number }) look.seen after.seen → new ≡ with_held mid c (λ y. opened y (Some (Barrier x.next_barrier)))
+  pub calls_entered : (new : Record) → IsAdded alone (record {
+    by = Rank mid.number;
+    event = Arrive c x.next_barrier mid.number;
+  }) look.seen after.seen → new ≡ with_held mid c (λ y. opened y (Some (Barrier x.next_barrier)))
       → Replied meld alone name (call.Barrier rank c) old before Started new after
   calls_entered new added is =
       calls_is meld alone name before after onward (call.Barrier rank c) old Started new of fits
-      (replied meld name.limits alone before.seen look.seen old mid looked after.seen (Arrive x.comm x.next_barrier old.number ∷ []) (call.Barrier rank c) Started new x
+      (replied meld name.limits alone before.seen look.seen old mid looked after.seen (Arrive x.comm x.next_barrier old.number ∷ [])
+      (call.Barrier rank c) Started new x
       (did_added alone (record { by = Rank old.number; event = Arrive x.comm x.next_barrier old.number }) look.seen after.seen
       (subst (λ w. IsAdded alone (record { by = Rank old.number; event = Arrive w x.next_barrier old.number }) look.seen after.seen) (sym at)
       (subst (λ n. IsAdded alone (record { by = Rank n; event = Arrive c x.next_barrier n }) look.seen after.seen) mine added))) of.legal
-      (held_before meld name.limits alone before.seen look.seen old mid looked c (Some x) held) (by_tests meld alone name before look (call.Barrier rank c) old mid fits looked x held None passed) (refl, tt)
+      (held_before meld name.limits alone before.seen look.seen old mid looked c (Some x) held)
+      (by_tests meld alone name before look (call.Barrier rank c) old mid fits looked x held None passed) (refl, tt)
       (arrived, inl (refl, refl))
-      (is ∙ ap (λ hs. record mid { held = hs }) (change_alike mid.held c x (λ y. opened y (Some (Barrier x.next_barrier))) (λ y. opened y (Some (Barrier y.next_barrier))) held refl))
+      (is ∙ ap (λ hs. record mid { held = hs }) (change_alike mid.held c x (λ y. opened y (Some (Barrier x.next_barrier)))
+      (λ y. opened y (Some (Barrier y.next_barrier))) held refl))
       (λ here polls. absurd (cc polls)))
 
   -- or before
@@ -78,5 +90,6 @@ module _ {P : Type 0} (meld : P → P → P) (alone : Bool) (name : Name) (befor
   calls_entered_before did =
       calls_is meld alone name before after onward (call.Barrier rank c) old (Refused Twice) mid of fits
       (replied meld name.limits alone before.seen look.seen old mid looked after.seen [] (call.Barrier rank c) (Refused Twice) mid x did of.legal
-      (held_before meld name.limits alone before.seen look.seen old mid looked c (Some x) held) (by_tests meld alone name before look (call.Barrier rank c) old mid fits looked x held None passed) tt
+      (held_before meld name.limits alone before.seen look.seen old mid looked c (Some x) held)
+      (by_tests meld alone name before look (call.Barrier rank c) old mid fits looked x held None passed) tt
       (arrived, inr (refl, refl)) refl (λ here polls. absurd (cc polls)))

@@ -5,7 +5,8 @@ use Rattle.ulfm_model.specs.declared.call.Call.TheVariants as call
 use Rattle.ulfm_model.specs.declared.{call.Call.{Call}, call.Request.{Request}, call.Request.TheVariants.{Agree, Shrink, Barrier}}
 use Rattle.ulfm_model.specs.{Answers.{refusal_of}, Records.{Record, held_at}, Terms.{comm_of, request_of}}
 use Rattle.ulfm_comm.specs.{AlsoLeft.{also_behind_look, also_left, also_polling}, Begins.{loads_again, reads_again}}
-use Rattle.ulfm_comm.specs.{Bound.{also_bound, also_call_bound, also_poll_bound, call_bound, poll_bound, step_bound}, StepsLeft.{behind_look, group_of, polling, steps_left}}
+use Rattle.ulfm_comm.specs.Bound.{also_bound, also_call_bound, also_poll_bound, call_bound, poll_bound, step_bound}
+use Rattle.ulfm_comm.specs.StepsLeft.{behind_look, group_of, polling, steps_left}
 use Rattle.ulfm_comm.specs.declared.phases.phase.Phase.TheVariants.{Over, Begun}
 
 module _ {P : Type 0} (own : Record) (asked : Call P) where
@@ -23,18 +24,21 @@ module _ {P : Type 0} (own : Record) (asked : Call P) where
   enough : max 1 (own.limits.ranks - length own.seen) ≤ own.limits.ranks - length own.seen + again
   enough = go (nat_lt (length own.seen) own.limits.ranks) refl
     where
-      go : (b : Bool) → nat_lt (length own.seen) own.limits.ranks ≡ b → max 1 (own.limits.ranks - length own.seen) ≤ own.limits.ranks - length own.seen + (if b then 0 else 1)
+      go : (b : Bool) → nat_lt (length own.seen) own.limits.ranks ≡ b → max 1 (own.limits.ranks - length own.seen) ≤ own.limits.ranks - length own.seen +
+          (if b then 0 else 1)
       go true is = omega (arith, ltb-true (length own.seen) own.limits.ranks is)
       go false is = omega arith
 
-  poll_few : (n : ℕ) (request : Option Request) → max 1 (own.limits.ranks - length own.seen) + polling own.limits n request ≤ poll_bound own.limits.ranks (length own.seen) n own.limits.comms request + again
+  poll_few : (n : ℕ) (request : Option Request) → max 1 (own.limits.ranks - length own.seen) + polling own.limits n request ≤ poll_bound own.limits.ranks
+      (length own.seen) n own.limits.comms request + again
   poll_few n None = omega (arith, enough)
   poll_few n (Some (Agree k)) = omega (arith, enough)
   poll_few n (Some (Shrink k)) = omega (arith, enough)
   poll_few n (Some (Barrier k)) = omega (arith, enough)
 
   call_few : (asked : Call P) → max 1 (own.limits.ranks - length own.seen) + behind_look own.limits own asked
-      ≤ call_bound own.limits.ranks (length own.seen) (length (group_of (held_at own (comm_of asked)))) own.limits.comms (request_of (held_at own (comm_of asked))) asked + again
+      ≤ call_bound own.limits.ranks (length own.seen) (length (group_of (held_at own (comm_of asked)))) own.limits.comms
+      (request_of (held_at own (comm_of asked))) asked + again
   call_few (call.Fail rank) = omega (arith, enough)
   call_few (call.GetFailed rank c) = omega (arith, enough)
   call_few (call.Ack rank c count) = omega (arith, enough)
@@ -56,7 +60,8 @@ module _ {P : Type 0} (own : Record) (asked : Call P) where
   begins_few = go own.refused
     where
       go : (b : Bool) → steps_left own.limits own asked (if b then Over else Begun)
-          ≤ (if b then 0 else (if is_some (refusal_of own asked) then own.limits.ranks - length own.seen else call_bound own.limits.ranks (length own.seen) n own.limits.comms request asked)) + (if b then 0 else again)
+          ≤ (if b then 0 else (if is_some (refusal_of own asked) then own.limits.ranks - length own.seen else call_bound own.limits.ranks
+          (length own.seen) n own.limits.comms request asked)) + (if b then 0 else again)
       go true = omega arith
       go false = few (is_some (refusal_of own asked))
 

@@ -2,9 +2,11 @@
 use Rattle.std.proofs.Common.{◌≡◌, ◌⊎◌, ℕ, ◌≤◌, Bool, true, false, List, [], None, refl, ap, sym, ◌∙◌, subst, append-nil, inl, inr, IsTrue}
 use Rattle.std.specs.List.{AllByRecursion}
 use mathlib.Core.List.{IsPrefix}
-use Rattle.ulfm_model.specs.declared.{call.Call.{Call}, event.Caller.TheVariants.{Rank}, event.Event.{Event}, limits.Limits.{Limits}, refusal.Refusal.TheVariants.{NoSuchComm, ProcFailed, SelfFailed}}
+use Rattle.ulfm_model.specs.declared.{call.Call.{Call}, event.Caller.TheVariants.{Rank}, event.Event.{Event}, limits.Limits.{Limits}}
+use Rattle.ulfm_model.specs.declared.refusal.Refusal.TheVariants.{NoSuchComm, ProcFailed, SelfFailed}
 use Rattle.ulfm_model.specs.declared.{reply.Reply.{Reply}, reply.Reply.TheVariants.{FailedGroup, Pending, Refused}}
-use Rattle.ulfm_model.specs.{Answers.{MayOwn, Sees, polled_by, refusal_of}, History.{History, IsLegal, entries_by, failures, has, spawns}, Records.{Fits, Record, held_at, is_shrink}, Runs.{Did, IsAloneRun, IsCall, IsRun}}
+use Rattle.ulfm_model.specs.{Answers.{MayOwn, Sees, polled_by, refusal_of}, History.{History, IsLegal, entries_by, failures, has, spawns}}
+use Rattle.ulfm_model.specs.{Records.{Fits, Record, held_at, is_shrink}, Runs.{Did, IsAloneRun, IsCall, IsRun}}
 use Rattle.ulfm_model.specs.Terms.{comm_of}
 use Rattle.ulfm_model.proofs.{LeftFits.{fits_seen}, LeftRuns.{call_fits}, Lists.{prefix_trans}, Stable.{fits_stays}}
 use Rattle.ulfm_words.specs.Steps.{IsOf, Name, Sight}
@@ -18,9 +20,11 @@ abbrev pub IsAloneCall : {P : Type 0} → (P → P → P) → Limits → History
 IsAloneCall meld limits before after old asked reply new =
     (IsTrue old.refused × (after ≡ before) × (reply ≡ Refused SelfFailed) × (new ≡ old)) ⊎ IsAloneRun meld limits before after old asked reply new
 
-module _ {P : Type 0} (meld : P → P → P) (limits : Limits) (alone : Bool) (before after : History P) (old : Record) (asked : Call P) (reply : Reply P) (new : Record) where
+module _ {P : Type 0} (meld : P → P → P) (limits : Limits) (alone : Bool) (before after : History P) (old : Record) (asked : Call P) (reply : Reply P)
+    (new : Record) where
   -- a run of which the caller saw the end, and then others' events
-  pub run_early : IsLegal meld limits after → IsEarlyRun meld limits alone before after old asked reply new → IsRun meld limits alone before after old asked reply new
+  pub run_early : IsLegal meld limits after → IsEarlyRun meld limits alone before after old asked reply new
+      → IsRun meld limits alone before after old asked reply new
   run_early legal early =
       let ended = early.run in
       let span = ended.run.span in
@@ -56,12 +60,14 @@ module _ {P : Type 0} (meld : P → P → P) (limits : Limits) (alone : Bool) (b
       by_alone false here ended = absurd (cc here)
 
 -- what a call is, by its end
-module _ {P : Type 0} (meld : P → P → P) (alone : Bool) (name : Name) (asked : Call P) (old : Record) (before : Sight P) (reply : Reply P) (new : Record) (after : Sight P) (called : Calls meld alone name asked old before reply new after) where
+module _ {P : Type 0} (meld : P → P → P) (alone : Bool) (name : Name) (asked : Call P) (old : Record) (before : Sight P) (reply : Reply P) (new : Record)
+    (after : Sight P) (called : Calls meld alone name asked old before reply new after) where
   -- it is one of the sequential object, among the steps of others
   pub called_run : IsCall meld name.limits alone before.seen after.seen old asked reply new
   called_run = by_end called.ends
     where
-      by_end : (IsRefusedAgain old reply new × (after ≡ before)) ⊎ (IsEndRun meld name.limits alone before.seen after.seen old asked reply new ⊎ IsEarlyRun meld name.limits alone before.seen after.seen old asked reply new)
+      by_end : (IsRefusedAgain old reply new × (after ≡ before)) ⊎ (IsEndRun meld name.limits alone before.seen after.seen old asked reply new ⊎ IsEarlyRun meld
+          name.limits alone before.seen after.seen old asked reply new)
           → IsCall meld name.limits alone before.seen after.seen old asked reply new
       by_end (inl (again, same)) = inl (again.refused, ap (λ (w : Sight P). w.seen) same, again.reply_is, again.record_is)
       by_end (inr (inl ended)) = inr ended.run
@@ -71,7 +77,8 @@ module _ {P : Type 0} (meld : P → P → P) (alone : Bool) (name : Name) (asked
   pub called_alone : IsTrue alone → IsAloneCall meld name.limits before.seen after.seen old asked reply new
   called_alone here = by_end called.ends
     where
-      by_end : (IsRefusedAgain old reply new × (after ≡ before)) ⊎ (IsEndRun meld name.limits alone before.seen after.seen old asked reply new ⊎ IsEarlyRun meld name.limits alone before.seen after.seen old asked reply new)
+      by_end : (IsRefusedAgain old reply new × (after ≡ before)) ⊎ (IsEndRun meld name.limits alone before.seen after.seen old asked reply new ⊎ IsEarlyRun meld
+          name.limits alone before.seen after.seen old asked reply new)
           → IsAloneCall meld name.limits before.seen after.seen old asked reply new
       by_end (inl (again, same)) = inl (again.refused, ap (λ (w : Sight P). w.seen) same, again.reply_is, again.record_is)
       by_end (inr (inl ended)) = alone_of meld name.limits alone before.seen after.seen old asked reply new ended here
@@ -83,7 +90,8 @@ module _ {P : Type 0} (meld : P → P → P) (alone : Bool) (name : Name) (asked
   pub called_counts : (count : ℕ) → reply ≡ FailedGroup count → new.seen ≡ failures after.seen
   called_counts count is = by_end called.ends
     where
-      by_end : (IsRefusedAgain old reply new × (after ≡ before)) ⊎ (IsEndRun meld name.limits alone before.seen after.seen old asked reply new ⊎ IsEarlyRun meld name.limits alone before.seen after.seen old asked reply new)
+      by_end : (IsRefusedAgain old reply new × (after ≡ before)) ⊎ (IsEndRun meld name.limits alone before.seen after.seen old asked reply new ⊎ IsEarlyRun meld
+          name.limits alone before.seen after.seen old asked reply new)
           → new.seen ≡ failures after.seen
       by_end (inl (again, same)) = let other = again.reply_is in absurd (cc (other, is))
       by_end (inr (inl ended)) = counted_seen meld name.limits alone before.seen after.seen old asked reply new ended.run count is ∙ ap failures ended.at_end
@@ -112,32 +120,43 @@ module _ {P : Type 0} (meld : P → P → P) (alone : Bool) (name : Name) (befor
       record {
         of = of;
         onward = onward;
-        fits = call_fits meld name.limits alone before.seen after.seen old asked reply new fits (inr (run_early meld name.limits alone before.seen after.seen old asked reply new of.legal early));
+        fits = call_fits meld name.limits alone before.seen after.seen old asked reply new fits
+            (inr (run_early meld name.limits alone before.seen after.seen old asked reply new of.legal early));
         ends = inr (inr early);
       }
 
   -- a rank that its look finds declared
-  pub calls_declared : (asked : Call P) (old new : Record) → IsOf meld name after → Fits meld name.limits before.seen old → old.refused ≡ false → Did alone [] before.seen after.seen
-      → IsTrue (has (failures after.seen) old.number) → new ≡ record old { seen = failures after.seen; refused = true } → Replied meld alone name asked old before (Refused SelfFailed) new after
+  pub calls_declared : (asked : Call P) (old new : Record) → IsOf meld name after → Fits meld name.limits before.seen old → old.refused ≡ false
+      → Did alone [] before.seen after.seen
+      → IsTrue (has (failures after.seen) old.number) → new ≡ record old { seen = failures after.seen; refused = true }
+      → Replied meld alone name asked old before (Refused SelfFailed) new after
   calls_declared asked old new of fits in_use did declared is =
-      calls_is asked old (Refused SelfFailed) new of fits (self_failed meld name.limits alone before.seen after.seen old after.seen asked new in_use did (did_none alone after.seen) of.legal declared is)
+      calls_is asked old (Refused SelfFailed) new of fits (self_failed meld name.limits alone before.seen after.seen old after.seen asked new in_use did
+      (did_none alone after.seen) of.legal declared is)
 
   -- a rank that goes on after its look
-  pub looked_fits : (old mid : Record) → IsOf meld name after → Fits meld name.limits before.seen old → Looked alone before.seen after.seen old mid → Fits meld name.limits after.seen mid
+  pub looked_fits : (old mid : Record) → IsOf meld name after → Fits meld name.limits before.seen old → Looked alone before.seen after.seen old mid
+      → Fits meld name.limits after.seen mid
   looked_fits old mid of fits looked =
       let still = fits_stays meld name.limits before.seen after.seen old (did_prefix alone [] before.seen after.seen looked.did) of.legal fits in
-      subst (Fits meld name.limits after.seen) (sym looked.record_is) (fits_seen meld name.limits after.seen old (failures after.seen) still ([], append-nil (failures after.seen)))
+      subst (Fits meld name.limits after.seen) (sym looked.record_is) (fits_seen meld name.limits after.seen old (failures after.seen) still
+      ([], append-nil (failures after.seen)))
 
   -- a call on a communicator that the rank doesn't hold
-  pub calls_missing : (asked : Call P) (old mid : Record) → IsOf meld name after → Fits meld name.limits before.seen old → Looked alone before.seen after.seen old mid → held_at mid (comm_of asked) ≡ None
+  pub calls_missing : (asked : Call P) (old mid : Record) → IsOf meld name after → Fits meld name.limits before.seen old
+      → Looked alone before.seen after.seen old mid → held_at mid (comm_of asked) ≡ None
       → Replied meld alone name asked old before (Refused NoSuchComm) mid after
   calls_missing asked old mid of fits looked missing =
-      calls_is asked old (Refused NoSuchComm) mid of fits (refused_missing meld name.limits alone before.seen after.seen old mid looked asked mid of.legal missing refl)
+      calls_is asked old (Refused NoSuchComm) mid of fits (refused_missing meld name.limits alone before.seen after.seen old mid looked asked mid of.legal
+      missing refl)
 
   -- a call that ran out of memory, of a rank that has then seen so much
-  pub runs_out_after : (asked : Call P) (old new : Record) (look : History P) (own : List (Event P)) → IsOf meld name after → Fits meld name.limits before.seen old → Looked alone before.seen look old (record old { seen = failures look })
-      → Did alone (entries_by (Rank old.number) own) look after.seen → refusal_of old asked ≡ None → AllByRecursion (MayOwn (failures look) old asked) own → spawns (entries_by (Rank old.number) own) ≡ [] → HadCome meld name.limits after.seen old.number (comm_of asked) (polled_by old asked)
-      → Sees (is_shrink (polled_by old asked)) (failures look) after.seen new.seen → IsPrefix new.seen (failures after.seen) → new ≡ record old { seen = new.seen } → RanOut meld alone name asked old before new after
+  pub runs_out_after : (asked : Call P) (old new : Record) (look : History P) (own : List (Event P)) → IsOf meld name after
+      → Fits meld name.limits before.seen old → Looked alone before.seen look old (record old { seen = failures look })
+      → Did alone (entries_by (Rank old.number) own) look after.seen → refusal_of old asked ≡ None → AllByRecursion (MayOwn (failures look) old asked) own
+      → spawns (entries_by (Rank old.number) own) ≡ [] → HadCome meld name.limits after.seen old.number (comm_of asked) (polled_by old asked)
+      → Sees (is_shrink (polled_by old asked)) (failures look) after.seen new.seen → IsPrefix new.seen (failures after.seen)
+      → new ≡ record old { seen = new.seen } → RanOut meld alone name asked old before new after
   runs_out_after asked old new look own of fits looked did passed may none come sees begins is =
       let to_look = did_prefix alone [] before.seen look looked.did in
       let to_end = did_prefix alone (entries_by (Rank old.number) own) look after.seen did in

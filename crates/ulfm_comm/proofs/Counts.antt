@@ -1,19 +1,23 @@
 -- The steps of a call, counted.
-use Rattle.std.proofs.Common.{◌≡◌, ℕ, ◌+◌, ◌-◌, ◌*◌, ◌%◌, ◌^◌, ◌<◌, ◌≤◌, Bool, true, false, refl, Option, Some, None, is_some, length, min, ap, arith, if◌then◌else◌}
+use Rattle.std.proofs.Common.{◌≡◌, ℕ, ◌+◌, ◌-◌, ◌*◌, ◌%◌, ◌^◌, ◌<◌, ◌≤◌, Bool, true, false, refl, Option, Some, None, is_some, length, min, ap, arith}
+use Rattle.std.proofs.Common.{if◌then◌else◌}
 use Rattle.ulfm_model.specs.declared.call.Call.TheVariants as call
-use Rattle.ulfm_model.specs.declared.{call.Call.{Call}, call.Request.{Request}, call.Request.TheVariants.{Agree, Shrink, Barrier}, limits.Limits.{Limits}, reply.Reply.{Reply}}
+use Rattle.ulfm_model.specs.declared.{call.Call.{Call}, call.Request.{Request}, call.Request.TheVariants.{Agree, Shrink, Barrier}, limits.Limits.{Limits}}
+use Rattle.ulfm_model.specs.declared.reply.Reply.{Reply}
 use Rattle.ulfm_model.specs.declared.step_name.StepName.{StepName}
 use Rattle.ulfm_model.specs.declared.step_name.StepName.TheVariants as step
 use Rattle.ulfm_model.specs.{Answers.{refusal_of}, History.{History}, Records.{Fits, Held, Record, held_at}, Words.{MayOpen}}
 use Rattle.ulfm_model.specs.Terms.{comm_of, request_of}
 use Rattle.ulfm_model.proofs.Groups.{members_few}
 use Rattle.ulfm_words.specs.Steps.{IsOf, Name, Sight}
-use Rattle.ulfm_comm.specs.{Bound.{call_bound, poll_bound, step_bound}, Calls.{EndsAs, EndsReply, wants_memory}, Counts.{Counted, CountsStep, named_steps}, Phase.{next_step}, StepsLeft.{MakesStep, Spends, group_of, steps_left}}
+use Rattle.ulfm_comm.specs.{Bound.{call_bound, poll_bound, step_bound}, Calls.{EndsAs, EndsReply, wants_memory}, Counts.{Counted, CountsStep, named_steps}}
+use Rattle.ulfm_comm.specs.{Phase.{next_step}, StepsLeft.{MakesStep, Spends, group_of, steps_left}}
 use Rattle.ulfm_comm.specs.declared.{phases.phase.Next.{Next}}
 use Rattle.ulfm_comm.proofs.Holding.{group_is}
 
 -- a step that is named is one
-named_is : {P : Type 0} (name : Option StepName) (r c : ℕ) (old new : Sight P) → MakesStep name r c old new → new.steps ≡ old.steps + (if is_some name then 1 else 0)
+named_is : {P : Type 0} (name : Option StepName) (r c : ℕ) (old new : Sight P) → MakesStep name r c old new
+    → new.steps ≡ old.steps + (if is_some name then 1 else 0)
 named_is None r c old new made = let same = ap (λ (s : Sight _). s.steps) made in omega (arith, same)
 named_is (Some step.List) r c old new made = made.1.steps
 named_is (Some step.Settle) r c old new made = made.1.steps
@@ -30,19 +34,22 @@ named_is (Some step.Revocation) r c old new made = made.steps
 
 -- one step of a call counts where it is named
 pub counts_step : {P : Type 0} (limits : Limits) (was : Counted P) (own new : Record) (next : Next P) (made r : ℕ) (now after : Sight P)
-    → MakesStep (next_step was.way.phase) r (comm_of was.way.asked) now after → Spends (steps_left limits own was.way.asked was.way.phase) limits new was.way.asked next now after
+    → MakesStep (next_step was.way.phase) r (comm_of was.way.asked) now after → Spends (steps_left limits own was.way.asked was.way.phase) limits new
+    was.way.asked next now after
     → made ≡ min (was.made + named_steps was.way.phase) 4294967295 → CountsStep limits was own next made new
 counts_step {P} limits was own new next made r now after makes spends is =
     let steps : after.steps ≡ now.steps + named_steps was.way.phase = named_is (next_step was.way.phase) r (comm_of was.way.asked) now after makes in
     record { adds = is; few = omega (arith, is, steps, spends) }
 
 -- a group that is held has no more members than the world has ranks
-few_held : {P : Type 0} (meld : P → P → P) (limits : Limits) (h : History P) (own : Record) (c : ℕ) → Fits meld limits h own → length (group_of (held_at own c)) ≤ limits.ranks
+few_held : {P : Type 0} (meld : P → P → P) (limits : Limits) (h : History P) (own : Record) (c : ℕ) → Fits meld limits h own
+    → length (group_of (held_at own c)) ≤ limits.ranks
 few_held meld limits h own c fits = go (held_at own c) (λ x is. is)
   where
     go : (x : Option Held) → ((y : Held) → x ≡ Some y → held_at own c ≡ Some y) → length (group_of x) ≤ limits.ranks
     go None is = omega arith
-    go (Some x) is = let few = members_few limits.ranks h c in let same = ap length (group_is meld limits h own c x fits (is x refl)) in omega (arith, few, same)
+    go (Some x) is = let few = members_few limits.ranks h c in let same = ap length
+        (group_is meld limits h own c x fits (is x refl)) in omega (arith, few, same)
 
 poll_most : (N v n M : ℕ) (request : Option Request) → poll_bound N v n M request ≤ N + 3 * n + 2 * M + 2
 poll_most N v n M None = omega arith
@@ -63,7 +70,8 @@ call_most N v n M request (call.IsRevoked rank c) = omega arith
 call_most N v n M request (call.Free rank c) = omega arith
 
 -- a call makes fewer than 2 ^ 32 steps
-pub bound_small : {P : Type 0} (meld : P → P → P) (limits : Limits) (h : History P) (own : Record) (asked : Call P) → MayOpen limits → Fits meld limits h own → step_bound limits own asked < 4294967296
+pub bound_small : {P : Type 0} (meld : P → P → P) (limits : Limits) (h : History P) (own : Record) (asked : Call P) → MayOpen limits → Fits meld limits h own
+    → step_bound limits own asked < 4294967296
 bound_small {P} meld limits h own asked may fits = go own.refused (is_some (refusal_of own asked))
   where
     n : ℕ
@@ -72,16 +80,19 @@ bound_small {P} meld limits h own asked may fits = go own.refused (is_some (refu
     few : n ≤ limits.ranks
     few = few_held meld limits h own (comm_of asked) fits
 
-    most : call_bound limits.ranks (length own.seen) n limits.comms (request_of (held_at own (comm_of asked))) asked ≤ limits.ranks + 3 * n + 2 * limits.comms + 2
+    most : call_bound limits.ranks (length own.seen) n limits.comms (request_of (held_at own (comm_of asked))) asked ≤ limits.ranks + 3 * n + 2 * limits.comms +
+        2
     most = call_most limits.ranks (length own.seen) n limits.comms (request_of (held_at own (comm_of asked))) asked
 
-    go : (a b : Bool) → (if a then 0 else (if b then limits.ranks - length own.seen else call_bound limits.ranks (length own.seen) n limits.comms (request_of (held_at own (comm_of asked))) asked)) < 4294967296
+    go : (a b : Bool) → (if a then 0 else (if b then limits.ranks - length own.seen else call_bound limits.ranks (length own.seen) n limits.comms
+        (request_of (held_at own (comm_of asked))) asked)) < 4294967296
     go true b = omega arith
     go false true = omega (arith, may.in_range.ranks)
     go false false = omega (arith, may.in_range.ranks, may.in_range.comms, few, most)
 
 -- a call's steps are counted onward
-ends_onward : {P : Type 0} (meld : P → P → P) (alone : Bool) (name : Name) (asked : Call P) (old : Record) (before : Sight P) (reply : Reply P) (new : Record) (after : Sight P)
+ends_onward : {P : Type 0} (meld : P → P → P) (alone : Bool) (name : Name) (asked : Call P) (old : Record) (before : Sight P) (reply : Reply P) (new : Record)
+    (after : Sight P)
     → EndsReply meld alone name asked old before reply new after → before.steps ≤ after.steps
 ends_onward {P} meld alone name asked old before reply new after ends = go (wants_memory reply) ends
   where
@@ -90,9 +101,11 @@ ends_onward {P} meld alone name asked old before reply new after ends = go (want
     go false called = called.onward
 
 -- The difference of two counts modulo 2 ^ 64 is the number of a call's steps.
-module _ {P : Type 0} (meld : P → P → P) (alone : Bool) (name : Name) (asked : Call P) (old : Record) (before : Sight P) (reply : Reply P) (new : Record) (after : Sight P)
+module _ {P : Type 0} (meld : P → P → P) (alone : Bool) (name : Name) (asked : Call P) (old : Record) (before : Sight P) (reply : Reply P) (new : Record)
+    (after : Sight P)
     (of : IsOf meld name before) (fits : Fits meld name.limits before.seen old) (ends : EndsReply meld alone name asked old before reply new after)
-    (steps : after.steps ≤ before.steps + step_bound name.limits old asked) (first last made : ℕ) (first_is : first ≡ before.steps % 2 ^ 64) (last_is : last ≡ after.steps % 2 ^ 64)
+    (steps : after.steps ≤ before.steps + step_bound name.limits old asked) (first last made : ℕ) (first_is : first ≡ before.steps % 2 ^ 64)
+    (last_is : last ≡ after.steps % 2 ^ 64)
     (made_is : made ≡ (last + (2 ^ 64 - first)) % 2 ^ 64) where
   onward : before.steps ≤ after.steps
   onward = ends_onward meld alone name asked old before reply new after ends

@@ -1,11 +1,18 @@
 -- The one step of a start or of a question, after its look and after what others did since.
-use Rattle.std.proofs.Common.{◌≡◌, ℕ, ◌+◌, ◌<◌, ◌≤◌, Bool, true, false, List, [], ◌∷◌, nat_le, is_some, Some, None, Result, Ok, Err, refl, ap, sym, ◌∙◌, subst, arith, inr, IsTrue, MatchBool}
+use Rattle.std.proofs.Common.{◌≡◌, ℕ, ◌+◌, ◌<◌, ◌≤◌, Bool, true, false, List, [], ◌∷◌, nat_le, is_some, Some, None, Result, Ok, Err, refl, ap, sym, ◌∙◌, subst}
+use Rattle.std.proofs.Common.{arith, inr, IsTrue, MatchBool}
 use Rattle.std.proofs.lemmas.Bool.Decides.{nat_tests}
 use Rattle.std.specs.List.{list_any}
 use mathlib.Core.List.{IsPrefix}
 use Rattle.ulfm_model.specs.declared.call.Call.TheVariants as call
-use Rattle.ulfm_model.specs.declared.{call.Call.{Call}, call.Request.{Request}, call.Request.TheVariants.{Barrier}, contribution.Contribution.{Contribution}, contribution.Offer.{Offer}, contribution.Slot.{Slot}, contribution.Slot.TheVariants.{Given, Mark as Marked}, event.Caller.TheVariants.{Rank}, event.Entry.{Entry}, event.Event.{Event}, event.Event.TheVariants.{Arrive, Revoke, Settle}, limits.Limits.{Limits}, refusal.Refusal.{Refusal}, refusal.Refusal.TheVariants.{Busy, RoundsUsedUp, ShrinkOpen, Twice}, reply.Reply.TheVariants.{Refused, Standing, Started}}
-use Rattle.ulfm_model.specs.{Answers.{CallAdds, Replies, StartReplies, View, first_refusal, opened, refusal_on, traits_of}, History.{History, IsLegal, failures, has_arrived, is_revoked}, Records.{Fits, Held, Record, held_at, is_shrink, with_held}, Runs.{Did}, Words.{MayOpen}}
+use Rattle.ulfm_model.specs.declared.{call.Call.{Call}, call.Request.{Request}, call.Request.TheVariants.{Barrier}, contribution.Contribution.{Contribution}}
+use Rattle.ulfm_model.specs.declared.{contribution.Offer.{Offer}, contribution.Slot.{Slot}, contribution.Slot.TheVariants.{Given, Mark as Marked}}
+use Rattle.ulfm_model.specs.declared.{event.Caller.TheVariants.{Rank}, event.Entry.{Entry}, event.Event.{Event}}
+use Rattle.ulfm_model.specs.declared.{event.Event.TheVariants.{Arrive, Revoke, Settle}, limits.Limits.{Limits}, refusal.Refusal.{Refusal}}
+use Rattle.ulfm_model.specs.declared.{refusal.Refusal.TheVariants.{Busy, RoundsUsedUp, ShrinkOpen, Twice}, reply.Reply.TheVariants.{Refused, Standing, Started}}
+use Rattle.ulfm_model.specs.Answers.{CallAdds, Replies, StartReplies, View, first_refusal, opened, refusal_on, traits_of}
+use Rattle.ulfm_model.specs.{History.{History, IsLegal, failures, has_arrived, is_revoked}, Records.{Fits, Held, Record, held_at, is_shrink, with_held}}
+use Rattle.ulfm_model.specs.{Runs.{Did}, Words.{MayOpen}}
 use Rattle.ulfm_model.specs.Terms.{comm_of, tests_of}
 use Rattle.ulfm_model.proofs.Stable.{fits_stays}
 use Rattle.ulfm_words.specs.{Places.{IsCell}, Steps.{IsAdded, IsOf, Name, Sight}, Tries.{MayCome, MayEnd}}
@@ -15,11 +22,13 @@ use Rattle.ulfm_comm.specs.{Calls.{Replied, reply_of}, Phase.{Answered, Stands},
 use Rattle.ulfm_comm.specs.{Exchange.{StartsWith, Settles, start_leaves, start_result}, Step.{Walks}, Revokes.{revoked}}
 use Rattle.ulfm_comm.specs.declared.phases.phase.Phase.TheVariants.{Settling}
 use Rattle.ulfm_comm.proofs.BarrierStart.{barrier_may_come, barrier_within, calls_entered, calls_entered_before}
-use Rattle.ulfm_comm.proofs.{AmongOthers.{added_loosely, did_loosely, tried_loosely}, WholeCall.{held_before}, Revokes.{calls_revoked, calls_standing, held_below, held_may_end}}
+use Rattle.ulfm_comm.proofs.{AmongOthers.{added_loosely, did_loosely, tried_loosely}, WholeCall.{held_before}}
+use Rattle.ulfm_comm.proofs.Revokes.{calls_revoked, calls_standing, held_below, held_may_end}
 use Rattle.ulfm_comm.proofs.Starts.{calls_started}
 
 -- no test holds, so the first doesn't
-passes_first : (test : Bool) (refusal : Refusal) (tests : List (Bool × Refusal)) → first_refusal ((test, refusal) ∷ tests) ≡ None → (test ≡ false) × (first_refusal tests ≡ None)
+passes_first : (test : Bool) (refusal : Refusal) (tests : List (Bool × Refusal)) → first_refusal ((test, refusal) ∷ tests) ≡ None
+    → (test ≡ false) × (first_refusal tests ≡ None)
 passes_first true refusal tests is = absurd (cc is)
 passes_first false refusal tests is = (refl, is)
 
@@ -27,7 +36,8 @@ before_late : (rounds next : ℕ) → nat_le rounds next ≡ false → next < ro
 before_late rounds next is = grind (arith, nat_tests)
 
 -- what a start of an agreement needs
-pub record IsStarting {P : Type 0} (meld : P → P → P) (limits : Limits) (asked : Call P) (old : Record) (x : Held) (request : Request) (offer : Offer P) : Type 0 where
+pub record IsStarting {P : Type 0} (meld : P → P → P) (limits : Limits) (asked : Call P) (old : Record) (x : Held) (request : Request)
+    (offer : Offer P) : Type 0 where
   pub no_poll : (traits_of asked).polls ≡ false
   pub starts : (traits_of asked).starts x ≡ Some request
   pub adds : (look : List ℕ) (given : Contribution P) → CallAdds look old.number x asked (Settle x.comm x.next_agreement old.number given)
@@ -36,7 +46,8 @@ pub record IsStarting {P : Type 0} (meld : P → P → P) (limits : Limits) (ask
   pub next : old.limits.rounds ≤ 4096 → HasNext request
 
 -- it has it
-pub is_starting : {P : Type 0} (meld : P → P → P) (limits : Limits) (asked : Call P) (old : Record) (x : Held) (request : Request) (offer : Offer P) → first_refusal (tests_of old x asked) ≡ None → StartsWith asked old x request offer
+pub is_starting : {P : Type 0} (meld : P → P → P) (limits : Limits) (asked : Call P) (old : Record) (x : Held) (request : Request) (offer : Offer P)
+    → first_refusal (tests_of old x asked) ≡ None → StartsWith asked old x request offer
     → IsStarting meld limits asked old x request offer
 is_starting meld limits (call.Fail rank) old x request offer passes starts = absurd starts
 is_starting meld limits (call.GetFailed rank c) old x request offer passes starts = absurd starts
@@ -74,7 +85,8 @@ is_starting meld limits (call.IsRevoked rank c) old x request offer passes start
 is_starting meld limits (call.Free rank c) old x request offer passes starts = absurd starts
 
 -- what is known of a call after its look, where others may have stepped since
-module _ {P : Type 0} (meld : P → P → P) (limits : Limits) (alone : Bool) (asked : Call P) (old : Record) (before : History P) (own : Record) (now : History P) (p : HasLooked meld limits alone asked old before own now) where
+module _ {P : Type 0} (meld : P → P → P) (limits : Limits) (alone : Bool) (asked : Call P) (old : Record) (before : History P) (own : Record) (now : History P)
+    (p : HasLooked meld limits alone asked old before own now) where
   -- the record fits still
   pub fits_now : IsLegal meld limits now → Fits meld limits now own
   fits_now legal = fits_stays meld limits p.look now own (did_prefix alone [] p.look now p.waited) legal p.fits
@@ -98,56 +110,99 @@ module _ {P : Type 0} (meld : P → P → P) (limits : Limits) (alone : Bool) (a
 
   -- no test of the record holds
   pub passes_tests : first_refusal (tests_of old p.x asked) ≡ None
-  passes_tests = sym (ap (λ w. refusal_on old w asked) (held_before meld limits alone before p.look old own p.looked (comm_of asked) (Some p.x) p.held)) ∙ p.passed
+  passes_tests = sym (ap (λ w. refusal_on old w asked) (held_before meld limits alone before p.look old own p.looked (comm_of asked) (Some p.x) p.held))
+      ∙ p.passed
 
 -- an exchange that was won or lost, after others' events
-pub tried_after : {P : Type 0} (alone won : Bool) (e : _) (x y z : History P) → Did alone [] x y → MatchBool won (IsAdded alone e y z) (Did alone [] y z) → MatchBool won (IsAdded alone e x z) (Did alone [] x z)
+pub tried_after : {P : Type 0} (alone won : Bool) (e : _) (x y z : History P) → Did alone [] x y → MatchBool won (IsAdded alone e y z) (Did alone [] y z)
+    → MatchBool won (IsAdded alone e x z) (Did alone [] x z)
 tried_after alone true e x y z did outcome = added_after alone e x y z did outcome
 tried_after alone false e x y z did outcome = did_after alone [] x y z did outcome
 
-module _ {P : Type 0} (meld : P → P → P) (quiet : Bool) (name : Name) (number : ℕ) (old new : Sight P) (of : IsOf meld name new) (one : new.steps ≡ old.steps + 1) (cached : IsPrefix old.cached new.cached) where
+module _ {P : Type 0} (meld : P → P → P) (quiet : Bool) (name : Name) (number : ℕ) (old new : Sight P) (of : IsOf meld name new)
+    (one : new.steps ≡ old.steps + 1) (cached : IsPrefix old.cached new.cached) where
   -- one step without an event
   pub walks_none : Did quiet [] old.seen new.seen → Walks meld quiet name number old new
   walks_none did = record { of = of; own = []; did = did; onward = omega (arith, one); cached = cached }
 
   -- one exchange
-  pub walks_tried : (won : Bool) (event : Event P) → MatchBool won (IsAdded quiet (record { by = Rank number; event = event }) old.seen new.seen) (Did quiet [] old.seen new.seen) → Walks meld quiet name number old new
-  walks_tried true event outcome = record { of = of; own = event ∷ []; did = did_added quiet _ old.seen new.seen outcome; onward = omega (arith, one); cached = cached }
+  pub walks_tried : (won : Bool) (event : Event P) → MatchBool won (IsAdded quiet (record { by = Rank number; event = event }) old.seen new.seen)
+      (Did quiet [] old.seen new.seen) → Walks meld quiet name number old new
+  walks_tried true event outcome = record {
+    of = of;
+    own = event ∷ [];
+    did = did_added quiet _ old.seen new.seen outcome;
+    onward = omega (arith, one);
+    cached = cached;
+  }
   walks_tried false event outcome = walks_none outcome
 
   -- the exchange of a contribution
-  pub walks_settled : (own : Record) (x : Held) (offer : Offer P) (settled : Result (Unit {0}) (Slot P)) → own.number ≡ number → Settles quiet old.seen new.seen own x offer settled → Walks meld quiet name number old new
+  pub walks_settled : (own : Record) (x : Held) (offer : Offer P) (settled : Result (Unit {0}) (Slot P)) → own.number ≡ number
+      → Settles quiet old.seen new.seen own x offer settled → Walks meld quiet name number old new
   walks_settled own x offer (Ok done) mine gave =
-      record { of = of; own = Settle x.comm x.next_agreement own.number gave.given ∷ []; did = subst (λ n. Did quiet (record { by = Rank n; event = Settle x.comm x.next_agreement own.number gave.given } ∷ []) old.seen new.seen) mine gave.did; onward = omega (arith, one); cached = cached }
+      record {
+        of = of;
+        own = Settle x.comm x.next_agreement own.number gave.given ∷ [];
+        did = subst (λ n. Did quiet (record {
+          by = Rank n;
+          event = Settle x.comm x.next_agreement own.number gave.given;
+        } ∷ []) old.seen new.seen) mine gave.did;
+        onward = omega (arith, one);
+        cached = cached;
+      }
   walks_settled own x offer (Err put) mine was = walks_none was.did
 
 -- what holds of an exchange where the words are alone holds among others' steps
-settles_loosely : {P : Type 0} (alone quiet : Bool) → (IsTrue alone → IsTrue quiet) → (now after : History P) (own : Record) (x : Held) (offer : Offer P) (settled : Result (Unit {0}) (Slot P)) → Settles quiet now after own x offer settled → Settles alone now after own x offer settled
+settles_loosely : {P : Type 0} (alone quiet : Bool) → (IsTrue alone → IsTrue quiet)
+    → (now after : History P) (own : Record) (x : Held) (offer : Offer P) (settled : Result (Unit {0}) (Slot P)) → Settles quiet now after own x offer settled
+    → Settles alone now after own x offer settled
 settles_loosely alone quiet only now after own x offer (Ok done) gave =
-    record { given = gave.given; did = did_loosely alone quiet only _ now after gave.did; stands = gave.stands; offer_is = gave.offer_is; known = gave.known; acked = gave.acked }
+    record {
+      given = gave.given;
+      did = did_loosely alone quiet only _ now after gave.did;
+      stands = gave.stands;
+      offer_is = gave.offer_is;
+      known = gave.known;
+      acked = gave.acked;
+    }
 settles_loosely alone quiet only now after own x offer (Err put) was = record { did = did_loosely alone quiet only [] now after was.did; stands = was.stands }
 
-module _ {P : Type 0} (meld : P → P → P) (alone quiet : Bool) (only : IsTrue alone → IsTrue quiet) (name : Name) (asked : Call P) (request : Request) (offer : Offer P) (group : List ℕ) (old : Record) (before : Sight P) (own : Record) (now after : Sight P) (went : now.steps ≤ after.steps)
-    (stood : Stands meld alone name old before (record { asked = asked; phase = Settling request offer; group = group }) own now) (x : Held) (held : held_at own (comm_of asked) ≡ Some x) where
-  by_exchange : (settled : Result (Unit {0}) (Slot P)) (new : Record) → IsOf meld name after → Settles quiet now.seen after.seen own x offer settled → new ≡ start_leaves own (comm_of asked) request settled
+module _ {P : Type 0} (meld : P → P → P) (alone quiet : Bool) (only : IsTrue alone → IsTrue quiet) (name : Name) (asked : Call P) (request : Request)
+    (offer : Offer P) (group : List ℕ) (old : Record) (before : Sight P) (own : Record) (now after : Sight P) (went : now.steps ≤ after.steps)
+    (stood : Stands meld alone name old before (record { asked = asked; phase = Settling request offer; group = group }) own now) (x : Held)
+    (held : held_at own (comm_of asked) ≡ Some x) where
+  by_exchange : (settled : Result (Unit {0}) (Slot P)) (new : Record) → IsOf meld name after → Settles quiet now.seen after.seen own x offer settled
+      → new ≡ start_leaves own (comm_of asked) request settled
       → Replied meld alone name asked old before (reply_of (λ _. Started) (start_result settled)) new after
   by_exchange settled new of settles leaves =
       let p = stood.at.0 in
       let same = found_same meld name.limits alone asked old before.seen own now.seen p x held in
-      let has = is_starting meld name.limits asked old p.x request offer (passes_tests meld name.limits alone asked old before.seen own now.seen p) stood.at.1 in
-      calls_started meld alone name before (record now { seen = p.look }) after (omega (arith, stood.onward, went)) asked old own stood.fits p.looked p.x p.held p.passed now.seen p.waited offer request has.no_poll has.starts (has.adds (failures p.look)) has.replies
+      let has = is_starting meld name.limits asked old p.x request offer (passes_tests meld name.limits alone asked old before.seen own now.seen p)
+      stood.at.1 in
+      calls_started meld alone name before (record now { seen = p.look }) after (omega (arith, stood.onward, went)) asked old own stood.fits p.looked p.x p.held
+      p.passed now.seen p.waited offer request has.no_poll has.starts (has.adds (failures p.look)) has.replies
       settled (start_result settled) new of
-      (subst (λ y. Settles alone now.seen after.seen own y offer settled) (sym same) (settles_loosely alone quiet only now.seen after.seen own x offer settled settles)) refl leaves
+      (subst (λ y. Settles alone now.seen after.seen own y offer settled) (sym same)
+      (settles_loosely alone quiet only now.seen after.seen own x offer settled settles)) refl leaves
 
   -- a start is answered as its exchange says
-  pub start_answered : (settled : Result (Unit {0}) (Slot P)) (new : Record) → IsOf meld name after → Settles quiet now.seen after.seen own x offer settled → new ≡ start_leaves own (comm_of asked) request settled
+  pub start_answered : (settled : Result (Unit {0}) (Slot P)) (new : Record) → IsOf meld name after → Settles quiet now.seen after.seen own x offer settled
+      → new ≡ start_leaves own (comm_of asked) request settled
       → Answered meld alone name asked old before (reply_of (λ _. Started) (start_result settled)) new after
   start_answered (Ok done) new of settles leaves = record { ends = inr (by_exchange (Ok done) new of settles leaves); pending = λ is. absurd (cc is) }
-  start_answered (Err (Marked mark)) new of settles leaves = record { ends = inr (by_exchange (Err (Marked mark)) new of settles leaves); pending = λ is. absurd (cc is) }
-  start_answered (Err (Given given)) new of settles leaves = record { ends = inr (by_exchange (Err (Given given)) new of settles leaves); pending = λ is. absurd (cc is) }
+  start_answered (Err (Marked mark)) new of settles leaves = record {
+    ends = inr (by_exchange (Err (Marked mark)) new of settles leaves);
+    pending = λ is. absurd (cc is);
+  }
+  start_answered (Err (Given given)) new of settles leaves = record {
+    ends = inr (by_exchange (Err (Given given)) new of settles leaves);
+    pending = λ is. absurd (cc is);
+  }
 
 -- the start of a barrier, among others' steps since its look
-module _ {P : Type 0} (meld : P → P → P) (limits : Limits) (alone : Bool) (asked : Call P) (old : Record) (before : History P) (own : Record) (now : History P) (p : HasLooked meld limits alone asked old before own now)
+module _ {P : Type 0} (meld : P → P → P) (limits : Limits) (alone : Bool) (asked : Call P) (old : Record) (before : History P) (own : Record) (now : History P)
+    (p : HasLooked meld limits alone asked old before own now)
     (own_fits : Fits meld limits before old) (is : asked ≡ call.Barrier old.number (comm_of asked)) where
   -- a round is left
   pub barrier_room : p.x.next_barrier < limits.rounds
@@ -159,15 +214,20 @@ module _ {P : Type 0} (meld : P → P → P) (limits : Limits) (alone : Bool) (a
       subst (λ (l : Limits). p.x.next_barrier < l.rounds) own_fits.same_limits room
 
   pub arriving_within : IsLegal meld limits now → MayOpen limits → IsCell limits (comm_of asked) p.x.next_barrier own.number
-  arriving_within legal may = barrier_within meld limits now own (comm_of asked) p.x (fits_now meld limits alone asked old before own now p legal) p.held barrier_room legal may
+  arriving_within legal may = barrier_within meld limits now own (comm_of asked) p.x (fits_now meld limits alone asked old before own now p legal) p.held
+      barrier_room legal may
 
   pub arriving_may : IsLegal meld limits now → MayCome meld limits now (comm_of asked) p.x.next_barrier own.number
-  arriving_may legal = barrier_may_come meld limits now own (comm_of asked) p.x (fits_now meld limits alone asked old before own now p legal) p.held barrier_room
+  arriving_may legal = barrier_may_come meld limits now own (comm_of asked) p.x (fits_now meld limits alone asked old before own now p legal) p.held
+      barrier_room
 
-module _ {P : Type 0} (meld : P → P → P) (alone quiet : Bool) (only : IsTrue alone → IsTrue quiet) (name : Name) (c round : ℕ) (old : Record) (before : Sight P) (own : Record) (now after : Sight P) (onward : before.steps ≤ after.steps) (fits : Fits meld name.limits before.seen old)
-    (p : HasLooked meld name.limits alone (call.Barrier old.number c) old before.seen own now.seen) (round_is : round ≡ p.x.next_barrier) (of : IsOf meld name after) (stands : IsTrue (has_arrived after.seen c round own.number)) where
+module _ {P : Type 0} (meld : P → P → P) (alone quiet : Bool) (only : IsTrue alone → IsTrue quiet) (name : Name) (c round : ℕ) (old : Record) (before : Sight P)
+    (own : Record) (now after : Sight P) (onward : before.steps ≤ after.steps) (fits : Fits meld name.limits before.seen old)
+    (p : HasLooked meld name.limits alone (call.Barrier old.number c) old before.seen own now.seen) (round_is : round ≡ p.x.next_barrier)
+    (of : IsOf meld name after) (stands : IsTrue (has_arrived after.seen c round own.number)) where
   -- the rank has arrived by this call, or before
-  pub arrived_now : (new : Record) → IsAdded quiet (record { by = Rank own.number; event = Arrive c round own.number }) now.seen after.seen → new ≡ with_held own c (λ y. opened y (Some (Barrier round)))
+  pub arrived_now : (new : Record) → IsAdded quiet (record { by = Rank own.number; event = Arrive c round own.number }) now.seen after.seen
+      → new ≡ with_held own c (λ y. opened y (Some (Barrier round)))
       → Answered meld alone name (call.Barrier old.number c) old before Started new after
   arrived_now new added is =
       let look : Sight P = record now { seen = p.look } in
@@ -194,30 +254,37 @@ module _ {P : Type 0} (meld : P → P → P) (alone quiet : Bool) (only : IsTrue
       }
 
 -- a revocation, and the question after it
-module _ {P : Type 0} (meld : P → P → P) (alone quiet : Bool) (only : IsTrue alone → IsTrue quiet) (name : Name) (c : ℕ) (old : Record) (before : Sight P) (own : Record) (now after : Sight P) (onward : before.steps ≤ after.steps) (fits : Fits meld name.limits before.seen old) (of : IsOf meld name after) where
+module _ {P : Type 0} (meld : P → P → P) (alone quiet : Bool) (only : IsTrue alone → IsTrue quiet) (name : Name) (c : ℕ) (old : Record) (before : Sight P)
+    (own : Record) (now after : Sight P) (onward : before.steps ≤ after.steps) (fits : Fits meld name.limits before.seen old) (of : IsOf meld name after) where
   revoked_once : (p : HasLooked meld name.limits alone (call.Revoke old.number c) old before.seen own now.seen) (won : Bool)
-      → MatchBool won (IsAdded quiet (record { by = Rank own.number; event = Revoke c }) now.seen after.seen) (Did quiet [] now.seen after.seen) → IsTrue (is_revoked after.seen c)
+      → MatchBool won (IsAdded quiet (record { by = Rank own.number; event = Revoke c }) now.seen after.seen) (Did quiet [] now.seen after.seen)
+      → IsTrue (is_revoked after.seen c)
       → Replied meld alone name (call.Revoke old.number c) old before (revoked won) own after
   revoked_once p won outcome stands =
       let mine = number_is meld name.limits alone (call.Revoke old.number c) old before.seen own now.seen p in
       let e : Entry P = record { by = Rank old.number; event = Revoke c } in
       let tried = tried_loosely alone quiet only won e now.seen after.seen
-      (subst (λ n. MatchBool won (IsAdded quiet (record { by = Rank n; event = Revoke c }) now.seen after.seen) (Did quiet [] now.seen after.seen)) mine outcome) in
-      calls_revoked meld alone name before (record now { seen = p.look }) after onward old.number c old own fits p.looked p.fits p.x p.held won of (tried_after alone won e p.look now.seen after.seen p.waited tried) stands
+      (subst (λ n. MatchBool won (IsAdded quiet (record { by = Rank n; event = Revoke c }) now.seen after.seen) (Did quiet [] now.seen after.seen)) mine
+      outcome) in
+      calls_revoked meld alone name before (record now { seen = p.look }) after onward old.number c old own fits p.looked p.fits p.x p.held won of
+      (tried_after alone won e p.look now.seen after.seen p.waited tried) stands
 
   -- the communicator is revoked
   pub revoke_answered : HasLooked meld name.limits alone (call.Revoke old.number c) old before.seen own now.seen → (won : Bool)
-      → MatchBool won (IsAdded quiet (record { by = Rank own.number; event = Revoke c }) now.seen after.seen) (Did quiet [] now.seen after.seen) → IsTrue (is_revoked after.seen c)
+      → MatchBool won (IsAdded quiet (record { by = Rank own.number; event = Revoke c }) now.seen after.seen) (Did quiet [] now.seen after.seen)
+      → IsTrue (is_revoked after.seen c)
       → Answered meld alone name (call.Revoke old.number c) old before (revoked won) own after
   revoke_answered p true outcome stands = record { ends = inr (revoked_once p true outcome stands); pending = λ same. absurd (cc same) }
   revoke_answered p false outcome stands = record { ends = inr (revoked_once p false outcome stands); pending = λ same. absurd (cc same) }
 
   -- whether it is
-  pub asked_answered : HasLooked meld name.limits alone (call.IsRevoked old.number c) old before.seen own now.seen → (found : Bool) → Did quiet [] now.seen after.seen → found ≡ is_revoked after.seen c
+  pub asked_answered : HasLooked meld name.limits alone (call.IsRevoked old.number c) old before.seen own now.seen → (found : Bool)
+      → Did quiet [] now.seen after.seen → found ≡ is_revoked after.seen c
       → Answered meld alone name (call.IsRevoked old.number c) old before (Standing found) own after
   asked_answered p found did is =
       record {
-        ends = inr (calls_standing meld alone name before (record now { seen = p.look }) after onward old.number c old own fits p.looked p.fits p.x p.held found of
+        ends = inr (calls_standing meld alone name before (record now { seen = p.look }) after onward old.number c old own fits p.looked p.fits p.x p.held found
+            of
             (did_after alone [] p.look now.seen after.seen p.waited (did_loosely alone quiet only [] now.seen after.seen did)) is);
         pending = λ same. absurd (cc same);
       }

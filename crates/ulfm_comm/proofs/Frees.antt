@@ -10,11 +10,14 @@ use Rattle.ulfm_comm.specs.{Calls.{Replied}, Look.{Looked}}
 use Rattle.ulfm_comm.proofs.{CallRuns.{calls_is}, WholeCall.{held_before, replied}, Refusals.{by_tests}}
 
 -- the rank holds all but this one
-pub calls_freed : {P : Type 0} (meld : P → P → P) (alone : Bool) (name : Name) (before after : Sight P) → before.steps ≤ after.steps → (rank c : ℕ) (old mid new : Record) → IsOf meld name after → Fits meld name.limits before.seen old
-    → Looked alone before.seen after.seen old mid → (x : Held) → held_at mid c ≡ Some x → first_refusal (tests_of {P = P} old x (call.Free rank c)) ≡ None → new ≡ record mid { held = filter (λ y. not (y.comm == c)) mid.held }
+pub calls_freed : {P : Type 0} (meld : P → P → P) (alone : Bool) (name : Name) (before after : Sight P) → before.steps ≤ after.steps
+    → (rank c : ℕ) (old mid new : Record) → IsOf meld name after → Fits meld name.limits before.seen old
+    → Looked alone before.seen after.seen old mid → (x : Held) → held_at mid c ≡ Some x → first_refusal (tests_of {P = P} old x (call.Free rank c)) ≡ None
+    → new ≡ record mid { held = filter (λ y. not (y.comm == c)) mid.held }
     → Replied meld alone name (call.Free rank c) old before Freed new after
 calls_freed {P} meld alone name before after onward rank c old mid new of fits looked x held passed is =
     calls_is meld alone name before after onward (call.Free rank c) old Freed new of fits
     (replied meld name.limits alone before.seen after.seen old mid looked after.seen [] (call.Free rank c) Freed new x (did_none alone after.seen) of.legal
-    (held_before meld name.limits alone before.seen after.seen old mid looked c (Some x) held) (by_tests meld alone name before after (call.Free rank c) old mid fits looked x held None passed) tt refl is
+    (held_before meld name.limits alone before.seen after.seen old mid looked c (Some x) held)
+    (by_tests meld alone name before after (call.Free rank c) old mid fits looked x held None passed) tt refl is
     (λ here polls. absurd (cc polls)))

@@ -1,5 +1,6 @@
 -- The communicators that a rank holds, with their context ids and the room for them.
-use Rattle.std.proofs.Common.{◌≡◌, ℕ, ◌<◌, ◌≤◌, Bool, true, false, cond, List, [], ◌∷◌, ◌++◌, filter, length, nat_eq, Some, ◌||◌, length-append, refl, ap, sym, ◌∙◌, subst, arith}
+use Rattle.std.proofs.Common.{◌≡◌, ℕ, ◌<◌, ◌≤◌, Bool, true, false, cond, List, [], ◌∷◌, ◌++◌, filter, length, nat_eq, Some, ◌||◌, length-append, refl, ap, sym}
+use Rattle.std.proofs.Common.{◌∙◌, subst, arith}
 use Rattle.std.specs.List.{AllByRecursion, IsDistinct, find, list_any}
 use Rattle.std.proofs.lemmas.List.{length-map}
 use Rattle.std.proofs.lemmas.Map.Keys.{IsDistinct-cons}
@@ -21,13 +22,15 @@ contexts_changed c f same (x ∷ xs) =
     [ true ↦ ap (λ i. i ∷ contexts_of xs) (same x) | false ↦ ap (λ ids. x.context ∷ ids) rest ]
 
 -- a rank that holds one communicator
-pub room_new : (limits : Limits) (capacity places : ℕ) (x : Held) → MayOpen limits → limits.ranks ≤ capacity → 32 ≤ places → x.context < 32 → HasRoom limits capacity places (x ∷ [])
+pub room_new : (limits : Limits) (capacity places : ℕ) (x : Held) → MayOpen limits → limits.ranks ≤ capacity → 32 ≤ places → x.context < 32
+    → HasRoom limits capacity places (x ∷ [])
 unfolding IsDistinct
 room_new limits capacity places x may_open room enough id =
     record { may_open = may_open; room = room; enough = enough; ids = (id, tt); contexts = IsDistinct-cons nat_eq x.context [] tt tt }
 
 -- a change that keeps the context id keeps what a rank keeps
-pub room_changed : (limits : Limits) (capacity places now c : ℕ) (f : Held → Held) (xs new : List Held) → HasRoom limits capacity places xs → ((y : Held) → (f y).context ≡ y.context) → new ≡ change_at c f xs → now ≡ places
+pub room_changed : (limits : Limits) (capacity places now c : ℕ) (f : Held → Held) (xs new : List Held) → HasRoom limits capacity places xs
+    → ((y : Held) → (f y).context ≡ y.context) → new ≡ change_at c f xs → now ≡ places
     → HasRoom limits capacity now new
 room_changed limits capacity places now c f xs new old contexts is same =
     subst (HasRoom limits capacity now) (sym is) (record {
@@ -39,22 +42,28 @@ room_changed limits capacity places now c f xs new old contexts is same =
     })
 
 -- a request is opened
-pub room_opened : (limits : Limits) (capacity places now c : ℕ) (request : Request) (xs new : List Held) → HasRoom limits capacity places xs → new ≡ change_at c (λ y. opened y (Some request)) xs → now ≡ places → HasRoom limits capacity now new
-room_opened limits capacity places now c (Agree k) xs new old is same = room_changed limits capacity places now c (λ y. opened y (Some (Agree k))) xs new old (λ y. refl) is same
-room_opened limits capacity places now c (Shrink k) xs new old is same = room_changed limits capacity places now c (λ y. opened y (Some (Shrink k))) xs new old (λ y. refl) is same
-room_opened limits capacity places now c (Barrier k) xs new old is same = room_changed limits capacity places now c (λ y. opened y (Some (Barrier k))) xs new old (λ y. refl) is same
+pub room_opened : (limits : Limits) (capacity places now c : ℕ) (request : Request) (xs new : List Held) → HasRoom limits capacity places xs
+    → new ≡ change_at c (λ y. opened y (Some request)) xs → now ≡ places → HasRoom limits capacity now new
+room_opened limits capacity places now c (Agree k) xs new old is same = room_changed limits capacity places now c (λ y. opened y (Some (Agree k))) xs new old
+    (λ y. refl) is same
+room_opened limits capacity places now c (Shrink k) xs new old is same = room_changed limits capacity places now c (λ y. opened y (Some (Shrink k))) xs new old
+    (λ y. refl) is same
+room_opened limits capacity places now c (Barrier k) xs new old is same = room_changed limits capacity places now c
+    (λ y. opened y (Some (Barrier k))) xs new old (λ y. refl) is same
 
 -- changes that do the same to the one that is found
 pub change_alike : (xs : List Held) (c : ℕ) (x : Held) (f g : Held → Held) → find (is_of c) xs ≡ Some x → f x ≡ g x → change_at c f xs ≡ change_at c g xs
 change_alike [] c x f g at same = refl
 change_alike (y ∷ xs) c x f g at same = go (is_of c y) at (λ more. change_alike xs c x f g more same)
   where
-    go : (b : Bool) → cond b (Some y) (find (is_of c) xs) ≡ Some x → (find (is_of c) xs ≡ Some x → change_at c f xs ≡ change_at c g xs) → cond b (f y ∷ xs) (y ∷ change_at c f xs) ≡ cond b (g y ∷ xs) (y ∷ change_at c g xs)
+    go : (b : Bool) → cond b (Some y) (find (is_of c) xs) ≡ Some x → (find (is_of c) xs ≡ Some x → change_at c f xs ≡ change_at c g xs)
+        → cond b (f y ∷ xs) (y ∷ change_at c f xs) ≡ cond b (g y ∷ xs) (y ∷ change_at c g xs)
     go true here rest = let is : y ≡ x = cc here in ap (λ z. z ∷ xs) (subst (λ z. f z ≡ g z) (sym is) same)
     go false more rest = ap (λ zs. y ∷ zs) (rest more)
 
 -- what a rank keeps is kept where it holds fewer communicators
-pub room_kept : (limits : Limits) (capacity places now : ℕ) (p : Held → Bool) (xs new : List Held) → HasRoom limits capacity places xs → new ≡ filter p xs → now ≡ places → HasRoom limits capacity now new
+pub room_kept : (limits : Limits) (capacity places now : ℕ) (p : Held → Bool) (xs new : List Held) → HasRoom limits capacity places xs → new ≡ filter p xs
+    → now ≡ places → HasRoom limits capacity now new
 room_kept limits capacity places now p xs new old is same =
     subst (HasRoom limits capacity now) (sym is) (record {
       may_open = old.may_open;
@@ -65,8 +74,10 @@ room_kept limits capacity places now p xs new old is same =
     })
 
 -- one communicator more, with a context id that none has
-pub room_pushed : (limits : Limits) (capacity places now c : ℕ) (f : Held → Held) (made : Held) (xs new : List Held) → HasRoom limits capacity places xs → ((y : Held) → (f y).context ≡ y.context) → made.context < 32
-    → AllByRecursion (λ i. nat_eq i made.context ≡ false) (contexts_of xs) → new ≡ change_at c f xs ++ made ∷ [] → places ≤ now → HasRoom limits capacity now new
+pub room_pushed : (limits : Limits) (capacity places now c : ℕ) (f : Held → Held) (made : Held) (xs new : List Held) → HasRoom limits capacity places xs
+    → ((y : Held) → (f y).context ≡ y.context) → made.context < 32
+    → AllByRecursion (λ i. nat_eq i made.context ≡ false) (contexts_of xs) → new ≡ change_at c f xs ++ made ∷ [] → places ≤ now
+    → HasRoom limits capacity now new
 room_pushed limits capacity places now c f made xs new old contexts id fresh is more =
     let rest = room_changed limits capacity places places c f xs (change_at c f xs) old contexts refl refl in
     let others = subst (AllByRecursion (λ i. nat_eq i made.context ≡ false)) (sym (contexts_changed c f contexts xs)) fresh in
@@ -74,10 +85,12 @@ room_pushed limits capacity places now c f made xs new old contexts id fresh is 
       may_open = rest.may_open;
       room = rest.room;
       enough = omega (arith, old.enough, more);
-      ids = subst (AllByRecursion (λ i. i < 32)) (sym (contexts_push (change_at c f xs) made)) (each_push (λ i. i < 32) (contexts_of (change_at c f xs)) made.context rest.ids id);
+      ids = subst (AllByRecursion (λ i. i < 32)) (sym (contexts_push (change_at c f xs) made))
+          (each_push (λ i. i < 32) (contexts_of (change_at c f xs)) made.context rest.ids id);
       contexts =
           subst (IsDistinct nat_eq) (sym (contexts_push (change_at c f xs) made))
-          (distinct_push nat_eq (contexts_of (change_at c f xs)) made.context rest.contexts (any_none (λ i. nat_eq i made.context) (contexts_of (change_at c f xs)) others));
+          (distinct_push nat_eq (contexts_of (change_at c f xs)) made.context rest.contexts
+          (any_none (λ i. nat_eq i made.context) (contexts_of (change_at c f xs)) others));
     })
 
 ids_below : (ids : List ℕ) (q : ℕ) → AllByRecursion (λ i. i < 32) ids → list_any (nat_eq q) ids ≡ true → q < 32
@@ -89,7 +102,8 @@ ids_below (i ∷ ids) q all among = go (nat_eq q i) refl (λ more. ids_below ids
     go false other rest = rest (sym (ap (λ b. b || list_any (nat_eq q) ids) other) ∙ among)
 
 -- where a context id is free, there is room for one communicator more
-pub room_left : (limits : Limits) (capacity places id : ℕ) (xs : List Held) → HasRoom limits capacity places xs → id < 32 → AllByRecursion (λ i. nat_eq i id ≡ false) (contexts_of xs) → length xs < places
+pub room_left : (limits : Limits) (capacity places id : ℕ) (xs : List Held) → HasRoom limits capacity places xs → id < 32
+    → AllByRecursion (λ i. nat_eq i id ≡ false) (contexts_of xs) → length xs < places
 room_left limits capacity places id xs old below fresh =
     let ids = contexts_of xs ++ id ∷ [] in
     let distinct = distinct_push nat_eq (contexts_of xs) id old.contexts (any_none (λ i. nat_eq i id) (contexts_of xs) fresh) in

@@ -6,7 +6,8 @@ use Rattle.ulfm_model.specs.{History.{Exists, History, failed, failures, has, me
 use Rattle.ulfm_model.proofs.LeftFits.{held_fits}
 use Rattle.ulfm_steps.proofs.Groups.{members_rise}
 
-module _ {P : Type 0} (meld : P → P → P) (limits : Limits) (h : History P) (own : Record) (c : ℕ) (x : Held) (fits : Fits meld limits h own) (held : held_at own c ≡ Some x) where
+module _ {P : Type 0} (meld : P → P → P) (limits : Limits) (h : History P) (own : Record) (c : ℕ) (x : Held) (fits : Fits meld limits h own)
+    (held : held_at own c ≡ Some x) where
   -- it has the number by which it is found
   pub comm_is : x.comm ≡ c
   comm_is = (held_fits meld limits h own c x fits held).1

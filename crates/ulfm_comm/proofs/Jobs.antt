@@ -1,13 +1,16 @@
 -- A world, all its ranks and one pass, in one hand: what each call is of the whole.
-use Rattle.std.proofs.Common.{◌≡◌, ℕ, zero, suc, ◌<◌, ◌≤◌, Bool, true, false, List, [], ◌∷◌, get_or, set, length, Some, refl, ap, ap₂, sym, ◌∙◌, subst, arith, append-nil, inl, inr, IsTrue}
+use Rattle.std.proofs.Common.{◌≡◌, ℕ, zero, suc, ◌<◌, ◌≤◌, Bool, true, false, List, [], ◌∷◌, get_or, set, length, Some, refl, ap, ap₂, sym, ◌∙◌, subst, arith}
+use Rattle.std.proofs.Common.{append-nil, inl, inr, IsTrue}
 use Rattle.std.specs.Prelude.{Result, Ok, Err, OnErr}
 use Rattle.std.specs.List.{AllByRecursion}
 use Rattle.std.proofs.Math.Seq.{map-set_same}
 use Rattle.std.proofs.lemmas.List.{get_or-map, length-map, map-set, set-get_or}
 use mathlib.Core.List.{IsPrefix}
-use Rattle.ulfm_model.specs.declared.{call.Call.{Call}, event.Caller.TheVariants.{Outside, Rank}, refusal.Refusal.{Refusal}, reply.Reply.{Reply}, reply.Reply.TheVariants.{Refused}}
+use Rattle.ulfm_model.specs.declared.{call.Call.{Call}, event.Caller.TheVariants.{Outside, Rank}, refusal.Refusal.{Refusal}, reply.Reply.{Reply}}
+use Rattle.ulfm_model.specs.declared.reply.Reply.TheVariants.{Refused}
 use Rattle.ulfm_model.specs.declared.call.Call.TheVariants.{Fail}
-use Rattle.ulfm_model.specs.declared.refusal.Refusal.TheVariants.{SelfFailed, NoSuchComm, Busy, ShrinkOpen, RoundsUsedUp, Idle, Mismatch, NoContext, NoRoom, IsRevoked, ProcFailed, WorldKept, NoSuchRank, OutOfMemory, Twice}
+use Rattle.ulfm_model.specs.declared.refusal.Refusal.TheVariants.{SelfFailed, NoSuchComm, Busy, ShrinkOpen, RoundsUsedUp, Idle, Mismatch, NoContext, NoRoom}
+use Rattle.ulfm_model.specs.declared.refusal.Refusal.TheVariants.{IsRevoked, ProcFailed, WorldKept, NoSuchRank, OutOfMemory, Twice}
 use Rattle.ulfm_model.specs.{Answers.{traits_of}, Records.{Fits, Record, new_record}, Runs.{IsFailRun, IsRankStep, IsStep, State}}
 use Rattle.ulfm_model.proofs.{LeftRuns.{call_legal, call_number, fail_fits, fail_legal, span_begins}, Lists.{each_from}, Stable.{fits_stays}}
 use Rattle.ulfm_words.specs.Steps.{IsOf, Name, Sight}
@@ -22,9 +25,11 @@ at_error (Err fault) is = is
 
 module _ {P : Type 0} (meld : P → P → P) (alone : Bool) (name : Name) (before : Sight P) (ranks : List Record) (job : IsJob meld name before ranks) where
   -- the record of a rank has changed
-  job_after : (i : ℕ) (d new : Record) (after : Sight P) → IsOf meld name after → Fits meld name.limits after.seen new → new.number ≡ (get_or ranks i d).number → IsPrefix before.seen after.seen → IsJob meld name after (set ranks i new)
+  job_after : (i : ℕ) (d new : Record) (after : Sight P) → IsOf meld name after → Fits meld name.limits after.seen new → new.number ≡ (get_or ranks i d).number
+      → IsPrefix before.seen after.seen → IsJob meld name after (set ranks i new)
   job_after i d new after of fits number begins =
-      let still = each_from (Fits meld name.limits before.seen) (Fits meld name.limits after.seen) (λ x was. fits_stays meld name.limits before.seen after.seen x begins of.legal was) ranks job.sound.fits in
+      let still = each_from (Fits meld name.limits before.seen) (Fits meld name.limits after.seen)
+      (λ x was. fits_stays meld name.limits before.seen after.seen x begins of.legal was) ranks job.sound.fits in
       record {
         of = of;
         sound = record {
@@ -46,19 +51,23 @@ module _ {P : Type 0} (meld : P → P → P) (alone : Bool) (name : Name) (befor
         inr (after.seen, new, run, ap with_records (rank_changed name.limits.ranks ranks job.sound.numbers i d new below))
 
     -- a call of a rank
-    pub calls_step : (asks : ℕ → Call P) (reply : Reply P) → (traits_of (asks i)).by ≡ Rank i → Calls meld alone name (asks (get_or ranks i d).number) (get_or ranks i d) before reply new after
+    pub calls_step : (asks : ℕ → Call P) (reply : Reply P) → (traits_of (asks i)).by ≡ Rank i
+        → Calls meld alone name (asks (get_or ranks i d).number) (get_or ranks i d) before reply new after
         → StepsBy meld alone name (asks i) before ranks reply after (set ranks i new)
     calls_step asks reply by made =
         let asked = asks i in
-        let calls = subst (λ r. Calls meld alone name (asks r) (get_or ranks i d) before reply new after) (number_at name.limits.ranks ranks job.sound.numbers i d below) made in
+        let calls = subst (λ r. Calls meld alone name (asks r) (get_or ranks i d) before reply new after)
+        (number_at name.limits.ranks ranks job.sound.numbers i d below) made in
         let run = called_run meld alone name asked (get_or ranks i d) before reply new after calls in
         let begins = (call_legal meld name.limits alone before.seen after.seen (get_or ranks i d) asked reply new job.sound.legal run).0 in
         record {
-          job = job_after i d new after calls.of calls.fits (call_number meld name.limits alone before.seen after.seen (get_or ranks i d) asked reply new run) begins;
+          job = job_after i d new after calls.of calls.fits (call_number meld name.limits alone before.seen after.seen (get_or ranks i d) asked reply new run)
+              begins;
           begins = begins;
           step = λ here.
               subst (λ caller. IsStep meld (state_of name before ranks) caller asked reply (state_of name after (set ranks i new))) (sym by)
-              (subst (λ own. IsRankStep meld (state_of name before ranks) i own asked reply (state_of name after (set ranks i new))) (sym (rank_found name.limits.ranks ranks job.sound.numbers i d below))
+              (subst (λ own. IsRankStep meld (state_of name before ranks) i own asked reply (state_of name after (set ranks i new)))
+              (sym (rank_found name.limits.ranks ranks job.sound.numbers i d below))
               (step_of asked reply (called_alone meld alone name asked (get_or ranks i d) before reply new after calls here)));
         }
 
@@ -90,7 +99,8 @@ module _ {P : Type 0} (meld : P → P → P) (alone : Bool) (name : Name) (befor
     refused_step asks Twice by other ends = calls_step asks (Refused Twice) by ends
 
   -- a call of a rank that the world doesn't have
-  pub missing_step : (asked : Call P) (i : ℕ) → (traits_of asked).by ≡ Rank i → length ranks ≤ i → StepsBy meld alone name asked before ranks (Refused NoSuchRank) before ranks
+  pub missing_step : (asked : Call P) (i : ℕ) → (traits_of asked).by ≡ Rank i → length ranks ≤ i
+      → StepsBy meld alone name asked before ranks (Refused NoSuchRank) before ranks
   missing_step asked i by above =
       let count = count_is name.limits.ranks ranks job.sound.numbers in
       record {
@@ -98,11 +108,13 @@ module _ {P : Type 0} (meld : P → P → P) (alone : Bool) (name : Name) (befor
         begins = ([], append-nil before.seen);
         step = λ here.
             subst (λ caller. IsStep meld (state_of name before ranks) caller asked (Refused NoSuchRank) (state_of name before ranks)) (sym by)
-            (subst (λ own. IsRankStep meld (state_of name before ranks) i own asked (Refused NoSuchRank) (state_of name before ranks)) (sym (rank_missing name.limits.ranks ranks job.sound.numbers i (new_record name.limits 0) (omega (arith, above, count)))) (refl, refl));
+            (subst (λ own. IsRankStep meld (state_of name before ranks) i own asked (Refused NoSuchRank) (state_of name before ranks))
+            (sym (rank_missing name.limits.ranks ranks job.sound.numbers i (new_record name.limits 0) (omega (arith, above, count)))) (refl, refl));
       }
 
   -- a declaration
-  pub fails_step : (rank : ℕ) (reply : Reply P) (after : Sight P) → Fails meld alone name rank before reply after → StepsBy meld alone name (Fail rank) before ranks reply after ranks
+  pub fails_step : (rank : ℕ) (reply : Reply P) (after : Sight P) → Fails meld alone name rank before reply after
+      → StepsBy meld alone name (Fail rank) before ranks reply after ranks
   fails_step rank reply after fails =
       record {
         job = record {
@@ -110,14 +122,16 @@ module _ {P : Type 0} (meld : P → P → P) (alone : Bool) (name : Name) (befor
           sound = record {
             legal = fails.of.legal;
             numbers = job.sound.numbers;
-            fits = each_from (Fits meld name.limits before.seen) (Fits meld name.limits after.seen) (λ x was. fail_fits meld name.limits alone before.seen after.seen x rank reply fails.run was) ranks job.sound.fits;
+            fits = each_from (Fits meld name.limits before.seen) (Fits meld name.limits after.seen)
+                (λ x was. fail_fits meld name.limits alone before.seen after.seen x rank reply fails.run was) ranks job.sound.fits;
           };
         };
         begins = (fail_legal meld name.limits alone before.seen after.seen rank reply fails.run).0;
         step = λ here. by_alone alone here fails.run fails.at_end;
       }
     where
-      by_alone : (b : Bool) → IsTrue b → (run : IsFailRun meld name.limits b before.seen after.seen rank reply) → run.span.point ≡ after.seen → IsStep meld (state_of name before ranks) Outside (Fail rank) reply (state_of name after ranks)
+      by_alone : (b : Bool) → IsTrue b → (run : IsFailRun meld name.limits b before.seen after.seen rank reply) → run.span.point ≡ after.seen
+          → IsStep meld (state_of name before ranks) Outside (Fail rank) reply (state_of name after ranks)
       by_alone true here run at_end = (rank, refl, after.seen, run, at_end, refl)
       by_alone false here run at_end = absurd (cc here)
 
@@ -128,58 +142,65 @@ holds_at Q (r ∷ ranks) zero d all below = all.0
 holds_at Q (r ∷ ranks) (suc i) d all below = holds_at Q ranks i d all.1 (omega (arith, below))
 
 -- The same of ranks, each with its record and how many steps its last call made.
-module _ {P : Type 0} (meld : P → P → P) (alone : Bool) (name : Name) (before : Sight P) (ranks : List Ranked) (job : IsJob meld name before (records_of ranks)) where
-  -- there are as many records
-  same_count : length (records_of ranks) ≡ length ranks
-  same_count = length-map ranks (λ (r : Ranked). r.own)
+module _ {P : Type 0} (meld : P → P → P) (alone : Bool) (name : Name) (before : Sight P) (ranks : List Ranked) (job : IsJob meld name before (records_of ranks))
+  where
+    -- there are as many records
+    same_count : length (records_of ranks) ≡ length ranks
+    same_count = length-map ranks (λ (r : Ranked). r.own)
 
-  -- a call of a rank that the world doesn't have
-  pub ranked_missing : (asked : Call P) (i : ℕ) → (traits_of asked).by ≡ Rank i → length ranks ≤ i → StepsBy meld alone name asked before (records_of ranks) (Refused NoSuchRank) before (records_of ranks)
-  ranked_missing asked i by above = missing_step meld alone name before (records_of ranks) job asked i by (omega (arith, above, same_count))
+    -- a call of a rank that the world doesn't have
+    pub ranked_missing : (asked : Call P) (i : ℕ) → (traits_of asked).by ≡ Rank i → length ranks ≤ i
+        → StepsBy meld alone name asked before (records_of ranks) (Refused NoSuchRank) before (records_of ranks)
+    ranked_missing asked i by above = missing_step meld alone name before (records_of ranks) job asked i by (omega (arith, above, same_count))
 
-  module _ (i : ℕ) (d : Ranked) (below : i < length ranks) where
-    -- the record of the rank that stands there
-    pub ranked_own : get_or (records_of ranks) i d.own ≡ (get_or ranks i d).own
-    ranked_own = get_or-map (λ (r : Ranked). r.own) ranks i d d.own below
+    module _ (i : ℕ) (d : Ranked) (below : i < length ranks) where
+      -- the record of the rank that stands there
+      pub ranked_own : get_or (records_of ranks) i d.own ≡ (get_or ranks i d).own
+      ranked_own = get_or-map (λ (r : Ranked). r.own) ranks i d d.own below
 
-    pub ranked_below : i < length (records_of ranks)
-    ranked_below = omega (arith, below, same_count)
+      pub ranked_below : i < length (records_of ranks)
+      ranked_below = omega (arith, below, same_count)
 
-    -- it fits what was seen
-    pub ranked_fits : Fits meld name.limits before.seen (get_or ranks i d).own
-    ranked_fits = holds_at (Fits meld name.limits before.seen) ranks i d job.sound.fits below
+      -- it fits what was seen
+      pub ranked_fits : Fits meld name.limits before.seen (get_or ranks i d).own
+      ranked_fits = holds_at (Fits meld name.limits before.seen) ranks i d job.sound.fits below
 
-    -- it has the number of its place
-    pub ranked_number : (get_or ranks i d).own.number ≡ i
-    ranked_number = ap (λ (w : Record). w.number) (sym ranked_own) ∙ number_at name.limits.ranks (records_of ranks) job.sound.numbers i d.own ranked_below
+      -- it has the number of its place
+      pub ranked_number : (get_or ranks i d).own.number ≡ i
+      ranked_number = ap (λ (w : Record). w.number) (sym ranked_own) ∙ number_at name.limits.ranks (records_of ranks) job.sound.numbers i d.own ranked_below
 
-    module _ (new : Ranked) (after : Sight P) where
-      ranked_set : set (records_of ranks) i new.own ≡ records_of (set ranks i new)
-      ranked_set = sym (map-set (λ (r : Ranked). r.own) ranks i new)
+      module _ (new : Ranked) (after : Sight P) where
+        ranked_set : set (records_of ranks) i new.own ≡ records_of (set ranks i new)
+        ranked_set = sym (map-set (λ (r : Ranked). r.own) ranks i new)
 
-      -- a call of it
-      pub ranked_step : (asks : ℕ → Call P) (reply : Reply P) → (traits_of (asks i)).by ≡ Rank i → Calls meld alone name (asks (get_or ranks i d).own.number) (get_or ranks i d).own before reply new.own after
-          → StepsBy meld alone name (asks i) before (records_of ranks) reply after (records_of (set ranks i new))
-      ranked_step asks reply by made =
-          subst (StepsBy meld alone name (asks i) before (records_of ranks) reply after) ranked_set
-          (calls_step meld alone name before (records_of ranks) job i d.own ranked_below new.own after asks reply by
-          (subst (λ (own : Record). Calls meld alone name (asks own.number) own before reply new.own after) (sym ranked_own) made))
+        -- a call of it
+        pub ranked_step : (asks : ℕ → Call P) (reply : Reply P) → (traits_of (asks i)).by ≡ Rank i
+            → Calls meld alone name (asks (get_or ranks i d).own.number) (get_or ranks i d).own before reply new.own after
+            → StepsBy meld alone name (asks i) before (records_of ranks) reply after (records_of (set ranks i new))
+        ranked_step asks reply by made =
+            subst (StepsBy meld alone name (asks i) before (records_of ranks) reply after) ranked_set
+            (calls_step meld alone name before (records_of ranks) job i d.own ranked_below new.own after asks reply by
+            (subst (λ (own : Record). Calls meld alone name (asks own.number) own before reply new.own after) (sym ranked_own) made))
 
-      -- a call of it that ran out of memory
-      pub ranked_begins : (asked : Call P) → RunsOut meld alone name asked (get_or ranks i d).own before new.own after → IsPrefix before.seen after.seen
-      ranked_begins asked out =
-          out_begins meld alone name before (records_of ranks) job i d.own ranked_below new.own after asked (subst (λ (own : Record). RunsOut meld alone name asked own before new.own after) (sym ranked_own) out)
+        -- a call of it that ran out of memory
+        pub ranked_begins : (asked : Call P) → RunsOut meld alone name asked (get_or ranks i d).own before new.own after → IsPrefix before.seen after.seen
+        ranked_begins asked out =
+            out_begins meld alone name before (records_of ranks) job i d.own ranked_below new.own after asked
+            (subst (λ (own : Record). RunsOut meld alone name asked own before new.own after) (sym ranked_own) out)
 
-      pub ranked_job : (asked : Call P) → RunsOut meld alone name asked (get_or ranks i d).own before new.own after → IsJob meld name after (records_of (set ranks i new))
-      ranked_job asked out =
-          subst (IsJob meld name after) ranked_set
-          (out_job meld alone name before (records_of ranks) job i d.own ranked_below new.own after asked (subst (λ (own : Record). RunsOut meld alone name asked own before new.own after) (sym ranked_own) out))
+        pub ranked_job : (asked : Call P) → RunsOut meld alone name asked (get_or ranks i d).own before new.own after
+            → IsJob meld name after (records_of (set ranks i new))
+        ranked_job asked out =
+            subst (IsJob meld name after) ranked_set
+            (out_job meld alone name before (records_of ranks) job i d.own ranked_below new.own after asked
+            (subst (λ (own : Record). RunsOut meld alone name asked own before new.own after) (sym ranked_own) out))
 
-      -- a call of it that is refused for any other reason
-      pub ranked_refused : (asks : ℕ → Call P) (refusal : Refusal) → (traits_of (asks i)).by ≡ Rank i → (refusal ≡ OutOfMemory → ⊥)
-          → EndsBy meld alone name (asks (get_or ranks i d).own.number) (get_or ranks i d).own before refusal (is_out_of_memory refusal) new.own after
-          → StepsBy meld alone name (asks i) before (records_of ranks) (Refused refusal) after (records_of (set ranks i new))
-      ranked_refused asks refusal by other ends =
-          subst (StepsBy meld alone name (asks i) before (records_of ranks) (Refused refusal) after) ranked_set
-          (refused_step meld alone name before (records_of ranks) job i d.own ranked_below new.own after asks refusal by other
-          (subst (λ (own : Record). EndsBy meld alone name (asks own.number) own before refusal (is_out_of_memory refusal) new.own after) (sym ranked_own) ends))
+        -- a call of it that is refused for any other reason
+        pub ranked_refused : (asks : ℕ → Call P) (refusal : Refusal) → (traits_of (asks i)).by ≡ Rank i → (refusal ≡ OutOfMemory → ⊥)
+            → EndsBy meld alone name (asks (get_or ranks i d).own.number) (get_or ranks i d).own before refusal (is_out_of_memory refusal) new.own after
+            → StepsBy meld alone name (asks i) before (records_of ranks) (Refused refusal) after (records_of (set ranks i new))
+        ranked_refused asks refusal by other ends =
+            subst (StepsBy meld alone name (asks i) before (records_of ranks) (Refused refusal) after) ranked_set
+            (refused_step meld alone name before (records_of ranks) job i d.own ranked_below new.own after asks refusal by other
+            (subst (λ (own : Record). EndsBy meld alone name (asks own.number) own before refusal (is_out_of_memory refusal) new.own after)
+            (sym ranked_own) ends))

@@ -1,19 +1,26 @@
 -- What a call knows of its round's blocks, as it goes on.
-use Rattle.std.proofs.Common.{◌≡◌, ◌⊎◌, inl, inr, ℕ, ◌<◌, ◌≤◌, Bool, true, false, List, [], length, Option, Some, None, IsTrue, is_some, refl, ap, sym, ◌∙◌, subst, append-nil, arith}
+use Rattle.std.proofs.Common.{◌≡◌, ◌⊎◌, inl, inr, ℕ, ◌<◌, ◌≤◌, Bool, true, false, List, [], length, Option, Some, None, IsTrue, is_some, refl, ap, sym, ◌∙◌}
+use Rattle.std.proofs.Common.{subst, append-nil, arith}
 use Rattle.std.specs.Prelude.{Result, Ok, Err}
 use Rattle.std.proofs.lemmas.Bool.{false≢true}
 use mathlib.Core.List.{IsPrefix}
 use Rattle.ulfm_model.specs.declared.call.Call.TheVariants as call
-use Rattle.ulfm_model.specs.declared.{block.Block.{Block}, block.Side.{Side}, block.Side.TheVariants.{Front, Back}, call.Call.{Call}, call.Request.{Request}, call.Request.TheVariants.{Agree, Shrink}, contribution.Slot.{Slot}, contribution.Slot.TheVariants.{Given, Mark}}
-use Rattle.ulfm_model.specs.declared.{refusal.Refusal.{Refusal}, refusal.Refusal.TheVariants.{OutOfMemory}, reply.Reply.{Reply}, reply.Reply.TheVariants.{Refused, Started}}
-use Rattle.ulfm_model.specs.{Answers.{first_refusal, polled_by}, Blocks.{IsSide, has_block}, Records.{Held, Record, held_at, is_shrink}, Terms.{comm_of, request_of, tests_of}}
+use Rattle.ulfm_model.specs.declared.{block.Block.{Block}, block.Side.{Side}, block.Side.TheVariants.{Front, Back}, call.Call.{Call}, call.Request.{Request}}
+use Rattle.ulfm_model.specs.declared.{call.Request.TheVariants.{Agree, Shrink}, contribution.Slot.{Slot}, contribution.Slot.TheVariants.{Given, Mark}}
+use Rattle.ulfm_model.specs.declared.{refusal.Refusal.{Refusal}, refusal.Refusal.TheVariants.{OutOfMemory}, reply.Reply.{Reply}}
+use Rattle.ulfm_model.specs.declared.reply.Reply.TheVariants.{Refused, Started}
+use Rattle.ulfm_model.specs.{Answers.{first_refusal, polled_by}, Blocks.{IsSide, has_block}, Records.{Held, Record, held_at, is_shrink}}
+use Rattle.ulfm_model.specs.Terms.{comm_of, request_of, tests_of}
 use Rattle.ulfm_model.proofs.{Blocks.{has_block_stays}, Lists.{prefix_trans}}
 use Rattle.ulfm_words.specs.Steps.{Name, Sight}
 use Rattle.ulfm_steps.specs.{Blocks.{AllSet, AreSet, block_at}, declared.blocks.RoundBlocks.{RoundBlocks}}
-use Rattle.ulfm_comm.specs.{Calls.{EndsAs, EndsReply, HasReplied, RepliedAs, is_out_of_memory, reply_of, wants_memory}, Exchange.{start_result}, Known.{KnowsIn, KnowsNext}, Phase.{GoesOn, IsMaking, IsPast, LeadsTo, NextBelow, is_looking}}
-use Rattle.ulfm_comm.specs.{Requests.{BlocksStand, LeavesSet, agreement, is_agreement, is_of_round, is_round_refusal, may_cache}, Revokes.{revoked}, Step.{HasReadOn, StepSees}}
+use Rattle.ulfm_comm.specs.{Calls.{EndsAs, EndsReply, HasReplied, RepliedAs, is_out_of_memory, reply_of, wants_memory}, Exchange.{start_result}}
+use Rattle.ulfm_comm.specs.{Known.{KnowsIn, KnowsNext}, Phase.{GoesOn, IsMaking, IsPast, LeadsTo, NextBelow, is_looking}}
+use Rattle.ulfm_comm.specs.{Requests.{BlocksStand, LeavesSet, agreement, is_agreement, is_of_round, is_round_refusal, may_cache}, Revokes.{revoked}}
+use Rattle.ulfm_comm.specs.Step.{HasReadOn, StepSees}
 use Rattle.ulfm_comm.specs.declared.{phases.phase.Next.{Next}, phases.phase.Next.TheVariants.{Goes, Ends}, phases.phase.Phase.{Phase}}
-use Rattle.ulfm_comm.specs.declared.phases.phase.Phase.TheVariants.{Over, Begun, Looking, Settling, Arriving, Revoking, Asking, Peeking, Marking, Reading, ReadingOn, Spawning, Waiting, Checking}
+use Rattle.ulfm_comm.specs.declared.phases.phase.Phase.TheVariants.{Over, Begun, Looking, Settling, Arriving, Revoking, Asking, Peeking, Marking, Reading}
+use Rattle.ulfm_comm.specs.declared.phases.phase.Phase.TheVariants.{ReadingOn, Spawning, Waiting, Checking}
 use Rattle.ulfm_comm.proofs.Look.{idle_poll}
 
 -- two requests of agreement rounds are of one round
@@ -24,26 +31,31 @@ one_round false true j k is = absurd (cc is)
 one_round true false j k is = absurd (cc is)
 
 -- what a record holds that has seen more is as it was, and blocks that are set stay so
-pub blocks_of : {P : Type 0} (own new : Record) (asked : Call P) (cached longer : List Block) → ((c : ℕ) → held_at new c ≡ held_at own c) → IsPrefix cached longer → BlocksStand own asked cached → BlocksStand new asked longer
+pub blocks_of : {P : Type 0} (own new : Record) (asked : Call P) (cached longer : List Block) → ((c : ℕ) → held_at new c ≡ held_at own c)
+    → IsPrefix cached longer → BlocksStand own asked cached → BlocksStand new asked longer
 blocks_of own new (call.Fail rank) cached longer same begins stand = tt
 blocks_of own new (call.GetFailed rank c) cached longer same begins stand = tt
 blocks_of own new (call.Ack rank c count) cached longer same begins stand = tt
 blocks_of own new (call.Agree rank c value) cached longer same begins stand = tt
 blocks_of own new (call.Shrink rank c) cached longer same begins stand = tt
 blocks_of own new (call.Barrier rank c) cached longer same begins stand = tt
-blocks_of own new (call.Poll rank c) cached longer same begins stand = λ x shrinks k held open_is side is. has_block_stays cached longer (block_at c k side) begins (stand x shrinks k (sym (same c) ∙ held) open_is side is)
+blocks_of own new (call.Poll rank c) cached longer same begins stand = λ x shrinks k held open_is side is. has_block_stays cached longer
+    (block_at c k side) begins (stand x shrinks k (sym (same c) ∙ held) open_is side is)
 blocks_of own new (call.Revoke rank c) cached longer same begins stand = tt
 blocks_of own new (call.IsRevoked rank c) cached longer same begins stand = tt
 blocks_of own new (call.Free rank c) cached longer same begins stand = tt
 
-pub blocks_later : {P : Type 0} (own : Record) (asked : Call P) (cached longer : List Block) → IsPrefix cached longer → BlocksStand own asked cached → BlocksStand own asked longer
+pub blocks_later : {P : Type 0} (own : Record) (asked : Call P) (cached longer : List Block) → IsPrefix cached longer → BlocksStand own asked cached
+    → BlocksStand own asked longer
 blocks_later own asked cached longer begins stand = blocks_of own own asked cached longer (λ c. refl) begins stand
 
 -- a poll that knows all blocks of its round to be set
-pub round_known : {P : Type 0} (own : Record) (asked : Call P) (rank : ℕ) → asked ≡ call.Poll rank (comm_of asked) → (x : Held) → held_at own (comm_of asked) ≡ Some x → (shrinks : Bool) (k : ℕ) → x.request ≡ Some (agreement shrinks k)
+pub round_known : {P : Type 0} (own : Record) (asked : Call P) (rank : ℕ) → asked ≡ call.Poll rank (comm_of asked) → (x : Held)
+    → held_at own (comm_of asked) ≡ Some x → (shrinks : Bool) (k : ℕ) → x.request ≡ Some (agreement shrinks k)
     → (c : ℕ) → c ≡ comm_of asked → (members : List ℕ) → members ≡ x.group → (cached : List Block) → AllSet cached c k members → BlocksStand own asked cached
 round_known {P} own asked rank polls x held shrinks k open_is c there members members_are cached all =
-    let here : AllSet cached (comm_of asked) k x.group = subst (λ ms. AllSet cached (comm_of asked) k ms) members_are (subst (λ j. AllSet cached j k members) there all) in
+    let here : AllSet cached (comm_of asked) k x.group = subst (λ ms. AllSet cached (comm_of asked) k ms) members_are
+        (subst (λ j. AllSet cached j k members) there all) in
     subst (λ (a : Call P). BlocksStand own a cached) (sym polls)
     (λ y other j held' open'.
     let both : Some x ≡ Some y = sym held ∙ held' in
@@ -53,7 +65,8 @@ round_known {P} own asked rank polls x held shrinks k open_is c there members me
     subst (λ (z : Held). AllSet cached (comm_of asked) j z.group) same (subst (λ i. AllSet cached (comm_of asked) i x.group) round here))
 
 -- the poll of an open agree or shrink may cache blocks
-pub agreement_caches : {P : Type 0} (own : Record) (asked : Call P) (rank : ℕ) → asked ≡ call.Poll rank (comm_of asked) → (x : Held) → held_at own (comm_of asked) ≡ Some x → (shrinks : Bool) (k : ℕ) → x.request ≡ Some (agreement shrinks k)
+pub agreement_caches : {P : Type 0} (own : Record) (asked : Call P) (rank : ℕ) → asked ≡ call.Poll rank (comm_of asked) → (x : Held)
+    → held_at own (comm_of asked) ≡ Some x → (shrinks : Bool) (k : ℕ) → x.request ≡ Some (agreement shrinks k)
     → may_cache own asked ≡ true
 agreement_caches own asked rank polls x held shrinks k open_is =
     ap (may_cache own) polls ∙ (ap (λ h. is_agreement (request_of h)) held ∙ (ap is_agreement open_is ∙ by_kind shrinks))
@@ -63,7 +76,8 @@ agreement_caches own asked rank polls x held shrinks k open_is =
     by_kind true = refl
 
 -- once a poll knows its round's decision, all that it knows is of blocks that are set
-pub known_next : {P : Type 0} (own : Record) (asked : Call P) (cached : List Block) (next : Next P) → NextBelow 5 next → BlocksStand own asked cached → KnowsNext own asked cached next
+pub known_next : {P : Type 0} (own : Record) (asked : Call P) (cached : List Block) (next : Next P) → NextBelow 5 next → BlocksStand own asked cached
+    → KnowsNext own asked cached next
 known_next own asked cached (Ends reply) below stand = λ of. stand
 known_next own asked cached (Goes Over) below stand = tt
 known_next own asked cached (Goes Begun) below stand = tt
@@ -80,7 +94,8 @@ known_next own asked cached (Goes (Spawning append context reach)) below stand =
 known_next own asked cached (Goes (Waiting arrivals)) below stand = tt
 known_next own asked cached (Goes (Checking missing)) below stand = tt
 
-pub known_making : {P : Type 0} (own : Record) (asked : Call P) (cached : List Block) (next : Next P) → IsMaking next → BlocksStand own asked cached → KnowsNext own asked cached next
+pub known_making : {P : Type 0} (own : Record) (asked : Call P) (cached : List Block) (next : Next P) → IsMaking next → BlocksStand own asked cached
+    → KnowsNext own asked cached next
 known_making own asked cached (Ends reply) making stand = λ of. stand
 known_making own asked cached (Goes Over) making stand = tt
 known_making own asked cached (Goes Begun) making stand = tt
@@ -112,12 +127,14 @@ module _ {P : Type 0} (own new : Record) (asked : Call P) (cached : List Block) 
   next_same (Ends reply) known = λ of. blocks_same (known of)
 
 -- nothing is known of blocks yet
-pub knows_none : {P : Type 0} (cached : List Block) (c k : ℕ) (blocks : RoundBlocks P) → (is_some blocks.front ≡ false) × (is_some blocks.back ≡ false) → AreSet cached c k blocks
+pub knows_none : {P : Type 0} (cached : List Block) (c k : ℕ) (blocks : RoundBlocks P) → (is_some blocks.front ≡ false) × (is_some blocks.back ≡ false)
+    → AreSet cached c k blocks
 knows_none cached c k blocks none Front some = absurd (false≢true (sym none.0 ∙ some))
 knows_none cached c k blocks none Back some = absurd (false≢true (sym none.1 ∙ some))
 
 -- a poll that its record refuses has no round
-pub refused_stand : {P : Type 0} (own : Record) (x : Held) (asked : Call P) (refusal : Refusal) (cached : List Block) → held_at own (comm_of asked) ≡ Some x → first_refusal (tests_of own x asked) ≡ Some refusal → BlocksStand own asked cached
+pub refused_stand : {P : Type 0} (own : Record) (x : Held) (asked : Call P) (refusal : Refusal) (cached : List Block) → held_at own (comm_of asked) ≡ Some x
+    → first_refusal (tests_of own x asked) ≡ Some refusal → BlocksStand own asked cached
 refused_stand {P} own x (call.Poll rank c) refusal cached held is = λ y shrinks k held' open_is.
     let none = idle_poll {P = P} own x (call.Poll rank c) refusal refl is in
     let both : Some x ≡ Some y = sym held ∙ held' in
@@ -178,17 +195,21 @@ reads_on _ = false
 -- what has been seen behind the look, a step later
 module _ {P : Type 0} (own : Record) (asked : Call P) (cached longer : List Block) (begins : IsPrefix cached longer) (start mid new : List ℕ) where
   still_read_on : HasReadOn own asked start mid cached → new ≡ mid → HasReadOn own asked start new longer
-  still_read_on read same = record { shrinks = read.shrinks; goes_on = subst (IsPrefix start) (sym same) read.goes_on; known = blocks_later own asked cached longer begins read.known }
+  still_read_on read same = record {
+      shrinks = read.shrinks; goes_on = subst (IsPrefix start) (sym same) read.goes_on; known = blocks_later own asked cached longer begins read.known;
+    }
 
   sees_still : (mid ≡ start) ⊎ HasReadOn own asked start mid cached → new ≡ mid → (new ≡ start) ⊎ HasReadOn own asked start new longer
   sees_still (inl none) same = inl (same ∙ none)
   sees_still (inr read) same = inr (still_read_on read same)
 
-  sees_more : (mid ≡ start) ⊎ HasReadOn own asked start mid cached → IsTrue (is_shrink (polled_by own asked)) → IsPrefix mid new → BlocksStand own asked longer → (new ≡ start) ⊎ HasReadOn own asked start new longer
+  sees_more : (mid ≡ start) ⊎ HasReadOn own asked start mid cached → IsTrue (is_shrink (polled_by own asked)) → IsPrefix mid new → BlocksStand own asked longer
+      → (new ≡ start) ⊎ HasReadOn own asked start new longer
   sees_more (inl none) shrinks more known = inr (record { shrinks = shrinks; goes_on = subst (λ xs. IsPrefix xs new) none more; known = known })
   sees_more (inr read) shrinks more known = inr (record { shrinks = shrinks; goes_on = prefix_trans start mid new read.goes_on more; known = known })
 
-  pub sees_next : (phase : Phase P) → is_looking phase ≡ false → StepSees phase mid new → (reads_on phase ≡ true → IsTrue (is_shrink (polled_by own asked))) → KnowsIn own asked cached phase
+  pub sees_next : (phase : Phase P) → is_looking phase ≡ false → StepSees phase mid new → (reads_on phase ≡ true → IsTrue (is_shrink (polled_by own asked)))
+      → KnowsIn own asked cached phase
       → (mid ≡ start) ⊎ HasReadOn own asked start mid cached → (new ≡ start) ⊎ HasReadOn own asked start new longer
   sees_next Begun past sees shrinks known was = absurd (cc past)
   sees_next Looking past sees shrinks known was = absurd (cc past)
@@ -205,11 +226,19 @@ memory_of_round (Refused refusal) wants = go refusal wants
 memory_of_round _ wants = absurd (cc wants)
 
 -- a whole call, by what it comes to
-module _ {P : Type 0} (meld : P → P → P) (alone : Bool) (name : Name) (asked : Call P) (old : Record) (before : Sight P) (reply : Reply P) (new : Record) (after : Sight P) where
-  pub whole_ends : HasReplied meld alone name asked old before reply new after → IsPrefix before.cached after.cached → (may_cache old asked ≡ false → after.caches ≡ before.caches) → LeavesSet old asked reply after.cached
+module _ {P : Type 0} (meld : P → P → P) (alone : Bool) (name : Name) (asked : Call P) (old : Record) (before : Sight P) (reply : Reply P) (new : Record)
+    (after : Sight P) where
+  pub whole_ends : HasReplied meld alone name asked old before reply new after → IsPrefix before.cached after.cached
+      → (may_cache old asked ≡ false → after.caches ≡ before.caches) → LeavesSet old asked reply after.cached
       → EndsReply meld alone name asked old before reply new after
   whole_ends replied begins caches knows = go (wants_memory reply) refl replied
     where
-      go : (b : Bool) → wants_memory reply ≡ b → RepliedAs meld alone name asked old before reply b new after → EndsAs meld alone name asked old before reply b new after
-      go true wants ended = (record { of = ended.0.of; onward = ended.0.onward; fits = ended.0.fits; run_out = ended.0.run_out; cached = begins; caches = caches; knows = knows (memory_of_round reply wants) }, ended.1)
-      go false wants ended = record { of = ended.of; onward = ended.onward; fits = ended.fits; ends = ended.ends; cached = begins; caches = caches; knows = knows }
+      go : (b : Bool) → wants_memory reply ≡ b → RepliedAs meld alone name asked old before reply b new after
+          → EndsAs meld alone name asked old before reply b new after
+      go true wants ended = (record {
+      of = ended.0.of; onward = ended.0.onward; fits = ended.0.fits; run_out = ended.0.run_out; cached = begins; caches = caches; knows = knows
+          (memory_of_round reply wants);
+    }, ended.1)
+      go false wants ended = record {
+      of = ended.of; onward = ended.onward; fits = ended.fits; ends = ended.ends; cached = begins; caches = caches; knows = knows;
+    }

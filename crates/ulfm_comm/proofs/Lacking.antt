@@ -12,7 +12,8 @@ use Rattle.ulfm_comm.specs.{Counts.{Ranked, records_of}, Jobs.{IsJob, IsOther, K
 use Rattle.ulfm_comm.proofs.{InOrder.{rank_found}, Jobs.{ranked_below, ranked_own}}
 
 -- a rank of which only what was seen is new
-pub keeps_set : (ranks : List Ranked) (i : ℕ) (d new : Ranked) → new.own ≡ record (get_or ranks i d).own { seen = new.own.seen } → KeepsRecords (records_of ranks) (records_of (set ranks i new))
+pub keeps_set : (ranks : List Ranked) (i : ℕ) (d new : Ranked) → new.own ≡ record (get_or ranks i d).own { seen = new.own.seen }
+    → KeepsRecords (records_of ranks) (records_of (set ranks i new))
 keeps_set ranks i d new is =
     let own : Ranked → Record = λ r. r.own in
     map-map unseen own (set ranks i new) ∙ (map-set_same (λ (r : Ranked). unseen r.own) ranks i new d (ap unseen is) ∙ sym (map-map unseen own ranks))
@@ -22,27 +23,35 @@ pub keeps_same : (ranks : List Ranked) (i : ℕ) (d : Ranked) → KeepsRecords (
 keeps_same ranks i d = keeps_set ranks i d (get_or ranks i d) refl
 
 -- the elements that the call was given are the vector's, and those that it left fill the vector
-pub applied_keeps : {P Z : Type 0} (name : Name) (before : Sight P) (old : State P) (v : Vec Ranked Z) (given new : List Ranked) → given ≡ v.items → length new ≡ v.len → state_of name before (records_of v.items) ≡ old
+pub applied_keeps : {P Z : Type 0} (name : Name) (before : Sight P) (old : State P) (v : Vec Ranked Z) (given new : List Ranked) → given ≡ v.items
+    → length new ≡ v.len → state_of name before (records_of v.items) ≡ old
     → KeepsRecords (records_of given) (records_of new) → KeepsRecords old.records (records_of (with_items v new).items)
 applied_keeps name before old v given new same fills was keeps =
     subst (λ (s : State _). KeepsRecords s.records (records_of (with_items v new).items)) was
     (subst (λ rs. KeepsRecords (records_of v.items) (records_of rs)) (sym (with_items_is v new fills))
     (subst (λ rs. KeepsRecords (records_of rs) (records_of new)) same keeps))
 
-pub applied_polls : {P Z : Type 0} (name : Name) (before : Sight P) (old : State P) (v : Vec Ranked Z) (given : List Ranked) → given ≡ v.items → state_of name before (records_of v.items) ≡ old → (rank : ℕ) (asked : Call P)
+pub applied_polls : {P Z : Type 0} (name : Name) (before : Sight P) (old : State P) (v : Vec Ranked Z) (given : List Ranked) → given ≡ v.items
+    → state_of name before (records_of v.items) ≡ old → (rank : ℕ) (asked : Call P)
     → PollsShrink (records_of given) rank asked → PollsShrink old.records rank asked
 applied_polls name before old v given same was rank asked polls =
     subst (λ (s : State _). PollsShrink s.records rank asked) was (subst (λ rs. PollsShrink (records_of rs) rank asked) same polls)
 
 -- the record of the rank that polls a shrink is found by its number
-pub polls_shrink : {P : Type 0} (meld : P → P → P) (alone : Bool) (name : Name) (before : Sight P) (ranks : List Ranked) (job : IsJob meld name before (records_of ranks)) (asked : Call P) (i : ℕ) (d : Ranked) → i ≡ rank_of asked → i < length ranks
+pub polls_shrink : {P : Type 0} (meld : P → P → P) (alone : Bool) (name : Name) (before : Sight P) (ranks : List Ranked)
+    (job : IsJob meld name before (records_of ranks)) (asked : Call P) (i : ℕ) (d : Ranked) → i ≡ rank_of asked → i < length ranks
     → IsTrue (is_shrink (polled_by (get_or ranks i d).own asked)) → PollsShrink (records_of ranks) (rank_of asked) asked
 polls_shrink meld alone name before ranks job asked i d is below shrinks =
     let found = rank_found name.limits.ranks (records_of ranks) job.sound.numbers i d.own (ranked_below meld alone name before ranks job i d below) in
-    subst (λ r. PollsShrink (records_of ranks) r asked) is ((get_or ranks i d).own, found ∙ ap Some (ranked_own meld alone name before ranks job i d below), shrinks)
+    subst (λ r. PollsShrink (records_of ranks) r asked) is (
+      (get_or ranks i d).own,
+      found ∙ ap Some (ranked_own meld alone name before ranks job i d below),
+      shrinks,
+    )
 
 -- only a poll lacks memory, if no query of the failed group does
-pub lacks_poll : {P : Type 0} (capacity : ℕ) (old new : State P) (asked : Call P) → IsOther asked → PollsShrink old.records (rank_of asked) asked → MayLack capacity old asked new
+pub lacks_poll : {P : Type 0} (capacity : ℕ) (old new : State P) (asked : Call P) → IsOther asked → PollsShrink old.records (rank_of asked) asked
+    → MayLack capacity old asked new
 lacks_poll capacity old new (call.Fail rank) other polls = absurd other
 lacks_poll capacity old new (call.GetFailed rank c) other polls = absurd other
 lacks_poll capacity old new (call.Ack rank c count) other polls = absurd (cc (polls.2))

@@ -10,7 +10,8 @@ use Rattle.ulfm_steps.specs.ReadsOn.{ReadsOn}
 
 -- a beginning of a list is its first elements, so many
 first_ones : {X : Type 0} (a whole : List X) (n : ℕ) → IsPrefix a whole → length a ≡ n → take n whole ≡ a
-first_ones a whole n begins counted = ap (λ m. take m whole) (sym counted) ∙ (ap (take (length a)) (sym begins.1) ∙ (take-append-le (length a) a begins.0 (omega arith) ∙ take-length a))
+first_ones a whole n begins counted = ap (λ m. take m whole) (sym counted) ∙ (ap (take (length a)) (sym begins.1) ∙
+    (take-append-le (length a) a begins.0 (omega arith) ∙ take-length a))
 
 take_prefix : {X : Type 0} (n : ℕ) (xs : List X) → IsPrefix (take n xs) xs
 take_prefix n xs = (drop n xs, take-append-drop n xs)
@@ -20,7 +21,8 @@ pub filter_begins : (p : ℕ → Bool) (a b : List ℕ) → IsPrefix a b → IsP
 filter_begins p a b begins = (filter p begins.0, sym (filter-append p a begins.0) ∙ ap (filter p) begins.1)
 
 -- those of a group that are among the failures that reach so far are its first failures, so many
-pub reached_first : (group : List ℕ) (count : ℕ) (old new whole : List ℕ) (reach : ℕ) → ReadsOn group count old new whole reach → take count (filter (has group) whole) ≡ filter (has group) (take reach new)
+pub reached_first : (group : List ℕ) (count : ℕ) (old new whole : List ℕ) (reach : ℕ) → ReadsOn group count old new whole reach
+    → take count (filter (has group) whole) ≡ filter (has group) (take reach new)
 reached_first group count old new whole reach reads =
     first_ones (filter (has group) (take reach new)) (filter (has group) whole) count
     (filter_begins (has group) (take reach new) whole (prefix_trans (take reach new) new whole (take_prefix reach new) reads.begins)) reads.counted
@@ -29,7 +31,8 @@ reached_first group count old new whole reach reads =
 pub without_among : (group others : List ℕ) → without group (filter (has group) others) ≡ without group others
 without_among group others =
     filter_same (λ r. not (has others r)) (λ r. not (has (filter (has group) others) r)) group
-    (each_from (λ r. has group r ≡ true) (λ r. not (has (filter (has group) others) r) ≡ not (has others r)) (λ r member. ap not (among r member (has others r) refl)) group (all_has group))
+    (each_from (λ r. has group r ≡ true) (λ r. not (has (filter (has group) others) r) ≡ not (has others r))
+    (λ r member. ap not (among r member (has others r) refl)) group (all_has group))
   where
     among : (r : ℕ) → has group r ≡ true → (b : Bool) → has others r ≡ b → has (filter (has group) others) r ≡ has others r
     among r member true is = has_kept (has group) others r is member ∙ sym is

@@ -1,10 +1,15 @@
 -- What comes after the look of a call.
-use Rattle.std.proofs.Common.{◌≡◌, ℕ, ◌-◌, ◌<◌, ◌≤◌, ◌==◌, Bool, true, false, not, List, [], ◌∷◌, length, filter, take, drop, max, min, Option, Some, None, is_some, refl, ap, ap₂, sym, ◌∙◌, subst, arith, inr, IsTrue, if◌then◌else◌}
+use Rattle.std.proofs.Common.{◌≡◌, ℕ, ◌-◌, ◌<◌, ◌≤◌, ◌==◌, Bool, true, false, not, List, [], ◌∷◌, length, filter, take, drop, max, min, Option, Some, None}
+use Rattle.std.proofs.Common.{is_some, refl, ap, ap₂, sym, ◌∙◌, subst, arith, inr, IsTrue, if◌then◌else◌}
 use Rattle.std.specs.List.{AllByRecursion}
 use Rattle.ulfm_laws.specs.declared.ctx_mask.CtxMask.{CtxMask}
 use Rattle.ulfm_model.specs.declared.call.Call.TheVariants as call
-use Rattle.ulfm_model.specs.declared.{call.Call.{Call}, call.Request.{Request}, call.Request.TheVariants.{Agree, Shrink}, contribution.Offer.{Offer}, contribution.Offer.TheVariants.{Flag, Ctx}, event.Caller.TheVariants.{Rank}, refusal.Refusal.{Refusal}, refusal.Refusal.TheVariants.{Idle, NoSuchComm, SelfFailed}, reply.Reply.{Reply}, reply.Reply.TheVariants.{Acked, FailedGroup, Freed, Pending, Refused}}
-use Rattle.ulfm_model.specs.{Answers.{Effect, first_refusal, printed, left_with, traits_of}, Answers.Effect.{Keeps}, History.{failures, has}, Records.{Fits, Held, Record, free_ids, held_at, with_held}, Runs.{Did}}
+use Rattle.ulfm_model.specs.declared.{call.Call.{Call}, call.Request.{Request}, call.Request.TheVariants.{Agree, Shrink}, contribution.Offer.{Offer}}
+use Rattle.ulfm_model.specs.declared.{contribution.Offer.TheVariants.{Flag, Ctx}, event.Caller.TheVariants.{Rank}, refusal.Refusal.{Refusal}}
+use Rattle.ulfm_model.specs.declared.{refusal.Refusal.TheVariants.{Idle, NoSuchComm, SelfFailed}, reply.Reply.{Reply}}
+use Rattle.ulfm_model.specs.declared.reply.Reply.TheVariants.{Acked, FailedGroup, Freed, Pending, Refused}
+use Rattle.ulfm_model.specs.{Answers.{Effect, first_refusal, printed, left_with, traits_of}, Answers.Effect.{Keeps}, History.{failures, has}}
+use Rattle.ulfm_model.specs.{Records.{Fits, Held, Record, free_ids, held_at, with_held}, Runs.{Did}}
 use Rattle.ulfm_model.specs.Terms.{comm_of, request_of, tests_of}
 use Rattle.ulfm_words.specs.Steps.{IsOf, Name, Sight}
 use Rattle.ulfm_words.proofs.{Ranks.{failures_le, full_has}, Trails.{did_none, did_prefix}}
@@ -35,9 +40,11 @@ mild_tests own x (call.Revoke rank c) = tt
 mild_tests own x (call.IsRevoked rank c) = tt
 mild_tests own x (call.Free rank c) = ((refl, refl), ((refl, refl), tt))
 
-mild_first : (tests : List (Bool × Refusal)) (refusal : Refusal) → AllByRecursion IsMild tests → first_refusal tests ≡ Some refusal → ((printed refusal).2 ≡ Keeps) × (is_out_of_memory refusal ≡ false)
+mild_first : (tests : List (Bool × Refusal)) (refusal : Refusal) → AllByRecursion IsMild tests → first_refusal tests ≡ Some refusal
+    → ((printed refusal).2 ≡ Keeps) × (is_out_of_memory refusal ≡ false)
 mild_first [] refusal all is = absurd (cc is)
-mild_first ((true, first) ∷ tests) refusal all is = let same : first ≡ refusal = cc is in subst (λ r. ((printed r).2 ≡ Keeps) × (is_out_of_memory r ≡ false)) same all.0
+mild_first ((true, first) ∷ tests) refusal all is = let same : first ≡ refusal = cc is in subst (λ r. ((printed r).2 ≡ Keeps) × (is_out_of_memory r ≡ false))
+    same all.0
 mild_first ((false, first) ∷ tests) refusal all is = mild_first tests refusal all.1 is
 
 -- the tests don't read what was seen
@@ -54,7 +61,8 @@ tests_same own seen x (call.IsRevoked rank c) = refl
 tests_same own seen x (call.Free rank c) = refl
 
 -- a poll that is refused has no request
-pub idle_poll : {P : Type 0} (own : Record) (x : Held) (asked : Call P) (refusal : Refusal) → (traits_of asked).polls ≡ true → first_refusal (tests_of own x asked) ≡ Some refusal → x.request ≡ None
+pub idle_poll : {P : Type 0} (own : Record) (x : Held) (asked : Call P) (refusal : Refusal) → (traits_of asked).polls ≡ true
+    → first_refusal (tests_of own x asked) ≡ Some refusal → x.request ≡ None
 idle_poll own x (call.Poll rank c) refusal polls is = by_request x.request is
   where
     by_request : (request : Option Request) → first_refusal ((not (is_some request), Idle) ∷ []) ≡ Some refusal → request ≡ None
@@ -72,24 +80,28 @@ idle_poll own x (call.Free rank c) refusal polls is = absurd (cc polls)
 
 module _ {P : Type 0} (meld : P → P → P) (alone : Bool) (name : Name) (asked : Call P) (old : Record) (before : Sight P) (new : Record) (after : Sight P) where
   -- a reply that isn't pending, and isn't for want of memory
-  pub answered_by : (reply : Reply P) → wants_memory reply ≡ false → (reply ≡ Pending → ⊥) → Replied meld alone name asked old before reply new after → Answered meld alone name asked old before reply new after
+  pub answered_by : (reply : Reply P) → wants_memory reply ≡ false → (reply ≡ Pending → ⊥) → Replied meld alone name asked old before reply new after
+      → Answered meld alone name asked old before reply new after
   answered_by reply none other calls =
       record { ends = inr (subst (λ b. RepliedAs meld alone name asked old before reply b new after) (sym none) calls); pending = λ is. absurd (other is) }
 
-module _ {P : Type 0} (meld : P → P → P) (alone : Bool) (name : Name) (asked : Call P) (old : Record) (before : Sight P) (mid : Record) (now : Sight P) (j : JustLooked meld alone name asked old before mid now) (of : IsOf meld name now) where
+module _ {P : Type 0} (meld : P → P → P) (alone : Bool) (name : Name) (asked : Call P) (old : Record) (before : Sight P) (mid : Record) (now : Sight P)
+    (j : JustLooked meld alone name asked old before mid now) (of : IsOf meld name now) where
   pub just_fits : Fits meld name.limits now.seen mid
   just_fits = looked_fits meld alone name before now j.onward old mid of j.fits j.looked
 
   -- on a communicator that the rank doesn't hold
   pub just_missing : held_at mid (comm_of asked) ≡ None → Answered meld alone name asked old before (Refused NoSuchComm) mid now
-  just_missing missing = answered_by meld alone name asked old before mid now (Refused NoSuchComm) refl (λ is. absurd (cc is)) (calls_missing meld alone name before now j.onward asked old mid of j.fits j.looked missing)
+  just_missing missing = answered_by meld alone name asked old before mid now (Refused NoSuchComm) refl (λ is. absurd (cc is))
+      (calls_missing meld alone name before now j.onward asked old mid of j.fits j.looked missing)
 
   module _ (x : Held) (held : held_at mid (comm_of asked) ≡ Some x) where
     pub tests_before : tests_of mid x asked ≡ tests_of old x asked
     tests_before = ap (λ (w : Record). tests_of w x asked) j.looked.record_is ∙ tests_same old (failures now.seen) x asked
 
     -- the record refuses the call
-    pub just_refused : (refusal : Refusal) → first_refusal (tests_of mid x asked) ≡ Some refusal → Answered meld alone name asked old before (Refused refusal) mid now
+    pub just_refused : (refusal : Refusal) → first_refusal (tests_of mid x asked) ≡ Some refusal
+        → Answered meld alone name asked old before (Refused refusal) mid now
     just_refused refusal is =
         let mild = mild_first (tests_of mid x asked) refusal (mild_tests mid x asked) is in
         let first : first_refusal (tests_of old x asked) ≡ Some refusal = sym (ap first_refusal tests_before) ∙ is in
@@ -115,36 +127,46 @@ module _ {P : Type 0} (meld : P → P → P) (alone : Bool) (name : Name) (asked
           waited = did_none alone now.seen;
         }
 
-module _ {P : Type 0} (meld : P → P → P) (alone : Bool) (name : Name) (rank c : ℕ) (old : Record) (before : Sight P) (mid : Record) (now : Sight P) (of : IsOf meld name now) (x : Held) (held : held_at mid c ≡ Some x) where
+module _ {P : Type 0} (meld : P → P → P) (alone : Bool) (name : Name) (rank c : ℕ) (old : Record) (before : Sight P) (mid : Record) (now : Sight P)
+    (of : IsOf meld name now) (x : Held) (held : held_at mid c ≡ Some x) where
   -- so many ranks have failed
-  pub just_counted : (n : ℕ) → n ≡ length (filter (has x.group) mid.seen) → JustLooked meld alone name (call.GetFailed rank c) old before mid now → Answered meld alone name (call.GetFailed rank c) old before (FailedGroup n) mid now
+  pub just_counted : (n : ℕ) → n ≡ length (filter (has x.group) mid.seen) → JustLooked meld alone name (call.GetFailed rank c) old before mid now
+      → Answered meld alone name (call.GetFailed rank c) old before (FailedGroup n) mid now
   just_counted n is j =
       answered_by meld alone name (call.GetFailed rank c) old before mid now (FailedGroup n) refl (λ same. absurd (cc same))
       (calls_is meld alone name before now j.onward (call.GetFailed rank c) old (FailedGroup n) mid of j.fits
-      (get_failed_is meld name.limits alone before.seen now.seen old mid j.looked of.legal (just_fits meld alone name (call.GetFailed rank c) old before mid now j of) rank c x held n mid
+      (get_failed_is meld name.limits alone before.seen now.seen old mid j.looked of.legal
+      (just_fits meld alone name (call.GetFailed rank c) old before mid now j of) rank c x held n mid
       (is ∙ ap (λ (w : Record). length (filter (has x.group) w.seen)) j.looked.record_is) refl))
 
   -- so many are acknowledged
-  pub just_acked : (count n : ℕ) (new : Record) → n ≡ max x.acked (min count (length (filter (has x.group) mid.seen))) → new ≡ with_held mid c (λ y. record y { acked = n }) → JustLooked meld alone name (call.Ack rank c count) old before mid now
+  pub just_acked : (count n : ℕ) (new : Record) → n ≡ max x.acked (min count (length (filter (has x.group) mid.seen)))
+      → new ≡ with_held mid c (λ y. record y { acked = n }) → JustLooked meld alone name (call.Ack rank c count) old before mid now
       → Answered meld alone name (call.Ack rank c count) old before (Acked n) new now
   just_acked count n new is left j =
       answered_by meld alone name (call.Ack rank c count) old before new now (Acked n) refl (λ same. absurd (cc same))
       (calls_is meld alone name before now j.onward (call.Ack rank c count) old (Acked n) new of j.fits
-      (ack_failed_is meld name.limits alone before.seen now.seen old mid j.looked of.legal (just_fits meld alone name (call.Ack rank c count) old before mid now j of) rank c x held count n new
+      (ack_failed_is meld name.limits alone before.seen now.seen old mid j.looked of.legal
+      (just_fits meld alone name (call.Ack rank c count) old before mid now j of) rank c x held count n new
       (is ∙ ap (λ (w : Record). max x.acked (min count (length (filter (has x.group) w.seen)))) j.looked.record_is) left))
 
   -- the communicator is given back
-  pub just_freed : (new : Record) → first_refusal (tests_of {P = P} mid x (call.Free rank c)) ≡ None → new ≡ record mid { held = filter (λ y. not (y.comm == c)) mid.held } → JustLooked meld alone name (call.Free rank c) old before mid now
+  pub just_freed : (new : Record) → first_refusal (tests_of {P = P} mid x (call.Free rank c)) ≡ None
+      → new ≡ record mid { held = filter (λ y. not (y.comm == c)) mid.held } → JustLooked meld alone name (call.Free rank c) old before mid now
       → Answered meld alone name (call.Free rank c) old before Freed new now
   just_freed new passed left j =
       answered_by meld alone name (call.Free rank c) old before new now Freed refl (λ same. absurd (cc same))
-      (calls_freed meld alone name before now j.onward rank c old mid new of j.fits j.looked x held (sym (ap first_refusal (tests_before meld alone name (call.Free rank c) old before mid now j of x held)) ∙ passed) left)
+      (calls_freed meld alone name before now j.onward rank c old mid new of j.fits j.looked x held
+      (sym (ap first_refusal (tests_before meld alone name (call.Free rank c) old before mid now j of x held)) ∙ passed) left)
 
 -- a rank that its look finds declared
-pub just_declared : {P : Type 0} (meld : P → P → P) (alone : Bool) (name : Name) (asked : Call P) (old : Record) (before : Sight P) (new : Record) (now : Sight P) → before.steps ≤ now.steps → IsOf meld name now → Fits meld name.limits before.seen old → old.refused ≡ false
-    → Did alone [] before.seen now.seen → IsTrue (has (failures now.seen) old.number) → new ≡ record old { seen = failures now.seen; refused = true } → Answered meld alone name asked old before (Refused SelfFailed) new now
+pub just_declared : {P : Type 0} (meld : P → P → P) (alone : Bool) (name : Name) (asked : Call P) (old : Record) (before : Sight P) (new : Record)
+    (now : Sight P) → before.steps ≤ now.steps → IsOf meld name now → Fits meld name.limits before.seen old → old.refused ≡ false
+    → Did alone [] before.seen now.seen → IsTrue (has (failures now.seen) old.number) → new ≡ record old { seen = failures now.seen; refused = true }
+    → Answered meld alone name asked old before (Refused SelfFailed) new now
 just_declared meld alone name asked old before new now onward of fits in_use did declared is =
-    answered_by meld alone name asked old before new now (Refused SelfFailed) refl (λ same. absurd (cc same)) (calls_declared meld alone name before now onward asked old new of fits in_use did declared is)
+    answered_by meld alone name asked old before new now (Refused SelfFailed) refl (λ same. absurd (cc same))
+    (calls_declared meld alone name before now onward asked old new of fits in_use did declared is)
 
 -- a rank's call is in its own name
 same_rank : (rank r : ℕ) → Rank rank ≡ Rank r → rank ≡ r
@@ -167,10 +189,12 @@ module _ {P : Type 0} (asked : Call P) (rank c r : ℕ) (mine : (traits_of asked
       is ∙ ap₂ (λ n w. call.IsRevoked n w) same (sym (ap (λ (a : Call P). comm_of a) is))
 
 -- what the start of an agree contributes, and that of a shrink
-pub starts_agree : {P : Type 0} (asked : Call P) (rank c : ℕ) (value : P) (own : Record) (x : Held) (round : ℕ) → asked ≡ call.Agree rank c value → round ≡ x.next_agreement → StartsWith asked own x (Agree round) (Flag value)
+pub starts_agree : {P : Type 0} (asked : Call P) (rank c : ℕ) (value : P) (own : Record) (x : Held) (round : ℕ) → asked ≡ call.Agree rank c value
+    → round ≡ x.next_agreement → StartsWith asked own x (Agree round) (Flag value)
 starts_agree asked rank c value own x round is at = subst (λ a. StartsWith a own x (Agree round) (Flag value)) (sym is) (ap Agree at, refl)
 
-pub starts_shrink : {P : Type 0} (asked : Call P) (rank c : ℕ) (own mid : Record) (seen : List ℕ) (x : Held) (round : ℕ) (ids : CtxMask) → asked ≡ call.Shrink rank c → mid ≡ record own { seen = seen } → ids ≡ free_ids mid.held → round ≡ x.next_agreement
+pub starts_shrink : {P : Type 0} (asked : Call P) (rank c : ℕ) (own mid : Record) (seen : List ℕ) (x : Held) (round : ℕ) (ids : CtxMask)
+    → asked ≡ call.Shrink rank c → mid ≡ record own { seen = seen } → ids ≡ free_ids mid.held → round ≡ x.next_agreement
     → StartsWith asked own x (Shrink round) (Ctx ids)
 starts_shrink {P} asked rank c own mid seen x round ids is mid_is free at =
     subst (λ a. StartsWith a own x (Shrink round) (Ctx ids)) (sym is) (ap Shrink at, ap as_offer (free ∙ ap (λ (w : Record). free_ids w.held) mid_is))
@@ -179,22 +203,32 @@ starts_shrink {P} asked rank c own mid seen x round ids is mid_is free at =
     as_offer i = Ctx i
 
 -- a call that begins has seen what is a beginning of the list of failures
-begun_seen : {P : Type 0} (meld : P → P → P) (alone : Bool) (name : Name) (asked : Call P) (old : Record) (before : Sight P) (group : List ℕ) (own : Record) (now : Sight P)
+begun_seen : {P : Type 0} (meld : P → P → P) (alone : Bool) (name : Name) (asked : Call P) (old : Record) (before : Sight P) (group : List ℕ) (own : Record)
+    (now : Sight P)
     → Stands meld alone name old before (record { asked = asked; phase = Begun; group = group }) own now → IsPrefix own.seen (failures now.seen)
 begun_seen meld alone name asked old before group own now u =
     let grown = failures_begin before.seen now.seen (did_prefix alone [] before.seen now.seen u.at.2) in
-    subst (λ (w : Record). IsPrefix w.seen (failures now.seen)) (sym u.at.1) (prefix_trans old.seen (failures before.seen) (failures now.seen) u.fits.seen grown)
+    subst (λ (w : Record). IsPrefix w.seen (failures now.seen)) (sym u.at.1) (prefix_trans old.seen (failures before.seen)
+    (failures now.seen) u.fits.seen grown)
 
 -- that is all ranks, at most
-pub begun_within : {P : Type 0} (meld : P → P → P) (alone : Bool) (name : Name) (asked : Call P) (old : Record) (before : Sight P) (group : List ℕ) (own : Record) (now : Sight P) → IsOf meld name now
+pub begun_within : {P : Type 0} (meld : P → P → P) (alone : Bool) (name : Name) (asked : Call P) (old : Record) (before : Sight P) (group : List ℕ)
+    (own : Record) (now : Sight P) → IsOf meld name now
     → Stands meld alone name old before (record { asked = asked; phase = Begun; group = group }) own now → length own.seen ≤ name.limits.ranks
 begun_within meld alone name asked old before group own now of u =
-    omega (arith, length_prefix own.seen (failures now.seen) (begun_seen meld alone name asked old before group own now u), failures_le meld name.limits now.seen of.legal)
+    omega (
+      arith,
+      length_prefix own.seen (failures now.seen) (begun_seen meld alone name asked old before group own now u),
+      failures_le meld name.limits
+          now.seen of.legal,
+    )
 
 -- a look begins behind what was seen, or at the last of all ranks
-pub begins_looking : {P : Type 0} (meld : P → P → P) (alone : Bool) (name : Name) (asked : Call P) (old : Record) (before : Sight P) (group : List ℕ) (own new : Record) (now : Sight P) → IsOf meld name now
+pub begins_looking : {P : Type 0} (meld : P → P → P) (alone : Bool) (name : Name) (asked : Call P) (old : Record) (before : Sight P) (group : List ℕ)
+    (own new : Record) (now : Sight P) → IsOf meld name now
     → new ≡ record own { seen = take (own.limits.ranks - 1) own.seen }
-    → Stands meld alone name old before (record { asked = asked; phase = Begun; group = group }) own now → Stands meld alone name old before (record { asked = asked; phase = Looking; group = group }) new now
+    → Stands meld alone name old before (record { asked = asked; phase = Begun; group = group }) own now
+    → Stands meld alone name old before (record { asked = asked; phase = Looking; group = group }) new now
 begins_looking meld alone name asked old before group own new now of is u =
     let n = own.limits.ranks - 1 in
     let some : 0 < name.limits.ranks = omega (arith, of.may_open.in_range.some_ranks) in
@@ -210,29 +244,45 @@ begins_looking meld alone name asked old before group own new now of is u =
         u.at.0,
         is ∙ (ap (λ (w : Record). record w { seen = take n own.seen }) u.at.1 ∙ ap (λ s. record old { seen = s }) (sym seen)),
         u.at.2,
-        subst (λ s. LookIs name.limits false s now.seen) (sym seen) (prefix_trans (take n own.seen) own.seen (failures now.seen) (drop n own.seen, take-append-drop n own.seen) begins, fewer),
+        subst (λ s. LookIs name.limits false s now.seen) (sym seen) (
+          prefix_trans (take n own.seen) own.seen (failures now.seen)
+              (drop n own.seen, take-append-drop n own.seen) begins,
+          fewer,
+        ),
       );
     }
 
 -- a rank that has seen as many failures as there are ranks has seen them all
-pub full_seen : {P : Type 0} (meld : P → P → P) (name : Name) (own : Record) (now : Sight P) → IsOf meld name now → Fits meld name.limits now.seen own → length own.seen ≡ own.limits.ranks → own.seen ≡ failures now.seen
+pub full_seen : {P : Type 0} (meld : P → P → P) (name : Name) (own : Record) (now : Sight P) → IsOf meld name now → Fits meld name.limits now.seen own
+    → length own.seen ≡ own.limits.ranks → own.seen ≡ failures now.seen
 full_seen meld name own now of fits full =
     let ranks : own.limits.ranks ≡ name.limits.ranks = ap (λ l. l.ranks) fits.same_limits in
     let few = failures_le meld name.limits now.seen of.legal in
     full_found own.seen (failures now.seen) fits.seen (omega (arith, few, full, ranks))
 
 -- a rank that has seen all ranks declared is one of them
-pub has_seen_all : {P : Type 0} (meld : P → P → P) (alone : Bool) (name : Name) (asked : Call P) (own new : Record) (now : Sight P) → IsOf meld name now → Fits meld name.limits now.seen own → own.refused ≡ false
-    → own.number < own.limits.ranks → length own.seen ≡ own.limits.ranks → new ≡ record own { refused = true } → Replied meld alone name asked own now (Refused SelfFailed) new now
+pub has_seen_all : {P : Type 0} (meld : P → P → P) (alone : Bool) (name : Name) (asked : Call P) (own new : Record) (now : Sight P) → IsOf meld name now
+    → Fits meld name.limits now.seen own → own.refused ≡ false
+    → own.number < own.limits.ranks → length own.seen ≡ own.limits.ranks → new ≡ record own { refused = true }
+    → Replied meld alone name asked own now (Refused SelfFailed) new now
 has_seen_all meld alone name asked own new now of fits in_use below full is =
     let ranks : own.limits.ranks ≡ name.limits.ranks = ap (λ l. l.ranks) fits.same_limits in
     let all = full_seen meld name own now of fits full in
     let enough : name.limits.ranks ≤ length (failures now.seen) = omega (arith, ap length all, full, ranks) in
     let declared = full_has meld name.limits now.seen own.number of.legal (omega (arith, below, ranks)) enough in
-    calls_declared meld alone name now now (omega arith) asked own new of fits in_use (did_none alone now.seen) declared (is ∙ ap (λ s. record own { seen = s; refused = true }) all)
+    calls_declared meld alone name now now (omega arith) asked own new of fits in_use (did_none alone now.seen) declared
+    (is ∙ ap (λ s. record own { seen = s; refused = true }) all)
 
 -- one that hasn't has a place left to load
-pub has_place_left : {P : Type 0} (meld : P → P → P) (name : Name) (own : Record) (now : Sight P) → IsOf meld name now → Fits meld name.limits now.seen own → (length own.seen == own.limits.ranks) ≡ false → length own.seen < name.limits.ranks
+pub has_place_left : {P : Type 0} (meld : P → P → P) (name : Name) (own : Record) (now : Sight P) → IsOf meld name now → Fits meld name.limits now.seen own
+    → (length own.seen == own.limits.ranks) ≡ false → length own.seen < name.limits.ranks
 has_place_left meld name own now of fits e =
     let ranks : own.limits.ranks ≡ name.limits.ranks = ap (λ l. l.ranks) fits.same_limits in
-    omega (arith, eqb-false (length own.seen) own.limits.ranks e, length_prefix own.seen (failures now.seen) fits.seen, failures_le meld name.limits now.seen of.legal, ranks)
+    omega (
+      arith,
+      eqb-false (length own.seen) own.limits.ranks e,
+      length_prefix own.seen (failures now.seen) fits.seen,
+      failures_le meld name.limits now.seen
+          of.legal,
+      ranks,
+    )

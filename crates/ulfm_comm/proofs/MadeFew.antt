@@ -1,10 +1,15 @@
 -- A communicator that a shrink made has no more members than its parent.
-use Rattle.std.proofs.Common.{◌≡◌, ◌⊎◌, ℕ, ◌+◌, ◌-◌, ◌<◌, ◌≤◌, Bool, true, false, not, filter, length, Option, Some, None, refl, ap, sym, ◌∙◌, subst, arith, inl, inr, IsTrue, IsFalse, if◌then◌else◌}
+use Rattle.std.proofs.Common.{◌≡◌, ◌⊎◌, ℕ, ◌+◌, ◌-◌, ◌<◌, ◌≤◌, Bool, true, false, not, filter, length, Option, Some, None, refl, ap, sym, ◌∙◌, subst, arith}
+use Rattle.std.proofs.Common.{inl, inr, IsTrue, IsFalse, if◌then◌else◌}
 use Rattle.std.specs.List.{list_all}
 use Rattle.ulfm_laws.specs.declared.ctx_mask.CtxMask.{CtxMask}
-use Rattle.ulfm_model.specs.declared.{call.Call.TheVariants.{Poll}, call.Request.{Request}, call.Request.TheVariants.{Agree, Shrink, Barrier}, limits.Limits.{Limits}}
-use Rattle.ulfm_model.specs.declared.{refusal.Refusal.TheVariants.{IsRevoked, NoContext, ProcFailed}, reply.Reply.{Reply}, reply.Reply.TheVariants.{Done, Pending, Refused, Shrunk}}
-use Rattle.ulfm_model.specs.{Answers.{AgreeReplies, PollReplies, ShrinkReplies, SpawnReplies, View}, History.{Decision, History, decision, has, has_arrived, is_revoked, made_of, members, spawns, without}, Records.{Fits, Held, Record, held_at, is_shrink}, Runs.{IsCall, IsRun}, Terms.{view_of}}
+use Rattle.ulfm_model.specs.declared.{call.Call.TheVariants.{Poll}, call.Request.{Request}, call.Request.TheVariants.{Agree, Shrink, Barrier}}
+use Rattle.ulfm_model.specs.declared.limits.Limits.{Limits}
+use Rattle.ulfm_model.specs.declared.{refusal.Refusal.TheVariants.{IsRevoked, NoContext, ProcFailed}, reply.Reply.{Reply}}
+use Rattle.ulfm_model.specs.declared.reply.Reply.TheVariants.{Done, Pending, Refused, Shrunk}
+use Rattle.ulfm_model.specs.Answers.{AgreeReplies, PollReplies, ShrinkReplies, SpawnReplies, View}
+use Rattle.ulfm_model.specs.History.{Decision, History, decision, has, has_arrived, is_revoked, made_of, members, spawns, without}
+use Rattle.ulfm_model.specs.{Records.{Fits, Held, Record, held_at, is_shrink}, Runs.{IsCall, IsRun}, Terms.{view_of}}
 use Rattle.ulfm_model.proofs.{Histories.{members_stay}, Lists.{get_prefix, length-filter-le, prefix_trans}, Spawned.{members_of_spawned}, Stable.{spawns_begin}}
 use Rattle.ulfm_words.specs.Steps.{Name, Sight}
 use Rattle.ulfm_comm.specs.Calls.{Calls}
@@ -15,7 +20,8 @@ module _ {P : Type 0} (meld : P → P → P) (limits : Limits) (view : View P) (
   abbrev answer : Reply P
   answer = Shrunk j context size
 
-  no_barrier : (revoked done waits : Bool) → answer ≡ (if revoked then Refused IsRevoked else (if done then Done else (if waits then Pending else Refused ProcFailed))) → ⊥
+  no_barrier : (revoked done waits : Bool) → answer ≡ (if revoked then Refused IsRevoked else
+      (if done then Done else (if waits then Pending else Refused ProcFailed))) → ⊥
   no_barrier true done waits is = cc is
   no_barrier false true waits is = cc is
   no_barrier false false true is = cc is
@@ -26,10 +32,12 @@ module _ {P : Type 0} (meld : P → P → P) (limits : Limits) (view : View P) (
   agreed made (inr clash) = cc (clash.1)
 
   spawned : (h : History P) (c k mask : ℕ) → SpawnReplies limits h c k mask (Shrunk j context size) → (0 < j) × (made_of h j ≡ Some (c, k))
-  spawned h c k mask (inl found) = let is = found.5 in let same : j ≡ found.0 = cc is in (subst (λ i. 0 < i) (sym same) found.2, subst (λ i. made_of h i ≡ Some (c, k)) (sym same) found.3)
+  spawned h c k mask (inl found) = let is = found.5 in let same : j ≡ found.0 = cc
+      is in (subst (λ i. 0 < i) (sym same) found.2, subst (λ i. made_of h i ≡ Some (c, k)) (sym same) found.3)
   spawned h c k mask (inr full) = absurd (cc (full.2))
 
-  with_ids : (h : History P) (c k : ℕ) (made : Decision P) (mask : CtxMask) → ((mask.bits ≡ 0) × (answer ≡ Refused NoContext)) ⊎ ((0 < mask.bits) × IsFalse (has made.failed r) × SpawnReplies limits h c k mask.bits (Shrunk j context size))
+  with_ids : (h : History P) (c k : ℕ) (made : Decision P) (mask : CtxMask) → ((mask.bits ≡ 0) × (answer ≡ Refused NoContext)) ⊎
+      ((0 < mask.bits) × IsFalse (has made.failed r) × SpawnReplies limits h c k mask.bits (Shrunk j context size))
       → (0 < j) × (made_of h j ≡ Some (c, k))
   with_ids h c k made mask (inl none) = absurd (cc (none.1))
   with_ids h c k made mask (inr some) = spawned h c k mask.bits some.2
@@ -39,13 +47,16 @@ module _ {P : Type 0} (meld : P → P → P) (limits : Limits) (view : View P) (
   shrunk h c k made (inr clash) = absurd (cc (clash.1))
 
   -- the poll of a shrink is answered so, by what was made of its round
-  by_request : (request : Option Request) → PollReplies meld limits view r x request (Shrunk j context size) → IsTrue (is_shrink request) × (k : ℕ) × (0 < j) × (made_of view.history j ≡ Some (x.comm, k))
+  by_request : (request : Option Request) → PollReplies meld limits view r x request (Shrunk j context size)
+      → IsTrue (is_shrink request) × (k : ℕ) × (0 < j) × (made_of view.history j ≡ Some (x.comm, k))
   by_request None replies = absurd replies
   by_request (Some (Agree k)) (inl waits) = absurd (cc (waits.1))
   by_request (Some (Agree k)) (inr decided) = absurd (agreed (decision meld limits.ranks view.history x.comm k) decided.1)
   by_request (Some (Shrink k)) (inl waits) = absurd (cc (waits.1))
-  by_request (Some (Shrink k)) (inr decided) = let made = shrunk view.history x.comm k (decision meld limits.ranks view.history x.comm k) decided.1 in (refl, k, made.0, made.1)
-  by_request (Some (Barrier k)) is = absurd (no_barrier (is_revoked view.history x.comm) (list_all (has_arrived view.history x.comm k) x.group) (list_all (has_arrived view.history x.comm k) (filter (has x.group) view.look)) is)
+  by_request (Some (Shrink k)) (inr decided) = let made = shrunk view.history x.comm k (decision meld limits.ranks view.history x.comm k)
+      decided.1 in (refl, k, made.0, made.1)
+  by_request (Some (Barrier k)) is = absurd (no_barrier (is_revoked view.history x.comm) (list_all (has_arrived view.history x.comm k) x.group)
+      (list_all (has_arrived view.history x.comm k) (filter (has x.group) view.look)) is)
 
 -- the rank holds the parent with an open shrink, and no fewer members
 pub record IsOfFew (old : Record) (c : ℕ) (y : Held) : Type 0 where
@@ -54,7 +65,9 @@ pub record IsOfFew (old : Record) (c : ℕ) (y : Held) : Type 0 where
   pub shrinks : IsTrue (is_shrink x.request)
   pub few : length y.group ≤ length x.group
 
-module _ {P : Type 0} (meld : P → P → P) (alone : Bool) (name : Name) (c : ℕ) (old : Record) (before : Sight P) (j context size : ℕ) (new : Record) (after : Sight P) (calls : Calls meld alone name (Poll old.number c) old before (Shrunk j context size) new after) (fits : Fits meld name.limits before.seen old) (y : Held) (holds : held_at new j ≡ Some y) where
+module _ {P : Type 0} (meld : P → P → P) (alone : Bool) (name : Name) (c : ℕ) (old : Record) (before : Sight P) (j context size : ℕ) (new : Record)
+    (after : Sight P) (calls : Calls meld alone name (Poll old.number c) old before (Shrunk j context size) new after)
+    (fits : Fits meld name.limits before.seen old) (y : Held) (holds : held_at new j ≡ Some y) where
   by_run : IsRun meld name.limits alone before.seen after.seen old (Poll old.number c) (Shrunk j context size) new → IsOfFew old c y
   by_run run =
       let ranks = name.limits.ranks in
@@ -64,13 +77,16 @@ module _ {P : Type 0} (meld : P → P → P) (alone : Bool) (name : Name) (c : �
       let k = made.1 in
       let is : x.comm ≡ c = comm_is meld name.limits before.seen old c x fits answered.held in
       let begins = prefix_trans before.seen run.span.point after.seen run.span.point_begins run.span.point_ends in
-      let there = get_prefix (spawns run.span.point) (spawns after.seen) (j - 1) (x.comm, k) (spawns_begin run.span.point after.seen run.span.point_ends) made.3 in
+      let there = get_prefix (spawns run.span.point) (spawns after.seen) (j - 1) (x.comm, k) (spawns_begin run.span.point after.seen run.span.point_ends)
+      made.3 in
       let some = made.2 in
       let this : j - 1 + 1 ≡ j = omega (arith, some) in
       let group : y.group ≡ without (members ranks after.seen x.comm) (decision meld ranks after.seen x.comm k).failed =
-      group_is meld name.limits after.seen new j y calls.fits holds ∙ (ap (members ranks after.seen) (sym this) ∙ (members_of_spawned meld name.limits after.seen calls.of.legal (j - 1) x.comm k there).group) in
+      group_is meld name.limits after.seen new j y calls.fits holds ∙ (ap (members ranks after.seen) (sym this) ∙
+      (members_of_spawned meld name.limits after.seen calls.of.legal (j - 1) x.comm k there).group) in
       let parent : members ranks after.seen x.comm ≡ x.group =
-      ap (members ranks after.seen) is ∙ ((members_stay ranks before.seen after.seen c begins (exists_is meld name.limits before.seen old c x fits answered.held)).1 ∙ sym (group_is meld name.limits before.seen old c x fits answered.held)) in
+      ap (members ranks after.seen) is ∙ ((members_stay ranks before.seen after.seen c begins
+      (exists_is meld name.limits before.seen old c x fits answered.held)).1 ∙ sym (group_is meld name.limits before.seen old c x fits answered.held)) in
       let fewer = length-filter-le (λ q. not (has (decision meld ranks after.seen x.comm k).failed q)) (members ranks after.seen x.comm) in
       record {
         x = x;

@@ -21,9 +21,11 @@ records_are limits [] = refl
 records_are limits (n ∷ numbers) = ap (λ records. new_record limits n ∷ records) (records_are limits numbers)
 
 -- each new record fits a history in which nothing has happened
-pub each_fits : {P : Type 0} (meld : P → P → P) (limits : Limits) → AllByRecursion (Fits meld limits []) (records_of (map (new_rank limits) (first_ranks limits.ranks)))
+pub each_fits : {P : Type 0} (meld : P → P → P) (limits : Limits) → AllByRecursion (Fits meld limits [])
+    (records_of (map (new_rank limits) (first_ranks limits.ranks)))
 each_fits meld limits = go (first_ranks limits.ranks) (all_has (first_ranks limits.ranks))
   where
-    go : (rs : List ℕ) → AllByRecursion (λ r. has (first_ranks limits.ranks) r ≡ true) rs → AllByRecursion (Fits meld limits []) (records_of (map (new_rank limits) rs))
+    go : (rs : List ℕ) → AllByRecursion (λ r. has (first_ranks limits.ranks) r ≡ true) rs
+        → AllByRecursion (Fits meld limits []) (records_of (map (new_rank limits) rs))
     go [] all = tt
     go (r ∷ rs) all = (new_fits meld limits r all.0, go rs all.1)

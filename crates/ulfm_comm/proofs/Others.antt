@@ -3,13 +3,17 @@ use Rattle.std.proofs.Common.{◌≡◌, ℕ, ◌<◌, Bool, false, List, get_or
 use mathlib.Core.List.{IsPrefix}
 use Rattle.ulfm_model.specs.declared.call.Call.TheVariants as call
 use Rattle.ulfm_model.specs.declared.{call.Call.{Call}, event.Caller.TheVariants.{Rank}, refusal.Refusal.{Refusal}, reply.Reply.{Reply}}
-use Rattle.ulfm_model.specs.declared.reply.Reply.TheVariants.{Started, Pending, Agreed, Shrunk, Done, FailedGroup, Acked, Declared, AlreadyFailed, Revoked, AlreadyRevoked, Standing, Freed, Refused}
-use Rattle.ulfm_model.specs.declared.refusal.Refusal.TheVariants.{SelfFailed, NoSuchComm, Busy, ShrinkOpen, RoundsUsedUp, Idle, Mismatch, NoContext, NoRoom, IsRevoked, ProcFailed, WorldKept, NoSuchRank, OutOfMemory, Twice}
+use Rattle.ulfm_model.specs.declared.reply.Reply.TheVariants.{Started, Pending, Agreed, Shrunk, Done, FailedGroup, Acked, Declared, AlreadyFailed, Revoked}
+use Rattle.ulfm_model.specs.declared.reply.Reply.TheVariants.{AlreadyRevoked, Standing, Freed, Refused}
+use Rattle.ulfm_model.specs.declared.refusal.Refusal.TheVariants.{SelfFailed, NoSuchComm, Busy, ShrinkOpen, RoundsUsedUp, Idle, Mismatch, NoContext, NoRoom}
+use Rattle.ulfm_model.specs.declared.refusal.Refusal.TheVariants.{IsRevoked, ProcFailed, WorldKept, NoSuchRank, OutOfMemory, Twice}
 use Rattle.ulfm_model.specs.{Answers.{rank_of, traits_of}, Records.{Held, Record, held_at}, Runs.{IsCall, State}}
 use Rattle.ulfm_model.specs.Terms.{comm_of, view_of}
 use Rattle.ulfm_words.specs.Steps.{Name, Sight}
-use Rattle.ulfm_comm.specs.{Calls.{Calls, EndsAs, EndsReply, wants_memory}, Counts.{Ranked, records_of}, Jobs.{IsAbout, IsJob, IsOther, KeepsRecords, PollsShrink, StepsBy, state_of}}
-use Rattle.ulfm_comm.proofs.{CallRuns.{called_run}, Lacking.{keeps_set, polls_shrink}, MadeFew.{IsOfFew, made_few}, ShrinkHolds.{has_members}, Jobs.{ranked_begins, ranked_fits, ranked_job, ranked_number, ranked_step}}
+use Rattle.ulfm_comm.specs.{Calls.{Calls, EndsAs, EndsReply, wants_memory}, Counts.{Ranked, records_of}}
+use Rattle.ulfm_comm.specs.Jobs.{IsAbout, IsJob, IsOther, KeepsRecords, PollsShrink, StepsBy, state_of}
+use Rattle.ulfm_comm.proofs.{CallRuns.{called_run}, Lacking.{keeps_set, polls_shrink}, MadeFew.{IsOfFew, made_few}, ShrinkHolds.{has_members}}
+use Rattle.ulfm_comm.proofs.Jobs.{ranked_begins, ranked_fits, ranked_job, ranked_number, ranked_step}
 use Rattle.ulfm_comm.proofs.ReplyKinds.{IsKind, answered_on, replies_kind}
 
 -- a reply that doesn't say that memory ran out
@@ -84,7 +88,8 @@ module _ {P : Type 0} where
   asks_poll (call.Free rank c) polls = absurd (cc polls)
 
   -- only a poll makes a communicator
-  shrunk_polls : (asked : Call P) (j context size : ℕ) → IsOther asked → IsKind asked (Shrunk j context size) → (rank : ℕ) × (c : ℕ) × (asked ≡ call.Poll rank c)
+  shrunk_polls : (asked : Call P) (j context size : ℕ) → IsOther asked → IsKind asked (Shrunk j context size)
+      → (rank : ℕ) × (c : ℕ) × (asked ≡ call.Poll rank c)
   shrunk_polls (call.Fail rank) j context size other kind = absurd other
   shrunk_polls (call.GetFailed rank c) j context size other kind = absurd other
   shrunk_polls (call.Ack rank c count) j context size other kind = absurd kind
@@ -110,7 +115,8 @@ module _ {P : Type 0} where
   counts_none (call.Free rank c) count other kind = kind
 
   -- a reply about no group
-  about_none : (state : State P) (c : ℕ) (group : List ℕ) (reply : Reply P) → ((j context size : ℕ) → reply ≡ Shrunk j context size → ⊥) → ((count : ℕ) → reply ≡ FailedGroup count → ⊥) → IsAbout state c group group reply
+  about_none : (state : State P) (c : ℕ) (group : List ℕ) (reply : Reply P) → ((j context size : ℕ) → reply ≡ Shrunk j context size → ⊥)
+      → ((count : ℕ) → reply ≡ FailedGroup count → ⊥) → IsAbout state c group group reply
   about_none state c group Started made counted = refl
   about_none state c group Pending made counted = refl
   about_none state c group (Agreed value count raised) made counted = refl
@@ -126,7 +132,8 @@ module _ {P : Type 0} where
   about_none state c group Freed made counted = refl
   about_none state c group (Refused refusal) made counted = refl
 
-module _ {P : Type 0} (meld : P → P → P) (alone : Bool) (name : Name) (before : Sight P) (ranks : List Ranked) (job : IsJob meld name before (records_of ranks)) (asked : Call P) (other : IsOther asked) (i : ℕ) (d : Ranked) (is_rank : i ≡ rank_of asked) (below : i < length ranks) where
+module _ {P : Type 0} (meld : P → P → P) (alone : Bool) (name : Name) (before : Sight P) (ranks : List Ranked) (job : IsJob meld name before (records_of ranks))
+    (asked : Call P) (other : IsOther asked) (i : ℕ) (d : Ranked) (is_rank : i ≡ rank_of asked) (below : i < length ranks) where
   abbrev own : Record
   own = (get_or ranks i d).own
 
@@ -186,19 +193,26 @@ module _ {P : Type 0} (meld : P → P → P) (alone : Bool) (name : Name) (befor
 
         poll_is : asked ≡ call.Poll own.number polled.1
         poll_is =
-            let number : polled.0 ≡ own.number = cc (subst (λ a. (traits_of a).by ≡ Rank own.number) polled.2 mine) in polled.2 ∙ ap (λ r. call.Poll r polled.1) number
+            let number : polled.0 ≡ own.number = cc (subst (λ a. (traits_of a).by ≡ Rank own.number) polled.2 mine) in polled.2
+            ∙ ap (λ r. call.Poll r polled.1) number
 
         poll_made : Calls meld alone name (call.Poll own.number polled.1) own before (Shrunk j context size) new after
-        poll_made = subst (λ r. Calls meld alone name (call.Poll own.number polled.1) own before r new after) is (subst (λ a. Calls meld alone name a own before reply new after) poll_is other_calls)
+        poll_made = subst (λ r. Calls meld alone name (call.Poll own.number polled.1) own before r new after) is
+            (subst (λ a. Calls meld alone name a own before reply new after) poll_is other_calls)
 
         -- what the rank holds of the new communicator are its members
-        pub other_made : (c : ℕ) (before_it group : List ℕ) → ((x : Held) → held_at new j ≡ Some x → group ≡ x.group) → IsAbout (state_of name after (records_of (set ranks i left))) c before_it group reply
-        other_made c before_it group has = subst (IsAbout (state_of name after (records_of (set ranks i left))) c before_it group) (sym is) (has_members meld alone name polled.1 own before j context size new after poll_made group has)
+        pub other_made : (c : ℕ) (before_it group : List ℕ) → ((x : Held) → held_at new j ≡ Some x → group ≡ x.group)
+            → IsAbout (state_of name after (records_of (set ranks i left))) c before_it group reply
+        other_made c before_it group has = subst (IsAbout (state_of name after (records_of (set ranks i left))) c before_it group) (sym is)
+            (has_members meld alone name polled.1 own before j context size new after poll_made group has)
 
         -- they are no more than those of its parent
         pub other_few : (y : Held) → held_at new j ≡ Some y → IsOfFew own (comm_of asked) y
         other_few y holds =
-            subst (λ a. IsOfFew own (comm_of a) y) (sym poll_is) (made_few meld alone name polled.1 own before j context size new after poll_made (ranked_fits meld alone name before ranks job i d below) y holds)
+            subst (λ a. IsOfFew own (comm_of a) y) (sym poll_is) (made_few meld alone name polled.1 own before j context size new after poll_made
+            (ranked_fits meld alone name before ranks job i d below) y holds)
 
-      pub other_about : (c : ℕ) (group : List ℕ) → ((j context size : ℕ) → reply ≡ Shrunk j context size → ⊥) → ((refusal : Refusal) → reply ≡ Refused refusal → ⊥) → IsAbout (state_of name after (records_of (set ranks i left))) c group group reply
-      other_about c group made answers = about_none (state_of name after (records_of (set ranks i left))) c group reply made (λ count is. counts_none asked count other (subst (IsKind asked) is (other_kind answers)))
+      pub other_about : (c : ℕ) (group : List ℕ) → ((j context size : ℕ) → reply ≡ Shrunk j context size → ⊥)
+          → ((refusal : Refusal) → reply ≡ Refused refusal → ⊥) → IsAbout (state_of name after (records_of (set ranks i left))) c group group reply
+      other_about c group made answers = about_none (state_of name after (records_of (set ranks i left))) c group reply made
+          (λ count is. counts_none asked count other (subst (IsKind asked) is (other_kind answers)))

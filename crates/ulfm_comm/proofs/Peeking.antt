@@ -1,31 +1,37 @@
 -- The poll of an agreement while it loads its round's blocks, and how it goes on.
-use Rattle.std.proofs.Common.{◌≡◌, ℕ, ◌<◌, ◌≤◌, Bool, true, false, cond, not, List, [], ◌∷◌, length, filter, Some, is_some, refl, ap, ap₂, sym, ◌∙◌, subst, arith, IsTrue}
+use Rattle.std.proofs.Common.{◌≡◌, ℕ, ◌<◌, ◌≤◌, Bool, true, false, cond, not, List, [], ◌∷◌, length, filter, Some, is_some, refl, ap, ap₂, sym, ◌∙◌, subst}
+use Rattle.std.proofs.Common.{arith, IsTrue}
 use Rattle.std.specs.List.{AllByRecursion, list_all}
 use Rattle.std.specs.List.Sorted.{IsStrictlyIncreasing}
 use Rattle.ulfm_laws.specs.declared.summary.Summary.{Summary}
 use Rattle.ulfm_model.specs.declared.{call.Call.{Call}, limits.Limits.{Limits}}
-use Rattle.ulfm_model.specs.{Answers.{traits_of}, Blocks.{IsSide, IsSummed}, History.{History, IsLegal, failures, has, slot}, Records.{Fits, Held, Record, held_at}, Runs.{Did}, Terms.{comm_of}}
+use Rattle.ulfm_model.specs.{Answers.{traits_of}, Blocks.{IsSide, IsSummed}, History.{History, IsLegal, failures, has, slot}}
+use Rattle.ulfm_model.specs.{Records.{Fits, Held, Record, held_at}, Runs.{Did}, Terms.{comm_of}}
 use Rattle.ulfm_model.proofs.{Lists.{each_from, filter_none}, OnlyReply.{all_member}, Stable.{fits_stays}}
 use Rattle.ulfm_words.specs.{Steps.{IsOf, Name, Sight}, declared.step.Site.{Site}}
 use Rattle.ulfm_words.proofs.Trails.{did_none, did_prefix, did_quiet, did_wait}
 use Rattle.ulfm_steps.specs.declared.{mark_all.MarkAll.{MarkAll}, blocks.Peek.{Peek}, blocks.ReadBlocks.{ReadBlocks}}
 use Rattle.ulfm_steps.specs.{Blocks.{AreOf, MayPeek, block_at, is_whole, starts_at}, Marks.{IsAt, Marks, members_in}, Rounds.{IsRoundOf}, Turns.{IsStepAt}}
 use Rattle.ulfm_steps.proofs.{InBlocks.{few_members}, Groups.{members_rise}, Marking.{marks_none}}
-use Rattle.ulfm_comm.specs.{Polls.{HasMarked}, Requests.{agreement}, Phase.{Stands, next_step}, StepsLeft.{MakesStep}, Agreement.{HasPeeked, HasReadAll, IsMarking, IsPeeking}}
+use Rattle.ulfm_comm.specs.{Polls.{HasMarked}, Requests.{agreement}, Phase.{Stands, next_step}, StepsLeft.{MakesStep}}
+use Rattle.ulfm_comm.specs.Agreement.{HasPeeked, HasReadAll, IsMarking, IsPeeking}
 use Rattle.ulfm_comm.specs.declared.phases.phase.Phase.TheVariants.{Marking, Peeking, Reading}
-use Rattle.ulfm_comm.proofs.{Agreement.{all_in, reading_begins, some_member}, AmongOthers.{did_loosely}, Holding.{exists_is, group_is, holds, same_held}, Polls.{open_round}}
+use Rattle.ulfm_comm.proofs.{Agreement.{all_in, reading_begins, some_member}, AmongOthers.{did_loosely}, Holding.{exists_is, group_is, holds, same_held}}
+use Rattle.ulfm_comm.proofs.Polls.{open_round}
 
 -- where all members are settled, so are those among these ranks
 members_settled : (p : ℕ → Bool) (group declared : List ℕ) → list_all p group ≡ true → AllByRecursion (λ r. IsTrue (p r)) (filter (has group) declared)
 members_settled p group [] all = tt
 members_settled p group (r ∷ declared) all = go (has group r) refl (members_settled p group declared all)
   where
-    go : (b : Bool) → has group r ≡ b → AllByRecursion (λ x. IsTrue (p x)) (filter (has group) declared) → AllByRecursion (λ x. IsTrue (p x)) (cond b (r ∷ filter (has group) declared) (filter (has group) declared))
+    go : (b : Bool) → has group r ≡ b → AllByRecursion (λ x. IsTrue (p x)) (filter (has group) declared)
+        → AllByRecursion (λ x. IsTrue (p x)) (cond b (r ∷ filter (has group) declared) (filter (has group) declared))
     go true is rest = (all_member p group r all is, rest)
     go false is rest = rest
 
 -- then nobody is left to be marked
-settled_marks : {P : Type 0} (alone : Bool) (number c k : ℕ) (group declared : List ℕ) (look now : History P) → Did alone [] look now → list_all (λ r. is_some (slot now c k r)) group ≡ true → Marks alone number c k (filter (has group) declared) look now
+settled_marks : {P : Type 0} (alone : Bool) (number c k : ℕ) (group declared : List ℕ) (look now : History P) → Did alone [] look now
+    → list_all (λ r. is_some (slot now c k r)) group ≡ true → Marks alone number c k (filter (has group) declared) look now
 settled_marks {P} alone number c k group declared look now did each =
     let ranks = filter (has group) declared in
     let settled = members_settled (λ r. is_some (slot now c k r)) group declared each in
@@ -35,12 +41,15 @@ settled_marks {P} alone number c k group declared look now did each =
       marks = tt;
       settled = settled;
       exact = λ here.
-          let before : (r : ℕ) → IsTrue (is_some (slot now c k r)) → not (is_some (slot look c k r)) ≡ false = λ r is. ap (λ (h : History P). not (is_some (slot h c k r))) (sym (did_quiet alone look now did here)) ∙ ap not is in
-          sym (filter_none (λ r. not (is_some (slot look c k r))) ranks (each_from (λ r. IsTrue (is_some (slot now c k r))) (λ r. not (is_some (slot look c k r)) ≡ false) before ranks settled));
+          let before : (r : ℕ) → IsTrue (is_some (slot now c k r)) → not (is_some (slot look c k r)) ≡ false = λ r is.
+          ap (λ (h : History P). not (is_some (slot h c k r))) (sym (did_quiet alone look now did here)) ∙ ap not is in
+          sym (filter_none (λ r. not (is_some (slot look c k r))) ranks (each_from (λ r. IsTrue (is_some (slot now c k r)))
+          (λ r. not (is_some (slot look c k r)) ≡ false) before ranks settled));
       others = λ here r out. ap (λ (h : History P). slot h c k r) (did_quiet alone look now did here);
     }
 
-module _ {P : Type 0} (meld : P → P → P) (limits : Limits) (alone : Bool) (c : ℕ) (shrinks : Bool) (peek : Peek P) (old : Record) (before : History P) (own : Record) (now : History P) (p : IsPeeking meld limits alone c shrinks peek old before own now) where
+module _ {P : Type 0} (meld : P → P → P) (limits : Limits) (alone : Bool) (c : ℕ) (shrinks : Bool) (peek : Peek P) (old : Record) (before : History P)
+    (own : Record) (now : History P) (p : IsPeeking meld limits alone c shrinks peek old before own now) where
   -- the round is one of the members' that the rank holds
   peeking_round : IsLegal meld limits now → IsRoundOf limits now peek.comm peek.round p.x.group
   peeking_round legal =
@@ -54,7 +63,8 @@ module _ {P : Type 0} (meld : P → P → P) (limits : Limits) (alone : Bool) (c
       subst (λ w. IsRoundOf limits now w peek.round p.x.group) (sym p.there) round
 
   -- after a further load
-  peeking_on : (quiet : Bool) → (IsTrue alone → IsTrue quiet) → (after : History P) → Did quiet [] now after → (next : Peek P) → next.comm ≡ peek.comm → next.round ≡ peek.round → AreOf meld after next.comm next.round p.x.group next.blocks
+  peeking_on : (quiet : Bool) → (IsTrue alone → IsTrue quiet) → (after : History P) → Did quiet [] now after → (next : Peek P) → next.comm ≡ peek.comm
+      → next.round ≡ peek.round → AreOf meld after next.comm next.round p.x.group next.blocks
       → IsPeeking meld limits alone c shrinks next old before own after
   peeking_on quiet only after did next comm round are =
       record {
@@ -71,7 +81,8 @@ module _ {P : Type 0} (meld : P → P → P) (limits : Limits) (alone : Bool) (c
       }
 
   -- where all members are settled, no mark is due
-  peeking_marked : IsLegal meld limits now → (all : Summary P) → IsSummed meld now c peek.round p.x.group all → HasMarked meld limits alone c shrinks peek.round p.x old before own now
+  peeking_marked : IsLegal meld limits now → (all : Summary P) → IsSummed meld now c peek.round p.x.group all
+      → HasMarked meld limits alone c shrinks peek.round p.x old before own now
   peeking_marked legal all read =
       record {
         look = p.look;
@@ -86,8 +97,10 @@ module _ {P : Type 0} (meld : P → P → P) (limits : Limits) (alone : Bool) (c
       }
 
 -- a call that loads its round's blocks, by what the code knows of the communicator
-module _ {P : Type 0} (meld : P → P → P) (name : Name) (asked : Call P) (peek : Peek P) (shrinks : Bool) (group : List ℕ) (own : Record) (now : Sight P) (of : IsOf meld name now) (y : Held) (w : ℕ) (found : held_at own w ≡ Some y) (w_is : w ≡ comm_of asked)
-    (members : List ℕ) (members_are : members ≡ y.group) (alone : Bool) (old : Record) (before : Sight P) (st : Stands meld alone name old before (record { asked = asked; phase = Peeking peek shrinks; group = group }) own now) where
+module _ {P : Type 0} (meld : P → P → P) (name : Name) (asked : Call P) (peek : Peek P) (shrinks : Bool) (group : List ℕ) (own : Record) (now : Sight P)
+    (of : IsOf meld name now) (y : Held) (w : ℕ) (found : held_at own w ≡ Some y) (w_is : w ≡ comm_of asked)
+    (members : List ℕ) (members_are : members ≡ y.group) (alone : Bool) (old : Record) (before : Sight P)
+    (st : Stands meld alone name old before (record { asked = asked; phase = Peeking peek shrinks; group = group }) own now) where
   abbrev peeking : IsPeeking meld name.limits alone (comm_of asked) shrinks peek old before.seen own now.seen
   peeking = st.at.1
 
@@ -95,7 +108,8 @@ module _ {P : Type 0} (meld : P → P → P) (name : Name) (asked : Call P) (pee
   peek_same = members_are ∙ ap (λ (z : Held). z.group) (same_held own (comm_of asked) w peeking.x y w_is found peeking.held)
 
   peek_round : IsRoundOf name.limits now.seen peek.comm peek.round members
-  peek_round = subst (λ ms. IsRoundOf name.limits now.seen peek.comm peek.round ms) (sym peek_same) (peeking_round meld name.limits alone (comm_of asked) shrinks peek old before.seen own now.seen peeking of.legal)
+  peek_round = subst (λ ms. IsRoundOf name.limits now.seen peek.comm peek.round ms) (sym peek_same)
+      (peeking_round meld name.limits alone (comm_of asked) shrinks peek old before.seen own now.seen peeking of.legal)
 
   -- the next one may be loaded
   pub peek_may : MayPeek meld name members peek now
@@ -111,34 +125,53 @@ module _ {P : Type 0} (meld : P → P → P) (name : Name) (asked : Call P) (pee
   peek_few = few_members name.limits now.seen peek.comm peek.round members of.may_open peek_round
 
   pub peek_any : 0 < length members
-  peek_any = subst (λ ms. 0 < length ms) (sym peek_same) (some_member peeking.x.group own.number (holds meld name.limits peeking.look own (comm_of asked) peeking.x peeking.fits peeking.held).member)
+  peek_any = subst (λ ms. 0 < length ms) (sym peek_same) (some_member peeking.x.group own.number
+      (holds meld name.limits peeking.look own (comm_of asked) peeking.x peeking.fits peeking.held).member)
 
   -- after a further load
-  module _ (quiet : Bool) (only : IsTrue alone → IsTrue quiet) (after : Sight P) (later : IsOf meld name after) (did : Did quiet [] now.seen after.seen) (steps : now.steps ≤ after.steps) (next : Peek P) (comm : next.comm ≡ peek.comm)
+  module _ (quiet : Bool) (only : IsTrue alone → IsTrue quiet) (after : Sight P) (later : IsOf meld name after) (did : Did quiet [] now.seen after.seen)
+      (steps : now.steps ≤ after.steps) (next : Peek P) (comm : next.comm ≡ peek.comm)
       (round : next.round ≡ peek.round) (are : AreOf meld after.seen peek.comm peek.round members next.blocks) where
     are_there : AreOf meld after.seen next.comm next.round peeking.x.group next.blocks
     are_there =
-        subst (λ c. AreOf meld after.seen c next.round peeking.x.group next.blocks) (sym comm) (subst (λ k. AreOf meld after.seen peek.comm k peeking.x.group next.blocks) (sym round) (subst (λ ms. AreOf meld after.seen peek.comm peek.round ms next.blocks) peek_same are))
+        subst (λ c. AreOf meld after.seen c next.round peeking.x.group next.blocks) (sym comm)
+        (subst (λ k. AreOf meld after.seen peek.comm k peeking.x.group next.blocks) (sym round)
+        (subst (λ ms. AreOf meld after.seen peek.comm peek.round ms next.blocks) peek_same are))
 
     abbrev on : IsPeeking meld name.limits alone (comm_of asked) shrinks next old before.seen own after.seen
     on = peeking_on meld name.limits alone (comm_of asked) shrinks peek old before.seen own now.seen peeking quiet only after.seen did next comm round are_there
 
     -- one more is left
-    pub peek_goes : IsSide next.side members → Stands meld alone name old before (record { asked = asked; phase = Peeking next shrinks; group = group }) own after
+    pub peek_goes : IsSide next.side members → Stands meld alone name old before (record { asked = asked; phase = Peeking next shrinks; group = group }) own
+        after
     unfolding peeking_on
-    peek_goes more = record { fits = st.fits; mine = st.mine; onward = omega (arith, st.onward, steps); at = (st.at.0, on, subst (IsSide next.side) peek_same more) }
+    peek_goes more = record {
+      fits = st.fits;
+      mine = st.mine;
+      onward = omega (arith, st.onward, steps);
+      at = (st.at.0, on, subst (IsSide next.side) peek_same more);
+    }
 
     -- not all were set
     pub peek_unread : is_whole next.blocks (length members) ≡ false → HasPeeked meld alone name asked shrinks next old before own after
     unfolding peeking_on
-    peek_unread unknown = record { fits = st.fits; polls = st.at.0; onward = omega (arith, st.onward, steps); peeked = on; unknown = subst (λ ms. is_whole next.blocks (length ms) ≡ false) peek_same unknown }
+    peek_unread unknown = record {
+      fits = st.fits;
+      polls = st.at.0;
+      onward = omega (arith, st.onward, steps);
+      peeked = on;
+      unknown = subst (λ ms. is_whole next.blocks (length ms) ≡ false) peek_same unknown;
+    }
 
     -- all were: this is what they say
-    pub peek_ends : (all : Summary P) → IsSummed meld after.seen peek.comm peek.round members all → HasReadAll meld alone name asked shrinks next.round all old before own after
+    pub peek_ends : (all : Summary P) → IsSummed meld after.seen peek.comm peek.round members all
+        → HasReadAll meld alone name asked shrinks next.round all old before own after
     unfolding peeking_on
     peek_ends all said =
         let there : IsSummed meld after.seen (comm_of asked) next.round peeking.x.group all =
-        subst (λ c. IsSummed meld after.seen c next.round peeking.x.group all) peeking.there (subst (λ k. IsSummed meld after.seen peek.comm k peeking.x.group all) (sym round) (subst (λ ms. IsSummed meld after.seen peek.comm peek.round ms all) peek_same said)) in
+        subst (λ c. IsSummed meld after.seen c next.round peeking.x.group all) peeking.there
+        (subst (λ k. IsSummed meld after.seen peek.comm k peeking.x.group all) (sym round)
+        (subst (λ ms. IsSummed meld after.seen peek.comm peek.round ms all) peek_same said)) in
         record {
           fits = st.fits;
           polls = st.at.0;
@@ -149,12 +182,20 @@ module _ {P : Type 0} (meld : P → P → P) (name : Name) (asked : Call P) (pee
         }
 
 -- the load that a peek makes is the one that is named
-pub peek_named : {P : Type 0} (peek : Peek P) (shrinks : Bool) (rank c : ℕ) (old new : Sight P) → peek.comm ≡ c → IsStepAt (Site.Block (block_at peek.comm peek.round peek.side)) true old new → MakesStep (next_step (Peeking peek shrinks)) rank c old new
-peek_named peek shrinks rank c old new there one = (peek.round, peek.side, subst (λ w. IsStepAt (Site.Block (block_at w peek.round peek.side)) true old new) there one)
+pub peek_named : {P : Type 0} (peek : Peek P) (shrinks : Bool) (rank c : ℕ) (old new : Sight P) → peek.comm ≡ c
+    → IsStepAt (Site.Block (block_at peek.comm peek.round peek.side)) true old new → MakesStep (next_step (Peeking peek shrinks)) rank c old new
+peek_named peek shrinks rank c old new there one = (
+  peek.round,
+  peek.side,
+  subst (λ w. IsStepAt (Site.Block (block_at w peek.round peek.side)) true old new)
+      there one,
+)
 
 -- not all blocks were set: what comes next, by what the code knows of the communicator
-module _ {P : Type 0} (meld : P → P → P) (alone : Bool) (name : Name) (asked : Call P) (shrinks : Bool) (peek : Peek P) (old : Record) (before : Sight P) (own : Record) (now : Sight P) (of : IsOf meld name now)
-    (h : HasPeeked meld alone name asked shrinks peek old before own now) (group : List ℕ) (y : Held) (w : ℕ) (found : held_at own w ≡ Some y) (w_is : w ≡ comm_of asked) (members declared : List ℕ) (members_are : members ≡ y.group)
+module _ {P : Type 0} (meld : P → P → P) (alone : Bool) (name : Name) (asked : Call P) (shrinks : Bool) (peek : Peek P) (old : Record) (before : Sight P)
+    (own : Record) (now : Sight P) (of : IsOf meld name now)
+    (h : HasPeeked meld alone name asked shrinks peek old before own now) (group : List ℕ) (y : Held) (w : ℕ) (found : held_at own w ≡ Some y)
+    (w_is : w ≡ comm_of asked) (members declared : List ℕ) (members_are : members ≡ y.group)
     (declared_are : declared ≡ own.seen) where
   abbrev p : IsPeeking meld name.limits alone (comm_of asked) shrinks peek old before.seen own now.seen
   p = h.peeked
@@ -170,7 +211,8 @@ module _ {P : Type 0} (meld : P → P → P) (alone : Bool) (name : Name) (asked
 
   -- the round is that of the communicator's members
   pub unread_round : IsRoundOf name.limits now.seen peek.comm peek.round members
-  unread_round = subst (λ ms. IsRoundOf name.limits now.seen peek.comm peek.round ms) (sym unread_same) (peeking_round meld name.limits alone (comm_of asked) shrinks peek old before.seen own now.seen p of.legal)
+  unread_round = subst (λ ms. IsRoundOf name.limits now.seen peek.comm peek.round ms) (sym unread_same)
+      (peeking_round meld name.limits alone (comm_of asked) shrinks peek old before.seen own now.seen p of.legal)
 
   -- whose ranks rise
   pub unread_rises : IsStrictlyIncreasing members
@@ -178,7 +220,8 @@ module _ {P : Type 0} (meld : P → P → P) (alone : Bool) (name : Name) (asked
 
   -- and are some
   pub unread_some : 0 < length members
-  unread_some = subst (λ ms. 0 < length ms) (sym unread_same) (some_member p.x.group own.number (holds meld name.limits p.look own (comm_of asked) p.x p.fits p.held).member)
+  unread_some = subst (λ ms. 0 < length ms) (sym unread_same) (some_member p.x.group own.number
+      (holds meld name.limits p.look own (comm_of asked) p.x p.fits p.held).member)
 
   pub unread_few : length members ≤ 1024
   unread_few = few_members name.limits now.seen peek.comm peek.round members of.may_open unread_round
@@ -211,9 +254,11 @@ module _ {P : Type 0} (meld : P → P → P) (alone : Bool) (name : Name) (asked
           there = here;
           at = at_look;
           marked = p.look;
-          has_marked = subst (λ rs. Marks alone old.number (comm_of asked) marks.round rs p.look p.look) (sym none_yet) (marks_none alone old.number (comm_of asked) marks.round p.look);
+          has_marked = subst (λ rs. Marks alone old.number (comm_of asked) marks.round rs p.look p.look) (sym none_yet)
+              (marks_none alone old.number (comm_of asked) marks.round p.look);
           waited = p.waited;
-          are = subst (λ c. AreOf meld now.seen c marks.round p.x.group peek.blocks) (p.there ∙ sym here) (subst (λ k. AreOf meld now.seen peek.comm k p.x.group peek.blocks) (sym round) p.are);
+          are = subst (λ c. AreOf meld now.seen c marks.round p.x.group peek.blocks) (p.there ∙ sym here)
+              (subst (λ k. AreOf meld now.seen peek.comm k p.x.group peek.blocks) (sym round) p.are);
           unknown = h.unknown;
         } in
         record {
@@ -224,10 +269,12 @@ module _ {P : Type 0} (meld : P → P → P) (alone : Bool) (name : Name) (asked
         }
 
     -- or, where there is none, the blocks are read
-    pub unread_reading : (reading : ReadBlocks P) (size : ℕ) → reading ≡ starts_at w peek.round peek.blocks size → size ≡ length members → length declared ≤ marks.next
+    pub unread_reading : (reading : ReadBlocks P) (size : ℕ) → reading ≡ starts_at w peek.round peek.blocks size → size ≡ length members
+        → length declared ≤ marks.next
         → Stands meld alone name old before (record { asked = asked; phase = Reading reading shrinks; group = group }) own now
     unread_reading reading size is size_is past =
-        let nobody : filter (has p.x.group) fs ≡ [] = sym (all_in p.x.group fs marks.next at_look.within (subst (λ s. length s ≤ marks.next) seen_are past)) ∙ none_yet in
+        let nobody : filter (has p.x.group) fs ≡ [] = sym (all_in p.x.group fs marks.next at_look.within (subst (λ s. length s ≤ marks.next) seen_are past))
+        ∙ none_yet in
         let marked : HasMarked meld name.limits alone (comm_of asked) shrinks peek.round p.x old before.seen own now.seen =
         record {
           look = p.look;
@@ -236,17 +283,20 @@ module _ {P : Type 0} (meld : P → P → P) (alone : Bool) (name : Name) (asked
           held = p.held;
           open_is = p.open_is;
           marked = p.look;
-          marks = subst (λ rs. Marks alone old.number (comm_of asked) peek.round rs p.look p.look) (sym nobody) (marks_none alone old.number (comm_of asked) peek.round p.look);
+          marks = subst (λ rs. Marks alone old.number (comm_of asked) peek.round rs p.look p.look) (sym nobody)
+              (marks_none alone old.number (comm_of asked) peek.round p.look);
           waited = p.waited;
           legal = of.legal;
         } in
-        let are : AreOf meld now.seen w peek.round p.x.group peek.blocks = subst (λ c. AreOf meld now.seen c peek.round p.x.group peek.blocks) (p.there ∙ sym w_is) p.are in
+        let are : AreOf meld now.seen w peek.round p.x.group peek.blocks = subst (λ c. AreOf meld now.seen c peek.round p.x.group peek.blocks)
+        (p.there ∙ sym w_is) p.are in
         record {
           fits = h.fits;
           mine = ap (λ (a : Call P). (traits_of a).by) h.polls;
           onward = h.onward;
           at = (
             h.polls,
-            reading_begins meld name.limits alone (comm_of asked) shrinks peek.round p.x old before.seen own now.seen marked peek.blocks w peek.round size are h.unknown reading is w_is refl (size_is ∙ ap length unread_same),
+            reading_begins meld name.limits alone (comm_of asked) shrinks peek.round p.x old before.seen own now.seen marked peek.blocks w peek.round size are
+                h.unknown reading is w_is refl (size_is ∙ ap length unread_same),
           );
         }

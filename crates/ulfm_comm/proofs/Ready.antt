@@ -15,12 +15,14 @@ use Rattle.ulfm_comm.specs.declared.phases.phase.Phase.TheVariants.{Peeking, Wai
 use Rattle.ulfm_comm.proofs.{CallRuns.{looked_fits}, Agreement.{poll_mine, some_member}, Holding.{holds}}
 
 -- of a block that isn't known nothing is told
-tells_none : {P : Type 0} (meld : P → P → P) (h : History P) (c k : ℕ) (group : List ℕ) (said : Option (Summary P)) → is_some said ≡ false → Tells meld h c k group said
+tells_none : {P : Type 0} (meld : P → P → P) (h : History P) (c k : ℕ) (group : List ℕ) (said : Option (Summary P)) → is_some said ≡ false
+    → Tells meld h c k group said
 tells_none meld h c k group None none = tt
 tells_none meld h c k group (Some all) none = absurd (cc none)
 
 -- the poll of a request that is open, right after its look
-module _ {P : Type 0} (meld : P → P → P) (alone : Bool) (name : Name) (asked : Call P) (old : Record) (before : Sight P) (own : Record) (now : Sight P) (just : JustLooked meld alone name asked old before own now) (of : IsOf meld name now) where
+module _ {P : Type 0} (meld : P → P → P) (alone : Bool) (name : Name) (asked : Call P) (old : Record) (before : Sight P) (own : Record) (now : Sight P)
+    (just : JustLooked meld alone name asked old before own now) (of : IsOf meld name now) where
   pub just_fits : Fits meld name.limits now.seen own
   just_fits = looked_fits meld alone name before now just.onward old own of just.fits just.looked
 
@@ -30,12 +32,14 @@ module _ {P : Type 0} (meld : P → P → P) (alone : Bool) (name : Name) (asked
   just_number : own.number ≡ old.number
   just_number = ap (λ (w : Record). w.number) just.looked.record_is
 
-  module _ (group : List ℕ) (x : Held) (w : ℕ) (found : held_at own w ≡ Some x) (w_is : w ≡ comm_of asked) (rank comm : ℕ) (polls : asked ≡ call.Poll rank comm) where
+  module _ (group : List ℕ) (x : Held) (w : ℕ) (found : held_at own w ≡ Some x) (w_is : w ≡ comm_of asked) (rank comm : ℕ)
+      (polls : asked ≡ call.Poll rank comm) where
     just_held : held_at own (comm_of asked) ≡ Some x
     just_held = sym (ap (held_at own) w_is) ∙ found
 
     -- of an agreement: the blocks of its round are loaded
-    pub ready_peeking : (peek : Peek P) (shrinks : Bool) (k : ℕ) → x.request ≡ Some (agreement shrinks k) → peek.comm ≡ w → peek.round ≡ k → peek.side ≡ Front → (is_some peek.blocks.front ≡ false) × (is_some peek.blocks.back ≡ false)
+    pub ready_peeking : (peek : Peek P) (shrinks : Bool) (k : ℕ) → x.request ≡ Some (agreement shrinks k) → peek.comm ≡ w → peek.round ≡ k → peek.side ≡ Front
+        → (is_some peek.blocks.front ≡ false) × (is_some peek.blocks.back ≡ false)
         → Stands meld alone name old before (record { asked = asked; phase = Peeking peek shrinks; group = group }) own now
     ready_peeking peek shrinks k open_is there round first none =
         let some : 0 < length x.group = some_member x.group own.number (holds meld name.limits now.seen own (comm_of asked) x just_fits just_held).member in
@@ -49,7 +53,10 @@ module _ {P : Type 0} (meld : P → P → P) (alone : Bool) (name : Name) (asked
           held = just_held;
           open_is = open_is ∙ ap (λ v. Some (agreement shrinks v)) (sym round);
           there = there ∙ w_is;
-          are = record { front = tells_none meld now.seen peek.comm peek.round (block_of Front x.group) peek.blocks.front none.0; back = tells_none meld now.seen peek.comm peek.round (block_of Back x.group) peek.blocks.back none.1 };
+          are = record {
+            front = tells_none meld now.seen peek.comm peek.round (block_of Front x.group) peek.blocks.front none.0;
+            back = tells_none meld now.seen peek.comm peek.round (block_of Back x.group) peek.blocks.back none.1;
+          };
           waited = did_none alone now.seen;
         } in
         record {
@@ -61,7 +68,8 @@ module _ {P : Type 0} (meld : P → P → P) (alone : Bool) (name : Name) (asked
 
     module _ (members declared : List ℕ) (members_are : members ≡ x.group) (declared_are : declared ≡ own.seen) where
       -- of a barrier: who has arrived is read
-      pub ready_waiting : (arrivals : Arrivals) (k : ℕ) → arrivals.comm ≡ w → arrivals.round ≡ k → x.request ≡ Some (Barrier k) → IsAsked members declared arrivals.others arrivals.next → asked_before members declared arrivals.others arrivals.next ≡ []
+      pub ready_waiting : (arrivals : Arrivals) (k : ℕ) → arrivals.comm ≡ w → arrivals.round ≡ k → x.request ≡ Some (Barrier k)
+          → IsAsked members declared arrivals.others arrivals.next → asked_before members declared arrivals.others arrivals.next ≡ []
           → Stands meld alone name old before (record { asked = asked; phase = Waiting arrivals; group = group }) own now
       ready_waiting arrivals k there round open_is asks first =
           let waits : IsWaiting meld name.limits alone (comm_of asked) arrivals.round x old before.seen own now.seen =
@@ -75,7 +83,8 @@ module _ {P : Type 0} (meld : P → P → P) (alone : Bool) (name : Name) (asked
             waited = did_none alone now.seen;
           } in
           let at : AtArrival members declared arrivals now.seen = at_arrival_new members declared arrivals now.seen asks first in
-          let there_now : AtArrival x.group own.seen arrivals now.seen = subst (λ ms. AtArrival ms own.seen arrivals now.seen) members_are (subst (λ fs. AtArrival members fs arrivals now.seen) declared_are at) in
+          let there_now : AtArrival x.group own.seen arrivals now.seen = subst (λ ms. AtArrival ms own.seen arrivals now.seen) members_are
+          (subst (λ fs. AtArrival members fs arrivals now.seen) declared_are at) in
           record {
             fits = just.fits;
             mine = just.mine;

@@ -4,8 +4,14 @@ use Rattle.std.specs.Bool.{⊤}
 use Rattle.std.specs.List.{list_all}
 use Rattle.ulfm_model.specs.declared.call.Call.TheVariants as call
 use Rattle.ulfm_laws.specs.declared.ctx_mask.CtxMask.{CtxMask}
-use Rattle.ulfm_model.specs.declared.{call.Call.{Call}, call.Request.{Request}, call.Request.TheVariants.{Agree, Shrink, Barrier}, contribution.Offer.{Offer}, contribution.Offer.TheVariants.{Ctx, Flag}, limits.Limits.{Limits}, refusal.Refusal.{Refusal}, refusal.Refusal.TheVariants.{IsRevoked, NoContext, ProcFailed, SelfFailed, Twice}, reply.Reply.{Reply}, reply.Reply.TheVariants.{AlreadyRevoked, Done, FailedGroup, Pending, Refused, Revoked, Started}}
-use Rattle.ulfm_model.specs.{Answers.{AgreeReplies, IsReply, IsSelfFailed, PollReplies, Replies, RepliesBy, Sees, ShrinkReplies, SpawnReplies, StartReplies, View, polled_by, refusal_of}, History.{Decision, History, decision, failures, has, has_arrived, is_revoked}, Records.{Held, free_ids, Record, held_at, is_shrink}, Runs.{IsRun}}
+use Rattle.ulfm_model.specs.declared.{call.Call.{Call}, call.Request.{Request}, call.Request.TheVariants.{Agree, Shrink, Barrier}, contribution.Offer.{Offer}}
+use Rattle.ulfm_model.specs.declared.{contribution.Offer.TheVariants.{Ctx, Flag}, limits.Limits.{Limits}, refusal.Refusal.{Refusal}}
+use Rattle.ulfm_model.specs.declared.{refusal.Refusal.TheVariants.{IsRevoked, NoContext, ProcFailed, SelfFailed, Twice}, reply.Reply.{Reply}}
+use Rattle.ulfm_model.specs.declared.reply.Reply.TheVariants.{AlreadyRevoked, Done, FailedGroup, Pending, Refused, Revoked, Started}
+use Rattle.ulfm_model.specs.Answers.{AgreeReplies, IsReply, IsSelfFailed, PollReplies, Replies, RepliesBy, Sees, ShrinkReplies, SpawnReplies, StartReplies}
+use Rattle.ulfm_model.specs.Answers.{View, polled_by, refusal_of}
+use Rattle.ulfm_model.specs.History.{Decision, History, decision, failures, has, has_arrived, is_revoked}
+use Rattle.ulfm_model.specs.{Records.{Held, free_ids, Record, held_at, is_shrink}, Runs.{IsRun}}
 use Rattle.ulfm_model.specs.Terms.{comm_of, view_of}
 use Rattle.ulfm_comm.specs.Replies.{Answers, Kind}
 
@@ -22,7 +28,8 @@ IsKind (call.Revoke rank c) reply = Answers Kind.Revokes reply
 IsKind (call.IsRevoked rank c) reply = Answers Kind.Asks reply
 IsKind (call.Free rank c) reply = Answers Kind.Frees reply
 
-barrier_kind : (P : Type 0) (revoked done waits : Bool) → Answers {P = P} Kind.Polls (if revoked then Refused IsRevoked else (if done then Done else (if waits then Pending else Refused ProcFailed)))
+barrier_kind : (P : Type 0) (revoked done waits : Bool) → Answers {P = P} Kind.Polls
+    (if revoked then Refused IsRevoked else (if done then Done else (if waits then Pending else Refused ProcFailed)))
 barrier_kind P true done waits = tt
 barrier_kind P false true waits = tt
 barrier_kind P false false true = tt
@@ -45,7 +52,8 @@ module _ {P : Type 0} (meld : P → P → P) (limits : Limits) (view : View P) (
   spawn_kind h c k mask (inl made) = subst (Answers Kind.Polls) (sym made.5) tt
   spawn_kind h c k mask (inr full) = subst (Answers Kind.Polls) (sym full.2) tt
 
-  ids_kind : (h : History P) (r c k : ℕ) (made : Decision P) (mask : CtxMask) → ((mask.bits ≡ 0) × (reply ≡ Refused NoContext)) ⊎ ((0 < mask.bits) × IsFalse (has made.failed r) × SpawnReplies limits h c k mask.bits reply) → Answers Kind.Polls reply
+  ids_kind : (h : History P) (r c k : ℕ) (made : Decision P) (mask : CtxMask) → ((mask.bits ≡ 0) × (reply ≡ Refused NoContext)) ⊎
+      ((0 < mask.bits) × IsFalse (has made.failed r) × SpawnReplies limits h c k mask.bits reply) → Answers Kind.Polls reply
   ids_kind h r c k made mask (inl none) = subst (Answers Kind.Polls) (sym none.1) tt
   ids_kind h r c k made mask (inr some) = spawn_kind h c k mask.bits some.2
 
@@ -60,7 +68,8 @@ module _ {P : Type 0} (meld : P → P → P) (limits : Limits) (view : View P) (
   poll_kind (Some (Shrink k)) (inl waits) = subst (Answers Kind.Polls) (sym waits.1) tt
   poll_kind (Some (Shrink k)) (inr decided) = shrink_kind view.history old.number x.comm k (decision meld limits.ranks view.history x.comm k) decided.1
   poll_kind (Some (Barrier k)) is = subst (Answers Kind.Polls) (sym is)
-      (barrier_kind P (is_revoked view.history x.comm) (list_all (has_arrived view.history x.comm k) x.group) (list_all (has_arrived view.history x.comm k) (filter (has x.group) view.look)))
+      (barrier_kind P (is_revoked view.history x.comm) (list_all (has_arrived view.history x.comm k) x.group)
+      (list_all (has_arrived view.history x.comm k) (filter (has x.group) view.look)))
 
   -- that of a call that the record doesn't refuse
   pub replies_kind : (asked : Call P) → Replies meld limits view old x asked reply → IsKind asked reply
@@ -77,7 +86,8 @@ module _ {P : Type 0} (meld : P → P → P) (limits : Limits) (view : View P) (
 
 -- a call that counted failures has seen all that were declared at its point
 module _ {P : Type 0} (meld : P → P → P) (limits : Limits) (view : View P) (after : History P) (old : Record) (count : ℕ) (seen : List ℕ) where
-  by_asked : (asked : Call P) (x : Held) → Replies meld limits view old x asked (FailedGroup count) → Sees (is_shrink (polled_by old asked)) view.look after seen → seen ≡ failures view.history
+  by_asked : (asked : Call P) (x : Held) → Replies meld limits view old x asked (FailedGroup count)
+      → Sees (is_shrink (polled_by old asked)) view.look after seen → seen ≡ failures view.history
   by_asked (call.Fail rank) x replies sees = absurd replies
   by_asked (call.GetFailed rank c) x replies sees = sees ∙ sym replies.0
   by_asked (call.Ack rank c count) x replies sees = absurd (cc (replies.1))
@@ -89,19 +99,23 @@ module _ {P : Type 0} (meld : P → P → P) (limits : Limits) (view : View P) (
   by_asked (call.IsRevoked rank c) x replies sees = absurd (cc replies)
   by_asked (call.Free rank c) x replies sees = absurd (cc replies)
 
-  by_held : (asked : Call P) (held : Option Held) (refusal : Option Refusal) → RepliesBy meld limits view old held asked (FailedGroup count) refusal → Sees (is_shrink (polled_by old asked)) view.look after seen → seen ≡ failures view.history
+  by_held : (asked : Call P) (held : Option Held) (refusal : Option Refusal) → RepliesBy meld limits view old held asked (FailedGroup count) refusal
+      → Sees (is_shrink (polled_by old asked)) view.look after seen → seen ≡ failures view.history
   by_held asked held (Some refusal) is sees = absurd (cc is)
   by_held asked (Some x) None replies sees = by_asked asked x replies sees
   by_held asked None None replies sees = absurd replies
 
-  by_either : (asked : Call P) → IsSelfFailed view old asked (FailedGroup count) ⊎ IsReply meld limits view old asked (FailedGroup count) → Sees (is_shrink (polled_by old asked)) view.look after seen → seen ≡ failures view.history
+  by_either : (asked : Call P) → IsSelfFailed view old asked (FailedGroup count) ⊎ IsReply meld limits view old asked (FailedGroup count)
+      → Sees (is_shrink (polled_by old asked)) view.look after seen → seen ≡ failures view.history
   by_either asked (inl failed) sees = absurd (cc (failed.reply_is))
   by_either asked (inr replied) sees = by_held asked (held_at old (comm_of asked)) (refusal_of old asked) replied.replies sees
 
-pub counted_seen : {P : Type 0} (meld : P → P → P) (limits : Limits) (alone : Bool) (before after : History P) (old : Record) (asked : Call P) (reply : Reply P) (new : Record) (run : IsRun meld limits alone before after old asked reply new) (count : ℕ)
+pub counted_seen : {P : Type 0} (meld : P → P → P) (limits : Limits) (alone : Bool) (before after : History P) (old : Record) (asked : Call P) (reply : Reply P)
+    (new : Record) (run : IsRun meld limits alone before after old asked reply new) (count : ℕ)
     → reply ≡ FailedGroup count → new.seen ≡ failures run.span.point
 counted_seen meld limits alone before after old asked reply new run count is =
-    by_either meld limits (view_of run.span) after old count new.seen asked (subst (λ r. IsSelfFailed (view_of run.span) old asked r ⊎ IsReply meld limits (view_of run.span) old asked r) is run.answer.replies) run.answer.leaves.seen
+    by_either meld limits (view_of run.span) after old count new.seen asked (subst
+    (λ r. IsSelfFailed (view_of run.span) old asked r ⊎ IsReply meld limits (view_of run.span) old asked r) is run.answer.replies) run.answer.leaves.seen
 
 -- a reply that isn't a refusal is one on a communicator that the rank holds, and that its look didn't refuse
 pub record AnsweredOn {P : Type 0} (meld : P → P → P) (limits : Limits) (view : View P) (old : Record) (asked : Call P) (reply : Reply P) : Type 0 where
@@ -111,8 +125,10 @@ pub record AnsweredOn {P : Type 0} (meld : P → P → P) (limits : Limits) (vie
   pub passed : refusal_of old asked ≡ None
   pub replies : Replies meld limits view old x asked reply
 
-module _ {P : Type 0} (meld : P → P → P) (limits : Limits) (view : View P) (old : Record) (asked : Call P) (reply : Reply P) (other : (refusal : Refusal) → reply ≡ Refused refusal → ⊥) where
-  on_held : IsFalse (has view.look old.number) → (held : Option Held) (refusal : Option Refusal) → held_at old (comm_of asked) ≡ held → refusal_of old asked ≡ refusal → RepliesBy meld limits view old held asked reply refusal
+module _ {P : Type 0} (meld : P → P → P) (limits : Limits) (view : View P) (old : Record) (asked : Call P) (reply : Reply P) (other : (refusal : Refusal)
+    → reply ≡ Refused refusal → ⊥) where
+  on_held : IsFalse (has view.look old.number) → (held : Option Held) (refusal : Option Refusal) → held_at old (comm_of asked) ≡ held
+      → refusal_of old asked ≡ refusal → RepliesBy meld limits view old held asked reply refusal
       → AnsweredOn meld limits view old asked reply
   on_held look held (Some refusal) at passed is = absurd (other refusal is)
   on_held look (Some x) None at passed replies = record { x = x; held = at; not_declared = look; passed = passed; replies = replies }
@@ -122,6 +138,7 @@ module _ {P : Type 0} (meld : P → P → P) (limits : Limits) (view : View P) (
   on_either (inl failed) = absurd (other SelfFailed failed.reply_is)
   on_either (inr replied) = on_held replied.not_declared (held_at old (comm_of asked)) (refusal_of old asked) refl refl replied.replies
 
-pub answered_on : {P : Type 0} (meld : P → P → P) (limits : Limits) (alone : Bool) (before after : History P) (old : Record) (asked : Call P) (reply : Reply P) (new : Record) (run : IsRun meld limits alone before after old asked reply new)
+pub answered_on : {P : Type 0} (meld : P → P → P) (limits : Limits) (alone : Bool) (before after : History P) (old : Record) (asked : Call P) (reply : Reply P)
+    (new : Record) (run : IsRun meld limits alone before after old asked reply new)
     → ((refusal : Refusal) → reply ≡ Refused refusal → ⊥) → AnsweredOn meld limits (view_of run.span) old asked reply
 answered_on meld limits alone before after old asked reply new run other = on_either meld limits (view_of run.span) old asked reply other run.answer.replies

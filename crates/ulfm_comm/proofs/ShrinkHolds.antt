@@ -15,7 +15,8 @@ found_last p (x ∷ xs) y is =
     let rest = found_last p xs y is in
     elim (p x) as (λ b. (z : Held) × (cond b (Some x) (find p (xs ++ y ∷ [])) ≡ Some z)) [ true ↦ (x, refl) | false ↦ rest ]
 
-module _ {P : Type 0} (meld : P → P → P) (alone : Bool) (name : Name) (c : ℕ) (old : Record) (before : Sight P) (j context size : ℕ) (new : Record) (after : Sight P) where
+module _ {P : Type 0} (meld : P → P → P) (alone : Bool) (name : Name) (c : ℕ) (old : Record) (before : Sight P) (j context size : ℕ) (new : Record)
+    (after : Sight P) where
   -- it holds the communicator that was made
   holds_made : Calls meld alone name (Poll old.number c) old before (Shrunk j context size) new after → (x : Held) × (held_at new j ≡ Some x)
   holds_made calls = by_run (called_run meld alone name (Poll old.number c) old before (Shrunk j context size) new after calls)
@@ -25,12 +26,15 @@ module _ {P : Type 0} (meld : P → P → P) (alone : Bool) (name : Name) (c : �
       by_run (inr run) =
           let is = run.answer.leaves.record_is in
           let now : Record = record old { seen = new.seen } in
-          let y : Held = record { comm = j; group = members name.limits.ranks run.span.point j; context = context; acked = 0; next_agreement = 0; next_barrier = 0; request = None } in
+          let y : Held = record {
+      comm = j; group = members name.limits.ranks run.span.point j; context = context; acked = 0; next_agreement = 0; next_barrier = 0; request = None;
+    } in
           let last = found_last (λ x. x.comm == j) (closed now c).held y (grind (arith, nat_tests)) in
           (last.0, ap (λ (r : Record). held_at r j) is ∙ last.1)
 
   -- and has its members
-  pub has_members : Calls meld alone name (Poll old.number c) old before (Shrunk j context size) new after → (group : List ℕ) → ((x : Held) → held_at new j ≡ Some x → group ≡ x.group) → group ≡ members name.limits.ranks after.seen j
+  pub has_members : Calls meld alone name (Poll old.number c) old before (Shrunk j context size) new after → (group : List ℕ)
+      → ((x : Held) → held_at new j ≡ Some x → group ≡ x.group) → group ≡ members name.limits.ranks after.seen j
   has_members calls group is =
       let held = holds_made calls in
       is held.0 held.1 ∙ group_is meld name.limits after.seen new j held.0 calls.fits held.1

@@ -1,5 +1,6 @@
 -- The communicator that is made of a round.
-use Rattle.std.proofs.Common.{◌≡◌, ◌⊎◌, inl, inr, ℕ, zero, suc, ◌+◌, ◌-◌, ◌<◌, ◌≤◌, ◌^◌, ◌==◌, ◌&&◌, ◌||◌, Bool, true, false, List, [], ◌∷◌, length, map, Some, slice_get, refl, ap, ap₂, sym, ◌∙◌, subst, arith}
+use Rattle.std.proofs.Common.{◌≡◌, ◌⊎◌, inl, inr, ℕ, zero, suc, ◌+◌, ◌-◌, ◌<◌, ◌≤◌, ◌^◌, ◌==◌, ◌&&◌, ◌||◌, Bool, true, false, List, [], ◌∷◌, length, map, Some}
+use Rattle.std.proofs.Common.{slice_get, refl, ap, ap₂, sym, ◌∙◌, subst, arith}
 use Rattle.std.specs.List.{list_any}
 use Rattle.std.proofs.lemmas.Bool.{and_parts, eqb-true}
 use Rattle.std.proofs.lemmas.List.{length-map}
@@ -9,7 +10,8 @@ use Rattle.ulfm_model.proofs.Lists.{in_list}
 use Rattle.ulfm_words.specs.Steps.{Name, Sight}
 use Rattle.ulfm_words.proofs.{Ranks.{spawns_below}, Trails.{did_added}}
 use Rattle.ulfm_steps.specs.Appends.{Appends}
-use Rattle.ulfm_steps.specs.declared.{append.Appended.{Appended}, append.Appended.TheVariants.{Won, Found, Full}, item.Item.{Item}, item.Item.TheVariants.{Comm}}
+use Rattle.ulfm_steps.specs.declared.{append.Appended.{Appended}, append.Appended.TheVariants.{Won, Found, Full}, item.Item.{Item}}
+use Rattle.ulfm_steps.specs.declared.item.Item.TheVariants.{Comm}
 use Rattle.ulfm_comm.specs.Spawning.{IsFullBy, IsMadeBy}
 
 -- the round at a place of the list
@@ -23,11 +25,13 @@ round_at (x ∷ xs) zero c k e =
 round_at (x ∷ xs) (suc i) c k e = round_at xs i c k e
 
 -- where each of the first places has another round, and there are no more, none has this one
-none_made : (xs : List (ℕ × ℕ)) (c k : ℕ) → ((j : ℕ) → j < length xs → (x : Item) × (slice_get (map (λ made. Comm made.0 made.1) xs) j ≡ Some x) × (x ≡ Comm c k → ⊥)) → list_any (λ made. (made.0 == c) && (made.1 == k)) xs ≡ false
+none_made : (xs : List (ℕ × ℕ)) (c k : ℕ) → ((j : ℕ) → j < length xs → (x : Item) × (slice_get (map (λ made. Comm made.0 made.1) xs) j ≡ Some x) × (x ≡ Comm c k
+    → ⊥)) → list_any (λ made. (made.0 == c) && (made.1 == k)) xs ≡ false
 none_made [] c k others = refl
 none_made (x ∷ xs) c k others = go (none_made xs c k (λ j lt. others (suc j) (omega (arith, lt)))) ((x.0 == c) && (x.1 == k)) refl
   where
-    go : list_any (λ made. (made.0 == c) && (made.1 == k)) xs ≡ false → (b : Bool) → ((x.0 == c) && (x.1 == k)) ≡ b → (b || list_any (λ made. (made.0 == c) && (made.1 == k)) xs) ≡ false
+    go : list_any (λ made. (made.0 == c) && (made.1 == k)) xs ≡ false → (b : Bool) → ((x.0 == c) && (x.1 == k)) ≡ b
+        → (b || list_any (λ made. (made.0 == c) && (made.1 == k)) xs) ≡ false
     go rest false is = rest
     go rest true is =
         let both = and_parts (x.0 == c) (x.1 == k) is in
@@ -38,7 +42,12 @@ none_made (x ∷ xs) c k others = go (none_made xs c k (λ j lt. others (suc j) 
 -- so many places that are taken
 so_many : (xs : List (ℕ × ℕ)) (n : ℕ) → ((j : ℕ) → j < n → (x : Item) × (slice_get (map (λ made. Comm made.0 made.1) xs) j ≡ Some x)) → n ≤ length xs
 so_many xs zero all = omega arith
-so_many xs (suc n) all = let last = all n (omega arith) in omega (arith, in_list (map (λ made. Comm made.0 made.1) xs) n last.0 last.1, length-map xs (λ (made : ℕ × ℕ). Comm made.0 made.1))
+so_many xs (suc n) all = let last = all n (omega arith) in omega (
+  arith,
+  in_list (map (λ made. Comm made.0 made.1) xs) n last.0 last.1,
+  length-map xs
+      (λ (made : ℕ × ℕ). Comm made.0 made.1),
+)
 
 module _ {P : Type 0} (meld : P → P → P) (alone : Bool) (name : Name) (by : Caller) (c k : ℕ) (before after : Sight P) (most i : ℕ) where
   one_more : i + 1 - 1 ≡ i
@@ -79,7 +88,8 @@ module _ {P : Type 0} (meld : P → P → P) (alone : Bool) (name : Name) (by : 
       }
 
   -- one or the other
-  pub makes : (end : Appended) → (end ≡ Won i) ⊎ (end ≡ Found i) → Appends meld alone name (Comm c k) by most before end after → IsMadeBy meld alone name by c k before (i + 1) after
+  pub makes : (end : Appended) → (end ≡ Won i) ⊎ (end ≡ Found i) → Appends meld alone name (Comm c k) by most before end after
+      → IsMadeBy meld alone name by c k before (i + 1) after
   makes end (inl won) appends = won_makes (subst (λ e. Appends meld alone name (Comm c k) by most before e after) won appends)
   makes end (inr found) appends = found_made (subst (λ e. Appends meld alone name (Comm c k) by most before e after) found appends)
 
@@ -92,7 +102,15 @@ module _ {P : Type 0} (meld : P → P → P) (alone : Bool) (name : Name) (by : 
       let some = appends.of.may_open.in_range.some_comms in
       let few = spawns_below meld name.limits after.seen appends.of.legal some in
       let full : length (spawns after.seen) + 1 ≡ name.limits.comms = omega (arith, many, few, some) in
-      record { of = appends.of; did = appends.outcome.0; full = full; unmade = none_made (spawns after.seen) c k (λ j lt. passed j (omega (arith, lt, full))); onward = appends.onward; cached = appends.cached; caches = appends.caches }
+      record {
+        of = appends.of;
+        did = appends.outcome.0;
+        full = full;
+        unmade = none_made (spawns after.seen) c k (λ j lt. passed j (omega (arith, lt, full)));
+        onward = appends.onward;
+        cached = appends.cached;
+        caches = appends.caches;
+      }
 
   -- its number is small
   pub number_fits : (j : ℕ) → IsMadeBy meld alone name by c k before j after → j < 2 ^ 16

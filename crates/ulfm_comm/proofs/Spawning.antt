@@ -1,5 +1,6 @@
 -- The end of a shrink's poll, step by step.
-use Rattle.std.proofs.Common.{◌≡◌, ℕ, ◌<◌, ◌≤◌, ◌==◌, ◌&&◌, Bool, true, false, not, List, [], ◌∷◌, ◌++◌, length, take, nat_eq, nat_lt, Some, refl, ap, ap₂, sym, ◌∙◌, subst, append-nil, arith, inl, inr, IsTrue, Option, ◌⊎◌}
+use Rattle.std.proofs.Common.{◌≡◌, ℕ, ◌<◌, ◌≤◌, ◌==◌, ◌&&◌, Bool, true, false, not, List, [], ◌∷◌, ◌++◌, length, take, nat_eq, nat_lt, Some, refl, ap, ap₂, sym}
+use Rattle.std.proofs.Common.{◌∙◌, subst, append-nil, arith, inl, inr, IsTrue, Option, ◌⊎◌}
 use Rattle.std.specs.List.{AllByRecursion, list_any}
 use Rattle.std.specs.List.Sorted.{IsStrictlyIncreasing}
 use Rattle.std.proofs.lemmas.Bool.Decides.{nat_tests}
@@ -7,10 +8,14 @@ use Rattle.std.proofs.lemmas.Nat.Bits.{bit_at_above}
 use mathlib.Core.List.{IsPrefix}
 use Rattle.ulfm_laws.specs.declared.{summary.Body.TheVariants.{Ctx as OfIds}, ctx_mask.CtxMask.{CtxMask}, summary.Summary.{Summary}}
 use Rattle.ulfm_model.specs.declared.call.Call.TheVariants as call
-use Rattle.ulfm_model.specs.declared.{call.Call.{Call}, event.Caller.TheVariants.{Rank}, event.Event.{Event}, event.Event.TheVariants.{Spawn}, limits.Limits.{Limits}, refusal.Refusal.TheVariants.{Mismatch, NoContext, NoRoom, OutOfMemory, SelfFailed}, reply.Reply.{Reply}, reply.Reply.TheVariants.{Pending, Refused, Shrunk}}
-use Rattle.ulfm_model.specs.{Answers.{CallAdds, PollAdds, closed, polled_by, traits_of}, History.{History, IsLegal, entries_by, failures, has, spawns, without}, Records.{Fits, Held, IsLowestId, Record, held_at, is_shrink}, Runs.{Did}}
+use Rattle.ulfm_model.specs.declared.{call.Call.{Call}, event.Caller.TheVariants.{Rank}, event.Event.{Event}, event.Event.TheVariants.{Spawn}}
+use Rattle.ulfm_model.specs.declared.{limits.Limits.{Limits}, refusal.Refusal.TheVariants.{Mismatch, NoContext, NoRoom, OutOfMemory, SelfFailed}}
+use Rattle.ulfm_model.specs.declared.{reply.Reply.{Reply}, reply.Reply.TheVariants.{Pending, Refused, Shrunk}}
+use Rattle.ulfm_model.specs.{Answers.{CallAdds, PollAdds, closed, polled_by, traits_of}, History.{History, IsLegal, entries_by, failures, has, spawns, without}}
+use Rattle.ulfm_model.specs.{Records.{Fits, Held, IsLowestId, Record, held_at, is_shrink}, Runs.{Did}}
 use Rattle.ulfm_model.specs.Terms.{comm_of, contexts_of, new_held}
-use Rattle.ulfm_model.proofs.{Groups.{members_few}, Histories.{failures_begin}, LeftFits.{fits_seen}, Lists.{length-filter-le, prefix_trans}, Stable.{fits_stays}}
+use Rattle.ulfm_model.proofs.{Groups.{members_few}, Histories.{failures_begin}, LeftFits.{fits_seen}, Lists.{length-filter-le, prefix_trans}}
+use Rattle.ulfm_model.proofs.Stable.{fits_stays}
 use Rattle.ulfm_words.specs.Steps.{IsOf, Name, Sight}
 use Rattle.ulfm_words.proofs.{Ranks.{spawns_below}, Trails.{did_none, did_prefix, did_wait}}
 use Rattle.ulfm_steps.proofs.{Appending.{append_stays}, Spawning.{may_spawn}}
@@ -27,28 +32,36 @@ use Rattle.ulfm_steps.proofs.ReadingOn.{passing_grow}
 use Rattle.ulfm_comm.proofs.StepAdds.{adds_none}
 use Rattle.ulfm_comm.proofs.{CallRuns.{calls_is, runs_out_after}, Holding.{comm_is, exists_is, failed_is, group_is, group_rises}, AmongOthers.{did_loosely}}
 use Rattle.ulfm_comm.proofs.{Polls.{body_read, enough_read, later, not_refused, open_round, read_decided, read_fresh, polls_it}}
-use Rattle.ulfm_comm.proofs.Shrinks.{all_did, marks_make_none, may_own, sees_on, shrink_decided, shrink_mismatch, shrink_no_context, shrink_no_room, shrink_self_failed, shrink_shrunk}
+use Rattle.ulfm_comm.proofs.Shrinks.{all_did, marks_make_none, may_own, sees_on, shrink_decided, shrink_mismatch, shrink_no_context, shrink_no_room}
+use Rattle.ulfm_comm.proofs.Shrinks.{shrink_self_failed, shrink_shrunk}
 
 -- so many failures were gone through as have the decision's failed group
-pub reads_of : (group : List ℕ) (count : ℕ) (on : ReadOn) (old new whole : List ℕ) → AtFailure group count on new → count ≤ on.found → IsPrefix old new → IsPrefix new whole → ReadsOn group count old new whole on.reach
+pub reads_of : (group : List ℕ) (count : ℕ) (on : ReadOn) (old new whole : List ℕ) → AtFailure group count on new → count ≤ on.found → IsPrefix old new
+    → IsPrefix new whole → ReadsOn group count old new whole on.reach
 reads_of group count on old new whole at enough goes begins =
     let few = at.few in
     let same : on.found ≡ count = omega (arith, few, enough) in
     record { goes_on = goes; begins = begins; within = at.within; counted = sym at.counted ∙ same }
 
 -- they do so while the list grows
-pub reads_stay : (group : List ℕ) (count : ℕ) (old new whole longer : List ℕ) (reach : ℕ) → ReadsOn group count old new whole reach → IsPrefix whole longer → ReadsOn group count old new longer reach
+pub reads_stay : (group : List ℕ) (count : ℕ) (old new whole longer : List ℕ) (reach : ℕ) → ReadsOn group count old new whole reach → IsPrefix whole longer
+    → ReadsOn group count old new longer reach
 reads_stay group count old new whole longer reach reads more =
     record { goes_on = reads.goes_on; begins = prefix_trans new whole longer reads.begins more; within = reads.within; counted = reads.counted }
 
 -- the poll of a shrink is answered, with its point at its end
-pub answered_with : {P : Type 0} (meld : P → P → P) (alone : Bool) (name : Name) (asked : Call P) (old : Record) (before : Sight P) (reply : Reply P) (new : Record) (after : Sight P) → IsOf meld name after → before.steps ≤ after.steps → Fits meld name.limits before.seen old
-    → asked ≡ call.Poll old.number (comm_of asked) → IsEndRun meld name.limits alone before.seen after.seen old (call.Poll old.number (comm_of asked)) reply new → wants_memory reply ≡ false → (reply ≡ Pending → ⊥)
+pub answered_with : {P : Type 0} (meld : P → P → P) (alone : Bool) (name : Name) (asked : Call P) (old : Record) (before : Sight P) (reply : Reply P)
+    (new : Record) (after : Sight P) → IsOf meld name after → before.steps ≤ after.steps → Fits meld name.limits before.seen old
+    → asked ≡ call.Poll old.number (comm_of asked) → IsEndRun meld name.limits alone before.seen after.seen old (call.Poll old.number (comm_of asked)) reply new
+    → wants_memory reply ≡ false → (reply ≡ Pending → ⊥)
     → Answered meld alone name asked old before reply new after
 answered_with meld alone name asked old before reply new after of onward fits polls ended answers decides =
     let mine = subst (λ (a : Call _). IsEndRun meld name.limits alone before.seen after.seen old a reply new) (sym polls) ended in
     let called = calls_is meld alone name before after onward asked old reply new of fits mine in
-    record { ends = inr (subst (λ b. RepliedAs meld alone name asked old before reply b new after) (sym answers) called); pending = λ waits. absurd (decides waits) }
+    record {
+      ends = inr (subst (λ b. RepliedAs meld alone name asked old before reply b new after) (sym answers) called);
+      pending = λ waits. absurd (decides waits);
+    }
 
 -- no communicator was made
 none_made : (xs : List (ℕ × ℕ)) (c k : ℕ) → length xs ≡ 0 → list_any (λ made. (made.0 == c) && (made.1 == k)) xs ≡ false
@@ -56,11 +69,20 @@ none_made [] c k none = refl
 none_made (x ∷ xs) c k none = absurd (omega (arith, none))
 
 -- where there may be the world's communicator alone, none can be made
-pub full_alone : {P : Type 0} (meld : P → P → P) (alone : Bool) (name : Name) (c k : ℕ) (now : Sight P) → IsOf meld name now → name.limits.comms ≡ 1 → IsFullBy meld alone name c k now now
+pub full_alone : {P : Type 0} (meld : P → P → P) (alone : Bool) (name : Name) (c k : ℕ) (now : Sight P) → IsOf meld name now → name.limits.comms ≡ 1
+    → IsFullBy meld alone name c k now now
 full_alone meld alone name c k now of one =
     let below = spawns_below meld name.limits now.seen of.legal of.may_open.in_range.some_comms in
     let none : length (spawns now.seen) ≡ 0 = omega (arith, below, one) in
-    record { of = of; did = did_none alone now.seen; full = omega (arith, none, one); unmade = none_made (spawns now.seen) c k none; onward = omega arith; cached = ([], append-nil now.cached); caches = refl }
+    record {
+      of = of;
+      did = did_none alone now.seen;
+      full = omega (arith, none, one);
+      unmade = none_made (spawns now.seen) c k none;
+      onward = omega arith;
+      cached = ([], append-nil now.cached);
+      caches = refl;
+    }
 
 -- the ids of a mask are below 32
 id_below : (mask : CtxMask) (i : ℕ) → IsLowestId mask.bits i → i < 32
@@ -73,7 +95,8 @@ id_below mask i lowest = go (nat_lt i 32) refl
         let none = bit_at_above mask.bits 32 i mask.fits from in
         let one = lowest.in_it in absurd (cc (none, one))
 
-module _ {P : Type 0} (meld : P → P → P) (limits : Limits) (alone : Bool) (c k : ℕ) (mask : CtxMask) (x : Held) (count : ℕ) (old : Record) (before : History P) (own : Record) (now : History P)
+module _ {P : Type 0} (meld : P → P → P) (limits : Limits) (alone : Bool) (c k : ℕ) (mask : CtxMask) (x : Held) (count : ℕ) (old : Record) (before : History P)
+    (own : Record) (now : History P)
     (d : IsDecided meld limits alone c k mask x count old before own now) where
   pub goes_here : IsPrefix d.decided now
   goes_here = did_prefix alone [] d.decided now d.waited
@@ -89,10 +112,12 @@ module _ {P : Type 0} (meld : P → P → P) (limits : Limits) (alone : Bool) (c
 
   pub fits_now : IsLegal meld limits now → Fits meld limits now own
   fits_now legal =
-      subst (Fits meld limits now) (sym d.own_is) (fits_seen meld limits now d.mid own.seen (fits_stays meld limits d.decided now d.mid goes_here legal fits_decided) d.begins)
+      subst (Fits meld limits now) (sym d.own_is) (fits_seen meld limits now d.mid own.seen
+      (fits_stays meld limits d.decided now d.mid goes_here legal fits_decided) d.begins)
 
   -- others' events came, and a longer beginning of the list of failures is seen
-  pub decided_on : (new : Record) (after : History P) → Did alone [] now after → new ≡ record own { seen = new.seen } → IsPrefix own.seen new.seen → IsPrefix new.seen (failures after)
+  pub decided_on : (new : Record) (after : History P) → Did alone [] now after → new ≡ record own { seen = new.seen } → IsPrefix own.seen new.seen
+      → IsPrefix new.seen (failures after)
       → IsDecided meld limits alone c k mask x count old before new after
   decided_on new after did is goes begins =
       record {
@@ -117,7 +142,11 @@ module _ {P : Type 0} (meld : P → P → P) (limits : Limits) (alone : Bool) (c
       let failed = ap length (failed_is meld limits d.decided d.mid c x fits_decided d.marked.held) in
       let more = passing_grow (has x.group) (failures d.decided) (failures now) (failures_begin d.decided now goes_here) in
       let counted = d.count_is in
-      record { rises = group_rises meld limits d.decided d.mid c x fits_decided d.marked.held; begins = d.begins; enough = omega (arith, counted, enough, failed, more) }
+      record {
+        rises = group_rises meld limits d.decided d.mid c x fits_decided d.marked.held;
+        begins = d.begins;
+        enough = omega (arith, counted, enough, failed, more);
+      }
 
   pub in_rounds : k < limits.rounds
   in_rounds = open_round meld limits d.decided d.mid c k true x d.marked.legal fits_decided d.marked.held d.marked.open_is
@@ -131,7 +160,8 @@ module _ {P : Type 0} (meld : P → P → P) (limits : Limits) (alone : Bool) (c
       (body_read meld limits d.decided d.mid c k x d.marked.legal fits_decided d.marked.held d.all d.read ∙ d.body) d.some)
 
   -- and the rank may hold it, with some of the group as its members
-  pub may_hold : (context reach : ℕ) (group : List ℕ) → IsLowestId mask.bits context → group ≡ without x.group (take reach own.seen) → limits.ranks ≤ 1024 → MayHold own c context (length group)
+  pub may_hold : (context reach : ℕ) (group : List ℕ) → IsLowestId mask.bits context → group ≡ without x.group (take reach own.seen) → limits.ranks ≤ 1024
+      → MayHold own c context (length group)
   may_hold context reach group lowest left ranks =
       let least = length-filter-le (λ r. not (has (take reach own.seen) r)) x.group in
       let same = ap length left in
@@ -144,11 +174,14 @@ module _ {P : Type 0} (meld : P → P → P) (limits : Limits) (alone : Bool) (c
         id = id_below mask context lowest;
         fresh =
             subst (λ (w : Record). AllByRecursion (λ i. nat_eq i context ≡ false) (contexts_of w.held)) (sym d.own_is)
-            (read_fresh meld limits d.decided d.mid c k x d.marked.legal fits_decided d.marked.held d.all d.read d.marked.open_is mask context d.body lowest.in_it);
+            (read_fresh meld limits d.decided d.mid c k x d.marked.legal fits_decided d.marked.held d.all d.read d.marked.open_is mask context d.body
+            lowest.in_it);
       }
 
-module _ {P : Type 0} (meld : P → P → P) (alone : Bool) (name : Name) (asked : Call P) (k : ℕ) (mask : CtxMask) (x : Held) (count reach : ℕ) (old : Record) (before : Sight P) (own : Record) (now : Sight P) (of : IsOf meld name now) (onward : before.steps ≤ now.steps)
-    (fits : Fits meld name.limits before.seen old) (polls : asked ≡ call.Poll old.number (comm_of asked)) (d : IsDecided meld name.limits alone (comm_of asked) k mask x count old before.seen own now.seen)
+module _ {P : Type 0} (meld : P → P → P) (alone : Bool) (name : Name) (asked : Call P) (k : ℕ) (mask : CtxMask) (x : Held) (count reach : ℕ) (old : Record)
+    (before : Sight P) (own : Record) (now : Sight P) (of : IsOf meld name now) (onward : before.steps ≤ now.steps)
+    (fits : Fits meld name.limits before.seen old) (polls : asked ≡ call.Poll old.number (comm_of asked))
+    (d : IsDecided meld name.limits alone (comm_of asked) k mask x count old before.seen own now.seen)
     (reads : ReadsOn x.group count d.mid.seen own.seen (failures now.seen) reach) where
   abbrev c : ℕ
   c = comm_of asked
@@ -165,27 +198,35 @@ module _ {P : Type 0} (meld : P → P → P) (alone : Bool) (name : Name) (asked
   mine b is = ap (has (take reach own.seen)) (sym (number_is meld name.limits alone c k mask x count old before.seen own now.seen d)) ∙ is
 
   -- the rank is in the decision's failed group
-  pub ends_self_failed : (new : Record) → has (take reach own.seen) own.number ≡ true → new ≡ record own { refused = true } → Answered meld alone name asked old before (Refused SelfFailed) new now
+  pub ends_self_failed : (new : Record) → has (take reach own.seen) own.number ≡ true → new ≡ record own { refused = true }
+      → Answered meld alone name asked old before (Refused SelfFailed) new now
   ends_self_failed new among is =
       answered_with meld alone name asked old before (Refused SelfFailed) new now of onward fits polls
       (shrink_self_failed meld name.limits alone before.seen old d.mid c k x d.decided d.marked d.all d.read now.seen begins_now of.legal own.seen reach counted
-      [] now.seen (did_none alone now.seen) d.waited tt refl of.legal new (mine true among) (is ∙ ap (λ (w : Record). record w { refused = true }) d.own_is)) refl (λ waits. absurd (cc waits))
+      [] now.seen (did_none alone now.seen) d.waited tt refl of.legal new (mine true among) (is ∙ ap (λ (w : Record). record w { refused = true }) d.own_is))
+      refl (λ waits. absurd (cc waits))
 
   -- no communicator is left
-  pub ends_full : (new : Record) (after : Sight P) → IsFullBy meld alone name c k now after → has (take reach own.seen) own.number ≡ false → new ≡ closed own c → Answered meld alone name asked old before (Refused NoRoom) new after
+  pub ends_full : (new : Record) (after : Sight P) → IsFullBy meld alone name c k now after → has (take reach own.seen) own.number ≡ false → new ≡ closed own c
+      → Answered meld alone name asked old before (Refused NoRoom) new after
   ends_full new after full out is =
       answered_with meld alone name asked old before (Refused NoRoom) new after full.of (omega (arith, onward, full.onward)) fits polls
       (shrink_no_room meld name.limits alone before.seen old d.mid c k x d.decided d.marked d.all d.read now.seen begins_now of.legal own.seen reach counted
-      [] after.seen full.did d.waited tt refl full.of.legal mask d.body d.some (mine false out) new full.full full.unmade (is ∙ ap (λ (w : Record). closed w c) d.own_is)) refl (λ waits. absurd (cc waits))
+      [] after.seen full.did d.waited tt refl full.of.legal mask d.body d.some (mine false out) new full.full full.unmade
+      (is ∙ ap (λ (w : Record). closed w c) d.own_is)) refl (λ waits. absurd (cc waits))
 
   -- it is made, and the rank holds it
-  pub ends_made : (j context size : ℕ) (group : List ℕ) (new : Record) (after : Sight P) → IsMadeBy meld alone name (Rank old.number) c k now j after → Holds c context group own j size new → IsLowestId mask.bits context
-      → group ≡ without x.group (take reach own.seen) → has (take reach own.seen) own.number ≡ false → Answered meld alone name asked old before (Shrunk j context size) new after
+  pub ends_made : (j context size : ℕ) (group : List ℕ) (new : Record) (after : Sight P) → IsMadeBy meld alone name (Rank old.number) c k now j after
+      → Holds c context group own j size new → IsLowestId mask.bits context
+      → group ≡ without x.group (take reach own.seen) → has (take reach own.seen) own.number ≡ false
+      → Answered meld alone name asked old before (Shrunk j context size) new after
   ends_made j context size group new after made holds lowest left out =
       answered_with meld alone name asked old before (Shrunk j context size) new after made.of (omega (arith, onward, made.onward)) fits polls
       (shrink_shrunk meld name.limits alone before.seen old d.mid c k x d.decided d.marked d.all d.read now.seen begins_now of.legal own.seen reach counted
-      made.own after.seen made.did d.waited made.makes made.settles_none made.of.legal mask d.body d.some (mine false out) j context size new made.some made.made lowest (holds.size_is ∙ ap length left)
-      (holds.record_is ∙ ap₂ (λ (w : Record) ms. let rest = closed w c in record rest { held = rest.held ++ new_held j context ms ∷ [] }) d.own_is left)) refl (λ waits. absurd (cc waits))
+      made.own after.seen made.did d.waited made.makes made.settles_none made.of.legal mask d.body d.some (mine false out) j context size new made.some
+      made.made lowest (holds.size_is ∙ ap length left)
+      (holds.record_is ∙ ap₂ (λ (w : Record) ms. let rest = closed w c in record rest { held = rest.held ++ new_held j context ms ∷ [] }) d.own_is left)) refl
+      (λ waits. absurd (cc waits))
 
   -- memory for it was refused, before the list of communicators was changed
   pub ends_out : has (take reach own.seen) own.number ≡ false → Answered meld alone name asked old before (Refused OutOfMemory) own now
@@ -195,18 +236,28 @@ module _ {P : Type 0} (meld : P → P → P) (alone : Bool) (name : Name) (asked
       let out : RanOut meld alone name poll old before own now =
       runs_out_after meld alone name before now onward poll old own d.marked.look (d.marked.marks.own ++ []) of fits
       (record { in_use = d.marked.looked.in_use; did = d.marked.looked.did; not_declared = d.marked.looked.not_declared; record_is = refl })
-      (all_did meld name.limits alone before.seen old d.mid c k x d.decided d.marked d.all d.read now.seen begins_now of.legal own.seen reach counted [] now.seen quiet d.waited tt refl of.legal)
+      (all_did meld name.limits alone before.seen old d.mid c k x d.decided d.marked d.all d.read now.seen begins_now of.legal own.seen reach counted []
+      now.seen quiet d.waited tt refl of.legal)
       (not_refused meld name.limits alone before.seen old d.mid c true k x d.decided d.marked)
-      (may_own meld name.limits alone before.seen old d.mid c k x d.decided d.marked d.all d.read now.seen begins_now of.legal own.seen reach counted [] now.seen quiet d.waited tt refl of.legal)
-      (subst (λ (events : List (Event P)). spawns (entries_by (Rank old.number) events) ≡ []) (sym (append-nil d.marked.marks.own)) (marks_make_none (Rank old.number) c k _ d.marked.marks.own d.marked.marks.marks))
+      (may_own meld name.limits alone before.seen old d.mid c k x d.decided d.marked d.all d.read now.seen begins_now of.legal own.seen reach counted []
+      now.seen quiet d.waited tt refl of.legal)
+      (subst (λ (events : List (Event P)). spawns (entries_by (Rank old.number) events) ≡ []) (sym (append-nil d.marked.marks.own))
+      (marks_make_none (Rank old.number) c k _ d.marked.marks.own d.marked.marks.marks))
       (subst (HadCome meld name.limits now.seen old.number c) (sym (polls_it meld name.limits alone before.seen old d.mid c true k x d.decided d.marked))
-      (shrink_decided meld name.limits alone before.seen old d.mid c k x d.decided d.marked d.all d.read now.seen begins_now of.legal own.seen reach counted [] now.seen quiet d.waited tt refl of.legal mask d.body d.some (mine false out_of_it)))
-      (sees_on meld name.limits alone before.seen old d.mid c k x d.decided d.marked d.all d.read now.seen begins_now of.legal own.seen reach counted [] now.seen quiet d.waited tt refl of.legal)
+      (shrink_decided meld name.limits alone before.seen old d.mid c k x d.decided d.marked d.all d.read now.seen begins_now of.legal own.seen reach counted []
+      now.seen quiet d.waited tt refl of.legal mask d.body d.some (mine false out_of_it)))
+      (sees_on meld name.limits alone before.seen old d.mid c k x d.decided d.marked d.all d.read now.seen begins_now of.legal own.seen reach counted []
+      now.seen quiet d.waited tt refl of.legal)
       d.begins (d.own_is ∙ ap (λ (w : Record). record w { seen = own.seen }) d.marked.looked.record_is) in
-      let shrinking : IsTrue (is_shrink (polled_by {P = P} old poll)) = ap is_shrink (polls_it meld name.limits alone before.seen old d.mid c true k x d.decided d.marked) in
-      record { ends = inr (subst (λ (a : Call P). RanOut meld alone name a old before own now × IsTrue (is_shrink (polled_by old a))) (sym polls) (out, shrinking)); pending = λ waits. absurd (cc waits) }
+      let shrinking : IsTrue (is_shrink (polled_by {P = P} old poll)) = ap is_shrink
+      (polls_it meld name.limits alone before.seen old d.mid c true k x d.decided d.marked) in
+      record {
+        ends = inr (subst (λ (a : Call P). RanOut meld alone name a old before own now × IsTrue (is_shrink (polled_by old a))) (sym polls) (out, shrinking));
+        pending = λ waits. absurd (cc waits);
+      }
 
-module _ {P : Type 0} (meld : P → P → P) (alone : Bool) (name : Name) (asked : Call P) (k : ℕ) (all : Summary P) (old : Record) (before : Sight P) (mid : Record) (now : Sight P) (of : IsOf meld name now)
+module _ {P : Type 0} (meld : P → P → P) (alone : Bool) (name : Name) (asked : Call P) (k : ℕ) (all : Summary P) (old : Record) (before : Sight P)
+    (mid : Record) (now : Sight P) (of : IsOf meld name now)
     (r : HasReadAll meld alone name asked true k all old before mid now) where
   fits_read : Fits meld name.limits now.seen mid
   fits_read = later meld name.limits alone before.seen old mid (comm_of asked) true k r.x now.seen r.marked
@@ -215,19 +266,24 @@ module _ {P : Type 0} (meld : P → P → P) (alone : Bool) (name : Name) (asked
   group_goes_up = group_rises meld name.limits now.seen mid (comm_of asked) r.x fits_read r.marked.held
 
   -- some have offered no mask
-  pub ends_mismatch : (new : Record) → ((mask : CtxMask) → all.body ≡ OfIds mask → ⊥) → new ≡ closed mid (comm_of asked) → Answered meld alone name asked old before (Refused Mismatch) new now
+  pub ends_mismatch : (new : Record) → ((mask : CtxMask) → all.body ≡ OfIds mask → ⊥) → new ≡ closed mid (comm_of asked)
+      → Answered meld alone name asked old before (Refused Mismatch) new now
   ends_mismatch new other is =
       answered_with meld alone name asked old before (Refused Mismatch) new now of r.onward r.fits r.polls
-      (shrink_mismatch meld name.limits alone before.seen old mid (comm_of asked) k r.x now.seen r.marked all r.read new other is) refl (λ waits. absurd (cc waits))
+      (shrink_mismatch meld name.limits alone before.seen old mid (comm_of asked) k r.x now.seen r.marked all r.read new other is) refl
+      (λ waits. absurd (cc waits))
 
   -- no context id is free
-  pub ends_no_context : (mask : CtxMask) (new : Record) → all.body ≡ OfIds mask → mask.bits ≡ 0 → new ≡ closed mid (comm_of asked) → Answered meld alone name asked old before (Refused NoContext) new now
+  pub ends_no_context : (mask : CtxMask) (new : Record) → all.body ≡ OfIds mask → mask.bits ≡ 0 → new ≡ closed mid (comm_of asked)
+      → Answered meld alone name asked old before (Refused NoContext) new now
   ends_no_context mask new body none is =
       answered_with meld alone name asked old before (Refused NoContext) new now of r.onward r.fits r.polls
-      (shrink_no_context meld name.limits alone before.seen old mid (comm_of asked) k r.x now.seen r.marked all r.read mask new body none is) refl (λ waits. absurd (cc waits))
+      (shrink_no_context meld name.limits alone before.seen old mid (comm_of asked) k r.x now.seen r.marked all r.read mask new body none is) refl
+      (λ waits. absurd (cc waits))
 
   -- the round is decided on this mask
-  pub decided_first : (mask : CtxMask) → all.body ≡ OfIds mask → 0 < mask.bits → IsDecided meld name.limits alone (comm_of asked) k mask r.x all.known.count old before.seen mid now.seen
+  pub decided_first : (mask : CtxMask) → all.body ≡ OfIds mask → 0 < mask.bits → IsDecided meld name.limits alone
+      (comm_of asked) k mask r.x all.known.count old before.seen mid now.seen
   decided_first mask body some =
       record {
         mid = mid;
@@ -245,7 +301,8 @@ module _ {P : Type 0} (meld : P → P → P) (alone : Bool) (name : Name) (asked
       }
 
   -- and so many failures that were seen reach as far as its failed group
-  pub reached_first : (mask : CtxMask) (on : ReadOn) → all.body ≡ OfIds mask → 0 < mask.bits → AtFailure r.x.group all.known.count on mid.seen → all.known.count ≤ on.found
+  pub reached_first : (mask : CtxMask) (on : ReadOn) → all.body ≡ OfIds mask → 0 < mask.bits → AtFailure r.x.group all.known.count on mid.seen
+      → all.known.count ≤ on.found
       → HasReached meld alone name asked (record { round = k; mask = mask; count = all.known.count }) on.reach old before mid now
   unfolding decided_first
   reached_first mask on body some at enough =
@@ -259,11 +316,14 @@ module _ {P : Type 0} (meld : P → P → P) (alone : Bool) (name : Name) (asked
       }
 
 -- the list of failures was read on: others' events came, and a longer beginning of it is seen
-module _ {P : Type 0} (meld : P → P → P) (alone : Bool) (name : Name) (asked : Call P) (on : ReadOn) (made : Made) (group : List ℕ) (old : Record) (before : Sight P) (own : Record) (now : Sight P)
-    (s : Stands meld alone name old before (record { asked = asked; phase = ReadingOn on made; group = group }) own now) (new : Record) (after : Sight P) (did : Did alone [] now.seen after.seen) (onward : now.steps ≤ after.steps)
+module _ {P : Type 0} (meld : P → P → P) (alone : Bool) (name : Name) (asked : Call P) (on : ReadOn) (made : Made) (group : List ℕ) (old : Record)
+    (before : Sight P) (own : Record) (now : Sight P)
+    (s : Stands meld alone name old before (record { asked = asked; phase = ReadingOn on made; group = group }) own now) (new : Record) (after : Sight P)
+    (did : Did alone [] now.seen after.seen) (onward : now.steps ≤ after.steps)
     (is : new ≡ record own { seen = new.seen }) (goes : IsPrefix own.seen new.seen) (begins : IsPrefix new.seen (failures after.seen)) where
   -- as far as that the decision's failed group isn't known yet
-  pub reads_further : (next : ReadOn) (others : List ℕ) → AtFailure s.at.1.group made.count next new.seen → next.found < made.count → Stands meld alone name old before (record { asked = asked; phase = ReadingOn next made; group = others }) new after
+  pub reads_further : (next : ReadOn) (others : List ℕ) → AtFailure s.at.1.group made.count next new.seen → next.found < made.count
+      → Stands meld alone name old before (record { asked = asked; phase = ReadingOn next made; group = others }) new after
   reads_further next others at more =
       let before_that = s.onward in
       record {
@@ -273,14 +333,16 @@ module _ {P : Type 0} (meld : P → P → P) (alone : Bool) (name : Name) (asked
         at = (
           s.at.0,
           s.at.1,
-          decided_on meld name.limits alone (comm_of asked) made.round made.mask s.at.1 made.count old before.seen own now.seen s.at.2 new after.seen did is goes begins,
+          decided_on meld name.limits alone (comm_of asked) made.round made.mask s.at.1 made.count old before.seen own now.seen s.at.2 new after.seen did is
+              goes begins,
           at,
           more,
         );
       }
 
   -- or that it is
-  pub has_reached : (next : ReadOn) → AtFailure s.at.1.group made.count next new.seen → made.count ≤ next.found → HasReached meld alone name asked made next.reach old before new after
+  pub has_reached : (next : ReadOn) → AtFailure s.at.1.group made.count next new.seen → made.count ≤ next.found
+      → HasReached meld alone name asked made next.reach old before new after
   unfolding decided_on
   has_reached next at enough =
       let before_that = s.onward in
@@ -289,13 +351,20 @@ module _ {P : Type 0} (meld : P → P → P) (alone : Bool) (name : Name) (asked
         polls = s.at.0;
         onward = omega (arith, before_that, onward);
         x = s.at.1;
-        decided = decided_on meld name.limits alone (comm_of asked) made.round made.mask s.at.1 made.count old before.seen own now.seen s.at.2 new after.seen did is goes begins;
-        reads = reads_of s.at.1.group made.count next s.at.2.mid.seen new.seen (failures after.seen) at enough (prefix_trans s.at.2.mid.seen own.seen new.seen s.at.2.goes_on goes) begins;
+        decided = decided_on meld name.limits alone (comm_of asked) made.round made.mask s.at.1 made.count old before.seen own now.seen s.at.2 new after.seen
+            did is goes begins;
+        reads = reads_of s.at.1.group made.count next s.at.2.mid.seen new.seen (failures after.seen) at enough
+            (prefix_trans s.at.2.mid.seen own.seen new.seen s.at.2.goes_on goes) begins;
       }
 
 -- the communicator is looked for: a step in the list of communicators, or all that were left, led to this
-module _ {P : Type 0} (meld : P → P → P) (alone quiet : Bool) (only : IsTrue alone → IsTrue quiet) (name : Name) (asked : Call P) (append : Append) (context reach : ℕ) (group : List ℕ) (old : Record) (before : Sight P) (own : Record) (now : Sight P)
-    (of : IsOf meld name now) (s : Stands meld alone name old before (record { asked = asked; phase = Spawning append context reach; group = group }) own now) (comm : ℕ) (there : comm ≡ comm_of asked) where
+module _ {P : Type 0} (meld : P → P → P) (alone quiet : Bool) (only : IsTrue alone → IsTrue quiet) (name : Name) (asked : Call P) (append : Append)
+    (context reach : ℕ) (group : List ℕ) (old : Record) (before : Sight P) (own : Record) (now : Sight P)
+    (of : IsOf meld name now) (s : Stands meld alone name old before (record {
+      asked = asked;
+      phase = Spawning append context reach;
+      group = group;
+    }) own now) (comm : ℕ) (there : comm ≡ comm_of asked) where
   pub item_is : append.item ≡ OfComm comm s.at.1.round
   item_is = s.at.1.item ∙ ap (λ n. OfComm n s.at.1.round) (sym there)
 
@@ -316,32 +385,44 @@ module _ {P : Type 0} (meld : P → P → P) (alone quiet : Bool) (only : IsTrue
   may_take =
       let i = s.at.1 in
       subst (λ n. MayHold own n context (length group)) (sym there)
-      (may_hold meld name.limits alone (comm_of asked) i.round i.mask i.x i.count old before.seen own now.seen i.decided context reach group i.lowest i.left of.may_open.in_range.ranks)
+      (may_hold meld name.limits alone (comm_of asked) i.round i.mask i.x i.count old before.seen own now.seen i.decided context reach group i.lowest i.left
+      of.may_open.in_range.ranks)
 
   rank_is : append.by ≡ Rank own.number
-  rank_is = let i = s.at.1 in i.mine ∙ ap Rank (sym (number_is meld name.limits alone (comm_of asked) i.round i.mask i.x i.count old before.seen own now.seen i.decided))
+  rank_is = let i = s.at.1 in i.mine ∙ ap Rank (sym (number_is meld name.limits alone (comm_of asked) i.round i.mask i.x i.count old before.seen own now.seen
+      i.decided))
 
   module _ (next : Append) (new : Record) (after : Sight P) where
     -- these are steps of the rank's own
-    pub spawn_walks : (result : Spawned) → SpawnIs meld quiet name comm s.at.1.round context append next group own now result new after → Walks meld quiet name own.number now after
+    pub spawn_walks : (result : Spawned) → SpawnIs meld quiet name comm s.at.1.round context append next group own now result new after
+        → Walks meld quiet name own.number now after
     spawn_walks spawned.Unknown is = record { of = is.0.of; own = []; did = is.0.did; onward = is.0.onward; cached = is.0.cached }
     spawn_walks (spawned.Made j size) is =
-        record { of = is.0.of; own = is.0.own; did = subst (λ by. Did quiet (entries_by by is.0.own) now.seen after.seen) rank_is is.0.did; onward = is.0.onward; cached = is.0.cached }
+        record {
+          of = is.0.of;
+          own = is.0.own;
+          did = subst (λ by. Did quiet (entries_by by is.0.own) now.seen after.seen) rank_is is.0.did;
+          onward = is.0.onward;
+          cached = is.0.cached;
+        }
     spawn_walks spawned.Full is = record { of = is.0.of; own = []; did = is.0.did; onward = is.0.onward; cached = is.0.cached }
 
     -- no block is cached
-    pub spawn_caches : (result : Spawned) → SpawnIs meld quiet name comm s.at.1.round context append next group own now result new after → after.caches ≡ now.caches
+    pub spawn_caches : (result : Spawned) → SpawnIs meld quiet name comm s.at.1.round context append next group own now result new after
+        → after.caches ≡ now.caches
     spawn_caches spawned.Unknown is = is.0.caches
     spawn_caches (spawned.Made j size) is = is.0.caches
     spawn_caches spawned.Full is = is.0.caches
 
     -- and add nothing, or the communicator
-    pub spawn_adds : (reply : Option (Reply P)) (result : Spawned) → SpawnIs meld quiet name comm s.at.1.round context append next group own now result new after → Adds quiet [] own asked reply now.seen after.seen
+    pub spawn_adds : (reply : Option (Reply P)) (result : Spawned) → SpawnIs meld quiet name comm s.at.1.round context append next group own now result new
+        after → Adds quiet [] own asked reply now.seen after.seen
     spawn_adds reply spawned.Unknown is = adds_none quiet [] own asked reply now.seen after.seen is.0.did
     spawn_adds reply (spawned.Made j size) is =
         record { events = is.0.own; did = subst (λ by. Did quiet (entries_by by is.0.own) now.seen after.seen) rank_is is.0.did; few = by_few is.0.few }
       where
-        by_few : (is.0.own ≡ []) ⊎ ((i : ℕ) × (is.0.own ≡ Spawn i comm s.at.1.round ∷ [])) → (is.0.own ≡ []) ⊎ ((event : Event P) × (is.0.own ≡ event ∷ []) × Makes [] own asked reply event)
+        by_few : (is.0.own ≡ []) ⊎ ((i : ℕ) × (is.0.own ≡ Spawn i comm s.at.1.round ∷ []))
+            → (is.0.own ≡ []) ⊎ ((event : Event P) × (is.0.own ≡ event ∷ []) × Makes [] own asked reply event)
         by_few (inl none) = inl none
         by_few (inr (i, one)) =
             let at = s.at.1 in
@@ -355,14 +436,16 @@ module _ {P : Type 0} (meld : P → P → P) (alone quiet : Bool) (only : IsTrue
                 x = at.x;
                 held = held;
                 adds = subst (λ (a : Call P). CallAdds [] own.number at.x a (Spawn i comm at.round)) (sym s.at.0)
-                    (subst (λ request. PollAdds {P = P} [] at.x request (Spawn i comm at.round)) (sym at.decided.marked.open_is) (inr (i, ap (λ n. Spawn i n at.round) (there ∙ sym named))));
+                    (subst (λ request. PollAdds {P = P} [] at.x request (Spawn i comm at.round)) (sym at.decided.marked.open_is)
+                    (inr (i, ap (λ n. Spawn i n at.round) (there ∙ sym named))));
                 wins = λ no_poll. absurd (cc (no_poll, ap (λ (a : Call P). (traits_of a).polls) s.at.0));
               },
             )
     spawn_adds reply spawned.Full is = adds_none quiet [] own asked reply now.seen after.seen is.0.did
 
     -- it isn't found yet
-    pub spawn_goes_on : (others : List ℕ) → others ≡ group → SpawnIs meld quiet name comm s.at.1.round context append next group own now spawned.Unknown new after
+    pub spawn_goes_on : (others : List ℕ) → others ≡ group → SpawnIs meld quiet name comm s.at.1.round context append next group own now spawned.Unknown new
+        after
         → Stands meld alone name old before (record { asked = asked; phase = Spawning next context reach; group = others }) new after
     unfolding decided_on
     spawn_goes_on others kept is =
@@ -374,7 +457,11 @@ module _ {P : Type 0} (meld : P → P → P) (alone quiet : Bool) (only : IsTrue
         let earlier = s.onward in
         let onward = sought.onward in
         subst (λ ms. Stands meld alone name old before (record { asked = asked; phase = Spawning next context reach; group = ms }) new after) (sym kept)
-        (subst (λ (w : Record). Stands meld alone name old before (record { asked = asked; phase = Spawning next context reach; group = group }) w after) (sym is.1) (record {
+        (subst (λ (w : Record). Stands meld alone name old before (record {
+          asked = asked;
+          phase = Spawning next context reach;
+          group = group;
+        }) w after) (sym is.1) (record {
           fits = s.fits;
           mine = s.mine;
           onward = omega (arith, earlier, onward);
@@ -386,7 +473,8 @@ module _ {P : Type 0} (meld : P → P → P) (alone quiet : Bool) (only : IsTrue
               mask = i.mask;
               count = i.count;
               decided =
-                  decided_on meld name.limits alone (comm_of asked) i.round i.mask i.x i.count old before.seen own now.seen i.decided own after.seen did refl ([], append-nil own.seen)
+                  decided_on meld name.limits alone (comm_of asked) i.round i.mask i.x i.count old before.seen own now.seen i.decided own after.seen did refl
+                  ([], append-nil own.seen)
                   (prefix_trans own.seen (failures now.seen) (failures after.seen) i.decided.begins grown);
               lowest = i.lowest;
               reads = reads_stay i.x.group i.count i.decided.mid.seen own.seen (failures now.seen) (failures after.seen) reach i.reads grown;
@@ -401,7 +489,8 @@ module _ {P : Type 0} (meld : P → P → P) (alone quiet : Bool) (only : IsTrue
         }))
 
     -- it is made, and held
-    pub spawn_makes : (j size : ℕ) → SpawnIs meld quiet name comm s.at.1.round context append next group own now (spawned.Made j size) new after → Answered meld alone name asked old before (Shrunk j context size) new after
+    pub spawn_makes : (j size : ℕ) → SpawnIs meld quiet name comm s.at.1.round context append next group own now (spawned.Made j size) new after
+        → Answered meld alone name asked old before (Shrunk j context size) new after
     spawn_makes j size is =
         let i = s.at.1 in
         let made = is.0 in
@@ -412,22 +501,34 @@ module _ {P : Type 0} (meld : P → P → P) (alone quiet : Bool) (only : IsTrue
           makes = made.makes;
           few = made.few;
           settles_none = made.settles_none;
-          did = subst (λ by. Did alone (entries_by by made.own) now.seen after.seen) i.mine (did_loosely alone quiet only (entries_by append.by made.own) now.seen after.seen made.did);
+          did = subst (λ by. Did alone (entries_by by made.own) now.seen after.seen) i.mine
+              (did_loosely alone quiet only (entries_by append.by made.own) now.seen after.seen made.did);
           some = made.some;
           made = made.made;
           onward = made.onward;
           cached = made.cached;
           caches = made.caches;
         }) in
-        ends_made meld alone name asked i.round i.mask i.x i.count reach old before own now of s.onward s.fits s.at.0 i.decided i.reads j context size group new after mine
+        ends_made meld alone name asked i.round i.mask i.x i.count reach old before own now of s.onward s.fits s.at.0 i.decided i.reads j context size group new
+        after mine
         (subst (λ n. Holds n context group own j size new) there is.1) i.lowest i.left i.stays
 
     -- there is no room for it
-    pub spawn_full : (ended : Record) → SpawnIs meld quiet name comm s.at.1.round context append next group own now spawned.Full new after → ended ≡ closed new comm → Answered meld alone name asked old before (Refused NoRoom) ended after
+    pub spawn_full : (ended : Record) → SpawnIs meld quiet name comm s.at.1.round context append next group own now spawned.Full new after
+        → ended ≡ closed new comm → Answered meld alone name asked old before (Refused NoRoom) ended after
     spawn_full ended is closes =
         let i = s.at.1 in
         let full = is.0 in
         let loosely : IsFullBy meld alone name (comm_of asked) i.round now after =
         subst (λ n. IsFullBy meld alone name n i.round now after) there
-        (record { of = full.of; did = did_loosely alone quiet only [] now.seen after.seen full.did; full = full.full; unmade = full.unmade; onward = full.onward; cached = full.cached; caches = full.caches }) in
-        ends_full meld alone name asked i.round i.mask i.x i.count reach old before own now of s.onward s.fits s.at.0 i.decided i.reads ended after loosely i.stays (closes ∙ ap₂ closed is.1 there)
+        (record {
+          of = full.of;
+          did = did_loosely alone quiet only [] now.seen after.seen full.did;
+          full = full.full;
+          unmade = full.unmade;
+          onward = full.onward;
+          cached = full.cached;
+          caches = full.caches;
+        }) in
+        ends_full meld alone name asked i.round i.mask i.x i.count reach old before own now of s.onward s.fits s.at.0 i.decided i.reads ended after loosely
+        i.stays (closes ∙ ap₂ closed is.1 there)

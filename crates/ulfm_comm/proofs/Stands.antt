@@ -9,16 +9,19 @@ use Rattle.ulfm_model.proofs.{Histories.{failures_begin}, Lists.{prefix_trans}}
 use Rattle.ulfm_model.specs.Terms.{comm_of}
 use Rattle.ulfm_words.specs.Steps.{IsOf, Name, Sight}
 use Rattle.ulfm_words.proofs.Trails.{did_prefix, did_wait}
-use Rattle.ulfm_steps.specs.declared.{append.Append.{Append}, mark_all.MarkAll.{MarkAll}, blocks.Peek.{Peek}, blocks.ReadBlocks.{ReadBlocks}, blocks.RoundBlocks.{RoundBlocks}}
+use Rattle.ulfm_steps.specs.declared.{append.Append.{Append}, mark_all.MarkAll.{MarkAll}, blocks.Peek.{Peek}, blocks.ReadBlocks.{ReadBlocks}}
+use Rattle.ulfm_steps.specs.declared.blocks.RoundBlocks.{RoundBlocks}
 use Rattle.ulfm_steps.proofs.{InBlocks.{are_later, at_block_later}, Appending.{passed_stays}, Arriving.{at_arrival_stays}}
 use Rattle.ulfm_comm.specs.Polls.{HasMarked}
 use Rattle.ulfm_comm.specs.{Look.{HasLooked, Looked}, Spawning.{IsDecided, IsSpawning}, Agreement.{IsMarking, IsPeeking, IsReading}, Barrier.{IsWaiting}}
 use Rattle.ulfm_comm.proofs.{Known.{reads_on}, Polls.{polls_it}}
 use Rattle.ulfm_comm.specs.Phase.{Stands, StandsAt, UnderWay, Waits}
 use Rattle.ulfm_comm.specs.declared.phases.phase.Phase.{Phase}
-use Rattle.ulfm_comm.specs.declared.phases.phase.Phase.TheVariants.{Over, Begun, Looking, Settling, Arriving, Revoking, Asking, Peeking, Marking, Reading, ReadingOn, Spawning, Waiting, Checking}
+use Rattle.ulfm_comm.specs.declared.phases.phase.Phase.TheVariants.{Over, Begun, Looking, Settling, Arriving, Revoking, Asking, Peeking, Marking, Reading}
+use Rattle.ulfm_comm.specs.declared.phases.phase.Phase.TheVariants.{ReadingOn, Spawning, Waiting, Checking}
 
-module _ {P : Type 0} (meld : P → P → P) (limits : Limits) (alone : Bool) (old : Record) (before : History P) (own : Record) (now later : History P) (did : Did alone [] now later) (legal : IsLegal meld limits later) where
+module _ {P : Type 0} (meld : P → P → P) (limits : Limits) (alone : Bool) (old : Record) (before : History P) (own : Record) (now later : History P)
+    (did : Did alone [] now later) (legal : IsLegal meld limits later) where
   pub grows : IsPrefix now later
   grows = did_prefix alone [] now later did
 
@@ -26,9 +29,19 @@ module _ {P : Type 0} (meld : P → P → P) (limits : Limits) (alone : Bool) (o
   more_failures = failures_begin now later grows
 
   abbrev pub looked_lasts : (asked : Call P) → HasLooked meld limits alone asked old before own now → HasLooked meld limits alone asked old before own later
-  looked_lasts asked p = record { look = p.look; looked = p.looked; legal = p.legal; fits = p.fits; x = p.x; held = p.held; passed = p.passed; waited = did_wait alone [] p.look now later p.waited did }
+  looked_lasts asked p = record {
+    look = p.look;
+    looked = p.looked;
+    legal = p.legal;
+    fits = p.fits;
+    x = p.x;
+    held = p.held;
+    passed = p.passed;
+    waited = did_wait alone [] p.look now later p.waited did;
+  }
 
-  abbrev pub peeking_lasts : (c : ℕ) (shrinks : Bool) (peek : Peek P) → IsPeeking meld limits alone c shrinks peek old before own now → IsPeeking meld limits alone c shrinks peek old before own later
+  abbrev pub peeking_lasts : (c : ℕ) (shrinks : Bool) (peek : Peek P) → IsPeeking meld limits alone c shrinks peek old before own now
+      → IsPeeking meld limits alone c shrinks peek old before own later
   peeking_lasts c shrinks peek p = record {
     look = p.look;
     looked = p.looked;
@@ -42,7 +55,8 @@ module _ {P : Type 0} (meld : P → P → P) (limits : Limits) (alone : Bool) (o
     waited = did_wait alone [] p.look now later p.waited did;
   }
 
-  abbrev pub marking_lasts : (c : ℕ) (shrinks : Bool) (marks : MarkAll) (blocks : RoundBlocks P) → IsMarking meld limits alone c shrinks marks blocks old before own now
+  abbrev pub marking_lasts : (c : ℕ) (shrinks : Bool) (marks : MarkAll) (blocks : RoundBlocks P)
+      → IsMarking meld limits alone c shrinks marks blocks old before own now
       → IsMarking meld limits alone c shrinks marks blocks old before own later
   marking_lasts c shrinks marks blocks p = record {
     look = p.look;
@@ -62,7 +76,8 @@ module _ {P : Type 0} (meld : P → P → P) (limits : Limits) (alone : Bool) (o
     unknown = p.unknown;
   }
 
-  pub marked_lasts : (c : ℕ) (shrinks : Bool) (k : ℕ) (x : Held) → HasMarked meld limits alone c shrinks k x old before own now → HasMarked meld limits alone c shrinks k x old before own later
+  pub marked_lasts : (c : ℕ) (shrinks : Bool) (k : ℕ) (x : Held) → HasMarked meld limits alone c shrinks k x old before own now
+      → HasMarked meld limits alone c shrinks k x old before own later
   marked_lasts c shrinks k x p =
       record {
         look = p.look;
@@ -76,7 +91,8 @@ module _ {P : Type 0} (meld : P → P → P) (limits : Limits) (alone : Bool) (o
         legal = legal;
       }
 
-  pub reading_lasts : (c : ℕ) (shrinks : Bool) (reading : ReadBlocks P) → IsReading meld limits alone c shrinks reading old before own now → IsReading meld limits alone c shrinks reading old before own later
+  pub reading_lasts : (c : ℕ) (shrinks : Bool) (reading : ReadBlocks P) → IsReading meld limits alone c shrinks reading old before own now
+      → IsReading meld limits alone c shrinks reading old before own later
   reading_lasts c shrinks reading p =
       record {
         x = p.x;
@@ -85,7 +101,8 @@ module _ {P : Type 0} (meld : P → P → P) (limits : Limits) (alone : Bool) (o
         at = at_block_later meld now later p.x.group reading grows p.at;
       }
 
-  abbrev pub decided_lasts : (c k : ℕ) (mask : CtxMask) (x : Held) (count : ℕ) → IsDecided meld limits alone c k mask x count old before own now → IsDecided meld limits alone c k mask x count old before own later
+  abbrev pub decided_lasts : (c k : ℕ) (mask : CtxMask) (x : Held) (count : ℕ) → IsDecided meld limits alone c k mask x count old before own now
+      → IsDecided meld limits alone c k mask x count old before own later
   decided_lasts c k mask x count p = record {
     mid = p.mid;
     decided = p.decided;
@@ -101,7 +118,9 @@ module _ {P : Type 0} (meld : P → P → P) (limits : Limits) (alone : Bool) (o
     begins = prefix_trans own.seen (failures now) (failures later) p.begins more_failures;
   }
 
-  pub spawning_lasts : (c : ℕ) (append : Append) (context reach : ℕ) (group : List ℕ) → IsSpawning meld limits alone c append context reach group old before own now → IsSpawning meld limits alone c append context reach group old before own later
+  pub spawning_lasts : (c : ℕ) (append : Append) (context reach : ℕ) (group : List ℕ)
+      → IsSpawning meld limits alone c append context reach group old before own now
+      → IsSpawning meld limits alone c append context reach group old before own later
   spawning_lasts c append context reach group p =
       record {
         x = p.x;
@@ -110,7 +129,12 @@ module _ {P : Type 0} (meld : P → P → P) (limits : Limits) (alone : Bool) (o
         count = p.count;
         decided = decided_lasts c p.round p.mask p.x p.count p.decided;
         lowest = p.lowest;
-        reads = record { goes_on = p.reads.goes_on; begins = prefix_trans own.seen (failures now) (failures later) p.reads.begins more_failures; within = p.reads.within; counted = p.reads.counted };
+        reads = record {
+          goes_on = p.reads.goes_on;
+          begins = prefix_trans own.seen (failures now) (failures later) p.reads.begins more_failures;
+          within = p.reads.within;
+          counted = p.reads.counted;
+        };
         stays = p.stays;
         left = p.left;
         item = p.item;
@@ -120,9 +144,18 @@ module _ {P : Type 0} (meld : P → P → P) (limits : Limits) (alone : Bool) (o
       }
 
   pub waiting_lasts : (c k : ℕ) (x : Held) → IsWaiting meld limits alone c k x old before own now → IsWaiting meld limits alone c k x old before own later
-  waiting_lasts c k x p = record { look = p.look; looked = p.looked; legal = p.legal; fits = p.fits; held = p.held; open_is = p.open_is; waited = did_wait alone [] p.look now later p.waited did }
+  waiting_lasts c k x p = record {
+    look = p.look;
+    looked = p.looked;
+    legal = p.legal;
+    fits = p.fits;
+    held = p.held;
+    open_is = p.open_is;
+    waited = did_wait alone [] p.look now later p.waited did;
+  }
 
-module _ {P : Type 0} (meld : P → P → P) (alone : Bool) (name : Name) (asked : Call P) (old : Record) (before : Sight P) (group : List ℕ) (own : Record) (now later : Sight P) (did : Did alone [] now.seen later.seen) (of : IsOf meld name later) where
+module _ {P : Type 0} (meld : P → P → P) (alone : Bool) (name : Name) (asked : Call P) (old : Record) (before : Sight P) (group : List ℕ) (own : Record)
+    (now later : Sight P) (did : Did alone [] now.seen later.seen) (of : IsOf meld name later) where
   at_lasts : (phase : Phase P) → StandsAt meld alone name asked old before phase group own now → StandsAt meld alone name asked old before phase group own later
   at_lasts Over p = (p.0, p.1, did_wait alone [] before.seen now.seen later.seen p.2 did)
   at_lasts Begun p = (p.0, p.1, did_wait alone [] before.seen now.seen later.seen p.2 did)
@@ -133,11 +166,36 @@ module _ {P : Type 0} (meld : P → P → P) (alone : Bool) (name : Name) (asked
   at_lasts (Arriving round) p = (looked_lasts meld name.limits alone old before.seen own now.seen later.seen did of.legal asked p.0, p.1, p.2)
   at_lasts Revoking p = (looked_lasts meld name.limits alone old before.seen own now.seen later.seen did of.legal asked p.0, p.1)
   at_lasts Asking p = (looked_lasts meld name.limits alone old before.seen own now.seen later.seen did of.legal asked p.0, p.1)
-  at_lasts (Peeking peek shrinks) p = (p.0, peeking_lasts meld name.limits alone old before.seen own now.seen later.seen did of.legal (comm_of asked) shrinks peek p.1, p.2)
-  at_lasts (Marking marks blocks shrinks) p = (p.0, marking_lasts meld name.limits alone old before.seen own now.seen later.seen did of.legal (comm_of asked) shrinks marks blocks p.1, p.2)
-  at_lasts (Reading reading shrinks) p = (p.0, reading_lasts meld name.limits alone old before.seen own now.seen later.seen did of.legal (comm_of asked) shrinks reading p.1)
-  at_lasts (ReadingOn on made) p = (p.0, p.1, decided_lasts meld name.limits alone old before.seen own now.seen later.seen did of.legal (comm_of asked) made.round made.mask p.1 made.count p.2, p.3, p.4)
-  at_lasts (Spawning append context reach) p = (p.0, spawning_lasts meld name.limits alone old before.seen own now.seen later.seen did of.legal (comm_of asked) append context reach group p.1)
+  at_lasts (Peeking peek shrinks) p = (
+    p.0,
+    peeking_lasts meld name.limits alone old before.seen own now.seen later.seen did of.legal
+        (comm_of asked) shrinks peek p.1,
+    p.2,
+  )
+  at_lasts (Marking marks blocks shrinks) p = (
+    p.0,
+    marking_lasts meld name.limits alone old before.seen own now.seen later.seen did of.legal
+        (comm_of asked) shrinks marks blocks p.1,
+    p.2,
+  )
+  at_lasts (Reading reading shrinks) p = (
+    p.0,
+    reading_lasts meld name.limits alone old before.seen own now.seen later.seen did of.legal
+        (comm_of asked) shrinks reading p.1,
+  )
+  at_lasts (ReadingOn on made) p = (
+    p.0,
+    p.1,
+    decided_lasts meld name.limits alone old before.seen own now.seen later.seen did of.legal
+        (comm_of asked) made.round made.mask p.1 made.count p.2,
+    p.3,
+    p.4,
+  )
+  at_lasts (Spawning append context reach) p = (
+    p.0,
+    spawning_lasts meld name.limits alone old before.seen own now.seen later.seen did of.legal
+        (comm_of asked) append context reach group p.1,
+  )
   at_lasts (Waiting arrivals) p = (
     p.0,
     p.1,
@@ -150,7 +208,8 @@ module _ {P : Type 0} (meld : P → P → P) (alone : Bool) (name : Name) (asked
       (p.0, p.1, record { x = i.x; k = i.k; waits = i.waits; are = i.are; legal = i.legal; waited = did_wait alone [] p.1 now.seen later.seen i.waited did })
 
 -- the call stands
-pub stands_lasts : {P : Type 0} (meld : P → P → P) (alone : Bool) (name : Name) (old : Record) (before : Sight P) (doing : UnderWay P) (own : Record) (now later : Sight P) → Stands meld alone name old before doing own now → Waits alone now later
+pub stands_lasts : {P : Type 0} (meld : P → P → P) (alone : Bool) (name : Name) (old : Record) (before : Sight P) (doing : UnderWay P) (own : Record)
+    (now later : Sight P) → Stands meld alone name old before doing own now → Waits alone now later
     → IsOf meld name later → Stands meld alone name old before doing own later
 stands_lasts meld alone name old before doing own now later u waits of =
     record {
@@ -161,14 +220,16 @@ stands_lasts meld alone name old before doing own now later u waits of =
     }
 
 -- a call that is under way has changed nothing of its rank's record but what it has seen
-module _ {P : Type 0} (meld : P → P → P) (alone : Bool) (name : Name) (asked : Call P) (old : Record) (before : Sight P) (group : List ℕ) (own : Record) (now : Sight P) where
+module _ {P : Type 0} (meld : P → P → P) (alone : Bool) (name : Name) (asked : Call P) (old : Record) (before : Sight P) (group : List ℕ) (own : Record)
+    (now : Sight P) where
   by_same : own ≡ old → own ≡ record old { seen = own.seen }
   by_same is = is ∙ ap (λ (w : Record). record old { seen = w.seen }) (sym is)
 
   by_seen : (seen : List ℕ) → own ≡ record old { seen = seen } → own ≡ record old { seen = own.seen }
   by_seen seen is = is ∙ ap (λ s. record old { seen = s }) (sym (ap (λ (w : Record). w.seen) is))
 
-  by_looked : (mid : Record) (look : History P) → Looked alone before.seen look old mid → own ≡ record mid { seen = own.seen } → own ≡ record old { seen = own.seen }
+  by_looked : (mid : Record) (look : History P) → Looked alone before.seen look old mid → own ≡ record mid { seen = own.seen }
+      → own ≡ record old { seen = own.seen }
   by_looked mid look looked is = is ∙ ap (λ (w : Record). record w { seen = own.seen }) looked.record_is
 
   pub stands_own : (phase : Phase P) → StandsAt meld alone name asked old before phase group own now → own ≡ record old { seen = own.seen }
@@ -188,11 +249,14 @@ module _ {P : Type 0} (meld : P → P → P) (alone : Bool) (name : Name) (asked
   stands_own (Checking missing) p = by_seen _ p.2.waits.looked.record_is
 
   -- one that reads on polls a shrink
-  pub stands_shrinks : (phase : Phase P) → reads_on phase ≡ true → StandsAt meld alone name asked old before phase group own now → IsTrue (is_shrink (polled_by own asked))
+  pub stands_shrinks : (phase : Phase P) → reads_on phase ≡ true → StandsAt meld alone name asked old before phase group own now
+      → IsTrue (is_shrink (polled_by own asked))
   stands_shrinks (ReadingOn on made) reads p =
       let d = p.2 in
-      let shrinking : IsTrue (is_shrink (polled_by {P = P} old (call.Poll old.number (comm_of asked)))) = ap is_shrink (polls_it meld name.limits alone before.seen old d.mid (comm_of asked) true made.round p.1 d.decided d.marked) in
-      let same : polled_by {P = P} own asked ≡ polled_by {P = P} old (call.Poll old.number (comm_of asked)) = ap (λ (w : Record). polled_by {P = P} w asked) (by_looked d.mid d.marked.look d.marked.looked d.own_is) ∙ ap (λ (a : Call P). polled_by {P = P} old a) p.0 in
+      let shrinking : IsTrue (is_shrink (polled_by {P = P} old (call.Poll old.number (comm_of asked)))) = ap is_shrink
+      (polls_it meld name.limits alone before.seen old d.mid (comm_of asked) true made.round p.1 d.decided d.marked) in
+      let same : polled_by {P = P} own asked ≡ polled_by {P = P} old (call.Poll old.number (comm_of asked)) = ap (λ (w : Record). polled_by {P = P} w asked)
+      (by_looked d.mid d.marked.look d.marked.looked d.own_is) ∙ ap (λ (a : Call P). polled_by {P = P} old a) p.0 in
       ap is_shrink same ∙ shrinking
   stands_shrinks Over reads p = absurd (cc reads)
   stands_shrinks Begun reads p = absurd (cc reads)

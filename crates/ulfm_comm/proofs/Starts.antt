@@ -1,7 +1,12 @@
 -- The start of an agree or of a shrink.
-use Rattle.std.proofs.Common.{◌≡◌, ℕ, ◌<◌, ◌≤◌, ◌-◌, Bool, true, false, [], ◌∷◌, length, filter, Some, None, Result, Ok, Err, is_ok, refl, ap, sym, ◌∙◌, subst, arith, inl, inr, IsTrue, MatchBool, MatchResult}
-use Rattle.ulfm_model.specs.declared.{call.Call.{Call}, call.Request.{Request}, contribution.Contribution.{Contribution}, contribution.MarkCount.{MarkCount}, contribution.Offer.{Offer}, contribution.Slot.{Slot}, contribution.Slot.TheVariants.{Given, Mark as Marked}, event.Caller.TheVariants.{Rank}, event.Event.TheVariants.{Settle}, limits.Limits.{Limits}, refusal.Refusal.{Refusal}, refusal.Refusal.TheVariants.{Twice}, reply.Reply.{Reply}, reply.Reply.TheVariants.{Refused, Started}}
-use Rattle.ulfm_model.specs.{Answers.{CallAdds, Replies, StartReplies, View, opened, refusal_of, traits_of}, History.{History, IsLegal, IsPlace, failed, failures, has, members, slot}, Records.{Fits, Held, Record, held_at}, Runs.{Did}}
+use Rattle.std.proofs.Common.{◌≡◌, ℕ, ◌<◌, ◌≤◌, ◌-◌, Bool, true, false, [], ◌∷◌, length, filter, Some, None, Result, Ok, Err, is_ok, refl, ap, sym, ◌∙◌, subst}
+use Rattle.std.proofs.Common.{arith, inl, inr, IsTrue, MatchBool, MatchResult}
+use Rattle.ulfm_model.specs.declared.{call.Call.{Call}, call.Request.{Request}, contribution.Contribution.{Contribution}, contribution.MarkCount.{MarkCount}}
+use Rattle.ulfm_model.specs.declared.{contribution.Offer.{Offer}, contribution.Slot.{Slot}, contribution.Slot.TheVariants.{Given, Mark as Marked}}
+use Rattle.ulfm_model.specs.declared.{event.Caller.TheVariants.{Rank}, event.Event.TheVariants.{Settle}, limits.Limits.{Limits}, refusal.Refusal.{Refusal}}
+use Rattle.ulfm_model.specs.declared.{refusal.Refusal.TheVariants.{Twice}, reply.Reply.{Reply}, reply.Reply.TheVariants.{Refused, Started}}
+use Rattle.ulfm_model.specs.Answers.{CallAdds, Replies, StartReplies, View, opened, refusal_of, traits_of}
+use Rattle.ulfm_model.specs.{History.{History, IsLegal, IsPlace, failed, failures, has, members, slot}, Records.{Fits, Held, Record, held_at}, Runs.{Did}}
 use Rattle.ulfm_model.specs.Terms.{comm_of}
 use Rattle.ulfm_model.proofs.{Decisions.{slot_stands}, Marking.{failed_few}, Lists.{has_at, has_filter, length_prefix}}
 use Rattle.ulfm_words.specs.Steps.{IsAdded, IsOf, Name, Sight}
@@ -11,19 +16,24 @@ use Rattle.ulfm_comm.proofs.{CallRuns.{calls_is}, Helds.{change_alike}, Holding.
 use Rattle.ulfm_comm.proofs.WholeCall.{held_before, replied, self_failed}
 
 -- a rank whose place is marked is declared
-marked_declared : {P : Type 0} (meld : P → P → P) (limits : Limits) (h : History P) (c k r : ℕ) (mark : MarkCount) → IsLegal meld limits h → slot h c k r ≡ Some (Marked mark) → IsTrue (has (failures h) r)
+marked_declared : {P : Type 0} (meld : P → P → P) (limits : Limits) (h : History P) (c k r : ℕ) (mark : MarkCount) → IsLegal meld limits h
+    → slot h c k r ≡ Some (Marked mark) → IsTrue (has (failures h) r)
 marked_declared meld limits h c k r mark legal stands =
-    has_filter (has (members limits.ranks h c)) (failures h) r (has_at (failed limits.ranks h c) (mark.known.count - 1) r (slot_stands meld limits h legal c k r (Marked mark) stands).names)
+    has_filter (has (members limits.ranks h c)) (failures h) r (has_at (failed limits.ranks h c) (mark.known.count - 1) r
+    (slot_stands meld limits h legal c k r (Marked mark) stands).names)
 
 -- what the exchange of the rank's own place has done
-pub settles_is : {P : Type 0} (alone : Bool) (now after : History P) (own : Record) (x : Held) (offer : Offer P) (given : Contribution P) (r : ℕ) (settled : Result (Unit {0}) (Slot P)) → r ≡ own.number
+pub settles_is : {P : Type 0} (alone : Bool) (now after : History P) (own : Record) (x : Held) (offer : Offer P) (given : Contribution P) (r : ℕ)
+    (settled : Result (Unit {0}) (Slot P)) → r ≡ own.number
     → MatchBool (is_ok settled) (IsAdded alone (record { by = Rank r; event = Settle x.comm x.next_agreement r given }) now after) (Did alone [] now after)
     → MatchResult settled (λ _. slot after x.comm x.next_agreement r ≡ Some (Given given)) (λ s. slot after x.comm x.next_agreement r ≡ Some s)
-    → given.offer ≡ offer → given.known.count ≡ length (filter (has x.group) own.seen) → given.acked.count ≡ x.acked → Settles alone now after own x offer settled
+    → given.offer ≡ offer → given.known.count ≡ length (filter (has x.group) own.seen) → given.acked.count ≡ x.acked
+    → Settles alone now after own x offer settled
 settles_is {P} alone now after own x offer given r (Ok done) mine outcome stands is known acked =
     record {
       given = given;
-      did = subst (λ n. Did alone (record { by = Rank n; event = Settle x.comm x.next_agreement n given } ∷ []) now after) mine (did_added alone _ now after outcome);
+      did = subst (λ n. Did alone (record { by = Rank n; event = Settle x.comm x.next_agreement n given } ∷ []) now after) mine
+          (did_added alone _ now after outcome);
       stands = subst (λ n. slot after x.comm x.next_agreement n ≡ Some (Given given)) mine stands;
       offer_is = is;
       known = known;
@@ -33,19 +43,26 @@ settles_is {P} alone now after own x offer given r (Err put) mine outcome stands
     record { did = outcome; stands = subst (λ n. slot after x.comm x.next_agreement n ≡ Some put) mine stands }
 
 -- a start that its record doesn't refuse
-module _ {P : Type 0} (meld : P → P → P) (alone : Bool) (name : Name) (before look after : Sight P) (onward : before.steps ≤ after.steps) (asked : Call P) (old mid : Record) (fits : Fits meld name.limits before.seen old)
-    (looked : Looked alone before.seen look.seen old mid) (x : Held) (held : held_at mid (comm_of asked) ≡ Some x) (passed : refusal_of old asked ≡ None) (now : History P) (waited : Did alone [] look.seen now)
+module _ {P : Type 0} (meld : P → P → P) (alone : Bool) (name : Name) (before look after : Sight P) (onward : before.steps ≤ after.steps) (asked : Call P)
+    (old mid : Record) (fits : Fits meld name.limits before.seen old)
+    (looked : Looked alone before.seen look.seen old mid) (x : Held) (held : held_at mid (comm_of asked) ≡ Some x) (passed : refusal_of old asked ≡ None)
+    (now : History P) (waited : Did alone [] look.seen now)
     (offer : Offer P) (request : Request) (no_poll : (traits_of asked).polls ≡ false) (starts : (traits_of asked).starts x ≡ Some request)
     (adds : (given : Contribution P) → CallAdds (failures look.seen) old.number x asked (Settle x.comm x.next_agreement old.number given))
     (replies : (view : View P) (reply : Reply P) → StartReplies view old x offer reply → Replies meld name.limits view old x asked reply) where
   mine : mid.number ≡ old.number
   mine = ap (λ (w : Record). w.number) looked.record_is
 
-  by_outcome : (settled : Result (Unit {0}) (Slot P)) (new : Record) → IsLegal meld name.limits after.seen → Settles alone now after.seen mid x offer settled → new ≡ start_leaves mid (comm_of asked) request settled
+  by_outcome : (settled : Result (Unit {0}) (Slot P)) (new : Record) → IsLegal meld name.limits after.seen → Settles alone now after.seen mid x offer settled
+      → new ≡ start_leaves mid (comm_of asked) request settled
       → IsEndRun meld name.limits alone before.seen after.seen old asked (reply_of (λ _. Started) (start_result settled)) new
   by_outcome (Ok done) new legal gave leaves =
-      replied meld name.limits alone before.seen look.seen old mid looked after.seen (Settle x.comm x.next_agreement old.number gave.given ∷ []) asked Started new x
-      (did_after alone _ look.seen now after.seen waited (subst (λ n. Did alone (record { by = Rank n; event = Settle x.comm x.next_agreement n gave.given } ∷ []) now after.seen) mine gave.did)) legal
+      replied meld name.limits alone before.seen look.seen old mid looked after.seen (Settle x.comm x.next_agreement old.number gave.given ∷ []) asked Started
+      new x
+      (did_after alone _ look.seen now after.seen waited (subst (λ n. Did alone (record {
+        by = Rank n;
+        event = Settle x.comm x.next_agreement n gave.given;
+      } ∷ []) now after.seen) mine gave.did)) legal
       (held_before meld name.limits alone before.seen look.seen old mid looked (comm_of asked) (Some x) held) passed (adds gave.given, tt)
       (replies (record { look = failures look.seen; history = after.seen; own = Settle x.comm x.next_agreement old.number gave.given ∷ [] }) Started (inl (
         refl,
@@ -58,26 +75,35 @@ module _ {P : Type 0} (meld : P → P → P) (alone : Bool) (name : Name) (befor
           acked = gave.acked;
         },
       )))
-      (leaves ∙ ap (λ hs. record mid { held = hs }) (change_alike mid.held (comm_of asked) x (λ y. opened y (Some request)) (λ y. opened y ((traits_of asked).starts y)) held (ap (opened x) (sym starts))))
+      (leaves ∙ ap (λ hs. record mid { held = hs }) (change_alike mid.held (comm_of asked) x (λ y. opened y (Some request))
+      (λ y. opened y ((traits_of asked).starts y)) held (ap (opened x) (sym starts))))
       (λ here polls. absurd (cc (polls, no_poll)))
   by_outcome (Err (Marked mark)) new legal was leaves =
-      self_failed meld name.limits alone before.seen look.seen old after.seen asked new looked.in_use looked.did (did_after alone [] look.seen now after.seen waited was.did) legal
-      (subst (λ n. IsTrue (has (failures after.seen) n)) mine (marked_declared meld name.limits after.seen x.comm x.next_agreement mid.number mark legal was.stands))
+      self_failed meld name.limits alone before.seen look.seen old after.seen asked new looked.in_use looked.did
+      (did_after alone [] look.seen now after.seen waited was.did) legal
+      (subst (λ n. IsTrue (has (failures after.seen) n)) mine (marked_declared meld name.limits after.seen x.comm x.next_agreement mid.number mark legal
+      was.stands))
       (leaves ∙ ap (λ (w : Record). record w { refused = true }) looked.record_is)
   by_outcome (Err (Given given)) new legal was leaves =
-      replied meld name.limits alone before.seen look.seen old mid looked after.seen [] asked (Refused Twice) new x (did_after alone [] look.seen now after.seen waited was.did) legal
+      replied meld name.limits alone before.seen look.seen old mid looked after.seen [] asked (Refused Twice) new x
+      (did_after alone [] look.seen now after.seen waited was.did) legal
       (held_before meld name.limits alone before.seen look.seen old mid looked (comm_of asked) (Some x) held) passed tt
-      (replies (record { look = failures look.seen; history = after.seen; own = [] }) (Refused Twice) (inr (refl, refl, (given, subst (λ n. slot after.seen x.comm x.next_agreement n ≡ Some (Given given)) mine was.stands)))) leaves (λ here polls. absurd (cc (polls, no_poll)))
+      (replies (record { look = failures look.seen; history = after.seen; own = [] }) (Refused Twice)
+      (inr (refl, refl, (given, subst (λ n. slot after.seen x.comm x.next_agreement n ≡ Some (Given given)) mine was.stands)))) leaves
+      (λ here polls. absurd (cc (polls, no_poll)))
 
   -- it is answered as its exchange says
-  pub calls_started : (settled : Result (Unit {0}) (Slot P)) (result : Result (Unit {0}) Refusal) (new : Record) → IsOf meld name after → Settles alone now after.seen mid x offer settled → result ≡ start_result settled
+  pub calls_started : (settled : Result (Unit {0}) (Slot P)) (result : Result (Unit {0}) Refusal) (new : Record) → IsOf meld name after
+      → Settles alone now after.seen mid x offer settled → result ≡ start_result settled
       → new ≡ start_leaves mid (comm_of asked) request settled → Replied meld alone name asked old before (reply_of (λ _. Started) result) new after
   calls_started settled result new of settles gives leaves =
       subst (λ r. Replied meld alone name asked old before (reply_of (λ _. Started) r) new after) (sym gives)
-      (calls_is meld alone name before after onward asked old (reply_of (λ _. Started) (start_result settled)) new of fits (by_outcome settled new of.legal settles leaves))
+      (calls_is meld alone name before after onward asked old (reply_of (λ _. Started) (start_result settled)) new of fits
+      (by_outcome settled new of.legal settles leaves))
 
 -- what a start asks of its exchange, where others may have stepped since the rank's look
-module _ {P : Type 0} (meld : P → P → P) (limits : Limits) (now : History P) (own : Record) (c : ℕ) (x : Held) (fits : Fits meld limits now own) (held : held_at own c ≡ Some x) where
+module _ {P : Type 0} (meld : P → P → P) (limits : Limits) (now : History P) (own : Record) (c : ℕ) (x : Held) (fits : Fits meld limits now own)
+    (held : held_at own c ≡ Some x) where
   -- the rank's own place is one of the world's
   pub own_place : x.next_agreement < limits.rounds → IsPlace limits now c x.next_agreement own.number
   own_place room =

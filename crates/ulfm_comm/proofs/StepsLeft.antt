@@ -1,18 +1,23 @@
 -- How many steps a call makes at most.
-use Rattle.std.proofs.Common.{◌≡◌, ℕ, ◌+◌, ◌-◌, ◌*◌, ◌<◌, ◌≤◌, Bool, true, false, List, length, filter, take, max, min, Option, Some, None, is_some, if◌then◌else◌, refl, ap, sym, ◌∙◌, subst, length-append, arith}
+use Rattle.std.proofs.Common.{◌≡◌, ℕ, ◌+◌, ◌-◌, ◌*◌, ◌<◌, ◌≤◌, Bool, true, false, List, length, filter, take, max, min, Option, Some, None, is_some}
+use Rattle.std.proofs.Common.{if◌then◌else◌, refl, ap, sym, ◌∙◌, subst, length-append, arith}
 use Rattle.std.proofs.lemmas.List.{length-take}
 use mathlib.Core.List.{IsPrefix}
 use Rattle.ulfm_model.specs.declared.call.Call.TheVariants as call
-use Rattle.ulfm_model.specs.declared.{call.Call.{Call}, call.Request.{Request}, call.Request.TheVariants.{Agree, Shrink, Barrier}, limits.Limits.{Limits}, refusal.Refusal.{Refusal}}
-use Rattle.ulfm_model.specs.{Answers.{first_refusal, refusal_of, refusal_on}, History.{History, IsLegal, failures, has, without}, Records.{Held, Record, held_at}}
+use Rattle.ulfm_model.specs.declared.{call.Call.{Call}, call.Request.{Request}, call.Request.TheVariants.{Agree, Shrink, Barrier}, limits.Limits.{Limits}}
+use Rattle.ulfm_model.specs.declared.refusal.Refusal.{Refusal}
+use Rattle.ulfm_model.specs.{Answers.{first_refusal, refusal_of, refusal_on}, History.{History, IsLegal, failures, has, without}}
+use Rattle.ulfm_model.specs.Records.{Held, Record, held_at}
 use Rattle.ulfm_model.specs.Terms.{comm_of, request_of}
-use Rattle.ulfm_steps.specs.{Arriving.{arrivals_left, in_order}, Blocks.{blocks_cost, blocks_left, is_whole, peeks_left, starts_at, unread_cost}, Marks.{marks_left}}
+use Rattle.ulfm_steps.specs.{Arriving.{arrivals_left, in_order}, Blocks.{blocks_cost, blocks_left, is_whole, peeks_left, starts_at, unread_cost}}
+use Rattle.ulfm_steps.specs.Marks.{marks_left}
 use Rattle.ulfm_steps.specs.declared.{arrivals.{Arrivals.{Arrivals}}, mark_all.MarkAll.{MarkAll}, blocks.Peek.{Peek}, blocks.ReadBlocks.{ReadBlocks}}
 use Rattle.ulfm_steps.specs.declared.blocks.RoundBlocks.{RoundBlocks}
 use Rattle.ulfm_steps.proofs.{Arriving.{in_order_few}, InBlocks.{peek_most, peek_some, starts_left, unread_most}}
 use Rattle.ulfm_comm.proofs.Look.{tests_same}
 use Rattle.ulfm_words.specs.Steps.{Sight}
-use Rattle.ulfm_comm.specs.{Bound.{call_bound, poll_bound, step_bound}, Look.{Passes}, Phase.{NextBelow}, Requests.{agreement}, StepsLeft.{FewerLeft, Spends, after_look, after_peek, after_round, behind_look, group_of, polling, steps_left, with_look}}
+use Rattle.ulfm_comm.specs.{Bound.{call_bound, poll_bound, step_bound}, Look.{Passes}, Phase.{NextBelow}, Requests.{agreement}}
+use Rattle.ulfm_comm.specs.StepsLeft.{FewerLeft, Spends, after_look, after_peek, after_round, behind_look, group_of, polling, steps_left, with_look}
 use Rattle.ulfm_comm.specs.declared.{phases.phase.Next.{Next}, phases.phase.Next.TheVariants.{Goes, Ends}}
 use Rattle.ulfm_comm.specs.declared.phases.phase.Phase.TheVariants.{Over, Begun, Looking, Marking, Peeking, Reading, Waiting}
 
@@ -25,11 +30,13 @@ refusal_same own seen asked = go (held_at own (comm_of asked))
     go (Some x) = ap first_refusal (tests_same own seen x asked)
 
 -- nor to what may follow a look
-pub after_look_same : {P : Type 0} (limits : Limits) (own : Record) (seen : List ℕ) (asked : Call P) → after_look limits (record own { seen = seen }) asked ≡ after_look limits own asked
+pub after_look_same : {P : Type 0} (limits : Limits) (own : Record) (seen : List ℕ) (asked : Call P)
+    → after_look limits (record own { seen = seen }) asked ≡ after_look limits own asked
 after_look_same limits own seen asked = ap (λ (r : Option Refusal). if is_some r then 0 else behind_look limits own asked) (refusal_same own seen asked)
 
 -- what is fewer than some is fewer than more
-pub fewer_more : {P : Type 0} (limits : Limits) (own : Record) (asked : Call P) (few more : ℕ) → few ≤ more → (next : Next P) → FewerLeft few limits own asked next → FewerLeft more limits own asked next
+pub fewer_more : {P : Type 0} (limits : Limits) (own : Record) (asked : Call P) (few more : ℕ) → few ≤ more → (next : Next P)
+    → FewerLeft few limits own asked next → FewerLeft more limits own asked next
 fewer_more limits own asked few more le (Goes phase) fewer = omega (arith, le, fewer)
 fewer_more limits own asked few more le (Ends reply) fewer = tt
 
@@ -39,14 +46,16 @@ module _ {P : Type 0} (limits : Limits) (own : Record) (asked : Call P) where
   after_passed passed = ap (λ (r : Option Refusal). if is_some r then 0 else behind_look limits own asked) passed
 
   -- the poll of a request
-  look_poll : refusal_of own asked ≡ None → (rank c : ℕ) (x : Held) (request : Option Request) → asked ≡ call.Poll rank c → held_at own (comm_of asked) ≡ Some x → x.request ≡ request → after_look limits own asked ≡ polling limits (length x.group) request
+  look_poll : refusal_of own asked ≡ None → (rank c : ℕ) (x : Held) (request : Option Request) → asked ≡ call.Poll rank c → held_at own (comm_of asked) ≡ Some x
+      → x.request ≡ request → after_look limits own asked ≡ polling limits (length x.group) request
   look_poll passed rank c x request is held is_open =
       after_passed passed
       ∙ subst (λ (a : Call P). held_at own (comm_of a) ≡ Some x → behind_look limits own a ≡ polling limits (length x.group) request) (sym is)
       (λ at. ap (λ h. polling limits (length (group_of h)) (request_of h)) at ∙ ap (polling limits (length x.group)) is_open) held
 
   -- what comes right after a look
-  module _ (meld : P → P → P) (h : History P) (legal : IsLegal meld limits h) (begins : IsPrefix own.seen (failures h)) (some : 0 < limits.comms) (passed : refusal_of own asked ≡ None) (rank c : ℕ) (x : Held) (is : asked ≡ call.Poll rank c) (held : held_at own (comm_of asked) ≡ Some x) where
+  module _ (meld : P → P → P) (h : History P) (legal : IsLegal meld limits h) (begins : IsPrefix own.seen (failures h)) (some : 0 < limits.comms)
+      (passed : refusal_of own asked ≡ None) (rank c : ℕ) (x : Held) (is : asked ≡ call.Poll rank c) (held : held_at own (comm_of asked) ≡ Some x) where
     abbrev most : ℕ
     most = after_look limits own asked + max 1 (limits.ranks - length own.seen)
 
@@ -58,14 +67,17 @@ module _ {P : Type 0} (limits : Limits) (own : Record) (asked : Call P) where
         let all = look_poll passed rank c x (Some (Barrier k)) is held is_open in
         subst (λ g. arrivals_left g own.seen arrivals + 1 < most) (sym (ap group_of held)) (omega (arith, all, few))
 
-    pub peeking_after : (k : ℕ) (shrinks : Bool) (peek : Peek P) → x.request ≡ Some (agreement shrinks k) → 0 < length x.group → steps_left limits own asked (Peeking peek shrinks) < most
+    pub peeking_after : (k : ℕ) (shrinks : Bool) (peek : Peek P) → x.request ≡ Some (agreement shrinks k) → 0 < length x.group
+        → steps_left limits own asked (Peeking peek shrinks) < most
     peeking_after k shrinks peek is_open any =
-        subst (λ g. peeks_left (length g) peek.side + (length (filter (has g) own.seen) + blocks_cost (length g) + after_round limits own shrinks) < most) (sym (ap group_of held)) (by_kind shrinks is_open)
+        subst (λ g. peeks_left (length g) peek.side + (length (filter (has g) own.seen) + blocks_cost (length g) + after_round limits own shrinks) < most)
+        (sym (ap group_of held)) (by_kind shrinks is_open)
       where
         cost : peeks_left (length x.group) peek.side + blocks_cost (length x.group) ≤ 2 * length x.group + 2
         cost = peek_most (length x.group) peek.side any
 
-        by_kind : (b : Bool) → x.request ≡ Some (agreement b k) → peeks_left (length x.group) peek.side + (length (filter (has x.group) own.seen) + blocks_cost (length x.group) + after_round limits own b) < most
+        by_kind : (b : Bool) → x.request ≡ Some (agreement b k) → peeks_left (length x.group) peek.side +
+            (length (filter (has x.group) own.seen) + blocks_cost (length x.group) + after_round limits own b) < most
         by_kind false is_open =
             let all = look_poll passed rank c x (Some (Agree k)) is held is_open in
             omega (arith, all, few, cost, length-append (filter (has x.group) own.seen) (without x.group own.seen))
@@ -74,7 +86,8 @@ module _ {P : Type 0} (limits : Limits) (own : Record) (asked : Call P) where
             omega (arith, all, few, cost, some, length-append (filter (has x.group) own.seen) (without x.group own.seen))
 
 -- a poll that has loaded its round's blocks has no more left than its marks, its readings, and what comes after them
-module _ {P : Type 0} (limits : Limits) (own : Record) (asked : Call P) (x : Held) (held : held_at own (comm_of asked) ≡ Some x) (shrinks : Bool) (blocks : RoundBlocks P) where
+module _ {P : Type 0} (limits : Limits) (own : Record) (asked : Call P) (x : Held) (held : held_at own (comm_of asked) ≡ Some x) (shrinks : Bool)
+    (blocks : RoundBlocks P) where
   abbrev group_now : group_of (held_at own (comm_of asked)) ≡ x.group
   group_now = ap group_of held
 
@@ -85,13 +98,18 @@ module _ {P : Type 0} (limits : Limits) (own : Record) (asked : Call P) (x : Hel
       omega (arith, cost)
 
   -- the reading of the blocks that aren't known begins
-  reads_unread : (reading : ReadBlocks P) (comm round size : ℕ) → reading ≡ starts_at comm round blocks size → size ≡ length x.group → is_whole blocks (length x.group) ≡ false
+  reads_unread : (reading : ReadBlocks P) (comm round size : ℕ) → reading ≡ starts_at comm round blocks size → size ≡ length x.group
+      → is_whole blocks (length x.group) ≡ false
       → blocks_left (length (group_of (held_at own (comm_of asked)))) reading ≤ unread_cost blocks (length (group_of (held_at own (comm_of asked))))
   reads_unread reading comm round size is size_is unknown =
-      let left : blocks_left (length x.group) (starts_at comm round blocks (length x.group)) ≤ unread_cost blocks (length x.group) = starts_left comm round (length x.group) blocks unknown in
-      subst (λ g. blocks_left (length g) reading ≤ unread_cost blocks (length g)) (sym group_now) (subst (λ (r : ReadBlocks P). blocks_left (length x.group) r ≤ unread_cost blocks (length x.group)) (sym (is ∙ ap (starts_at comm round blocks) size_is)) left)
+      let left : blocks_left (length x.group) (starts_at comm round blocks (length x.group)) ≤ unread_cost blocks (length x.group) = starts_left comm round
+      (length x.group) blocks unknown in
+      subst (λ g. blocks_left (length g) reading ≤ unread_cost blocks (length g)) (sym group_now)
+      (subst (λ (r : ReadBlocks P). blocks_left (length x.group) r ≤ unread_cost blocks (length x.group))
+      (sym (is ∙ ap (starts_at comm round blocks) size_is)) left)
 
-  pub unread_reads : (reading : ReadBlocks P) (comm round size : ℕ) → reading ≡ starts_at comm round blocks size → size ≡ length x.group → is_whole blocks (length x.group) ≡ false
+  pub unread_reads : (reading : ReadBlocks P) (comm round size : ℕ) → reading ≡ starts_at comm round blocks size → size ≡ length x.group
+      → is_whole blocks (length x.group) ≡ false
       → steps_left limits own asked (Reading reading shrinks) ≤ after_peek limits own asked shrinks
   unread_reads reading comm round size is size_is unknown =
       let group = group_of (held_at own (comm_of asked)) in
@@ -100,18 +118,22 @@ module _ {P : Type 0} (limits : Limits) (own : Record) (asked : Call P) (x : Hel
       omega (arith, cost, left)
 
   -- after the last mark
-  pub marks_read : (members declared : List ℕ) → members ≡ x.group → declared ≡ own.seen → (marks : MarkAll) (reading : ReadBlocks P) (comm round size : ℕ) → reading ≡ starts_at comm round blocks size → size ≡ length members
+  pub marks_read : (members declared : List ℕ) → members ≡ x.group → declared ≡ own.seen → (marks : MarkAll) (reading : ReadBlocks P) (comm round size : ℕ)
+      → reading ≡ starts_at comm round blocks size → size ≡ length members
       → is_whole blocks (length members) ≡ false → (now after left : ℕ) → after + left ≤ now + marks_left members declared marks.next
       → after + steps_left limits own asked (Reading reading shrinks) ≤ now + steps_left limits own asked (Marking marks blocks shrinks)
   marks_read members declared members_are declared_are marks reading comm round size is size_is unknown now after rest few =
       let group = group_of (held_at own (comm_of asked)) in
-      let left : blocks_left (length group) reading ≤ unread_cost blocks (length group) = reads_unread reading comm round size is (size_is ∙ ap length members_are) (subst (λ g. is_whole blocks (length g) ≡ false) members_are unknown) in
+      let left : blocks_left (length group) reading ≤ unread_cost blocks (length group) = reads_unread reading comm round size is
+      (size_is ∙ ap length members_are) (subst (λ g. is_whole blocks (length g) ≡ false) members_are unknown) in
       let few_now : after + rest ≤ now + marks_left group own.seen marks.next =
-      subst (λ g. after + rest ≤ now + marks_left g own.seen marks.next) (members_are ∙ sym group_now) (subst (λ s. after + rest ≤ now + marks_left members s marks.next) declared_are few) in
+      subst (λ g. after + rest ≤ now + marks_left g own.seen marks.next) (members_are ∙ sym group_now)
+      (subst (λ s. after + rest ≤ now + marks_left members s marks.next) declared_are few) in
       omega (arith, left, few_now)
 
 -- the steps of a peek and of a reading, and what comes after them
-module _ {P : Type 0} (limits : Limits) (own : Record) (asked : Call P) (x : Held) (held : held_at own (comm_of asked) ≡ Some x) (shrinks : Bool) (members : List ℕ) (members_are : members ≡ x.group) where
+module _ {P : Type 0} (limits : Limits) (own : Record) (asked : Call P) (x : Held) (held : held_at own (comm_of asked) ≡ Some x) (shrinks : Bool)
+    (members : List ℕ) (members_are : members ≡ x.group) where
   same_length : length members ≡ length (group_of (held_at own (comm_of asked)))
   same_length = ap length (members_are ∙ sym (ap group_of held))
 
@@ -125,23 +147,27 @@ module _ {P : Type 0} (limits : Limits) (own : Record) (asked : Call P) (x : Hel
   pub peeks_past : (peek : Peek P) (rest : ℕ) → rest ≤ after_peek limits own asked shrinks → rest < steps_left limits own asked (Peeking peek shrinks)
   peeks_past peek rest le = let some = peek_some (length (group_of (held_at own (comm_of asked)))) peek.side in omega (arith, le, some)
 
-  pub peeks_over : (peek : Peek P) (rest now after : ℕ) → rest ≤ after_peek limits own asked shrinks → after ≤ now + peeks_left (length members) peek.side → after + rest ≤ now + steps_left limits own asked (Peeking peek shrinks)
+  pub peeks_over : (peek : Peek P) (rest now after : ℕ) → rest ≤ after_peek limits own asked shrinks → after ≤ now + peeks_left (length members) peek.side
+      → after + rest ≤ now + steps_left limits own asked (Peeking peek shrinks)
   peeks_over peek rest now after le few = let few_now = subst (λ n. after ≤ now + peeks_left n peek.side) same_length few in omega (arith, le, few_now)
 
   -- .. or whose round is decided
-  pub peeks_fewer : (peek : Peek P) (new : Record) (next : Next P) → FewerLeft (after_round limits own shrinks + 1) limits new asked next → FewerLeft (steps_left limits own asked (Peeking peek shrinks)) limits new asked next
+  pub peeks_fewer : (peek : Peek P) (new : Record) (next : Next P) → FewerLeft (after_round limits own shrinks + 1) limits new asked next
+      → FewerLeft (steps_left limits own asked (Peeking peek shrinks)) limits new asked next
   peeks_fewer peek new next fewer =
       let some = peek_some (length (group_of (held_at own (comm_of asked)))) peek.side in
       fewer_more limits new asked (after_round limits own shrinks + 1) (steps_left limits own asked (Peeking peek shrinks)) (omega (arith, some)) next fewer
 
-  pub peeks_spend : (peek : Peek P) (new : Record) (next : Next P) (now after : Sight P) → after.steps ≤ now.steps + peeks_left (length members) peek.side → FewerLeft (after_round limits own shrinks + 1) limits new asked next
+  pub peeks_spend : (peek : Peek P) (new : Record) (next : Next P) (now after : Sight P) → after.steps ≤ now.steps + peeks_left (length members) peek.side
+      → FewerLeft (after_round limits own shrinks + 1) limits new asked next
       → Spends (steps_left limits own asked (Peeking peek shrinks)) limits new asked next now after
   peeks_spend peek new next now after few fewer = spends next fewer
     where
       few_now : after.steps ≤ now.steps + peeks_left (length (group_of (held_at own (comm_of asked)))) peek.side
       few_now = subst (λ n. after.steps ≤ now.steps + peeks_left n peek.side) same_length few
 
-      spends : (next : Next P) → FewerLeft (after_round limits own shrinks + 1) limits new asked next → Spends (steps_left limits own asked (Peeking peek shrinks)) limits new asked next now after
+      spends : (next : Next P) → FewerLeft (after_round limits own shrinks + 1) limits new asked next
+          → Spends (steps_left limits own asked (Peeking peek shrinks)) limits new asked next now after
       spends (Goes phase) fewer = omega (arith, few_now, fewer)
       spends (Ends reply) fewer = omega (arith, few_now)
 
@@ -150,20 +176,25 @@ module _ {P : Type 0} (limits : Limits) (own : Record) (asked : Call P) (x : Hel
       → after + steps_left limits own asked (Reading next shrinks) ≤ now + steps_left limits own asked (Reading reading shrinks)
   reads_on reading next now after few =
       let n = length (group_of (held_at own (comm_of asked))) in
-      let few_now : after + blocks_left n next ≤ now + blocks_left n reading = subst (λ n. after + blocks_left n next ≤ now + blocks_left n reading) same_length few in omega (arith, few_now)
+      let few_now : after + blocks_left n next ≤ now + blocks_left n reading = subst (λ n. after + blocks_left n next ≤ now + blocks_left n reading) same_length
+      few in omega (arith, few_now)
 
   -- one whose round is decided, or in which a member is missing
-  pub reads_fewer : (reading : ReadBlocks P) (new : Record) (next : Next P) → FewerLeft (after_round limits own shrinks + 1) limits new asked next → FewerLeft (steps_left limits own asked (Reading reading shrinks)) limits new asked next
-  reads_fewer reading new next fewer = fewer_more limits new asked (after_round limits own shrinks + 1) (steps_left limits own asked (Reading reading shrinks)) (omega arith) next fewer
+  pub reads_fewer : (reading : ReadBlocks P) (new : Record) (next : Next P) → FewerLeft (after_round limits own shrinks + 1) limits new asked next
+      → FewerLeft (steps_left limits own asked (Reading reading shrinks)) limits new asked next
+  reads_fewer reading new next fewer = fewer_more limits new asked (after_round limits own shrinks + 1) (steps_left limits own asked (Reading reading shrinks))
+      (omega arith) next fewer
 
-  pub reads_spend : (reading : ReadBlocks P) (new : Record) (next : Next P) (now after : Sight P) → after.steps ≤ now.steps + blocks_left (length members) reading → FewerLeft (after_round limits own shrinks + 1) limits new asked next
+  pub reads_spend : (reading : ReadBlocks P) (new : Record) (next : Next P) (now after : Sight P)
+      → after.steps ≤ now.steps + blocks_left (length members) reading → FewerLeft (after_round limits own shrinks + 1) limits new asked next
       → Spends (steps_left limits own asked (Reading reading shrinks)) limits new asked next now after
   reads_spend reading new next now after few fewer = spends next fewer
     where
       few_now : after.steps ≤ now.steps + blocks_left (length (group_of (held_at own (comm_of asked)))) reading
       few_now = subst (λ n. after.steps ≤ now.steps + blocks_left n reading) same_length few
 
-      spends : (next : Next P) → FewerLeft (after_round limits own shrinks + 1) limits new asked next → Spends (steps_left limits own asked (Reading reading shrinks)) limits new asked next now after
+      spends : (next : Next P) → FewerLeft (after_round limits own shrinks + 1) limits new asked next
+          → Spends (steps_left limits own asked (Reading reading shrinks)) limits new asked next now after
       spends (Goes phase) fewer = omega (arith, few_now, fewer)
       spends (Ends reply) fewer = omega (arith, few_now)
 
@@ -173,7 +204,8 @@ below_more few more le (Goes phase) lt = omega (arith, le, lt)
 below_more few more le (Ends reply) lt = tt
 
 -- once a look has ended, fewer steps are left than before its last load
-pub looks_up : {P : Type 0} (limits : Limits) (own new : Record) (asked : Call P) → new ≡ record own { seen = new.seen } → length own.seen < limits.ranks → length own.seen ≤ length new.seen
+pub looks_up : {P : Type 0} (limits : Limits) (own new : Record) (asked : Call P) → new ≡ record own { seen = new.seen } → length own.seen < limits.ranks
+    → length own.seen ≤ length new.seen
     → after_look limits new asked + max 1 (limits.ranks - length new.seen) ≤ steps_left limits own asked Looking
 looks_up limits own new asked kept more longer =
     let same = ap (λ (w : Record). after_look limits w asked) kept ∙ after_look_same limits own new.seen asked in
@@ -191,33 +223,40 @@ module _ {P : Type 0} (limits : Limits) (own new : Record) (asked : Call P) (kep
 
   -- nor does one that has ended, with what comes next
   pub looks_over : (now after : Sight P) → after.steps + (limits.ranks - length new.seen - 1) ≤ now.steps + (limits.ranks - length own.seen)
-      → (left : Record) (next : Next P) → FewerLeft (with_look limits new asked) limits left asked next → Spends (steps_left limits own asked Looking) limits left asked next now after
+      → (left : Record) (next : Next P) → FewerLeft (with_look limits new asked) limits left asked next
+      → Spends (steps_left limits own asked Looking) limits left asked next now after
   looks_over now after few left (Goes phase) fewer = omega (arith, few, fewer, same_after)
   looks_over now after few left (Ends reply) fewer = omega (arith, few)
 
 -- a call that begins its look, behind what was seen or at the last of all ranks, has as many steps left as it had before
-pub resumed_left : {P : Type 0} (limits : Limits) (own resumed : Record) (asked : Call P) → own.limits.ranks ≡ limits.ranks → 0 < limits.ranks → resumed ≡ record own { seen = take (own.limits.ranks - 1) own.seen }
+pub resumed_left : {P : Type 0} (limits : Limits) (own resumed : Record) (asked : Call P) → own.limits.ranks ≡ limits.ranks → 0 < limits.ranks
+    → resumed ≡ record own { seen = take (own.limits.ranks - 1) own.seen }
     → steps_left limits resumed asked Looking ≤ steps_left limits own asked Begun
 resumed_left limits own resumed asked ranks some is =
     let same = ap (λ (w : Record). after_look limits w asked) is ∙ after_look_same limits own (take (own.limits.ranks - 1) own.seen) asked in
-    let size : length resumed.seen ≡ min (own.limits.ranks - 1) (length own.seen) = ap (λ (w : Record). length w.seen) is ∙ length-take (own.limits.ranks - 1) own.seen in
+    let size : length resumed.seen ≡ min (own.limits.ranks - 1) (length own.seen) = ap (λ (w : Record). length w.seen) is ∙ length-take
+    (own.limits.ranks - 1) own.seen in
     omega (arith, same, size, ranks, some)
 
 -- a call that begins may make as many steps as its bound says
-pub begun_bound : {P : Type 0} (limits : Limits) (own : Record) (asked : Call P) → own.refused ≡ false → length own.seen < limits.ranks → steps_left limits own asked Begun ≤ step_bound limits own asked
+pub begun_bound : {P : Type 0} (limits : Limits) (own : Record) (asked : Call P) → own.refused ≡ false → length own.seen < limits.ranks
+    → steps_left limits own asked Begun ≤ step_bound limits own asked
 begun_bound {P} limits own asked in_use more =
     let n = length (group_of (held_at own (comm_of asked))) in
     let request = request_of (held_at own (comm_of asked)) in
-    subst (λ b. steps_left limits own asked Begun ≤ (if b then 0 else (if is_some (refusal_of own asked) then limits.ranks - length own.seen else call_bound limits.ranks (length own.seen) n limits.comms request asked)))
+    subst (λ b. steps_left limits own asked Begun ≤ (if b then 0 else (if is_some (refusal_of own asked) then limits.ranks - length own.seen else call_bound
+    limits.ranks (length own.seen) n limits.comms request asked)))
     (sym in_use) (by_refusal (is_some (refusal_of own asked)))
   where
-    by_request : (n : ℕ) (request : Option Request) → max 1 (limits.ranks - length own.seen) + polling limits n request ≤ poll_bound limits.ranks (length own.seen) n limits.comms request
+    by_request : (n : ℕ) (request : Option Request) → max 1 (limits.ranks - length own.seen) + polling limits n request ≤ poll_bound limits.ranks
+        (length own.seen) n limits.comms request
     by_request n None = omega (arith, more)
     by_request n (Some (Agree k)) = omega (arith, more)
     by_request n (Some (Shrink k)) = omega (arith, more)
     by_request n (Some (Barrier k)) = omega (arith, more)
 
-    by_call : (asked : Call P) → max 1 (limits.ranks - length own.seen) + behind_look limits own asked ≤ call_bound limits.ranks (length own.seen) (length (group_of (held_at own (comm_of asked)))) limits.comms (request_of (held_at own (comm_of asked))) asked
+    by_call : (asked : Call P) → max 1 (limits.ranks - length own.seen) + behind_look limits own asked ≤ call_bound limits.ranks (length own.seen)
+        (length (group_of (held_at own (comm_of asked)))) limits.comms (request_of (held_at own (comm_of asked))) asked
     by_call (call.Fail rank) = omega (arith, more)
     by_call (call.GetFailed rank c) = omega (arith, more)
     by_call (call.Ack rank c count) = omega (arith, more)
@@ -230,7 +269,8 @@ begun_bound {P} limits own asked in_use more =
     by_call (call.Free rank c) = omega (arith, more)
 
     by_refusal : (b : Bool) → max 1 (limits.ranks - length own.seen) + (if b then 0 else behind_look limits own asked)
-        ≤ (if b then limits.ranks - length own.seen else call_bound limits.ranks (length own.seen) (length (group_of (held_at own (comm_of asked)))) limits.comms (request_of (held_at own (comm_of asked))) asked)
+        ≤ (if b then limits.ranks - length own.seen else call_bound limits.ranks (length own.seen) (length (group_of (held_at own (comm_of asked))))
+        limits.comms (request_of (held_at own (comm_of asked))) asked)
     by_refusal true = omega (arith, more)
     by_refusal false = by_call asked
 
@@ -239,13 +279,16 @@ pub passes_none : {P : Type 0} (own : Record) (asked : Call P) → Passes own as
 passes_none own asked p = ap (λ (h : Option Held). refusal_on own h asked) p.held ∙ p.passed
 
 -- a call that makes one step after its look has it left
-pub one_left : {P : Type 0} (limits : Limits) (own : Record) (asked : Call P) → Passes own asked → behind_look limits own asked ≡ 1 → 1 < with_look limits own asked
+pub one_left : {P : Type 0} (limits : Limits) (own : Record) (asked : Call P) → Passes own asked → behind_look limits own asked ≡ 1
+    → 1 < with_look limits own asked
 one_left limits own asked p one = omega (arith, after_passed limits own asked (passes_none own asked p), one)
 
 -- whatever a call does first
-pub first_bound : {P : Type 0} (limits : Limits) (own : Record) (asked : Call P) → length own.seen < limits.ranks → steps_left limits own asked (if own.refused then Over else Begun) ≤ step_bound limits own asked
+pub first_bound : {P : Type 0} (limits : Limits) (own : Record) (asked : Call P) → length own.seen < limits.ranks
+    → steps_left limits own asked (if own.refused then Over else Begun) ≤ step_bound limits own asked
 first_bound {P} limits own asked more = go own.refused refl
   where
     go : (b : Bool) → own.refused ≡ b → steps_left limits own asked (if own.refused then Over else Begun) ≤ step_bound limits own asked
     go true e = subst (λ b. steps_left {P = P} limits own asked (if b then Over else Begun) ≤ step_bound limits own asked) (sym e) (omega arith)
-    go false e = subst (λ b. steps_left {P = P} limits own asked (if b then Over else Begun) ≤ step_bound limits own asked) (sym e) (begun_bound limits own asked e more)
+    go false e = subst (λ b. steps_left {P = P} limits own asked (if b then Over else Begun) ≤ step_bound limits own asked) (sym e)
+        (begun_bound limits own asked e more)

@@ -2,47 +2,58 @@
 use Rattle.std.proofs.Common.{◌≡◌, ◌∙◌, ℕ, Bool, true, false, List, [], ◌∷◌, length, filter, Some, refl, ap, ap₂, sym, inl, inr}
 use Rattle.std.specs.List.{AllByRecursion}
 use Rattle.ulfm_model.specs.declared.call.Call.TheVariants as call
-use Rattle.ulfm_model.specs.declared.{call.Call.{Call}, event.Caller.TheVariants.{Rank}, event.Event.{Event}, reply.Reply.{Reply}, reply.Reply.TheVariants.{FailedGroup}}
-use Rattle.ulfm_model.specs.{Answers.{MayOwn, polled_by}, History.{entries_by, failed, failures, has, spawns}, Records.{Fits, Held, Record, held_at, is_shrink}, Runs.{IsCall, IsRun}}
+use Rattle.ulfm_model.specs.declared.{call.Call.{Call}, event.Caller.TheVariants.{Rank}, event.Event.{Event}, reply.Reply.{Reply}}
+use Rattle.ulfm_model.specs.declared.reply.Reply.TheVariants.{FailedGroup}
+use Rattle.ulfm_model.specs.{Answers.{MayOwn, polled_by}, History.{entries_by, failed, failures, has, spawns}, Records.{Fits, Held, Record, held_at, is_shrink}}
+use Rattle.ulfm_model.specs.Runs.{IsCall, IsRun}
 use Rattle.ulfm_model.proofs.Histories.{members_stay}
 use Rattle.ulfm_words.specs.Steps.{Name, Sight}
 use Rattle.ulfm_comm.specs.Calls.{Calls, EndsAs, EndsReply, RunsOut, wants_memory}
 use Rattle.ulfm_comm.proofs.{CallRuns.{called_counts, called_run}, Holding.{exists_is, failed_is}, ReplyKinds.{answered_on}}
 
 module _ {P : Type 0} (meld : P → P → P) (alone : Bool) (name : Name) (asked : Call P) (old : Record) (before : Sight P) (new : Record) (after : Sight P) where
-  calls_as : (reply : Reply P) (b : Bool) → EndsAs meld alone name asked old before reply b new after → is_shrink (polled_by old asked) ≡ false → Calls meld alone name asked old before reply new after
+  calls_as : (reply : Reply P) (b : Bool) → EndsAs meld alone name asked old before reply b new after → is_shrink (polled_by old asked) ≡ false
+      → Calls meld alone name asked old before reply new after
   calls_as reply true ended other = absurd (cc (ended.1, other))
   calls_as reply false ended other = ended
 
   -- only the poll of a shrink runs out of memory
-  pub ends_calls : (reply : Reply P) → EndsReply meld alone name asked old before reply new after → is_shrink (polled_by old asked) ≡ false → Calls meld alone name asked old before reply new after
+  pub ends_calls : (reply : Reply P) → EndsReply meld alone name asked old before reply new after → is_shrink (polled_by old asked) ≡ false
+      → Calls meld alone name asked old before reply new after
   ends_calls reply ends other = calls_as reply (wants_memory reply) ends other
 
 -- a query of the failed group adds nothing
-none_made : {P : Type 0} (look : List ℕ) (old : Record) (rank c : ℕ) (own : List (Event P)) → AllByRecursion (MayOwn look old (call.GetFailed rank c)) own → spawns (entries_by (Rank old.number) own) ≡ []
+none_made : {P : Type 0} (look : List ℕ) (old : Record) (rank c : ℕ) (own : List (Event P)) → AllByRecursion (MayOwn look old (call.GetFailed rank c)) own
+    → spawns (entries_by (Rank old.number) own) ≡ []
 none_made look old rank c [] all = refl
 none_made look old rank c (e ∷ own) all = absurd (all.0.adds.2)
 
 -- what a query of the failed group finds, once it counted so many
-pub record HasCounted {P : Type 0} (meld : P → P → P) (alone : Bool) (name : Name) (rank c count : ℕ) (old : Record) (before : Sight P) (new : Record) (after : Sight P) : Type 0 where
+pub record HasCounted {P : Type 0} (meld : P → P → P) (alone : Bool) (name : Name) (rank c count : ℕ) (old : Record) (before : Sight P) (new : Record)
+    (after : Sight P) : Type 0 where
   pub x : Held
   pub held : held_at new c ≡ Some x
   pub group : filter (has x.group) new.seen ≡ failed name.limits.ranks after.seen c
   pub counted : count ≡ length (filter (has x.group) new.seen)
   pub run_out : RunsOut meld alone name (call.GetFailed rank c) old before new after
 
-module _ {P : Type 0} (meld : P → P → P) (alone : Bool) (name : Name) (rank c count : ℕ) (old : Record) (before : Sight P) (new : Record) (after : Sight P) (fits : Fits meld name.limits before.seen old)
+module _ {P : Type 0} (meld : P → P → P) (alone : Bool) (name : Name) (rank c count : ℕ) (old : Record) (before : Sight P) (new : Record) (after : Sight P)
+    (fits : Fits meld name.limits before.seen old)
     (called : Calls meld alone name (call.GetFailed rank c) old before (FailedGroup count) new after) where
-  by_run : IsRun meld name.limits alone before.seen after.seen old (call.GetFailed rank c) (FailedGroup count) new → HasCounted meld alone name rank c count old before new after
+  by_run : IsRun meld name.limits alone before.seen after.seen old (call.GetFailed rank c) (FailedGroup count) new
+      → HasCounted meld alone name rank c count old before new after
   by_run run =
       let limits = name.limits in
       let span = run.span in
-      let answered = answered_on meld limits alone before.seen after.seen old (call.GetFailed rank c) (FailedGroup count) new run (λ refusal is. absurd (cc is)) in
+      let answered = answered_on meld limits alone before.seen after.seen old (call.GetFailed rank c) (FailedGroup count) new run
+      (λ refusal is. absurd (cc is)) in
       let is : new ≡ record old { seen = new.seen } = run.answer.leaves.record_is in
       let held : held_at new c ≡ Some answered.x = ap (λ (r : Record). held_at r c) is ∙ answered.held in
       let end = called_counts meld alone name (call.GetFailed rank c) old before (FailedGroup count) new after called count refl in
-      let group : filter (has answered.x.group) new.seen ≡ failed limits.ranks after.seen c = ap (filter (has answered.x.group)) end ∙ failed_is meld limits after.seen new c answered.x called.fits held in
-      let exists = (members_stay limits.ranks before.seen span.point c span.point_begins (exists_is meld limits before.seen old c answered.x fits answered.held)).0 in
+      let group : filter (has answered.x.group) new.seen ≡ failed limits.ranks after.seen c = ap (filter (has answered.x.group)) end
+      ∙ failed_is meld limits after.seen new c answered.x called.fits held in
+      let exists = (members_stay limits.ranks before.seen span.point c span.point_begins
+      (exists_is meld limits before.seen old c answered.x fits answered.held)).0 in
       let members_same = (members_stay limits.ranks span.point after.seen c span.point_ends exists).1 in
       let seen : failures after.seen ≡ failures span.point = sym end ∙ (run.answer.leaves.seen ∙ sym answered.replies.0) in
       let failed_same : failed limits.ranks after.seen c ≡ failed limits.ranks span.point c = ap₂ (λ ms fs. filter (has ms) fs) members_same seen in
@@ -73,7 +84,8 @@ module _ {P : Type 0} (meld : P → P → P) (alone : Bool) (name : Name) (rank 
         };
       }
 
-  by_call : IsCall meld name.limits alone before.seen after.seen old (call.GetFailed rank c) (FailedGroup count) new → HasCounted meld alone name rank c count old before new after
+  by_call : IsCall meld name.limits alone before.seen after.seen old (call.GetFailed rank c) (FailedGroup count) new
+      → HasCounted meld alone name rank c count old before new after
   by_call (inl refused) = absurd (cc (refused.2))
   by_call (inr run) = by_run run
 

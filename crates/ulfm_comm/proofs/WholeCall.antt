@@ -1,9 +1,13 @@
 -- A call, put together of its look and of what came after it.
-use Rattle.std.proofs.Common.{◌≡◌, ◌⊎◌, Bool, true, false, List, [], ℕ, Option, Some, None, refl, ap, ap₂, sym, ◌∙◌, subst, append-nil, if◌then◌else◌, inl, inr, IsTrue, IsFalse}
+use Rattle.std.proofs.Common.{◌≡◌, ◌⊎◌, Bool, true, false, List, [], ℕ, Option, Some, None, refl, ap, ap₂, sym, ◌∙◌, subst, append-nil, if◌then◌else◌, inl, inr}
+use Rattle.std.proofs.Common.{IsTrue, IsFalse}
 use Rattle.std.specs.List.{AllByRecursion}
 use mathlib.Core.List.{IsPrefix}
-use Rattle.ulfm_model.specs.declared.{call.Call.{Call}, event.Caller.TheVariants.{Rank}, event.Event.{Event}, limits.Limits.{Limits}, refusal.Refusal.{Refusal}, refusal.Refusal.TheVariants.{NoSuchComm, SelfFailed}, reply.Reply.{Reply}, reply.Reply.TheVariants.{Refused}}
-use Rattle.ulfm_model.specs.{Answers.{CallAdds, IsReply, IsSelfFailed, MayOwn, Replies, RepliesBy, Sees, View, left_by, polled_by, refusal_of, refusal_on, traits_of}, History.{History, IsLegal, entries_by, failures, has}, Records.{Held, Record, held_at, is_shrink}, Runs.{Did, unsettled_of}}
+use Rattle.ulfm_model.specs.declared.{call.Call.{Call}, event.Caller.TheVariants.{Rank}, event.Event.{Event}, limits.Limits.{Limits}, refusal.Refusal.{Refusal}}
+use Rattle.ulfm_model.specs.declared.{refusal.Refusal.TheVariants.{NoSuchComm, SelfFailed}, reply.Reply.{Reply}, reply.Reply.TheVariants.{Refused}}
+use Rattle.ulfm_model.specs.Answers.{CallAdds, IsReply, IsSelfFailed, MayOwn, Replies, RepliesBy, Sees, View, left_by, polled_by, refusal_of, refusal_on}
+use Rattle.ulfm_model.specs.Answers.{traits_of}
+use Rattle.ulfm_model.specs.{History.{History, IsLegal, entries_by, failures, has}, Records.{Held, Record, held_at, is_shrink}, Runs.{Did, unsettled_of}}
 use Rattle.ulfm_model.specs.Terms.{comm_of, request_of, settled_by}
 use Rattle.ulfm_model.proofs.{Histories.{failures_begin}, LeftRuns.{left_keeps}, Lists.{each_from, prefix_trans}}
 use Rattle.ulfm_words.proofs.Trails.{did_none, did_prefix, did_quiet}
@@ -15,7 +19,8 @@ sees_look false look after begins = refl
 sees_look true look after begins = (([], append-nil look), begins)
 
 -- what a rank may have seen at the end of a call it may have seen at a later one
-pub sees_later : {P : Type 0} (shrinks : Bool) (look : List ℕ) (after longer : History P) (seen : List ℕ) → IsPrefix after longer → Sees shrinks look after seen → Sees shrinks look longer seen
+pub sees_later : {P : Type 0} (shrinks : Bool) (look : List ℕ) (after longer : History P) (seen : List ℕ) → IsPrefix after longer → Sees shrinks look after seen
+    → Sees shrinks look longer seen
 sees_later false look after longer seen more is = is
 sees_later true look after longer seen more sees = (sees.0, prefix_trans seen (failures after) (failures longer) sees.1 (failures_begin after longer more))
 
@@ -26,13 +31,17 @@ module _ {P : Type 0} (meld : P → P → P) (limits : Limits) (alone : Bool) (b
 
   -- where nobody else steps, the poll of a rank that isn't declared has marked the unsettled declared members
   abbrev pub Marks : Call P → List (Event P) → Type 0
-  Marks asked own = IsTrue alone → IsTrue (traits_of asked).polls → IsFalse (has (failures before) old.number) → settled_by own ≡ unsettled_of limits.ranks before (comm_of asked) (polled_by old asked)
+  Marks asked own = IsTrue alone → IsTrue (traits_of asked).polls → IsFalse (has (failures before) old.number)
+      → settled_by own ≡ unsettled_of limits.ranks before (comm_of asked) (polled_by old asked)
 
   -- a call with its point at its end, of a rank that has then seen so much
-  pub run_ends : (after : History P) (own : List (Event P)) (asked : Call P) (reply : Reply P) (new : Record) (seen : List ℕ) → IsFalse old.refused → Did alone [] before look
+  pub run_ends : (after : History P) (own : List (Event P)) (asked : Call P) (reply : Reply P) (new : Record) (seen : List ℕ) → IsFalse old.refused
+      → Did alone [] before look
       → Did alone (entries_by (Rank old.number) own) look after → IsLegal meld limits after → AllByRecursion (MayOwn (failures look) old asked) own
-      → IsSelfFailed (view_at after own) old asked reply ⊎ IsReply meld limits (view_at after own) old asked reply → Sees (is_shrink (polled_by old asked)) (failures look) after seen
-      → new ≡ left_by limits.ranks after (record old { seen = seen }) asked reply → Marks asked own → IsEndRun meld limits alone before after old asked reply new
+      → IsSelfFailed (view_at after own) old asked reply ⊎ IsReply meld limits (view_at after own) old asked reply
+      → Sees (is_shrink (polled_by old asked)) (failures look) after seen
+      → new ≡ left_by limits.ranks after (record old { seen = seen }) asked reply → Marks asked own
+      → IsEndRun meld limits alone before after old asked reply new
   run_ends after own asked reply new seen in_use looked did legal may replies sees is marks =
       let begins = did_prefix alone (entries_by (Rank old.number) own) look after did in
       let same : new.seen ≡ seen = ap (λ (w : Record). w.seen) is ∙ (left_keeps limits.ranks after (record old { seen = seen }) asked reply).1 in
@@ -66,57 +75,77 @@ module _ {P : Type 0} (meld : P → P → P) (limits : Limits) (alone : Bool) (b
   run_at_end : (after : History P) (own : List (Event P)) (asked : Call P) (reply : Reply P) (new : Record) → IsFalse old.refused → Did alone [] before look
       → Did alone (entries_by (Rank old.number) own) look after → IsLegal meld limits after → AllByRecursion (MayOwn (failures look) old asked) own
       → IsSelfFailed (view_at after own) old asked reply ⊎ IsReply meld limits (view_at after own) old asked reply
-      → new ≡ left_by limits.ranks after (record old { seen = failures look }) asked reply → Marks asked own → IsEndRun meld limits alone before after old asked reply new
+      → new ≡ left_by limits.ranks after (record old { seen = failures look }) asked reply → Marks asked own
+      → IsEndRun meld limits alone before after old asked reply new
   run_at_end after own asked reply new in_use looked did legal may replies is marks =
       run_ends after own asked reply new (failures look) in_use looked did legal may replies
-      (sees_look (is_shrink (polled_by old asked)) (failures look) after (failures_begin look after (did_prefix alone (entries_by (Rank old.number) own) look after did))) is marks
+      (sees_look (is_shrink (polled_by old asked)) (failures look) after (failures_begin look after
+      (did_prefix alone (entries_by (Rank old.number) own) look after did))) is marks
 
   -- a rank that is declared at the end, in a call that has added nothing; where nobody else steps, and the call is a poll, it was so at the look
-  pub self_failed : (after : History P) (asked : Call P) (new : Record) → IsFalse old.refused → Did alone [] before look → Did alone [] look after → IsLegal meld limits after
-      → IsTrue (has (failures after) old.number) → new ≡ record old { seen = failures look; refused = true } → IsEndRun meld limits alone before after old asked (Refused SelfFailed) new
+  pub self_failed : (after : History P) (asked : Call P) (new : Record) → IsFalse old.refused → Did alone [] before look → Did alone [] look after
+      → IsLegal meld limits after
+      → IsTrue (has (failures after) old.number) → new ≡ record old { seen = failures look; refused = true }
+      → IsEndRun meld limits alone before after old asked (Refused SelfFailed) new
   self_failed after asked new in_use looked did legal declared is =
-      run_at_end after [] asked (Refused SelfFailed) new in_use looked did legal tt (inl (record { reply_is = refl; declared = declared; adds_nothing = λ x starts. refl })) is
+      run_at_end after [] asked (Refused SelfFailed) new in_use looked did legal tt (inl (record {
+        reply_is = refl;
+        declared = declared;
+        adds_nothing = λ x starts. refl;
+      })) is
       (λ here polls not_declared.
       let same : after ≡ before = did_quiet alone look after did here ∙ did_quiet alone before look looked here in
       let clash = ap (λ h. has (failures h) old.number) (sym same) in absurd (cc (clash, not_declared, declared)))
 
-module _ {P : Type 0} (meld : P → P → P) (limits : Limits) (alone : Bool) (before look : History P) (old mid : Record) (looked : Looked alone before look old mid) where
+module _ {P : Type 0} (meld : P → P → P) (limits : Limits) (alone : Bool) (before look : History P) (old mid : Record)
+    (looked : Looked alone before look old mid) where
   -- what the rank holds is as it was
   pub held_before : (c : ℕ) (held : Option Held) → held_at mid c ≡ held → held_at old c ≡ held
   held_before c held is = sym (ap (λ (w : Record). held_at w c) looked.record_is) ∙ is
 
-  left_is : (after : History P) (asked : Call P) (reply : Reply P) (new : Record) → new ≡ left_by limits.ranks after mid asked reply → new ≡ left_by limits.ranks after (record old { seen = failures look }) asked reply
+  left_is : (after : History P) (asked : Call P) (reply : Reply P) (new : Record) → new ≡ left_by limits.ranks after mid asked reply
+      → new ≡ left_by limits.ranks after (record old { seen = failures look }) asked reply
   left_is after asked reply new is = is ∙ ap (λ w. left_by limits.ranks after w asked reply) looked.record_is
 
   -- a call that its record refuses
-  pub refused : (asked : Call P) (refusal : Refusal) (new : Record) → IsLegal meld limits look → refusal_of old asked ≡ Some refusal → new ≡ left_by limits.ranks look mid asked (Refused refusal)
+  pub refused : (asked : Call P) (refusal : Refusal) (new : Record) → IsLegal meld limits look → refusal_of old asked ≡ Some refusal
+      → new ≡ left_by limits.ranks look mid asked (Refused refusal)
       → (IsTrue (traits_of asked).polls → polled_by old asked ≡ None) → IsEndRun meld limits alone before look old asked (Refused refusal) new
   refused asked refusal new legal is left idle =
       run_at_end meld limits alone before look old look [] asked (Refused refusal) new looked.in_use looked.did (did_none alone look) legal tt
       (inr (record {
         not_declared = looked.not_declared;
-        replies = subst (RepliesBy meld limits (view_at meld limits alone before look old look []) old (held_at old (comm_of asked)) asked (Refused refusal)) (sym is) refl;
+        replies = subst (RepliesBy meld limits (view_at meld limits alone before look old look []) old (held_at old (comm_of asked)) asked (Refused refusal))
+            (sym is) refl;
       }))
       (left_is look asked (Refused refusal) new left)
       (λ here polls not_declared. sym (ap (unsettled_of limits.ranks before (comm_of asked)) (idle polls)))
 
   -- a call on a communicator that the rank doesn't hold
-  pub refused_missing : (asked : Call P) (new : Record) → IsLegal meld limits look → held_at mid (comm_of asked) ≡ None → new ≡ mid → IsEndRun meld limits alone before look old asked (Refused NoSuchComm) new
+  pub refused_missing : (asked : Call P) (new : Record) → IsLegal meld limits look → held_at mid (comm_of asked) ≡ None → new ≡ mid
+      → IsEndRun meld limits alone before look old asked (Refused NoSuchComm) new
   refused_missing asked new legal missing is =
       refused asked NoSuchComm new legal (ap (λ held. refusal_on old held asked) (held_before (comm_of asked) None missing)) is
       (λ polls. ap₂ (λ (b : Bool) held. if b then request_of held else None) polls (held_before (comm_of asked) None missing))
 
   -- a call that its record doesn't refuse, with its reply
-  pub replied : (after : History P) (own : List (Event P)) (asked : Call P) (reply : Reply P) (new : Record) (x : Held) → Did alone (entries_by (Rank old.number) own) look after → IsLegal meld limits after
+  pub replied : (after : History P) (own : List (Event P)) (asked : Call P) (reply : Reply P) (new : Record) (x : Held)
+      → Did alone (entries_by (Rank old.number) own) look after → IsLegal meld limits after
       → held_at old (comm_of asked) ≡ Some x → refusal_of old asked ≡ None → AllByRecursion (CallAdds (failures look) old.number x asked) own
-      → Replies meld limits (record { look = failures look; history = after; own = own }) old x asked reply → new ≡ left_by limits.ranks after mid asked reply → Marks meld limits alone before look old asked own → IsEndRun meld limits alone before after old asked reply new
+      → Replies meld limits (record { look = failures look; history = after; own = own }) old x asked reply → new ≡ left_by limits.ranks after mid asked reply
+      → Marks meld limits alone before look old asked own → IsEndRun meld limits alone before after old asked reply new
   replied after own asked reply new x did legal held passed adds replies left marks =
       let view : View P = record { look = failures look; history = after; own = own } in
       run_at_end meld limits alone before look old after own asked reply new looked.in_use looked.did did legal
-      (each_from (CallAdds (failures look) old.number x asked) (MayOwn (failures look) old asked) (λ e added. record { not_declared = looked.not_declared; not_refused = passed; adds = (x, held, added) }) own adds)
+      (each_from (CallAdds (failures look) old.number x asked) (MayOwn (failures look) old asked) (λ e added. record {
+        not_declared = looked.not_declared;
+        not_refused = passed;
+        adds = (x, held, added);
+      }) own adds)
       (inr (record {
         not_declared = looked.not_declared;
-        replies = subst (λ held. RepliesBy meld limits view old held asked reply (refusal_of old asked)) (sym held) (subst (RepliesBy meld limits view old (Some x) asked reply) (sym passed) replies);
+        replies = subst (λ held. RepliesBy meld limits view old held asked reply (refusal_of old asked)) (sym held)
+            (subst (RepliesBy meld limits view old (Some x) asked reply) (sym passed) replies);
       }))
       (left_is after asked reply new left)
       marks

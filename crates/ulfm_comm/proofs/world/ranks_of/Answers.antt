@@ -4,4 +4,5 @@ use Rattle.ulfm_comm.proofs.world.ranks_of.Goals as goal
 
 pub loop-number-preserved : goal.loop-number-preserved
 loop-number-preserved g c =
-    c.in_ok-push.ensures.items ∙ (ap₂ (λ xs x. xs ++ x ∷ []) c.loop-number.invariant c.in_ok-new.ensures ∙ sym (one_rank_more c.args.limits c.loop-number.number))
+    c.in_ok-push.ensures.items ∙ (ap₂ (λ xs x. xs ++ x ∷ []) c.loop-number.invariant c.in_ok-new.ensures
+    ∙ sym (one_rank_more c.args.limits c.loop-number.number))

@@ -21,4 +21,5 @@ returns g c =
     let records = records_of c.in_ok-world.ranks.items in
     let state : Limits → History g.row.P.Denot → List Record → State g.row.P.Denot = λ l h rs. record { limits = l; history = h; records = rs } in
     ap (λ w. state (g.W.Words.name w).limits seen records) c.in_ok-world.ensures.world
-    ∙ (ap (λ h. state limits h records) c.in-Ok.ensures.seen ∙ ap (state limits []) (ap records_of c.in_ok-world.ensures.ranks ∙ records_are limits (first_ranks limits.ranks)))
+    ∙ (ap (λ h. state limits h records) c.in-Ok.ensures.seen ∙ ap (state limits [])
+    (ap records_of c.in_ok-world.ensures.ranks ∙ records_are limits (first_ranks limits.ranks)))

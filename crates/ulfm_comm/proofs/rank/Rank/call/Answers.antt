@@ -9,8 +9,10 @@ overflow_cast-self g c =
     let name = g.W.Words.name c.args.world.now.words in
     let before = g.W.Words.sight c.args.pass.now in
     let fits = subst (λ (r : Ranked). Fits g.P.Meld.meld name.limits before.seen r.own) (sym c.self.view_is) c.requires.fits in
-    let small = made_small g.P.Meld.meld g.W.Words.alone name c.args.asked c.self.inside.own before c.call-reply.result c.call-reply.new.self (g.W.Words.sight c.call-reply.new.pass)
-    c.requires.of fits c.call-reply.ensures.ends c.call-reply.ensures.steps.steps c.steps_made-before.result c.steps_made-after.result _ c.steps_made-before.ensures c.steps_made-after.ensures refl in
+    let small = made_small g.P.Meld.meld g.W.Words.alone name c.args.asked c.self.inside.own before c.call-reply.result c.call-reply.new.self
+    (g.W.Words.sight c.call-reply.new.pass)
+    c.requires.of fits c.call-reply.ensures.ends c.call-reply.ensures.steps.steps c.steps_made-before.result c.steps_made-after.result _
+    c.steps_made-before.ensures c.steps_made-after.ensures refl in
     omega (arith, small)
 
 pub returns-clause-pending : goal.returns-clause-pending
@@ -31,5 +33,6 @@ returns-clause-steps g c =
       made = subst (λ (r : Ranked). MakesSteps name.limits c.args.asked r.own before c.call-reply.new.self after) c.self.view_is c.call-reply.ensures.steps;
       last =
           made_exact g.P.Meld.meld g.W.Words.alone name c.args.asked c.self.inside.own before c.call-reply.result c.call-reply.new.self after
-          c.requires.of fits c.call-reply.ensures.ends c.call-reply.ensures.steps.steps c.steps_made-before.result c.steps_made-after.result _ c.steps_made-before.ensures c.steps_made-after.ensures refl;
+          c.requires.of fits c.call-reply.ensures.ends c.call-reply.ensures.steps.steps c.steps_made-before.result c.steps_made-after.result _
+          c.steps_made-before.ensures c.steps_made-after.ensures refl;
     }

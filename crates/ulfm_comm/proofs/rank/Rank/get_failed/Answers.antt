@@ -12,34 +12,45 @@ use Rattle.ulfm_comm.proofs.rank.Rank.get_failed.Goals.{After-failures, After-pu
 
 -- the call has counted so many
 calls : (g : _) (c : After-failures g)
-    → Calls g.P.Meld.meld g.W.Words.alone (g.W.Words.name c.args.world.now.words) (call.GetFailed c.args.self.now.own.number c.args.comm) c.args.self.now.own (g.W.Words.sight c.args.pass.now) (FailedGroup c.in_ok-counted.field-0) c.call.new.self.own (g.W.Words.sight c.call.new.pass)
+    → Calls g.P.Meld.meld g.W.Words.alone (g.W.Words.name c.args.world.now.words) (call.GetFailed c.args.self.now.own.number c.args.comm) c.args.self.now.own
+    (g.W.Words.sight c.args.pass.now) (FailedGroup c.in_ok-counted.field-0) c.call.new.self.own (g.W.Words.sight c.call.new.pass)
 calls g c =
     let name = g.W.Words.name c.args.world.now.words in
-    subst (λ r. EndsReply g.P.Meld.meld g.W.Words.alone name (call.GetFailed c.args.self.now.own.number c.args.comm) c.args.self.now.own (g.W.Words.sight c.args.pass.now) r c.call.new.self.own (g.W.Words.sight c.call.new.pass)) (sym c.in_ok-counted.ensures)
-    (subst (λ n. EndsReply g.P.Meld.meld g.W.Words.alone name (call.GetFailed n c.args.comm) c.args.self.now.own (g.W.Words.sight c.args.pass.now) c.call.result c.call.new.self.own (g.W.Words.sight c.call.new.pass)) c.number-rank.ensures c.call.ensures.ends)
+    subst (λ r. EndsReply g.P.Meld.meld g.W.Words.alone name (call.GetFailed c.args.self.now.own.number c.args.comm) c.args.self.now.own
+    (g.W.Words.sight c.args.pass.now) r c.call.new.self.own (g.W.Words.sight c.call.new.pass)) (sym c.in_ok-counted.ensures)
+    (subst (λ n. EndsReply g.P.Meld.meld g.W.Words.alone name (call.GetFailed n c.args.comm) c.args.self.now.own
+    (g.W.Words.sight c.args.pass.now) c.call.result c.call.new.self.own (g.W.Words.sight c.call.new.pass)) c.number-rank.ensures c.call.ensures.ends)
 
 counts : (g : _) (c : After-failures g)
-    → HasCounted g.P.Meld.meld g.W.Words.alone (g.W.Words.name c.args.world.now.words) c.args.self.now.own.number c.args.comm c.in_ok-counted.field-0 c.args.self.now.own (g.W.Words.sight c.args.pass.now) c.call.new.self.own (g.W.Words.sight c.call.new.pass)
+    → HasCounted g.P.Meld.meld g.W.Words.alone (g.W.Words.name c.args.world.now.words) c.args.self.now.own.number c.args.comm c.in_ok-counted.field-0
+    c.args.self.now.own (g.W.Words.sight c.args.pass.now) c.call.new.self.own (g.W.Words.sight c.call.new.pass)
 counts g c =
-    has_counted g.P.Meld.meld g.W.Words.alone (g.W.Words.name c.args.world.now.words) c.args.self.now.own.number c.args.comm c.in_ok-counted.field-0 c.args.self.now.own (g.W.Words.sight c.args.pass.now) c.call.new.self.own (g.W.Words.sight c.call.new.pass)
+    has_counted g.P.Meld.meld g.W.Words.alone (g.W.Words.name c.args.world.now.words) c.args.self.now.own.number c.args.comm c.in_ok-counted.field-0
+    c.args.self.now.own (g.W.Words.sight c.args.pass.now) c.call.new.self.own (g.W.Words.sight c.call.new.pass)
     c.requires.fits (calls g c)
 
 -- the communicator is held, since its failed group was counted
 pub held_comm-x-requires : goal.held_comm-x-requires
 held_comm-x-requires g c =
-    let called : Calls g.P.Meld.meld g.W.Words.alone (g.W.Words.name c.args.world.now.words) (call.GetFailed c.args.self.now.own.number c.args.comm) c.args.self.now.own (g.W.Words.sight c.args.pass.now) (FailedGroup c.in_ok-counted.field-0) c.call.new.self.own (g.W.Words.sight c.call.new.pass) =
+    let called : Calls g.P.Meld.meld g.W.Words.alone (g.W.Words.name c.args.world.now.words) (call.GetFailed c.args.self.now.own.number c.args.comm)
+    c.args.self.now.own (g.W.Words.sight c.args.pass.now) (FailedGroup c.in_ok-counted.field-0) c.call.new.self.own (g.W.Words.sight c.call.new.pass) =
     let name = g.W.Words.name c.args.world.now.words in
-    subst (λ r. EndsReply g.P.Meld.meld g.W.Words.alone name (call.GetFailed c.args.self.now.own.number c.args.comm) c.args.self.now.own (g.W.Words.sight c.args.pass.now) r c.call.new.self.own (g.W.Words.sight c.call.new.pass)) (sym c.in_ok-counted.ensures)
-    (subst (λ n. EndsReply g.P.Meld.meld g.W.Words.alone name (call.GetFailed n c.args.comm) c.args.self.now.own (g.W.Words.sight c.args.pass.now) c.call.result c.call.new.self.own (g.W.Words.sight c.call.new.pass)) c.number-rank.ensures c.call.ensures.ends) in
-    let h = has_counted g.P.Meld.meld g.W.Words.alone (g.W.Words.name c.args.world.now.words) c.args.self.now.own.number c.args.comm c.in_ok-counted.field-0 c.args.self.now.own (g.W.Words.sight c.args.pass.now) c.call.new.self.own (g.W.Words.sight c.call.new.pass) c.requires.fits called in
+    subst (λ r. EndsReply g.P.Meld.meld g.W.Words.alone name (call.GetFailed c.args.self.now.own.number c.args.comm) c.args.self.now.own
+    (g.W.Words.sight c.args.pass.now) r c.call.new.self.own (g.W.Words.sight c.call.new.pass)) (sym c.in_ok-counted.ensures)
+    (subst (λ n. EndsReply g.P.Meld.meld g.W.Words.alone name (call.GetFailed n c.args.comm) c.args.self.now.own
+    (g.W.Words.sight c.args.pass.now) c.call.result c.call.new.self.own (g.W.Words.sight c.call.new.pass)) c.number-rank.ensures c.call.ensures.ends) in
+    let h = has_counted g.P.Meld.meld g.W.Words.alone (g.W.Words.name c.args.world.now.words) c.args.self.now.own.number c.args.comm c.in_ok-counted.field-0
+    c.args.self.now.own (g.W.Words.sight c.args.pass.now) c.call.new.self.own (g.W.Words.sight c.call.new.pass) c.requires.fits called in
     (h.x, ap (λ (r : Ranked). held_at r.own c.args.comm) c.self.view_is ∙ h.held)
 
 -- the members rise
 rises : (g : _) (c : After-failures g) → IsStrictlyIncreasing c.x.inside.group.items
 rises g c =
-    let held : held_at c.call.new.self.own c.args.comm ≡ Some c.held_comm-x.result.now = sym (ap (λ (r : Ranked). held_at r.own c.args.comm) c.self.view_is) ∙ c.held_comm-x.ensures in
+    let held : held_at c.call.new.self.own c.args.comm ≡ Some c.held_comm-x.result.now = sym (ap (λ (r : Ranked). held_at r.own c.args.comm) c.self.view_is)
+    ∙ c.held_comm-x.ensures in
     subst IsStrictlyIncreasing (sym (ap (λ (y : Held). y.group) c.x.view_is))
-    (group_rises g.P.Meld.meld (g.W.Words.name c.args.world.now.words).limits (g.W.Words.sight c.call.new.pass).seen c.call.new.self.own c.args.comm c.held_comm-x.result.now (calls g c).fits held)
+    (group_rises g.P.Meld.meld (g.W.Words.name c.args.world.now.words).limits (g.W.Words.sight c.call.new.pass).seen c.call.new.self.own c.args.comm
+    c.held_comm-x.result.now (calls g c).fits held)
 
 pub make_room-requires : goal.make_room-requires
 make_room-requires g c = subst IsStrictlyIncreasing (sym c.deref.ensures.value) (rises g (goal.at.make_room-requires g c).After-failures)
@@ -59,18 +70,22 @@ err_of (Err e) Q q wrong = q
 pub returns-then-is_err-clause-memory : goal.returns-then-is_err-clause-memory
 returns-then-is_err-clause-memory g c = λ _.
     let h = counts g (goal.at.returns-then-is_err-clause-memory g c).After-failures in
-    let both : Some c.held_comm-x.result.now ≡ Some h.x = sym c.held_comm-x.ensures ∙ (ap (λ (r : Ranked). held_at r.own c.args.comm) c.self.view_is ∙ h.held) in
+    let both : Some c.held_comm-x.result.now ≡ Some h.x = sym c.held_comm-x.ensures ∙
+    (ap (λ (r : Ranked). held_at r.own c.args.comm) c.self.view_is ∙ h.held) in
     let same : c.held_comm-x.result.now ≡ h.x = cc both in
     let group = c.deref.ensures.value ∙ (ap (λ (y : Held). y.group) c.x.view_is ∙ ap (λ (y : Held). y.group) same) in
     let number = ap length (ap₂ (λ w v. filter (has w) v) group c.failures.ensures ∙ h.group) in
-    let lacks = err_of c.make_room.result (vec_capacity c.args.found.now < length (filter (has c.deref.result.now) c.failures.result.now)) c.make_room.ensures.lacks (sym c.is_err.ensures.value ∙ c.if-is_err.true) in
+    let lacks = err_of c.make_room.result (vec_capacity c.args.found.now < length (filter (has c.deref.result.now) c.failures.result.now))
+    c.make_room.ensures.lacks (sym c.is_err.ensures.value ∙ c.if-is_err.true) in
     subst (λ n. vec_capacity c.args.found.now < n) number lacks
 
 -- the vector has the failures in the group that the look found
-found : (g : _) (c : After-put_in g) (h : HasCounted g.P.Meld.meld g.W.Words.alone (g.W.Words.name c.args.world.now.words) c.args.self.now.own.number c.args.comm c.in_ok-counted.field-0 c.args.self.now.own (g.W.Words.sight c.args.pass.now) c.call.new.self.own (g.W.Words.sight c.call.new.pass))
+found : (g : _) (c : After-put_in g) (h : HasCounted g.P.Meld.meld g.W.Words.alone (g.W.Words.name c.args.world.now.words) c.args.self.now.own.number
+    c.args.comm c.in_ok-counted.field-0 c.args.self.now.own (g.W.Words.sight c.args.pass.now) c.call.new.self.own (g.W.Words.sight c.call.new.pass))
     → c.put_in.new.found.items ≡ filter (has h.x.group) c.call.new.self.own.seen
 found g c h =
-    let both : Some c.held_comm-x.result.now ≡ Some h.x = sym c.held_comm-x.ensures ∙ (ap (λ (r : Ranked). held_at r.own c.args.comm) c.self.view_is ∙ h.held) in
+    let both : Some c.held_comm-x.result.now ≡ Some h.x = sym c.held_comm-x.ensures ∙
+    (ap (λ (r : Ranked). held_at r.own c.args.comm) c.self.view_is ∙ h.held) in
     let same : c.held_comm-x.result.now ≡ h.x = cc both in
     let group = c.deref-2.ensures.value ∙ (ap (λ (y : Held). y.group) c.x.view_is ∙ ap (λ (y : Held). y.group) same) in
     c.put_in.ensures ∙ ap₂ (λ w v. filter (has w) v) group c.failures-2.ensures
@@ -80,7 +95,8 @@ returns-clause-gets g c =
     let at = goal.at.returns-clause-gets g c in
     let h = counts g at.After-failures in
     let number = h.counted ∙ ap length (sym (found g at.After-put_in h)) in
-    subst (λ n. Calls g.P.Meld.meld g.W.Words.alone (g.W.Words.name c.args.world.now.words) (call.GetFailed c.args.self.now.own.number c.args.comm) c.args.self.now.own (g.W.Words.sight c.args.pass.now) (FailedGroup n) c.call.new.self.own (g.W.Words.sight c.call.new.pass)) number
+    subst (λ n. Calls g.P.Meld.meld g.W.Words.alone (g.W.Words.name c.args.world.now.words) (call.GetFailed c.args.self.now.own.number c.args.comm)
+    c.args.self.now.own (g.W.Words.sight c.args.pass.now) (FailedGroup n) c.call.new.self.own (g.W.Words.sight c.call.new.pass)) number
     (calls g at.After-failures)
 
 pub returns-clause-group : goal.returns-clause-group

@@ -11,7 +11,10 @@ returns-clause-excludes g c =
     let before = g.W.Words.sight c.args.pass.now in
     let after = g.W.Words.sight c.call.new.pass in
     let asked = call.Shrink c.number-rank.result c.args.comm in
-    let ends = subst (λ r. EndsReply g.P.Meld.meld g.W.Words.alone name asked c.args.self.now.own before r c.call.new.self.own after) (sym c.started.ensures) c.call.ensures.ends in
-    start_excludes g.P.Meld.meld name.limits g.W.Words.alone before.seen after.seen c.args.self.now.own c.number-rank.result c.args.comm c.started.result c.call.new.self.own c.requires.fits
+    let ends = subst (λ r. EndsReply g.P.Meld.meld g.W.Words.alone name asked c.args.self.now.own before r c.call.new.self.own after)
+    (sym c.started.ensures) c.call.ensures.ends in
+    start_excludes g.P.Meld.meld name.limits g.W.Words.alone before.seen after.seen c.args.self.now.own c.number-rank.result c.args.comm c.started.result
+    c.call.new.self.own c.requires.fits
     (called_run g.P.Meld.meld g.W.Words.alone name asked c.args.self.now.own before (reply_of (λ _. Started) c.started.result) c.call.new.self.own after
-    (ends_calls g.P.Meld.meld g.W.Words.alone name asked c.args.self.now.own before c.call.new.self.own after (reply_of (λ _. Started) c.started.result) ends refl))
+    (ends_calls g.P.Meld.meld g.W.Words.alone name asked c.args.self.now.own before c.call.new.self.own after (reply_of (λ _. Started) c.started.result) ends
+    refl))

@@ -8,11 +8,15 @@ use Rattle.ulfm_comm.proofs.rank.Rank.step.Goals as goal
 
 -- the call and its rank, behind equal names
 module _ {P : Type 0} (meld : P → P → P) (name : Name) (was is : UnderWay P) (way : was ≡ is) (own same : Record) (record_is : own ≡ same) where
-  still_stands : (alone : Bool) (old : Record) (before now : Sight P) → Stands meld alone name old before is same now → Stands meld alone name old before was own now
-  still_stands alone old before now u = subst (λ w. Stands meld alone name old before w own now) (sym way) (subst (λ o. Stands meld alone name old before is o now) (sym record_is) u)
+  still_stands : (alone : Bool) (old : Record) (before now : Sight P) → Stands meld alone name old before is same now
+      → Stands meld alone name old before was own now
+  still_stands alone old before now u = subst (λ w. Stands meld alone name old before w own now) (sym way)
+      (subst (λ o. Stands meld alone name old before is o now) (sym record_is) u)
 
-  has_stepped : (quiet : Bool) (now : Sight P) (next : Next P) (new : Record) (after : Sight P) → Stepped meld quiet name was own now next new after → Stepped meld quiet name is same now next new after
-  has_stepped quiet now next new after stepped = subst (λ w. Stepped meld quiet name w same now next new after) way (subst (λ o. Stepped meld quiet name was o now next new after) record_is stepped)
+  has_stepped : (quiet : Bool) (now : Sight P) (next : Next P) (new : Record) (after : Sight P) → Stepped meld quiet name was own now next new after
+      → Stepped meld quiet name is same now next new after
+  has_stepped quiet now next new after stepped = subst (λ w. Stepped meld quiet name w same now next new after) way
+      (subst (λ o. Stepped meld quiet name was o now next new after) record_is stepped)
 
 pub step-requires-clause-of : goal.step-requires-clause-of
 step-requires-clause-of g c = c.requires.of
@@ -21,26 +25,36 @@ pub step-requires-clause-stood : goal.step-requires-clause-stood
 step-requires-clause-stood g c =
     let p = c.requires.stood in
     let way = ap (λ (d : Counted g.row.P.Denot). d.way) c.doing.view_is ∙ c.count.ensures.way in
-    let own = ap (λ (r : Ranked). r.own) c.self.view_is in
-    (p.0, p.1, p.2, still_stands g.P.Meld.meld (g.W.Words.name c.args.world.now.words) c.doing.inside.way c.args.doing.now.way way c.self.inside.own c.args.self.now.own own false p.0 p.1 p.2 p.3, p.4)
+    let own = ap (λ (r : Ranked). r.own) c.self.view_is in (
+      p.0,
+      p.1,
+      p.2,
+      still_stands g.P.Meld.meld (g.W.Words.name c.args.world.now.words) c.doing.inside.way c.args.doing.now.way way c.self.inside.own
+          c.args.self.now.own own false p.0 p.1 p.2 p.3,
+      p.4,
+    )
 
 pub returns-in_default-clause-asked : goal.returns-in_default-clause-asked
-returns-in_default-clause-asked g c = c.step.ensures.asked ∙ ap (λ (w : UnderWay g.row.P.Denot). w.asked) (ap (λ (d : Counted g.row.P.Denot). d.way) c.doing.view_is ∙ c.count.ensures.way)
+returns-in_default-clause-asked g c = c.step.ensures.asked ∙ ap (λ (w : UnderWay g.row.P.Denot). w.asked)
+    (ap (λ (d : Counted g.row.P.Denot). d.way) c.doing.view_is ∙ c.count.ensures.way)
 
 pub returns-in_default-clause-stepped : goal.returns-in_default-clause-stepped
 returns-in_default-clause-stepped g c =
     let way = ap (λ (d : Counted g.row.P.Denot). d.way) c.doing.view_is ∙ c.count.ensures.way in
     let own = ap (λ (r : Ranked). r.own) c.self.view_is in
-    has_stepped g.P.Meld.meld (g.W.Words.name c.args.world.now.words) c.doing.inside.way c.args.doing.now.way way c.self.inside.own c.args.self.now.own own g.W.Words.alone (g.W.Words.sight c.args.pass.now) _ c.step.new.self (g.W.Words.sight c.step.new.pass) c.in_default.ensures.stepped
+    has_stepped g.P.Meld.meld (g.W.Words.name c.args.world.now.words) c.doing.inside.way c.args.doing.now.way way c.self.inside.own c.args.self.now.own own
+    g.W.Words.alone (g.W.Words.sight c.args.pass.now) _ c.step.new.self (g.W.Words.sight c.step.new.pass) c.in_default.ensures.stepped
 
 pub returns-clause-asked : goal.returns-clause-asked
-returns-clause-asked g c = c.step.ensures.asked ∙ ap (λ (w : UnderWay g.row.P.Denot). w.asked) (ap (λ (d : Counted g.row.P.Denot). d.way) c.doing.view_is ∙ c.count.ensures.way)
+returns-clause-asked g c = c.step.ensures.asked ∙ ap (λ (w : UnderWay g.row.P.Denot). w.asked)
+    (ap (λ (d : Counted g.row.P.Denot). d.way) c.doing.view_is ∙ c.count.ensures.way)
 
 pub returns-clause-stepped : goal.returns-clause-stepped
 returns-clause-stepped g c =
     let way = ap (λ (d : Counted g.row.P.Denot). d.way) c.doing.view_is ∙ c.count.ensures.way in
     let own = ap (λ (r : Ranked). r.own) c.self.view_is in
-    has_stepped g.P.Meld.meld (g.W.Words.name c.args.world.now.words) c.doing.inside.way c.args.doing.now.way way c.self.inside.own c.args.self.now.own own g.W.Words.alone (g.W.Words.sight c.args.pass.now) _ c.step.new.self (g.W.Words.sight c.step.new.pass) c.in-Some.ensures.stepped
+    has_stepped g.P.Meld.meld (g.W.Words.name c.args.world.now.words) c.doing.inside.way c.args.doing.now.way way c.self.inside.own c.args.self.now.own own
+    g.W.Words.alone (g.W.Words.sight c.args.pass.now) _ c.step.new.self (g.W.Words.sight c.step.new.pass) c.in-Some.ensures.stepped
 
 pub returns-in_default-clause-ended : goal.returns-in_default-clause-ended
 returns-in_default-clause-ended g c = tt
@@ -54,16 +68,19 @@ returns-in_default-clause-stands g c =
     let own = ap (λ (r : Ranked). r.own) c.self.view_is in
     λ alone only old before stood u waits.
     c.in_default.ensures.stands alone only old before stood
-    (still_stands g.P.Meld.meld (g.W.Words.name c.args.world.now.words) c.doing.inside.way c.args.doing.now.way way c.self.inside.own c.args.self.now.own own alone old before stood u) waits
+    (still_stands g.P.Meld.meld (g.W.Words.name c.args.world.now.words) c.doing.inside.way c.args.doing.now.way way c.self.inside.own c.args.self.now.own own
+    alone old before stood u) waits
 
 pub returns-clause-stands : goal.returns-clause-stands
 returns-clause-stands g c =
     let way = ap (λ (d : Counted g.row.P.Denot). d.way) c.doing.view_is ∙ c.count.ensures.way in
     let own = ap (λ (r : Ranked). r.own) c.self.view_is in
     λ alone only old before stood u waits.
-    subst (λ (w : UnderWay g.row.P.Denot). Answered g.P.Meld.meld alone (g.W.Words.name c.args.world.now.words) w.asked old before c.in-Some.reply c.step.new.self (g.W.Words.sight c.step.new.pass)) way
+    subst (λ (w : UnderWay g.row.P.Denot). Answered g.P.Meld.meld alone (g.W.Words.name c.args.world.now.words) w.asked old before c.in-Some.reply
+    c.step.new.self (g.W.Words.sight c.step.new.pass)) way
     (c.in-Some.ensures.stands alone only old before stood
-    (still_stands g.P.Meld.meld (g.W.Words.name c.args.world.now.words) c.doing.inside.way c.args.doing.now.way way c.self.inside.own c.args.self.now.own own alone old before stood u) waits)
+    (still_stands g.P.Meld.meld (g.W.Words.name c.args.world.now.words) c.doing.inside.way c.args.doing.now.way way c.self.inside.own c.args.self.now.own own
+    alone old before stood u) waits)
 
 pub returns-in_default-clause-last : goal.returns-in_default-clause-last
 returns-in_default-clause-last g c = ap (λ (r : Ranked). r.last) c.self.view_is

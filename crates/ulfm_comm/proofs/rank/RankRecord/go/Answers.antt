@@ -20,14 +20,21 @@ elsewhere : {P : Type 0} (test : Phase P → Bool) (phase here there : Phase P) 
 elsewhere test phase here there is unlike at alike = false≢true (sym unlike ∙ (ap test (sym is ∙ at) ∙ alike))
 
 -- where it stands is said of that phase
-still : {P : Type 0} (meld : P → P → P) (name : Name) (asked : Call P) (group : List ℕ) (own : Record) (now : Sight P) (phase here : Phase P) → phase ≡ here → StillStands meld name asked phase group own now
+still : {P : Type 0} (meld : P → P → P) (name : Name) (asked : Call P) (group : List ℕ) (own : Record) (now : Sight P) (phase here : Phase P) → phase ≡ here
+    → StillStands meld name asked phase group own now
     → StillStands meld name asked here group own now
 still meld name asked group own now phase here is stands = subst (λ at. StillStands meld name asked at group own now) is stands
 
 pub returns-in-Over-clause-turn : goal.returns-in-Over-clause-turn
 returns-in-Over-clause-turn g c =
     rw c.in-Over.is (record {
-      walks = record { of = c.requires.of; own = []; did = did_none g.W.Words.alone (g.W.Words.sight c.args.pass.now).seen; onward = omega arith; cached = ([], append-nil (g.W.Words.sight c.args.pass.now).cached) };
+      walks = record {
+        of = c.requires.of;
+        own = [];
+        did = did_none g.W.Words.alone (g.W.Words.sight c.args.pass.now).seen;
+        onward = omega arith;
+        cached = ([], append-nil (g.W.Words.sight c.args.pass.now).cached);
+      };
       caches = λ none. refl;
       named = λ not. refl;
       nearer = λ not. tt;
@@ -64,20 +71,23 @@ returns-in-Revoking-clause-turn g c = rw c.in-Revoking.is (c.go_revoking.ensures
 -- a call that asks whether its communicator is revoked loads it
 pub load_revocation-requires-clause-within : goal.load_revocation-requires-clause-within
 load_revocation-requires-clause-within g c =
-    let stands = subst (λ phase. StillStands g.P.Meld.meld (g.W.Words.name c.args.world.now.words) c.args.asked.now phase c.args.group.now.items c.args.self.now (g.W.Words.sight c.args.pass.now)) c.in-Asking.is c.requires.stands in
+    let stands = subst (λ phase. StillStands g.P.Meld.meld (g.W.Words.name c.args.world.now.words) c.args.asked.now phase c.args.group.now.items c.args.self.now
+    (g.W.Words.sight c.args.pass.now)) c.in-Asking.is c.requires.stands in
     rw c.comm_of.ensures (asked_below _ _ _ _ _ _ _ _ stands.2.at.0 c.requires.of.legal c.requires.of.may_open)
 
 pub returns-in-Asking-clause-turn : goal.returns-in-Asking-clause-turn
 returns-in-Asking-clause-turn g c =
     rw c.in-Asking.is (record {
-      walks = walks_none g.P.Meld.meld g.W.Words.alone (g.W.Words.name c.args.world.now.words) c.args.self.now.number (g.W.Words.sight c.args.pass.now) (g.W.Words.sight c.load_revocation.new.pass)
+      walks = walks_none g.P.Meld.meld g.W.Words.alone (g.W.Words.name c.args.world.now.words) c.args.self.now.number (g.W.Words.sight c.args.pass.now)
+          (g.W.Words.sight c.load_revocation.new.pass)
           c.load_revocation.ensures.loads.of c.load_revocation.ensures.loads.steps c.load_revocation.ensures.loads.cached c.load_revocation.ensures.loads.did;
       caches = λ none. c.load_revocation.ensures.loads.caches;
       named = search rules;
       nearer = λ not. tt;
       spends = omega (arith, c.load_revocation.ensures.loads.steps);
       also = λ all.
-          also_ends 1 (g.W.Words.name c.args.world.now.words).limits c.args.asked.now c.args.self.now c.args.self.now (g.W.Words.sight c.args.pass.now) (g.W.Words.sight c.load_revocation.new.pass) _ (omega (arith, c.load_revocation.ensures.loads.steps)) refl;
+          also_ends 1 (g.W.Words.name c.args.world.now.words).limits c.args.asked.now c.args.self.now c.args.self.now (g.W.Words.sight c.args.pass.now)
+          (g.W.Words.sight c.load_revocation.new.pass) _ (omega (arith, c.load_revocation.ensures.loads.steps)) refl;
       further = λ all. tt;
       adds = λ not. c.load_revocation.ensures.loads.did;
       sees = refl;
@@ -91,8 +101,11 @@ returns-in-Asking-clause-turn g c =
           let after = g.W.Words.sight c.load_revocation.new.pass in
           let found = c.load_revocation.result in
           let is = c.load_revocation.ensures.revoked ∙ ap (is_revoked after.seen) c.comm_of.ensures in
-          subst (λ asked. HasLooked g.P.Meld.meld name.limits alone asked old before.seen own now.seen → Answered g.P.Meld.meld alone name asked old before (Standing found) own after) (sym stands.at.1)
-          (λ p. asked_answered g.P.Meld.meld alone g.W.Words.alone only name (comm_of c.args.asked.now) old before own now after (omega (arith, stands.onward, c.load_revocation.ensures.loads.steps)) stands.fits c.load_revocation.ensures.loads.of p found c.load_revocation.ensures.loads.did is)
+          subst (λ asked. HasLooked g.P.Meld.meld name.limits alone asked old before.seen own now.seen
+          → Answered g.P.Meld.meld alone name asked old before (Standing found) own after) (sym stands.at.1)
+          (λ p. asked_answered g.P.Meld.meld alone g.W.Words.alone only name (comm_of c.args.asked.now) old before own now after
+          (omega (arith, stands.onward, c.load_revocation.ensures.loads.steps)) stands.fits c.load_revocation.ensures.loads.of p found
+          c.load_revocation.ensures.loads.did is)
           stands.at.0;
     })
 
@@ -121,40 +134,76 @@ pub returns-in-Waiting-clause-checks : goal.returns-in-Waiting-clause-checks
 returns-in-Waiting-clause-checks g c = rw c.in-Waiting.is (c.go_waiting.ensures.checks c.args.group.now.items)
 
 pub go_begun-requires-clause-stands : goal.go_begun-requires-clause-stands
-go_begun-requires-clause-stands g c = (c.args.group.now.items, still g.P.Meld.meld (g.W.Words.name c.args.world.now.words) c.args.asked.now c.args.group.now.items c.args.self.now (g.W.Words.sight c.args.pass.now) c.args.phase _ c.in-Begun.is c.requires.stands)
+go_begun-requires-clause-stands g c = (
+  c.args.group.now.items,
+  still g.P.Meld.meld (g.W.Words.name c.args.world.now.words) c.args.asked.now
+      c.args.group.now.items c.args.self.now (g.W.Words.sight c.args.pass.now) c.args.phase _ c.in-Begun.is c.requires.stands,
+)
 
 pub go_looking-requires-clause-stands : goal.go_looking-requires-clause-stands
-go_looking-requires-clause-stands g c = (c.args.group.now.items, still g.P.Meld.meld (g.W.Words.name c.args.world.now.words) c.args.asked.now c.args.group.now.items c.args.self.now (g.W.Words.sight c.args.pass.now) c.args.phase _ c.in-Looking.is c.requires.stands)
+go_looking-requires-clause-stands g c = (
+  c.args.group.now.items,
+  still g.P.Meld.meld (g.W.Words.name c.args.world.now.words) c.args.asked.now
+      c.args.group.now.items c.args.self.now (g.W.Words.sight c.args.pass.now) c.args.phase _ c.in-Looking.is c.requires.stands,
+)
 
 pub go_settling-requires-clause-stands : goal.go_settling-requires-clause-stands
-go_settling-requires-clause-stands g c = (c.args.group.now.items, still g.P.Meld.meld (g.W.Words.name c.args.world.now.words) c.args.asked.now c.args.group.now.items c.args.self.now (g.W.Words.sight c.args.pass.now) c.args.phase _ c.in-Settling.is c.requires.stands)
+go_settling-requires-clause-stands g c = (
+  c.args.group.now.items,
+  still g.P.Meld.meld (g.W.Words.name c.args.world.now.words) c.args.asked.now
+      c.args.group.now.items c.args.self.now (g.W.Words.sight c.args.pass.now) c.args.phase _ c.in-Settling.is c.requires.stands,
+)
 
 pub go_arriving-requires-clause-stands : goal.go_arriving-requires-clause-stands
-go_arriving-requires-clause-stands g c = (c.args.group.now.items, still g.P.Meld.meld (g.W.Words.name c.args.world.now.words) c.args.asked.now c.args.group.now.items c.args.self.now (g.W.Words.sight c.args.pass.now) c.args.phase _ c.in-Arriving.is c.requires.stands)
+go_arriving-requires-clause-stands g c = (
+  c.args.group.now.items,
+  still g.P.Meld.meld (g.W.Words.name c.args.world.now.words) c.args.asked.now
+      c.args.group.now.items c.args.self.now (g.W.Words.sight c.args.pass.now) c.args.phase _ c.in-Arriving.is c.requires.stands,
+)
 
 pub go_revoking-requires-clause-stands : goal.go_revoking-requires-clause-stands
-go_revoking-requires-clause-stands g c = (c.args.group.now.items, still g.P.Meld.meld (g.W.Words.name c.args.world.now.words) c.args.asked.now c.args.group.now.items c.args.self.now (g.W.Words.sight c.args.pass.now) c.args.phase _ c.in-Revoking.is c.requires.stands)
+go_revoking-requires-clause-stands g c = (
+  c.args.group.now.items,
+  still g.P.Meld.meld (g.W.Words.name c.args.world.now.words) c.args.asked.now
+      c.args.group.now.items c.args.self.now (g.W.Words.sight c.args.pass.now) c.args.phase _ c.in-Revoking.is c.requires.stands,
+)
 
 pub go_peeking-requires-clause-stands : goal.go_peeking-requires-clause-stands
-go_peeking-requires-clause-stands g c = still g.P.Meld.meld (g.W.Words.name c.args.world.now.words) c.args.asked.now c.args.group.now.items c.args.self.now (g.W.Words.sight c.args.pass.now) c.args.phase _ c.in-Peeking.is c.requires.stands
+go_peeking-requires-clause-stands g c = still g.P.Meld.meld (g.W.Words.name c.args.world.now.words) c.args.asked.now c.args.group.now.items c.args.self.now
+    (g.W.Words.sight c.args.pass.now) c.args.phase _ c.in-Peeking.is c.requires.stands
 
 pub go_marking-requires-clause-stands : goal.go_marking-requires-clause-stands
-go_marking-requires-clause-stands g c = (c.args.group.now.items, still g.P.Meld.meld (g.W.Words.name c.args.world.now.words) c.args.asked.now c.args.group.now.items c.args.self.now (g.W.Words.sight c.args.pass.now) c.args.phase _ c.in-Marking.is c.requires.stands)
+go_marking-requires-clause-stands g c = (
+  c.args.group.now.items,
+  still g.P.Meld.meld (g.W.Words.name c.args.world.now.words) c.args.asked.now
+      c.args.group.now.items c.args.self.now (g.W.Words.sight c.args.pass.now) c.args.phase _ c.in-Marking.is c.requires.stands,
+)
 
 pub go_reading-requires-clause-stands : goal.go_reading-requires-clause-stands
-go_reading-requires-clause-stands g c = still g.P.Meld.meld (g.W.Words.name c.args.world.now.words) c.args.asked.now c.args.group.now.items c.args.self.now (g.W.Words.sight c.args.pass.now) c.args.phase _ c.in-Reading.is c.requires.stands
+go_reading-requires-clause-stands g c = still g.P.Meld.meld (g.W.Words.name c.args.world.now.words) c.args.asked.now c.args.group.now.items c.args.self.now
+    (g.W.Words.sight c.args.pass.now) c.args.phase _ c.in-Reading.is c.requires.stands
 
 pub go_reading_on-requires-clause-stands : goal.go_reading_on-requires-clause-stands
-go_reading_on-requires-clause-stands g c = still g.P.Meld.meld (g.W.Words.name c.args.world.now.words) c.args.asked.now c.args.group.now.items c.args.self.now (g.W.Words.sight c.args.pass.now) c.args.phase _ c.in-ReadingOn.is c.requires.stands
+go_reading_on-requires-clause-stands g c = still g.P.Meld.meld (g.W.Words.name c.args.world.now.words) c.args.asked.now c.args.group.now.items c.args.self.now
+    (g.W.Words.sight c.args.pass.now) c.args.phase _ c.in-ReadingOn.is c.requires.stands
 
 pub go_spawning-requires-clause-stands : goal.go_spawning-requires-clause-stands
-go_spawning-requires-clause-stands g c = still g.P.Meld.meld (g.W.Words.name c.args.world.now.words) c.args.asked.now c.args.group.now.items c.args.self.now (g.W.Words.sight c.args.pass.now) c.args.phase _ c.in-Spawning.is c.requires.stands
+go_spawning-requires-clause-stands g c = still g.P.Meld.meld (g.W.Words.name c.args.world.now.words) c.args.asked.now c.args.group.now.items c.args.self.now
+    (g.W.Words.sight c.args.pass.now) c.args.phase _ c.in-Spawning.is c.requires.stands
 
 pub go_waiting-requires-clause-stands : goal.go_waiting-requires-clause-stands
-go_waiting-requires-clause-stands g c = (c.args.group.now.items, still g.P.Meld.meld (g.W.Words.name c.args.world.now.words) c.args.asked.now c.args.group.now.items c.args.self.now (g.W.Words.sight c.args.pass.now) c.args.phase _ c.in-Waiting.is c.requires.stands)
+go_waiting-requires-clause-stands g c = (
+  c.args.group.now.items,
+  still g.P.Meld.meld (g.W.Words.name c.args.world.now.words) c.args.asked.now
+      c.args.group.now.items c.args.self.now (g.W.Words.sight c.args.pass.now) c.args.phase _ c.in-Waiting.is c.requires.stands,
+)
 
 pub go_checking-requires-clause-stands : goal.go_checking-requires-clause-stands
-go_checking-requires-clause-stands g c = (c.args.group.now.items, still g.P.Meld.meld (g.W.Words.name c.args.world.now.words) c.args.asked.now c.args.group.now.items c.args.self.now (g.W.Words.sight c.args.pass.now) c.args.phase _ c.in-Checking.is c.requires.stands)
+go_checking-requires-clause-stands g c = (
+  c.args.group.now.items,
+  still g.P.Meld.meld (g.W.Words.name c.args.world.now.words) c.args.asked.now
+      c.args.group.now.items c.args.self.now (g.W.Words.sight c.args.pass.now) c.args.phase _ c.in-Checking.is c.requires.stands,
+)
 
 pub returns-in-Over-clause-over : goal.returns-in-Over-clause-over
 returns-in-Over-clause-over g c = λ at. (refl, refl)

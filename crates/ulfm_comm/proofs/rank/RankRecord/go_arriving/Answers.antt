@@ -1,5 +1,6 @@
 use Rattle.std.proofs.Common.{rules, ◌≡◌, arith, [], Some, IsTrue, MatchBool, ap, refl, ◌∙◌, subst, sym}
-use Rattle.ulfm_model.specs.declared.{call.Request.TheVariants.{Barrier}, event.Caller.TheVariants.{Rank}, event.Event.TheVariants.{Arrive}, refusal.Refusal.TheVariants.{Twice}, reply.Reply.TheVariants.{Refused, Started}}
+use Rattle.ulfm_model.specs.declared.{call.Request.TheVariants.{Barrier}, event.Caller.TheVariants.{Rank}, event.Event.TheVariants.{Arrive}}
+use Rattle.ulfm_model.specs.declared.{refusal.Refusal.TheVariants.{Twice}, reply.Reply.TheVariants.{Refused, Started}}
 use Rattle.ulfm_model.specs.{Answers.{opened}, History.{has_arrived}, Records.{Record, with_held}, Runs.{Did}}
 use Rattle.ulfm_model.specs.Terms.{comm_of}
 use Rattle.ulfm_words.specs.Steps.{IsAdded}
@@ -24,18 +25,25 @@ set_arrival-requires-clause-may g c =
 
 -- what the exchange did
 outcome : (g : _) (c : After-set_arrival g)
-    → MatchBool c.set_arrival.result (IsAdded g.W.Words.alone (record { by = Rank c.args.self.now.number; event = Arrive (comm_of c.args.asked.now) c.args.round c.args.self.now.number }) (g.W.Words.sight c.args.pass.now).seen (g.W.Words.sight c.set_arrival.new.pass).seen)
+    → MatchBool c.set_arrival.result (IsAdded g.W.Words.alone (record {
+      by = Rank c.args.self.now.number;
+      event = Arrive (comm_of c.args.asked.now) c.args.round c.args.self.now.number;
+    }) (g.W.Words.sight c.args.pass.now).seen (g.W.Words.sight c.set_arrival.new.pass).seen)
     (Did g.W.Words.alone [] (g.W.Words.sight c.args.pass.now).seen (g.W.Words.sight c.set_arrival.new.pass).seen)
 outcome g c = rw (← c.number-number.ensures, ← c.comm_of-comm.ensures) c.set_arrival.ensures.tries.outcome
 
 -- the rank has arrived
-arrived : (g : _) (c : After-set_arrival g) → IsTrue (has_arrived (g.W.Words.sight c.set_arrival.new.pass).seen (comm_of c.args.asked.now) c.args.round c.args.self.now.number)
+arrived : (g : _) (c : After-set_arrival g) → IsTrue (has_arrived (g.W.Words.sight c.set_arrival.new.pass).seen (comm_of c.args.asked.now) c.args.round
+    c.args.self.now.number)
 arrived g c = rw (← c.number-number.ensures, ← c.comm_of-comm.ensures) c.set_arrival.ensures.stands
 
-walks : (g : _) (c : After-set_arrival g) → Walks g.P.Meld.meld g.W.Words.alone (g.W.Words.name c.args.world.now.words) c.args.self.now.number (g.W.Words.sight c.args.pass.now) (g.W.Words.sight c.set_arrival.new.pass)
+walks : (g : _) (c : After-set_arrival g) → Walks g.P.Meld.meld g.W.Words.alone (g.W.Words.name c.args.world.now.words) c.args.self.now.number
+    (g.W.Words.sight c.args.pass.now) (g.W.Words.sight c.set_arrival.new.pass)
 walks g c =
-    walks_tried g.P.Meld.meld g.W.Words.alone (g.W.Words.name c.args.world.now.words) c.args.self.now.number (g.W.Words.sight c.args.pass.now) (g.W.Words.sight c.set_arrival.new.pass)
-    c.set_arrival.ensures.tries.of c.set_arrival.ensures.tries.steps c.set_arrival.ensures.tries.cached c.set_arrival.result (Arrive (comm_of c.args.asked.now) c.args.round c.args.self.now.number) (outcome g c)
+    walks_tried g.P.Meld.meld g.W.Words.alone (g.W.Words.name c.args.world.now.words) c.args.self.now.number (g.W.Words.sight c.args.pass.now)
+    (g.W.Words.sight c.set_arrival.new.pass)
+    c.set_arrival.ensures.tries.of c.set_arrival.ensures.tries.steps c.set_arrival.ensures.tries.cached c.set_arrival.result
+    (Arrive (comm_of c.args.asked.now) c.args.round c.args.self.now.number) (outcome g c)
 
 pub returns-then-not-set_arrival : goal.returns-then-not-set_arrival
 returns-then-not-set_arrival g c =
@@ -47,11 +55,13 @@ returns-then-not-set_arrival g c =
       nearer = search rules;
       spends = omega (arith, c.set_arrival.ensures.tries.steps);
       also = λ all.
-          also_ends 1 (g.W.Words.name c.args.world.now.words).limits c.args.asked.now c.args.self.now c.args.self.now (g.W.Words.sight c.args.pass.now) (g.W.Words.sight c.set_arrival.new.pass) _ (omega (arith, c.set_arrival.ensures.tries.steps)) refl;
+          also_ends 1 (g.W.Words.name c.args.world.now.words).limits c.args.asked.now c.args.self.now c.args.self.now (g.W.Words.sight c.args.pass.now)
+          (g.W.Words.sight c.set_arrival.new.pass) _ (omega (arith, c.set_arrival.ensures.tries.steps)) refl;
       further = search rules;
       adds = λ not.
           let at = (goal.at.returns-then-not-set_arrival g c).After-set_arrival in
-          adds_none g.W.Words.alone c.args.self.now.seen c.args.self.now c.args.asked.now (Some (Refused Twice)) (g.W.Words.sight c.args.pass.now).seen (g.W.Words.sight c.set_arrival.new.pass).seen
+          adds_none g.W.Words.alone c.args.self.now.seen c.args.self.now c.args.asked.now (Some (Refused Twice)) (g.W.Words.sight c.args.pass.now).seen
+          (g.W.Words.sight c.set_arrival.new.pass).seen
           (when_lost _ _ c.set_arrival.result c.if-not-set_arrival.true (outcome g at));
       sees = search rules;
       looks = λ at. absurd (cc at);
@@ -64,8 +74,10 @@ returns-then-not-set_arrival g c =
           let own = c.args.self.now in
           let now = g.W.Words.sight c.args.pass.now in
           let after = g.W.Words.sight c.set_arrival.new.pass in
-          subst (λ asked. ((p : HasLooked g.P.Meld.meld name.limits alone asked old before.seen own now.seen) × (c.args.round ≡ p.x.next_barrier)) → Answered g.P.Meld.meld alone name asked old before (Refused Twice) own after) (sym stands.at.1)
-          (λ p. arrived_before g.P.Meld.meld alone g.W.Words.alone only name (comm_of c.args.asked.now) c.args.round old before own now after (omega (arith, stands.onward, c.set_arrival.ensures.tries.steps)) stands.fits p.0 p.1 c.set_arrival.ensures.tries.of (arrived g at) lost)
+          subst (λ asked. ((p : HasLooked g.P.Meld.meld name.limits alone asked old before.seen own now.seen) × (c.args.round ≡ p.x.next_barrier))
+          → Answered g.P.Meld.meld alone name asked old before (Refused Twice) own after) (sym stands.at.1)
+          (λ p. arrived_before g.P.Meld.meld alone g.W.Words.alone only name (comm_of c.args.asked.now) c.args.round old before own now after
+          (omega (arith, stands.onward, c.set_arrival.ensures.tries.steps)) stands.fits p.0 p.1 c.set_arrival.ensures.tries.of (arrived g at) lost)
           (stands.at.0, stands.at.2);
     }
 
@@ -79,12 +91,14 @@ returns g c =
       nearer = search rules;
       spends = omega (arith, c.set_arrival.ensures.tries.steps);
       also = λ all.
-          also_ends 1 (g.W.Words.name c.args.world.now.words).limits c.args.asked.now c.args.self.now c.open.new.self (g.W.Words.sight c.args.pass.now) (g.W.Words.sight c.set_arrival.new.pass) _ (omega (arith, c.set_arrival.ensures.tries.steps)) (ap (λ (w : Record). w.seen) c.open.ensures);
+          also_ends 1 (g.W.Words.name c.args.world.now.words).limits c.args.asked.now c.args.self.now c.open.new.self (g.W.Words.sight c.args.pass.now)
+          (g.W.Words.sight c.set_arrival.new.pass) _ (omega (arith, c.set_arrival.ensures.tries.steps)) (ap (λ (w : Record). w.seen) c.open.ensures);
       further = search rules;
       adds = λ not.
           let at = (goal.at.returns g c).After-set_arrival in
           let s = c.requires.stands.1 in
-          adds_arrived g.P.Meld.meld g.W.Words.alone (g.W.Words.name c.args.world.now.words).limits c.args.asked.now s.0 s.1.seen c.args.self.now (g.W.Words.sight c.args.pass.now).seen (g.W.Words.sight c.set_arrival.new.pass).seen
+          adds_arrived g.P.Meld.meld g.W.Words.alone (g.W.Words.name c.args.world.now.words).limits c.args.asked.now s.0 s.1.seen c.args.self.now
+          (g.W.Words.sight c.args.pass.now).seen (g.W.Words.sight c.set_arrival.new.pass).seen
           c.requires.of.legal s.2.at.0 s.0.number c.args.round s.2.at.1 s.2.at.2 (when_won _ _ c.set_arrival.result c.if-not-set_arrival.false (outcome g at));
       sees = search rules;
       looks = λ at. absurd (cc at);
@@ -98,7 +112,10 @@ returns g c =
           let now = g.W.Words.sight c.args.pass.now in
           let after = g.W.Words.sight c.set_arrival.new.pass in
           let leaves = c.open.ensures ∙ ap (λ w. with_held own w (λ y. opened y (Some (Barrier c.args.round)))) c.comm_of-comm.ensures in
-          subst (λ asked. ((p : HasLooked g.P.Meld.meld name.limits alone asked old before.seen own now.seen) × (c.args.round ≡ p.x.next_barrier)) → Answered g.P.Meld.meld alone name asked old before Started c.open.new.self after) (sym stands.at.1)
-          (λ p. arrived_now g.P.Meld.meld alone g.W.Words.alone only name (comm_of c.args.asked.now) c.args.round old before own now after (omega (arith, stands.onward, c.set_arrival.ensures.tries.steps)) stands.fits p.0 p.1 c.set_arrival.ensures.tries.of (arrived g at) c.open.new.self won leaves)
+          subst (λ asked. ((p : HasLooked g.P.Meld.meld name.limits alone asked old before.seen own now.seen) × (c.args.round ≡ p.x.next_barrier))
+          → Answered g.P.Meld.meld alone name asked old before Started c.open.new.self after) (sym stands.at.1)
+          (λ p. arrived_now g.P.Meld.meld alone g.W.Words.alone only name (comm_of c.args.asked.now) c.args.round old before own now after
+          (omega (arith, stands.onward, c.set_arrival.ensures.tries.steps)) stands.fits p.0 p.1 c.set_arrival.ensures.tries.of
+          (arrived g at) c.open.new.self won leaves)
           (stands.at.0, stands.at.2);
     }

@@ -22,33 +22,44 @@ read_on-requires-clause-may g c =
     let at = stands.2.at in
     let comm = comm_of c.args.asked.now in (
       at.1,
-      ap (held_at c.args.self.now) c.comm_of.ensures ∙ held_is g.P.Meld.meld name.limits false comm c.args.made.round c.args.made.mask at.1 c.args.made.count old before.seen c.args.self.now now.seen at.2,
+      ap (held_at c.args.self.now) c.comm_of.ensures ∙ held_is g.P.Meld.meld name.limits false comm c.args.made.round c.args.made.mask at.1 c.args.made.count
+          old before.seen c.args.self.now now.seen at.2,
       may_read_on g.P.Meld.meld name.limits false comm c.args.made.round c.args.made.mask at.1 c.args.made.count old before.seen c.args.self.now now.seen at.2,
       at.3,
     )
 
 -- a call that stands on its way through the list
 abbrev StoodAt : (g : _) → After-read_on g → Bool → Record → Sight g.row.P.Denot → Type 0
-StoodAt g c alone old before = Stands g.P.Meld.meld alone (g.W.Words.name c.args.world.now.words) old before (record { asked = c.args.asked.now; phase = AtReadingOn c.args.on c.args.made; group = c.args.group.now.items }) c.args.self.now (g.W.Words.sight c.args.pass.now)
+StoodAt g c alone old before = Stands g.P.Meld.meld alone (g.W.Words.name c.args.world.now.words) old before (record {
+  asked = c.args.asked.now;
+  phase = AtReadingOn c.args.on c.args.made;
+  group = c.args.group.now.items;
+}) c.args.self.now (g.W.Words.sight c.args.pass.now)
 
 -- how far the failures that are seen now reach
-at_failure : (g : _) (c : After-read_on g) (alone : Bool) (old : Record) (before : Sight g.row.P.Denot) (s : StoodAt g c alone old before) → AtFailure s.at.1.group c.args.made.count c.read_on.new.on c.read_on.new.self.seen
+at_failure : (g : _) (c : After-read_on g) (alone : Bool) (old : Record) (before : Sight g.row.P.Denot) (s : StoodAt g c alone old before)
+    → AtFailure s.at.1.group c.args.made.count c.read_on.new.on c.read_on.new.self.seen
 at_failure g c alone old before s =
     let name = g.W.Words.name c.args.world.now.words in
     let now = g.W.Words.sight c.args.pass.now in
     let comm = comm_of c.args.asked.now in
     c.read_on.ensures.at s.at.1
-    (ap (held_at c.args.self.now) c.comm_of.ensures ∙ held_is g.P.Meld.meld name.limits alone comm c.args.made.round c.args.made.mask s.at.1 c.args.made.count old before.seen c.args.self.now now.seen s.at.2)
+    (ap (held_at c.args.self.now) c.comm_of.ensures ∙ held_is g.P.Meld.meld name.limits alone comm c.args.made.round c.args.made.mask s.at.1 c.args.made.count
+    old before.seen c.args.self.now now.seen s.at.2)
 
 -- the decision's whole failed group is known
-reached : (g : _) (c : After-read_on g) (alone : Bool) → (IsTrue alone → IsTrue g.W.Words.alone) → (old : Record) (before : Sight g.row.P.Denot) → StoodAt g c alone old before → c.args.made.count ≤ c.read_on.new.on.found
-    → HasReached g.P.Meld.meld alone (g.W.Words.name c.args.world.now.words) c.args.asked.now c.args.made c.read_on.new.on.reach old before c.read_on.new.self (g.W.Words.sight c.read_on.new.pass)
+reached : (g : _) (c : After-read_on g) (alone : Bool) → (IsTrue alone → IsTrue g.W.Words.alone) → (old : Record) (before : Sight g.row.P.Denot)
+    → StoodAt g c alone old before → c.args.made.count ≤ c.read_on.new.on.found
+    → HasReached g.P.Meld.meld alone (g.W.Words.name c.args.world.now.words) c.args.asked.now c.args.made c.read_on.new.on.reach old before c.read_on.new.self
+    (g.W.Words.sight c.read_on.new.pass)
 reached g c alone only old before s enough =
     let now = g.W.Words.sight c.args.pass.now in
     let after = g.W.Words.sight c.read_on.new.pass in
     let ensures = c.read_on.ensures in
-    has_reached g.P.Meld.meld alone (g.W.Words.name c.args.world.now.words) c.args.asked.now c.args.on c.args.made c.args.group.now.items old before c.args.self.now now s c.read_on.new.self after
-    (did_loosely alone g.W.Words.alone only [] now.seen after.seen ensures.goes.did) ensures.goes.onward ensures.kept ensures.goes_on ensures.begins c.read_on.new.on (at_failure g c alone old before s) enough
+    has_reached g.P.Meld.meld alone (g.W.Words.name c.args.world.now.words) c.args.asked.now c.args.on c.args.made c.args.group.now.items old before
+    c.args.self.now now s c.read_on.new.self after
+    (did_loosely alone g.W.Words.alone only [] now.seen after.seen ensures.goes.did) ensures.goes.onward ensures.kept ensures.goes_on ensures.begins
+    c.read_on.new.on (at_failure g c alone old before s) enough
 
 pub reached-requires-clause-reached : goal.reached-requires-clause-reached
 reached-requires-clause-reached g c =
@@ -67,19 +78,24 @@ returns-then-on-made g c =
       named = search rules;
       nearer = search rules;
       spends = search rules;
-      also = λ all. also_reads_on (g.W.Words.name c.args.world.now.words).limits c.args.asked.now c.args.self.now c.read_on.new.self c.read_on.new.self (g.W.Words.sight c.args.pass.now) (g.W.Words.sight c.read_on.new.pass) c.args.on c.args.made _ c.read_on.ensures.further refl (omega arith) (omega arith);
+      also = λ all. also_reads_on (g.W.Words.name c.args.world.now.words).limits c.args.asked.now c.args.self.now c.read_on.new.self c.read_on.new.self
+          (g.W.Words.sight c.args.pass.now) (g.W.Words.sight c.read_on.new.pass) c.args.on c.args.made _ c.read_on.ensures.further refl (omega arith)
+          (omega arith);
       further = search rules;
       adds = search rules;
       sees = c.read_on.ensures.goes_on;
       looks = λ at. absurd (cc at);
-      knows = λ stand. blocks_later c.args.self.now c.args.asked.now (g.W.Words.sight c.args.pass.now).cached (g.W.Words.sight c.read_on.new.pass).cached c.read_on.ensures.goes.cached stand;
+      knows = λ stand. blocks_later c.args.self.now c.args.asked.now (g.W.Words.sight c.args.pass.now).cached (g.W.Words.sight c.read_on.new.pass).cached
+          c.read_on.ensures.goes.cached stand;
       leads = search rules;
       turns = λ alone only old before s.
           let now = g.W.Words.sight c.args.pass.now in
           let after = g.W.Words.sight c.read_on.new.pass in
           let ensures = c.read_on.ensures in
-          reads_further g.P.Meld.meld alone (g.W.Words.name c.args.world.now.words) c.args.asked.now c.args.on c.args.made c.args.group.now.items old before c.args.self.now now s c.read_on.new.self after
-          (did_loosely alone g.W.Words.alone only [] now.seen after.seen ensures.goes.did) ensures.goes.onward ensures.kept ensures.goes_on ensures.begins c.read_on.new.on c.args.group.now.items
+          reads_further g.P.Meld.meld alone (g.W.Words.name c.args.world.now.words) c.args.asked.now c.args.on c.args.made c.args.group.now.items old before
+          c.args.self.now now s c.read_on.new.self after
+          (did_loosely alone g.W.Words.alone only [] now.seen after.seen ensures.goes.did) ensures.goes.onward ensures.kept ensures.goes_on ensures.begins
+          c.read_on.new.on c.args.group.now.items
           (at_failure g (goal.at.returns-then-on-made g c).After-read_on alone old before s) c.if-on-made.true;
     }
 
@@ -93,8 +109,11 @@ returns g c =
       nearer = search rules;
       spends = search rules;
       also = λ all.
-          also_reads_on (g.W.Words.name c.args.world.now.words).limits c.args.asked.now c.args.self.now c.read_on.new.self c.reached.new.self (g.W.Words.sight c.args.pass.now) (g.W.Words.sight c.read_on.new.pass) c.args.on c.args.made c.reached.result c.read_on.ensures.further c.reached.ensures.sees
-          (also_reached (g.W.Words.name c.args.world.now.words).limits c.reached.new.self c.args.asked.now c.reached.result c.reached.ensures.further c.reached.ensures.nearer) (below_more 4 5 (omega arith) c.reached.result c.reached.ensures.further);
+          also_reads_on (g.W.Words.name c.args.world.now.words).limits c.args.asked.now c.args.self.now c.read_on.new.self c.reached.new.self
+          (g.W.Words.sight c.args.pass.now) (g.W.Words.sight c.read_on.new.pass) c.args.on c.args.made c.reached.result c.read_on.ensures.further
+          c.reached.ensures.sees
+          (also_reached (g.W.Words.name c.args.world.now.words).limits c.reached.new.self c.args.asked.now c.reached.result c.reached.ensures.further
+          c.reached.ensures.nearer) (below_more 4 5 (omega arith) c.reached.result c.reached.ensures.further);
       further = search rules;
       adds = search rules;
       sees = subst (IsPrefix c.args.self.now.seen) (sym c.reached.ensures.sees) c.read_on.ensures.goes_on;

@@ -27,7 +27,8 @@ ok_of (Err e) Q q right = absurd (cc right)
 
 pub returns-then-has_rank-clause-turns : goal.returns-then-has_rank-clause-turns
 returns-then-has_rank-clause-turns g c = λ alone old before r.
-    ends_self_failed g.P.Meld.meld alone (g.W.Words.name c.args.world.now.words) c.args.asked.now c.args.made.round c.args.made.mask r.x c.args.made.count c.args.reach old before c.args.self.now (g.W.Words.sight c.args.pass.now)
+    ends_self_failed g.P.Meld.meld alone (g.W.Words.name c.args.world.now.words) c.args.asked.now c.args.made.round c.args.made.mask r.x c.args.made.count
+    c.args.reach old before c.args.self.now (g.W.Words.sight c.args.pass.now)
     c.requires.of r.onward r.fits r.polls r.decided r.reads c.refuse.new.self
     (sym (among g (goal.at.returns-then-has_rank-clause-turns g c).After-has_rank) ∙ c.if-has_rank.true) c.refuse.ensures
 
@@ -35,7 +36,8 @@ pub returns-then-is_err-clause-turns : goal.returns-then-is_err-clause-turns
 returns-then-is_err-clause-turns g c = λ alone old before r.
     let now = g.W.Words.sight c.args.pass.now in
     let name = g.W.Words.name c.args.world.now.words in
-    ends_out g.P.Meld.meld alone name c.args.asked.now c.args.made.round c.args.made.mask r.x c.args.made.count c.args.reach old before c.args.self.now now c.requires.of r.onward r.fits r.polls r.decided r.reads
+    ends_out g.P.Meld.meld alone name c.args.asked.now c.args.made.round c.args.made.mask r.x c.args.made.count c.args.reach old before c.args.self.now now
+    c.requires.of r.onward r.fits r.polls r.decided r.reads
     (sym (among g (goal.at.returns-then-is_err-clause-turns g c).After-has_rank) ∙ c.if-has_rank.false)
 
 pub returns-then-limits-eq1-clause-turns : goal.returns-then-limits-eq1-clause-turns
@@ -44,13 +46,16 @@ returns-then-limits-eq1-clause-turns g c = λ alone old before r.
     let name = g.W.Words.name c.args.world.now.words in
     let one : name.limits.comms ≡ 1 = ap (λ (l : Limits). l.comms) (sym c.limits.ensures.limits) ∙ c.if-limits-eq1.true in
     let there = among g (goal.at.returns-then-limits-eq1-clause-turns g c).After-has_rank in
-    ends_full g.P.Meld.meld alone name c.args.asked.now c.args.made.round c.args.made.mask r.x c.args.made.count c.args.reach old before c.args.self.now now c.requires.of r.onward r.fits r.polls r.decided r.reads c.close.new.self now
+    ends_full g.P.Meld.meld alone name c.args.asked.now c.args.made.round c.args.made.mask r.x c.args.made.count c.args.reach old before c.args.self.now now
+    c.requires.of r.onward r.fits r.polls r.decided r.reads c.close.new.self now
     (full_alone g.P.Meld.meld alone name (comm_of c.args.asked.now) c.args.made.round now c.requires.of one) (sym there ∙ c.if-has_rank.false)
     (c.close.ensures ∙ ap (closed c.args.self.now) c.comm_of-comm.ensures)
 
 pub returns-then-limits-eq1-clause-memory : goal.returns-then-limits-eq1-clause-memory
 returns-then-limits-eq1-clause-memory g c = λ is x held.
-    ok_of c.make_room.result ((x : Held) → held_at c.args.self.now c.comm_of-comm.result ≡ Some x → c.make_room.new.group.items ≡ without x.group (take c.args.reach c.args.self.now.seen)) c.make_room.ensures (sym c.is_err.ensures.value ∙ c.if-is_err.false)
+    ok_of c.make_room.result ((x : Held) → held_at c.args.self.now c.comm_of-comm.result ≡ Some x
+    → c.make_room.new.group.items ≡ without x.group (take c.args.reach c.args.self.now.seen)) c.make_room.ensures
+    (sym c.is_err.ensures.value ∙ c.if-is_err.false)
     x (ap (held_at c.args.self.now) c.comm_of-comm.ensures ∙ held)
 
 pub returns-clause-turns : goal.returns-clause-turns
@@ -58,14 +63,19 @@ returns-clause-turns g c = λ alone old before r.
     let now = g.W.Words.sight c.args.pass.now in
     let name = g.W.Words.name c.args.world.now.words in
     let there = among g (goal.at.returns-clause-turns g c).After-has_rank in
-    let held = held_is g.P.Meld.meld name.limits alone (comm_of c.args.asked.now) c.args.made.round c.args.made.mask r.x c.args.made.count old before.seen c.args.self.now now.seen r.decided in
-    let number = number_is g.P.Meld.meld name.limits alone (comm_of c.args.asked.now) c.args.made.round c.args.made.mask r.x c.args.made.count old before.seen c.args.self.now now.seen r.decided in
-    let item : c.new.result.item ≡ OfComm (comm_of c.args.asked.now) c.args.made.round = ap (λ (a : Append). a.item) c.new.ensures ∙ ap (λ n. OfComm n c.args.made.round) c.comm_of-comm.ensures in
+    let held = held_is g.P.Meld.meld name.limits alone (comm_of c.args.asked.now) c.args.made.round c.args.made.mask r.x c.args.made.count old before.seen
+    c.args.self.now now.seen r.decided in
+    let number = number_is g.P.Meld.meld name.limits alone (comm_of c.args.asked.now) c.args.made.round c.args.made.mask r.x c.args.made.count old before.seen
+    c.args.self.now now.seen r.decided in
+    let item : c.new.result.item ≡ OfComm (comm_of c.args.asked.now) c.args.made.round = ap (λ (a : Append). a.item) c.new.ensures
+    ∙ ap (λ n. OfComm n c.args.made.round) c.comm_of-comm.ensures in
     let index : c.new.result.index ≡ 0 = ap (λ (a : Append). a.index) c.new.ensures in
     let some = c.requires.of.may_open.in_range.some_comms in
     let limits = ap (λ (l : Limits). l.comms) c.limits.ensures.limits in
     let several = c.if-limits-eq1.false in
-    let left = ok_of c.make_room.result ((x : Held) → held_at c.args.self.now c.comm_of-comm.result ≡ Some x → c.make_room.new.group.items ≡ without x.group (take c.args.reach c.args.self.now.seen)) c.make_room.ensures (sym c.is_err.ensures.value ∙ c.if-is_err.false) in
+    let left = ok_of c.make_room.result ((x : Held) → held_at c.args.self.now c.comm_of-comm.result ≡ Some x
+    → c.make_room.new.group.items ≡ without x.group (take c.args.reach c.args.self.now.seen)) c.make_room.ensures
+    (sym c.is_err.ensures.value ∙ c.if-is_err.false) in
     record {
       fits = r.fits;
       mine = ap (λ (a : Call _). (traits_of a).by) r.polls;

@@ -12,15 +12,18 @@ pub unreachable-requires : goal.unreachable-requires
 unreachable-requires g c =
     let items = c.self.inside.held.items in
     let missing : held_at c.args.self.now c.args.comm ≡ None =
-    ap (λ (own : Record). held_at own c.args.comm) (sym c.self.view_is) ∙ find_missing items c.args.comm (ap (position (is_of c.args.comm)) (sym c.deref.ensures.value) ∙ (sym c.place_of.ensures ∙ c.in_default.is)) in
+    ap (λ (own : Record). held_at own c.args.comm) (sym c.self.view_is) ∙ find_missing items c.args.comm
+    (ap (position (is_of c.args.comm)) (sym c.deref.ensures.value) ∙ (sym c.place_of.ensures ∙ c.in_default.is)) in
     absurd (cc (missing, c.requires.may.1))
 
 -- the members of what the rank holds
 group_is : (g : _) (c : After-deref-2 g) → (x : Held) → held_at c.args.self.now c.args.comm ≡ Some x → c.deref-2.result.now ≡ x.group
 group_is g c x held =
     let items = c.self.inside.held.items in
-    let at : position (is_of c.args.comm) items ≡ Some c.in-Some.i = ap (position (is_of c.args.comm)) (sym c.deref.ensures.value) ∙ (sym c.place_of.ensures ∙ c.in-Some.is) in
-    let found = ap (λ (own : Record). held_at own c.args.comm) (sym c.self.view_is) ∙ (find_is items c.args.comm c.in-Some.i c.index.result.now at ∙ ap Some (sym c.index.ensures)) in
+    let at : position (is_of c.args.comm) items ≡ Some c.in-Some.i = ap (position (is_of c.args.comm)) (sym c.deref.ensures.value) ∙
+    (sym c.place_of.ensures ∙ c.in-Some.is) in
+    let found = ap (λ (own : Record). held_at own c.args.comm) (sym c.self.view_is) ∙
+    (find_is items c.args.comm c.in-Some.i c.index.result.now at ∙ ap Some (sym c.index.ensures)) in
     let same : c.index.result.now ≡ x = cc (found, held) in
     c.deref-2.ensures.value ∙ ap (λ (y : Held). y.group) (c.behind-self.view_is ∙ same)
 
@@ -30,14 +33,16 @@ advance-requires-clause-may g c =
     let group = group_is g (goal.at.advance-requires-clause-may g c).After-deref-2 may.0 may.1 in
     let whole = failures (g.W.Words.sight c.args.pass.now).seen in
     let seen = ap (λ (own : Record). own.seen) c.self.view_is in
-    subst (λ ms. MayReadOn ms c.args.count c.self.inside.seen.items whole) (sym group) (subst (λ s. MayReadOn may.0.group c.args.count s whole) (sym seen) may.2)
+    subst (λ ms. MayReadOn ms c.args.count c.self.inside.seen.items whole) (sym group)
+    (subst (λ s. MayReadOn may.0.group c.args.count s whole) (sym seen) may.2)
 
 pub advance-requires-clause-at : goal.advance-requires-clause-at
 advance-requires-clause-at g c =
     let may = c.requires.may in
     let group = group_is g (goal.at.advance-requires-clause-at g c).After-deref-2 may.0 may.1 in
     let seen = ap (λ (own : Record). own.seen) c.self.view_is in
-    subst (λ ms. AtFailure ms c.args.count c.args.on.now c.self.inside.seen.items) (sym group) (subst (λ s. AtFailure may.0.group c.args.count c.args.on.now s) (sym seen) may.3)
+    subst (λ ms. AtFailure ms c.args.count c.args.on.now c.self.inside.seen.items) (sym group)
+    (subst (λ s. AtFailure may.0.group c.args.count c.args.on.now s) (sym seen) may.3)
 
 pub returns-clause-at : goal.returns-clause-at
 returns-clause-at g c = λ x held.
@@ -49,7 +54,13 @@ invariant_of-self g c =
     let was = c.self.invariant.room in
     record {
       below = c.self.invariant.below;
-      room = record { may_open = was.may_open; room = omega (arith, was.room, c.advance.ensures.room); enough = was.enough; ids = was.ids; contexts = was.contexts };
+      room = record {
+        may_open = was.may_open;
+        room = omega (arith, was.room, c.advance.ensures.room);
+        enough = was.enough;
+        ids = was.ids;
+        contexts = was.contexts;
+      };
     }
 
 pub returns-clause-goes : goal.returns-clause-goes
@@ -57,12 +68,14 @@ returns-clause-goes g c = c.advance.ensures.goes
 
 pub returns-clause-takes : goal.returns-clause-takes
 returns-clause-takes g c =
-    subst (λ (own : Record). ReadOnTakes c.args.whole (g.W.Words.name c.args.words.now).limits own.seen c.advance.new.seen.items (g.W.Words.sight c.args.pass.now) (g.W.Words.sight c.advance.new.pass)) c.self.view_is c.advance.ensures.takes
+    subst (λ (own : Record). ReadOnTakes c.args.whole (g.W.Words.name c.args.words.now).limits own.seen c.advance.new.seen.items
+    (g.W.Words.sight c.args.pass.now) (g.W.Words.sight c.advance.new.pass)) c.self.view_is c.advance.ensures.takes
 
 pub returns-clause-further : goal.returns-clause-further
 returns-clause-further g c =
     let loads = c.advance.ensures.further in
-    subst (λ (own : Record). (g.W.Words.sight c.advance.new.pass).steps + length own.seen ≡ (g.W.Words.sight c.args.pass.now).steps + length c.advance.new.seen.items) c.self.view_is (omega (arith, loads, c.self.inside.seen.ok.0, c.advance.new.seen.ok.0))
+    subst (λ (own : Record). (g.W.Words.sight c.advance.new.pass).steps + length own.seen ≡ (g.W.Words.sight c.args.pass.now).steps + length
+    c.advance.new.seen.items) c.self.view_is (omega (arith, loads, c.self.inside.seen.ok.0, c.advance.new.seen.ok.0))
 
 pub returns-clause-kept : goal.returns-clause-kept
 returns-clause-kept g c = ap (λ (own : Record). record own { seen = c.advance.new.seen.items }) c.self.view_is
@@ -77,7 +90,8 @@ pub returns-clause-done : goal.returns-clause-done
 returns-clause-done g c = c.advance.ensures.done
 
 pub index-requires : goal.index-requires
-index-requires g c = subst (λ n. c.in-Some.i < n) c.deref.ensures.len (position_below (is_of c.args.comm) c.deref.result.now c.in-Some.i (sym c.place_of.ensures ∙ c.in-Some.is))
+index-requires g c = subst (λ n. c.in-Some.i < n) c.deref.ensures.len (position_below (is_of c.args.comm) c.deref.result.now c.in-Some.i
+    (sym c.place_of.ensures ∙ c.in-Some.is))
 
 pub advance-requires-clause-of : goal.advance-requires-clause-of
 advance-requires-clause-of g c = c.requires.of

@@ -6,7 +6,13 @@ use Rattle.ulfm_comm.proofs.rank.RankRecord.refusal.Goals as goal
 
 pub returns : goal.returns
 returns g c =
-    let own : Record = record { number = c.self.inside.number; limits = c.self.inside.limits; held = c.self.inside.held.items; seen = c.self.inside.seen.items; refused = c.self.inside.refused } in
+    let own : Record = record {
+      number = c.self.inside.number;
+      limits = c.self.inside.limits;
+      held = c.self.inside.held.items;
+      seen = c.self.inside.seen.items;
+      refused = c.self.inside.refused;
+    } in
     let x = c.args.x.now in
     let asked = c.args.asked.now in
     rw c.deref.ensures.value at c.refusal_on.ensures

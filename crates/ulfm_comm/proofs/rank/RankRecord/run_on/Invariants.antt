@@ -2,7 +2,8 @@ use Rattle.std.proofs.Common.{◌≡◌, ◌⊎◌, ◌+◌, ◌≤◌, [], fals
 use mathlib.Core.List.{IsPrefix}
 use Rattle.ulfm_model.specs.Records.{Record}
 use Rattle.ulfm_words.specs.Steps.{IsOf, Sight}
-use Rattle.ulfm_comm.specs.{AlsoLeft.{AlsoSpends, FindsSetIn, also_left}, Known.{KnowsIn}, Phase.{Stands, StillStands, is_looking, left}, Requests.{may_cache}, Step.{HasReadOn}, StepsLeft.{steps_left}}
+use Rattle.ulfm_comm.specs.{AlsoLeft.{AlsoSpends, FindsSetIn, also_left}, Known.{KnowsIn}, Phase.{Stands, StillStands, is_looking, left}, Requests.{may_cache}}
+use Rattle.ulfm_comm.specs.{Step.{HasReadOn}, StepsLeft.{steps_left}}
 use Rattle.ulfm_comm.specs.declared.{phases.phase.Next.TheVariants.{Goes}}
 use Rattle.ulfm_comm.proofs.rank.RankRecord.run_on.Given as goal
 
@@ -19,12 +20,14 @@ invariant-loop-next g l =
       caches : may_cache own l.asked ≡ false → now.caches ≡ start.caches;
       onward : start.steps ≤ now.steps;
       past : is_looking l.phase ≡ false;
-      stands : (old : Record) (before : Sight g.row.P.Denot) → Stands g.P.Meld.meld g.W.Words.alone name old before (record { asked = l.asked; phase = l.initial.phase; group = [] }) own start
+      stands : (old : Record) (before : Sight g.row.P.Denot) → Stands g.P.Meld.meld g.W.Words.alone name old before
+          (record { asked = l.asked; phase = l.initial.phase; group = [] }) own start
           → Stands g.P.Meld.meld g.W.Words.alone name old before (record { asked = l.asked; phase = l.phase; group = l.group.items }) l.self now;
       still : StillStands g.P.Meld.meld name l.asked l.phase l.group.items l.self now;
       kept : l.self ≡ record own { seen = l.self.seen };
       spent : now.steps + steps_left name.limits l.self l.asked l.phase ≤ start.steps + steps_left name.limits own l.asked l.initial.phase;
-      also : FindsSetIn own l.asked start.cached l.initial.phase → AlsoSpends (also_left name.limits own l.asked l.initial.phase) name.limits l.asked own start (Goes l.phase) l.self now;
+      also : FindsSetIn own l.asked start.cached l.initial.phase → AlsoSpends (also_left name.limits own l.asked l.initial.phase) name.limits l.asked own start
+          (Goes l.phase) l.self now;
       knows : KnowsIn own l.asked start.cached l.initial.phase → KnowsIn own l.asked now.cached l.phase;
       sees : KnowsIn own l.asked start.cached l.initial.phase → (l.self.seen ≡ own.seen) ⊎ HasReadOn own l.asked own.seen l.self.seen now.cached;
     }

@@ -46,45 +46,62 @@ returns-in_default-place_in-clause-spawns g c = λ k is.
 
 -- the round's communicator is there
 made : (g : _) (c : In-Some-place_in g) → (k : ℕ) → c.args.append.now.item ≡ OfComm c.args.comm k
-    → IsMadeBy g.P.Meld.meld g.W.Words.alone (g.W.Words.name c.args.words.now) c.args.append.now.by c.args.comm k (g.W.Words.sight c.args.pass.now) (c.in-Some-place_in.index + 1) (g.W.Words.sight c.advance.new.pass)
+    → IsMadeBy g.P.Meld.meld g.W.Words.alone (g.W.Words.name c.args.words.now) c.args.append.now.by c.args.comm k (g.W.Words.sight c.args.pass.now)
+    (c.in-Some-place_in.index + 1) (g.W.Words.sight c.advance.new.pass)
 made g c k is =
-    makes g.P.Meld.meld g.W.Words.alone (g.W.Words.name c.args.words.now) c.args.append.now.by c.args.comm k (g.W.Words.sight c.args.pass.now) (g.W.Words.sight c.advance.new.pass) _ c.in-Some-place_in.index c.in-Some.end
+    makes g.P.Meld.meld g.W.Words.alone (g.W.Words.name c.args.words.now) c.args.append.now.by c.args.comm k (g.W.Words.sight c.args.pass.now)
+    (g.W.Words.sight c.advance.new.pass) _ c.in-Some-place_in.index c.in-Some.end
     c.in-Some-place_in.ensures (rw is at c.in-Some.ensures.goes)
 
 pub overflow_add-number : goal.overflow_add-number
 overflow_add-number g c =
     let may = c.requires.may in
-    let below = number_fits g.P.Meld.meld g.W.Words.alone (g.W.Words.name c.args.words.now) c.args.append.now.by c.args.comm may.0 (g.W.Words.sight c.args.pass.now) (g.W.Words.sight c.advance.new.pass) _ (made g (goal.at.overflow_add-number g c).In-Some-place_in may.0 may.1.item) in
+    let below = number_fits g.P.Meld.meld g.W.Words.alone (g.W.Words.name c.args.words.now) c.args.append.now.by c.args.comm may.0
+    (g.W.Words.sight c.args.pass.now) (g.W.Words.sight c.advance.new.pass) _ (made g (goal.at.overflow_add-number g c).In-Some-place_in may.0 may.1.item) in
     omega (arith, below)
 
 pub take_in-requires : goal.take_in-requires
 take_in-requires g c =
-    let fresh = subst (λ (own : Record). AllByRecursion (λ i. nat_eq i c.args.context ≡ false) (contexts_of own.held)) (sym c.self.view_is) c.requires.holds.fresh in
+    let fresh = subst (λ (own : Record). AllByRecursion (λ i. nat_eq i c.args.context ≡ false) (contexts_of own.held))
+    (sym c.self.view_is) c.requires.holds.fresh in
     let left = room_left _ _ _ c.args.context c.self.inside.held.items c.self.invariant.room c.requires.holds.id fresh in
     omega (arith, left, c.self.inside.held.ok.0)
 
 -- what is held afterwards
-items_are : (g : _) (c : After-take_in g) → c.take_in.new.held.items ≡ change_at c.args.comm (λ y. record y { request = None }) c.self.inside.held.items ++ new_held (c.in-Some-place_in.index + 1) c.args.context c.args.group.now.items ∷ []
-items_are g c = c.take_in.ensures.items ∙ (ap (λ made. change_at c.args.comm (λ y. record y { request = None }) c.self.inside.held.items ++ made ∷ []) (c.new-made.ensures ∙ ap (λ (v : _). new_held (c.in-Some-place_in.index + 1) c.args.context v.items) c.replace-members.ensures.value))
+items_are : (g : _) (c : After-take_in g) → c.take_in.new.held.items ≡ change_at c.args.comm (λ y. record y { request = None }) c.self.inside.held.items ++
+    new_held (c.in-Some-place_in.index + 1) c.args.context c.args.group.now.items ∷ []
+items_are g c = c.take_in.ensures.items ∙ (ap (λ made. change_at c.args.comm (λ y. record y { request = None }) c.self.inside.held.items ++ made ∷ [])
+    (c.new-made.ensures ∙ ap (λ (v : _). new_held (c.in-Some-place_in.index + 1) c.args.context v.items) c.replace-members.ensures.value))
 
 pub invariant_of-self : goal.invariant_of-self
 invariant_of-self g c =
-    let fresh = subst (λ (own : Record). AllByRecursion (λ i. nat_eq i c.args.context ≡ false) (contexts_of own.held)) (sym c.self.view_is) c.requires.holds.fresh in
+    let fresh = subst (λ (own : Record). AllByRecursion (λ i. nat_eq i c.args.context ≡ false) (contexts_of own.held))
+    (sym c.self.view_is) c.requires.holds.fresh in
     record {
       below = c.self.invariant.below;
-      room = room_pushed _ _ _ _ c.args.comm (λ y. record y { request = None }) (new_held (c.in-Some-place_in.index + 1) c.args.context c.args.group.now.items) c.self.inside.held.items c.take_in.new.held.items c.self.invariant.room (λ y. refl)
+      room = room_pushed _ _ _ _ c.args.comm (λ y. record y { request = None }) (new_held (c.in-Some-place_in.index + 1) c.args.context c.args.group.now.items)
+          c.self.inside.held.items c.take_in.new.held.items c.self.invariant.room (λ y. refl)
           c.requires.holds.id fresh (items_are g (goal.at.invariant_of-self g c).After-take_in) c.take_in.ensures.room;
     }
 
 pub returns-clause-spawns : goal.returns-clause-spawns
 returns-clause-spawns g c = λ k is.
     let items = items_are g (goal.at.returns-clause-spawns g c).After-take_in in
-    let as_record : List Held → Record = λ hs. record { number = c.self.inside.number; limits = c.self.inside.limits; held = hs; seen = c.self.inside.seen.items; refused = c.self.inside.refused } in (
+    let as_record : List Held → Record = λ hs. record {
+      number = c.self.inside.number;
+      limits = c.self.inside.limits;
+      held = hs;
+      seen = c.self.inside.seen.items;
+      refused = c.self.inside.refused;
+    } in (
       made g (goal.at.returns-clause-spawns g c).In-Some-place_in k is,
       record {
         size_is = grind (arith, common_steps);
         record_is =
             ap as_record items
-            ∙ ap (λ (own : Record). let rest = closed own c.args.comm in record rest { held = rest.held ++ new_held (c.in-Some-place_in.index + 1) c.args.context c.args.group.now.items ∷ [] }) c.self.view_is;
+            ∙ ap (λ (own : Record). let rest = closed own c.args.comm in record rest {
+              held = rest.held ++ new_held
+                  (c.in-Some-place_in.index + 1) c.args.context c.args.group.now.items ∷ [];
+            }) c.self.view_is;
       },
     )

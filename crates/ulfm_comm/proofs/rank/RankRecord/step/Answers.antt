@@ -8,8 +8,16 @@ use Rattle.ulfm_comm.proofs.rank.RankRecord.step.Goals as goal
 use Rattle.ulfm_comm.proofs.rank.RankRecord.step.Goals.{After-go, After-go-arg-4-1}
 
 -- the call as its step takes it
-same : (g : _) (c : After-go-arg-4-1 g) → c.args.doing.now ≡ record { asked = c.doing.inside.asked; phase = c.replace-phase.result; group = c.doing.inside.group.items }
-same g c = sym c.doing.view_is ∙ ap (λ phase. record { asked = c.doing.inside.asked; phase = phase; group = c.doing.inside.group.items }) (sym c.replace-phase.ensures.value)
+same : (g : _) (c : After-go-arg-4-1 g) → c.args.doing.now ≡ record {
+  asked = c.doing.inside.asked;
+  phase = c.replace-phase.result;
+  group = c.doing.inside.group.items;
+}
+same g c = sym c.doing.view_is ∙ ap (λ phase. record {
+  asked = c.doing.inside.asked;
+  phase = phase;
+  group = c.doing.inside.group.items;
+}) (sym c.replace-phase.ensures.value)
 
 pub go-requires-clause-stands : goal.go-requires-clause-stands
 go-requires-clause-stands g c =
@@ -24,19 +32,23 @@ go-requires-clause-stands g c =
 
 -- what came of it
 pub turned : (g : _) (c : After-go g) → (alone : Bool) → (IsTrue alone → IsTrue g.W.Words.alone) → (old : Record) → (before stood : Sight g.row.P.Denot)
-    → Stands g.P.Meld.meld alone (g.W.Words.name c.args.world.now.words) old before c.args.doing.now c.args.self.now stood → Waits alone stood (g.W.Words.sight c.args.pass.now)
-    → NextIs g.P.Meld.meld alone (g.W.Words.name c.args.world.now.words) c.doing.inside.asked old before c.go.result c.go.new.group.items c.go.new.self (g.W.Words.sight c.go.new.pass)
+    → Stands g.P.Meld.meld alone (g.W.Words.name c.args.world.now.words) old before c.args.doing.now c.args.self.now stood
+    → Waits alone stood (g.W.Words.sight c.args.pass.now)
+    → NextIs g.P.Meld.meld alone (g.W.Words.name c.args.world.now.words) c.doing.inside.asked old before c.go.result c.go.new.group.items c.go.new.self
+    (g.W.Words.sight c.go.new.pass)
 turned g c alone only old before stood u waits =
     let name = g.W.Words.name c.args.world.now.words in
     let now = g.W.Words.sight c.args.pass.now in
     c.go.ensures.turn.turns alone only old before
-    (subst (λ (doing : UnderWay g.row.P.Denot). Stands g.P.Meld.meld alone name old before doing c.args.self.now now) (same g (goal.at.After-go g c).After-go-arg-4-1)
+    (subst (λ (doing : UnderWay g.row.P.Denot). Stands g.P.Meld.meld alone name old before doing c.args.self.now now)
+    (same g (goal.at.After-go g c).After-go-arg-4-1)
     (stands_lasts g.P.Meld.meld alone name old before c.args.doing.now c.args.self.now stood now u waits c.requires.of))
 
 pub returns-in-Goes-clause-stands : goal.returns-in-Goes-clause-stands
 returns-in-Goes-clause-stands g c =
     λ alone only old before stood u waits.
-    subst (λ next. NextIs g.P.Meld.meld alone (g.W.Words.name c.args.world.now.words) c.doing.inside.asked old before next c.go.new.group.items c.go.new.self (g.W.Words.sight c.go.new.pass)) c.in-Goes.is
+    subst (λ next. NextIs g.P.Meld.meld alone (g.W.Words.name c.args.world.now.words) c.doing.inside.asked old before next c.go.new.group.items c.go.new.self
+    (g.W.Words.sight c.go.new.pass)) c.in-Goes.is
     (turned g (goal.at.returns-in-Goes-clause-stands g c).After-go alone only old before stood u waits)
 
 pub returns-in-Ends-clause-stands : goal.returns-in-Ends-clause-stands
@@ -44,16 +56,19 @@ returns-in-Ends-clause-stands g c =
     λ alone only old before stood u waits.
     let name = g.W.Words.name c.args.world.now.words in
     let after = g.W.Words.sight c.go.new.pass in
-    subst (λ (a : Call g.row.P.Denot). Answered g.P.Meld.meld alone name a old before c.in-Ends.reply c.go.new.self after) (ap (λ (doing : UnderWay g.row.P.Denot). doing.asked) c.doing.view_is)
+    subst (λ (a : Call g.row.P.Denot). Answered g.P.Meld.meld alone name a old before c.in-Ends.reply c.go.new.self after)
+    (ap (λ (doing : UnderWay g.row.P.Denot). doing.asked) c.doing.view_is)
     (subst (λ next. NextIs g.P.Meld.meld alone name c.doing.inside.asked old before next c.go.new.group.items c.go.new.self after) c.in-Ends.is
     (turned g (goal.at.returns-in-Ends-clause-stands g c).After-go alone only old before stood u waits))
 
 -- what the step did
 stepped : (g : _) (c : After-go g)
-    → Stepped g.P.Meld.meld g.W.Words.alone (g.W.Words.name c.args.world.now.words) c.args.doing.now c.args.self.now (g.W.Words.sight c.args.pass.now) c.go.result c.go.new.self (g.W.Words.sight c.go.new.pass)
+    → Stepped g.P.Meld.meld g.W.Words.alone (g.W.Words.name c.args.world.now.words) c.args.doing.now c.args.self.now
+    (g.W.Words.sight c.args.pass.now) c.go.result c.go.new.self (g.W.Words.sight c.go.new.pass)
 stepped g c =
     let at = (goal.at.After-go g c).After-go-arg-4-1 in
-    subst (λ (was : UnderWay g.row.P.Denot). Stepped g.P.Meld.meld g.W.Words.alone (g.W.Words.name c.args.world.now.words) was c.args.self.now (g.W.Words.sight c.args.pass.now) c.go.result c.go.new.self (g.W.Words.sight c.go.new.pass))
+    subst (λ (was : UnderWay g.row.P.Denot). Stepped g.P.Meld.meld g.W.Words.alone (g.W.Words.name c.args.world.now.words) was c.args.self.now
+    (g.W.Words.sight c.args.pass.now) c.go.result c.go.new.self (g.W.Words.sight c.go.new.pass))
     (sym (same g at)) (record {
       of = c.go.ensures.turn.walks.of;
       onward = c.go.ensures.turn.walks.onward;
@@ -74,31 +89,38 @@ stepped g c =
 
 pub returns-in-Goes-clause-stepped : goal.returns-in-Goes-clause-stepped
 returns-in-Goes-clause-stepped g c =
-    subst (λ next. Stepped g.P.Meld.meld g.W.Words.alone (g.W.Words.name c.args.world.now.words) c.args.doing.now c.args.self.now (g.W.Words.sight c.args.pass.now) next c.go.new.self (g.W.Words.sight c.go.new.pass)) c.in-Goes.is
+    subst (λ next. Stepped g.P.Meld.meld g.W.Words.alone (g.W.Words.name c.args.world.now.words) c.args.doing.now c.args.self.now
+    (g.W.Words.sight c.args.pass.now) next c.go.new.self (g.W.Words.sight c.go.new.pass)) c.in-Goes.is
     (stepped g (goal.at.returns-in-Goes-clause-stepped g c).After-go)
 
 pub returns-in-Ends-clause-stepped : goal.returns-in-Ends-clause-stepped
 returns-in-Ends-clause-stepped g c =
-    subst (λ next. Stepped g.P.Meld.meld g.W.Words.alone (g.W.Words.name c.args.world.now.words) c.args.doing.now c.args.self.now (g.W.Words.sight c.args.pass.now) next c.go.new.self (g.W.Words.sight c.go.new.pass)) c.in-Ends.is
+    subst (λ next. Stepped g.P.Meld.meld g.W.Words.alone (g.W.Words.name c.args.world.now.words) c.args.doing.now c.args.self.now
+    (g.W.Words.sight c.args.pass.now) next c.go.new.self (g.W.Words.sight c.go.new.pass)) c.in-Ends.is
     (stepped g (goal.at.returns-in-Ends-clause-stepped g c).After-go)
 
 -- what it spent
 spent : (g : _) (c : After-go g)
-    → Spends (steps_left (g.W.Words.name c.args.world.now.words).limits c.args.self.now c.args.doing.now.asked c.args.doing.now.phase) (g.W.Words.name c.args.world.now.words).limits c.go.new.self c.args.doing.now.asked c.go.result (g.W.Words.sight c.args.pass.now) (g.W.Words.sight c.go.new.pass)
+    → Spends (steps_left (g.W.Words.name c.args.world.now.words).limits c.args.self.now c.args.doing.now.asked c.args.doing.now.phase)
+    (g.W.Words.name c.args.world.now.words).limits c.go.new.self c.args.doing.now.asked c.go.result (g.W.Words.sight c.args.pass.now)
+    (g.W.Words.sight c.go.new.pass)
 spent g c =
     let limits = (g.W.Words.name c.args.world.now.words).limits in
     let at = (goal.at.After-go g c).After-go-arg-4-1 in
-    subst (λ (was : UnderWay g.row.P.Denot). Spends (steps_left limits c.args.self.now was.asked was.phase) limits c.go.new.self was.asked c.go.result (g.W.Words.sight c.args.pass.now) (g.W.Words.sight c.go.new.pass))
+    subst (λ (was : UnderWay g.row.P.Denot). Spends (steps_left limits c.args.self.now was.asked was.phase) limits c.go.new.self was.asked c.go.result
+    (g.W.Words.sight c.args.pass.now) (g.W.Words.sight c.go.new.pass))
     (sym (same g at)) c.go.ensures.turn.spends
 
 pub returns-in-Goes-clause-spends : goal.returns-in-Goes-clause-spends
 returns-in-Goes-clause-spends g c =
     let limits = (g.W.Words.name c.args.world.now.words).limits in
-    subst (λ next. Spends (steps_left limits c.args.self.now c.args.doing.now.asked c.args.doing.now.phase) limits c.go.new.self c.args.doing.now.asked next (g.W.Words.sight c.args.pass.now) (g.W.Words.sight c.go.new.pass)) c.in-Goes.is
+    subst (λ next. Spends (steps_left limits c.args.self.now c.args.doing.now.asked c.args.doing.now.phase) limits c.go.new.self c.args.doing.now.asked next
+    (g.W.Words.sight c.args.pass.now) (g.W.Words.sight c.go.new.pass)) c.in-Goes.is
     (spent g (goal.at.returns-in-Goes-clause-spends g c).After-go)
 
 pub returns-in-Ends-clause-spends : goal.returns-in-Ends-clause-spends
 returns-in-Ends-clause-spends g c =
     let limits = (g.W.Words.name c.args.world.now.words).limits in
-    subst (λ next. Spends (steps_left limits c.args.self.now c.args.doing.now.asked c.args.doing.now.phase) limits c.go.new.self c.args.doing.now.asked next (g.W.Words.sight c.args.pass.now) (g.W.Words.sight c.go.new.pass)) c.in-Ends.is
+    subst (λ next. Spends (steps_left limits c.args.self.now c.args.doing.now.asked c.args.doing.now.phase) limits c.go.new.self c.args.doing.now.asked next
+    (g.W.Words.sight c.args.pass.now) (g.W.Words.sight c.go.new.pass)) c.in-Ends.is
     (spent g (goal.at.returns-in-Ends-clause-spends g c).After-go)

@@ -9,7 +9,8 @@ pub returns-then-rank-limits : goal.returns-then-rank-limits
 returns-then-rank-limits g c =
     let pass = g.W.Words.sight c.args.pass.now in
     let ranks : c.limits.result.ranks ≡ (g.W.Words.name c.args.self.now.words).limits.ranks = ap (λ l. l.ranks) c.limits.ensures.limits in
-    fail_missing g.P.Meld.meld g.W.Words.alone (g.W.Words.name c.args.self.now.words) c.args.rank pass pass c.requires.of (omega (arith, c.if-rank-limits.true)) refl
+    fail_missing g.P.Meld.meld g.W.Words.alone (g.W.Words.name c.args.self.now.words) c.args.rank pass pass c.requires.of
+    (omega (arith, c.if-rank-limits.true)) refl
 
 pub finish-requires-clause-may : goal.finish-requires-clause-may
 finish-requires-clause-may g c =
@@ -27,15 +28,18 @@ below g c =
 
 pub returns-in-Won : goal.returns-in-Won
 returns-in-Won g c =
-    fail_won g.P.Meld.meld g.W.Words.alone (g.W.Words.name c.args.self.now.words) c.args.rank (g.W.Words.sight c.args.pass.now) (g.W.Words.sight c.finish.new.pass) c.in-Won.field-0
+    fail_won g.P.Meld.meld g.W.Words.alone (g.W.Words.name c.args.self.now.words) c.args.rank (g.W.Words.sight c.args.pass.now)
+    (g.W.Words.sight c.finish.new.pass) c.in-Won.field-0
     (below g (goal.at.returns-in-Won g c).After-finish) (rw c.new-append.ensures at c.in-Won.ensures)
 
 pub returns-in-Found : goal.returns-in-Found
 returns-in-Found g c =
-    fail_found g.P.Meld.meld g.W.Words.alone (g.W.Words.name c.args.self.now.words) c.args.rank (g.W.Words.sight c.args.pass.now) (g.W.Words.sight c.finish.new.pass) c.in-Found.field-0
+    fail_found g.P.Meld.meld g.W.Words.alone (g.W.Words.name c.args.self.now.words) c.args.rank (g.W.Words.sight c.args.pass.now)
+    (g.W.Words.sight c.finish.new.pass) c.in-Found.field-0
     (below g (goal.at.returns-in-Found g c).After-finish) (rw c.new-append.ensures at c.in-Found.ensures)
 
 pub returns-in-Full : goal.returns-in-Full
 returns-in-Full g c =
-    fail_full g.P.Meld.meld g.W.Words.alone (g.W.Words.name c.args.self.now.words) c.args.rank (g.W.Words.sight c.args.pass.now) (g.W.Words.sight c.finish.new.pass)
+    fail_full g.P.Meld.meld g.W.Words.alone (g.W.Words.name c.args.self.now.words) c.args.rank (g.W.Words.sight c.args.pass.now)
+    (g.W.Words.sight c.finish.new.pass)
     (below g (goal.at.returns-in-Full g c).After-finish) (rw c.new-append.ensures at c.in-Full.ensures)
