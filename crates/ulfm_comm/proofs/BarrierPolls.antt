@@ -1,7 +1,6 @@
 -- What the poll of a barrier promises.
 use Rattle.std.proofs.Common.{◌≡◌, ◌⊎◌, ℕ, ◌<◌, ◌≤◌, Bool, true, false, not, List, [], ◌∷◌, filter, Some, is_some, refl, ap, ap₂, sym, ◌∙◌, subst, arith, inl}
 use Rattle.std.proofs.Common.{inr, if◌then◌else◌}
-use Rattle.std.specs.Prelude.{Err}
 use Rattle.std.specs.List.{list_all}
 use Rattle.std.proofs.lemmas.List.Elements.{Contains-push_cases}
 use Rattle.ulfm_model.specs.declared.call.Call.TheVariants as call

@@ -1,15 +1,15 @@
 -- What a call knows of its round's blocks, as it goes on.
-use Rattle.std.proofs.Common.{◌≡◌, ◌⊎◌, inl, inr, ℕ, ◌<◌, ◌≤◌, Bool, true, false, List, [], length, Option, Some, None, IsTrue, is_some, refl, ap, sym, ◌∙◌}
+use Rattle.std.proofs.Common.{◌≡◌, ◌⊎◌, inl, inr, ℕ, Bool, true, false, List, [], Some, None, IsTrue, is_some, refl, ap, sym, ◌∙◌}
 use Rattle.std.proofs.Common.{subst, append-nil, arith}
 use Rattle.std.specs.Prelude.{Result, Ok, Err}
 use Rattle.std.proofs.lemmas.Bool.{false≢true}
 use mathlib.Core.List.{IsPrefix}
 use Rattle.ulfm_model.specs.declared.call.Call.TheVariants as call
-use Rattle.ulfm_model.specs.declared.{block.Block.{Block}, block.Side.{Side}, block.Side.TheVariants.{Front, Back}, call.Call.{Call}, call.Request.{Request}}
+use Rattle.ulfm_model.specs.declared.{block.Block.{Block}, block.Side.TheVariants.{Front, Back}, call.Call.{Call}}
 use Rattle.ulfm_model.specs.declared.{call.Request.TheVariants.{Agree, Shrink}, contribution.Slot.{Slot}, contribution.Slot.TheVariants.{Given, Mark}}
 use Rattle.ulfm_model.specs.declared.{refusal.Refusal.{Refusal}, refusal.Refusal.TheVariants.{OutOfMemory}, reply.Reply.{Reply}}
 use Rattle.ulfm_model.specs.declared.reply.Reply.TheVariants.{Refused, Started}
-use Rattle.ulfm_model.specs.{Answers.{first_refusal, polled_by}, Blocks.{IsSide, has_block}, Records.{Held, Record, held_at, is_shrink}}
+use Rattle.ulfm_model.specs.{Answers.{first_refusal, polled_by}, Records.{Held, Record, held_at, is_shrink}}
 use Rattle.ulfm_model.specs.Terms.{comm_of, request_of, tests_of}
 use Rattle.ulfm_model.proofs.{Blocks.{has_block_stays}, Lists.{prefix_trans}}
 use Rattle.ulfm_words.specs.Steps.{Name, Sight}

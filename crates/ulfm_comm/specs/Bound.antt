@@ -1,5 +1,5 @@
 -- How many atomic steps a call of a rank makes at most, whatever the others do.
-use Rattle.std.specs.Prelude.{◌≡◌, ℕ, ◌+◌, ◌-◌, ◌*◌, ◌≤◌, Bool, List, length, Option, Some, None, is_some, if◌then◌else◌}
+use Rattle.std.specs.Prelude.{ℕ, ◌+◌, ◌-◌, ◌*◌, ◌≤◌, length, Option, Some, None, is_some, if◌then◌else◌}
 use Rattle.ulfm_model.specs.declared.call.Call.TheVariants as call
 use Rattle.ulfm_model.specs.declared.{call.Call.{Call}, call.Request.{Request}, call.Request.TheVariants.{Agree, Shrink, Barrier}, limits.Limits.{Limits}}
 use Rattle.ulfm_model.specs.{Answers.{refusal_of}, Records.{Record, held_at}}

@@ -1,5 +1,5 @@
 -- What a call knows of the blocks of its round.
-use Rattle.std.specs.Prelude.{◌≡◌, ℕ, List, ⊤}
+use Rattle.std.specs.Prelude.{List, ⊤}
 use Rattle.ulfm_model.specs.declared.{block.Block.{Block}, call.Call.{Call}}
 use Rattle.ulfm_model.specs.Records.{Record}
 use Rattle.ulfm_steps.specs.Blocks.{AreSet}

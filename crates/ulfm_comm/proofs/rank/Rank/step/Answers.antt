@@ -1,5 +1,4 @@
 use Rattle.std.proofs.Common.{◌≡◌, Bool, ap, refl, sym, ◌∙◌, subst, false}
-use Rattle.ulfm_model.specs.declared.call.Call.{Call}
 use Rattle.ulfm_model.specs.Records.{Record}
 use Rattle.ulfm_words.specs.Steps.{Name, Sight}
 use Rattle.ulfm_comm.specs.{Counts.{Counted, Ranked}, Phase.{Answered, Stands, UnderWay}, Step.{Stepped}}

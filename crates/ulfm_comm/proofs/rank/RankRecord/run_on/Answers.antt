@@ -1,12 +1,10 @@
-use Rattle.std.proofs.Common.{rules, ◌≡◌, ◌⊎◌, ◌≤◌, inl, ℕ, Bool, true, false, IsTrue, [], arith, refl, append-nil, ap, subst, sym, ◌∙◌}
+use Rattle.std.proofs.Common.{rules, ◌≡◌, ◌⊎◌, ◌≤◌, inl, ℕ, false, [], arith, refl, append-nil, ap, subst, sym, ◌∙◌}
 use Rattle.std.proofs.lemmas.Bool.{false≢true}
-use mathlib.Core.List.{IsPrefix}
 use Rattle.ulfm_model.specs.{Answers.{polled_by}, Records.{Record, held_at, is_shrink}}
 use Rattle.ulfm_model.proofs.Lists.{prefix_trans}
 use Rattle.ulfm_words.proofs.Trails.{did_prefix}
 use Rattle.ulfm_comm.specs.{AlsoLeft.{AlsoSpends, also_left}, Known.{KnowsIn, KnowsNext}, Phase.{IsPast, NextBelow, NextIs, left}, Requests.{may_cache}}
 use Rattle.ulfm_comm.specs.{Step.{HasReadOn}, StepsLeft.{Spends, steps_left}}
-use Rattle.ulfm_comm.specs.declared.phases.phase.Next.{Next}
 use Rattle.ulfm_comm.proofs.{AlsoLeft.{also_behind, also_first, also_on}, Known.{knows_same, leads_past, next_same, sees_next}}
 use Rattle.ulfm_comm.proofs.Stands.{stands_own, stands_shrinks}
 use Rattle.ulfm_comm.proofs.rank.RankRecord.run_on.Goals as goal
