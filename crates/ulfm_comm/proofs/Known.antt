@@ -55,7 +55,7 @@ pub round_known : {P : Type 0} (own : Record) (asked : Call P) (rank : ℕ) → 
     → (c : ℕ) → c ≡ comm_of asked → (members : List ℕ) → members ≡ x.group → (cached : List Block) → AllSet cached c k members → BlocksStand own asked cached
 round_known {P} own asked rank polls x held shrinks k open_is c there members members_are cached all =
     let here : AllSet cached (comm_of asked) k x.group = subst (λ ms. AllSet cached (comm_of asked) k ms) members_are
-        (subst (λ j. AllSet cached j k members) there all) in
+    (subst (λ j. AllSet cached j k members) there all) in
     subst (λ (a : Call P). BlocksStand own a cached) (sym polls)
     (λ y other j held' open'.
     let both : Some x ≡ Some y = sym held ∙ held' in
@@ -196,8 +196,10 @@ reads_on _ = false
 module _ {P : Type 0} (own : Record) (asked : Call P) (cached longer : List Block) (begins : IsPrefix cached longer) (start mid new : List ℕ) where
   still_read_on : HasReadOn own asked start mid cached → new ≡ mid → HasReadOn own asked start new longer
   still_read_on read same = record {
-      shrinks = read.shrinks; goes_on = subst (IsPrefix start) (sym same) read.goes_on; known = blocks_later own asked cached longer begins read.known;
-    }
+    shrinks = read.shrinks;
+    goes_on = subst (IsPrefix start) (sym same) read.goes_on;
+    known = blocks_later own asked cached longer begins read.known;
+  }
 
   sees_still : (mid ≡ start) ⊎ HasReadOn own asked start mid cached → new ≡ mid → (new ≡ start) ⊎ HasReadOn own asked start new longer
   sees_still (inl none) same = inl (same ∙ none)
@@ -235,10 +237,25 @@ module _ {P : Type 0} (meld : P → P → P) (alone : Bool) (name : Name) (asked
     where
       go : (b : Bool) → wants_memory reply ≡ b → RepliedAs meld alone name asked old before reply b new after
           → EndsAs meld alone name asked old before reply b new after
-      go true wants ended = (record {
-      of = ended.0.of; onward = ended.0.onward; fits = ended.0.fits; run_out = ended.0.run_out; cached = begins; caches = caches; knows = knows
-          (memory_of_round reply wants);
-    }, ended.1)
+      go true wants ended = (
+        record {
+          of = ended.0.of;
+          onward = ended.0.onward;
+          fits = ended.0.fits;
+          run_out = ended.0.run_out;
+          cached = begins;
+          caches = caches;
+          knows = knows
+              (memory_of_round reply wants);
+        },
+        ended.1,
+      )
       go false wants ended = record {
-      of = ended.of; onward = ended.onward; fits = ended.fits; ends = ended.ends; cached = begins; caches = caches; knows = knows;
-    }
+        of = ended.of;
+        onward = ended.onward;
+        fits = ended.fits;
+        ends = ended.ends;
+        cached = begins;
+        caches = caches;
+        knows = knows;
+      }

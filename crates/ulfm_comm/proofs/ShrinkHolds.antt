@@ -27,8 +27,14 @@ module _ {P : Type 0} (meld : P → P → P) (alone : Bool) (name : Name) (c : �
           let is = run.answer.leaves.record_is in
           let now : Record = record old { seen = new.seen } in
           let y : Held = record {
-      comm = j; group = members name.limits.ranks run.span.point j; context = context; acked = 0; next_agreement = 0; next_barrier = 0; request = None;
-    } in
+            comm = j;
+            group = members name.limits.ranks run.span.point j;
+            context = context;
+            acked = 0;
+            next_agreement = 0;
+            next_barrier = 0;
+            request = None;
+          } in
           let last = found_last (λ x. x.comm == j) (closed now c).held y (grind (arith, nat_tests)) in
           (last.0, ap (λ (r : Record). held_at r j) is ∙ last.1)
 

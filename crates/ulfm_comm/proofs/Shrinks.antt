@@ -94,7 +94,7 @@ module _ {P : Type 0} (meld : P → P → P) (limits : Limits) (alone : Bool) (b
       → IsEndRun meld limits alone before h old poll (Refused Mismatch) new
   shrink_mismatch new other left =
       replied_here (Refused Mismatch) new (inr (body_read meld limits h mid c k x p.legal still p.held all read ∙ masked_clash all.body masked other, refl))
-          left
+      left
 
   -- no context id is free at all
   pub shrink_no_context : (mask : CtxMask) (new : Record) → all.body ≡ OfIds mask → mask.bits ≡ 0 → new ≡ closed mid c
@@ -116,7 +116,7 @@ module _ {P : Type 0} (meld : P → P → P) (limits : Limits) (alone : Bool) (b
         group_read meld limits h mid c k x p.legal still p.held all read
         ∙ (sym (take_begins all.known.count (failed limits.ranks h c) (failed limits.ranks after c) more enough)
         ∙ (ap (take all.known.count) (sym (failed_is meld limits after mid c x fits_after p.held)) ∙ reached_first x.group all.known.count mid.seen seen
-            (failures after) reach reads))
+        (failures after) reach reads))
 
     -- what happened then up to the end
     module _ (own : List (Event P)) (ending : History P) (did : Did alone (entries_by (Rank old.number) own) after ending) (first : Did alone [] h after)
@@ -138,22 +138,28 @@ module _ {P : Type 0} (meld : P → P → P) (limits : Limits) (alone : Bool) (b
           let mine : AllByRecursion (PollAdds (failures p.look) x (Some (Shrink k))) events =
           each_append (PollAdds (failures p.look) x (Some (Shrink k))) p.marks.own own (declared meld limits alone before old mid c true k x h p)
           (each_from (λ event. (i : ℕ) × (event ≡ Spawn i c k)) (PollAdds (failures p.look) x (Some (Shrink k)))
-              (λ event made. inr (made.0, made.1 ∙ ap (λ w. Spawn made.0 w k) (sym here))) own makes) in
+          (λ event made. inr (made.0, made.1 ∙ ap (λ w. Spawn made.0 w k) (sym here))) own makes) in
           each_from (PollAdds (failures p.look) x (Some (Shrink k))) (MayOwn (failures p.look) old poll)
           (λ event added.
           record {
             not_declared = p.looked.not_declared;
             not_refused = not_refused meld limits alone before old mid c true k x h p;
-            adds = (x, held_first meld limits alone before old mid c true k x h p, subst (λ request. PollAdds (failures p.look) x request event)
-                (sym p.open_is) added);
+            adds = (
+              x,
+              held_first meld limits alone before old mid c true k x h p,
+              subst (λ request. PollAdds (failures p.look) x request event)
+                  (sym p.open_is) added,
+            );
           }) events mine
 
       pub sees_on : Sees (is_shrink (polled_by old poll)) (failures p.look) ending seen
       sees_on =
           let to_end = failures_begin after ending (did_prefix alone (entries_by (Rank old.number) own) after ending did) in
-          subst (λ request. Sees (is_shrink request) (failures p.look) ending seen) (sym (polls_it meld limits alone before old mid c true k x h p))
-          (subst (λ s. IsPrefix s seen) (ap (λ (w : Record). w.seen) p.looked.record_is) reads.goes_on, prefix_trans seen (failures after)
-              (failures ending) reads.begins to_end)
+          subst (λ request. Sees (is_shrink request) (failures p.look) ending seen) (sym (polls_it meld limits alone before old mid c true k x h p)) (
+            subst (λ s. IsPrefix s seen) (ap (λ (w : Record). w.seen) p.looked.record_is) reads.goes_on,
+            prefix_trans seen (failures after)
+                (failures ending) reads.begins to_end,
+          )
 
       ends_so : (reply : Reply P) (new : Record) → IsSelfFailed view old poll reply ⊎ IsReply meld limits view old poll reply
           → new ≡ left_by limits.ranks ending (record mid { seen = seen }) poll reply → IsEndRun meld limits alone before ending old poll reply new
@@ -181,7 +187,7 @@ module _ {P : Type 0} (meld : P → P → P) (limits : Limits) (alone : Bool) (b
             not_declared = p.looked.not_declared;
             replies =
                 subst (λ held. RepliesBy meld limits view old held poll reply (refusal_of old poll))
-                    (sym (held_first meld limits alone before old mid c true k x h p))
+                (sym (held_first meld limits alone before old mid c true k x h p))
                 (subst (RepliesBy meld limits view old (Some x) poll reply) (sym (not_refused meld limits alone before old mid c true k x h p))
                 (subst (λ request. PollReplies meld limits view old.number x request reply) (sym p.open_is) polled));
           }
@@ -203,9 +209,11 @@ module _ {P : Type 0} (meld : P → P → P) (limits : Limits) (alone : Bool) (b
           let to_end = failures_begin after ending (did_prefix alone (entries_by (Rank old.number) own) after ending did) in
           ends_so (Refused SelfFailed) new
           (inl (record {
-      reply_is = refl; declared = has_prefix seen (failures ending) old.number (prefix_trans seen (failures after) (failures ending) reads.begins to_end)
-          (has_first reach seen old.number among); adds_nothing = λ y starts. absurd (cc starts);
-    }))
+            reply_is = refl;
+            declared = has_prefix seen (failures ending) old.number (prefix_trans seen (failures after) (failures ending) reads.begins to_end)
+                (has_first reach seen old.number among);
+            adds_nothing = λ y starts. absurd (cc starts);
+          }))
           left
 
       module _ (mask : CtxMask) (body : all.body ≡ OfIds mask) (some : 0 < mask.bits) (out : IsFalse (has (take reach seen) old.number)) where
@@ -222,18 +230,20 @@ module _ {P : Type 0} (meld : P → P → P) (limits : Limits) (alone : Bool) (b
         -- it is made, and the rank holds it
         pub shrink_shrunk : (j context size : ℕ) (new : Record) → 0 < j → slice_get (spawns ending) (j - 1) ≡ Some (c, k) → IsLowestId mask.bits context
             → size ≡ length (without x.group (take reach seen))
-            → new ≡ (let rest = closed (record mid { seen = seen }) c in record rest { held = rest.held ++ new_held j context
-                (without x.group (take reach seen)) ∷ [] })
+            → new ≡ (let rest = closed (record mid { seen = seen }) c in record rest {
+              held = rest.held ++ new_held j context
+                  (without x.group (take reach seen)) ∷ [];
+            })
             → IsEndRun meld limits alone before ending old poll (Shrunk j context size) new
         shrink_shrunk j context size new there made lowest counted left =
             let spawned = members_of_spawned meld limits ending end_legal (j - 1) c k made in
             let number : j - 1 + 1 ≡ j = omega (arith, there) in
             let parent : members limits.ranks ending c ≡ x.group = sym (group_is meld limits ending mid c x
-                (fits_stays meld limits h ending mid end_begins end_legal still) p.held) in
+            (fits_stays meld limits h ending mid end_begins end_legal still) p.held) in
             let group : members limits.ranks ending j ≡ without x.group (take reach seen) =
             ap (members limits.ranks ending) (sym number) ∙ (spawned.group ∙ (ap₂ without parent left_then ∙ without_among x.group (take reach seen))) in
             let as_reply : ℕ → Reply P = λ n. Shrunk j context n in
             let same : as_reply size ≡ as_reply (length (members limits.ranks ending j)) = ap as_reply (counted ∙ ap length (sym group)) in
             ends_so (Shrunk j context size) new (inr (replied_then (Shrunk j context size)
-                (inl (mask, body_then ∙ body, inr (some, stays_in out, inl (j, context, there, made, lowest, same))))))
+            (inl (mask, body_then ∙ body, inr (some, stays_in out, inl (j, context, there, made, lowest, same))))))
             (left ∙ ap (λ ms. let rest = closed (record mid { seen = seen }) c in record rest { held = rest.held ++ new_held j context ms ∷ [] }) (sym group))
