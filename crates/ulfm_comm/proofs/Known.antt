@@ -245,8 +245,7 @@ module _ {P : Type 0} (meld : P → P → P) (alone : Bool) (name : Name) (asked
           run_out = ended.0.run_out;
           cached = begins;
           caches = caches;
-          knows = knows
-              (memory_of_round reply wants);
+          knows = knows (memory_of_round reply wants);
         },
         ended.1,
       )

@@ -231,8 +231,7 @@ module _ {P : Type 0} (meld : P → P → P) (limits : Limits) (alone : Bool) (b
         pub shrink_shrunk : (j context size : ℕ) (new : Record) → 0 < j → slice_get (spawns ending) (j - 1) ≡ Some (c, k) → IsLowestId mask.bits context
             → size ≡ length (without x.group (take reach seen))
             → new ≡ (let rest = closed (record mid { seen = seen }) c in record rest {
-              held = rest.held ++ new_held j context
-                  (without x.group (take reach seen)) ∷ [];
+              held = rest.held ++ new_held j context (without x.group (take reach seen)) ∷ [];
             })
             → IsEndRun meld limits alone before ending old poll (Shrunk j context size) new
         shrink_shrunk j context size new there made lowest counted left =

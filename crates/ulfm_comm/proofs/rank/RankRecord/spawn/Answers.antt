@@ -100,8 +100,7 @@ returns-clause-spawns g c = λ k is.
         record_is =
             ap as_record items
             ∙ ap (λ (own : Record). let rest = closed own c.args.comm in record rest {
-              held = rest.held ++ new_held
-                  (c.in-Some-place_in.index + 1) c.args.context c.args.group.now.items ∷ [];
+              held = rest.held ++ new_held (c.in-Some-place_in.index + 1) c.args.context c.args.group.now.items ∷ [];
             }) c.self.view_is;
       },
     )
