@@ -1,6 +1,7 @@
 -- What the poll of a barrier finds at its last load of an arrival, and how it is answered after that.
 use Rattle.std.specs.Prelude.{◌≡◌, Bool, IsTrue, ⊤}
-use Rattle.ulfm_model.specs.declared.{call.Call.TheVariants as call, reply.Reply.{Reply}}
+use Rattle.ulfm_model.specs.declared.call.Call.TheVariants as call
+use Rattle.ulfm_model.specs.declared.reply.Reply.{Reply}
 use Rattle.ulfm_model.specs.{History.{History}, Records.{Fits, Record}, Terms.{comm_of}}
 use Rattle.ulfm_words.specs.Steps.{Name, Sight}
 use Rattle.ulfm_steps.specs.declared.arrivals.Missing.{Missing}

@@ -12,7 +12,7 @@ use Rattle.ulfm_words.specs.Steps.{IsOf, Name, Sight}
 use Rattle.ulfm_model.specs.Blocks.{IsSummed}
 use Rattle.ulfm_words.specs.declared.step.Site.{Site}
 use Rattle.ulfm_steps.specs.Marks.{Marks}
-use Rattle.ulfm_comm.specs.{Calls.{Calls, EndsBy, is_out_of_memory, reply_of}, Look.{Looked}, Requests.{LeavesSet, agreement}}
+use Rattle.ulfm_comm.specs.{Calls.{Calls, EndsBy, is_out_of_memory, reply_of}, Look.{Looked}, Requests.{LeavesSet, agreement, may_cache}}
 use Rattle.ulfm_comm.specs.declared.{calls.polled.Polled.{Polled}, calls.polled.Polled.TheVariants.{Agreed, Done, Pending, Shrunk}}
 
 -- no barrier is open: an agree, a shrink, or nothing
