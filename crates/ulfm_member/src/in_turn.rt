@@ -40,7 +40,7 @@ where
     W: OpenWords<P, A>,
     requires { first.old.name ≡ second.old.name }
     ensures first { MemberPolls P.meld W.alone comm first.old result.0 first.new }
-    ensures second { PollsTold P.meld W.alone comm second.old result.1 second.new }
+    ensures second { PollsTold P.meld W.alone W.tells_all comm first.new second.old result.1 second.new }
     ensures short { IsTrue W.tells_all → IsShort comm first.old result.0 second.old second.new }
 {
     first.known_fit();

@@ -1,5 +1,5 @@
 // A whole declaration.
-ghost use Rattle.std.specs.Prelude.{◌≡◌, ◌≤◌};
+ghost use Rattle.std.specs.Prelude.{◌≡◌, ◌+◌, ◌*◌, ◌≤◌};
 ghost use Rattle.ulfm_words.specs.{Pass.{plain_name}, Steps.{IsOf}};
 ghost use Rattle.ulfm_comm.specs.{Calls.{reply_of}, Fails.{declared}};
 ghost use Rattle.ulfm_stepping.specs.Failing.{TellsFail};
@@ -20,6 +20,7 @@ pub fn fail_whole<P: Packed, A: Allocator + Copy + Drop>(
     requires of { IsOf P.meld (plain_name world.now.words.limits) pass.old }
     ensures of { IsOf P.meld (plain_name world.now.words.limits) pass.new }
     ensures onward { pass.old.steps ≤ pass.new.steps }
+    ensures few { pass.new.steps ≤ pass.old.steps + 2 * world.now.words.limits.ranks }
     ensures tells { TellsFail P.meld (plain_name world.now.words.limits) rank pass.old (reply_of declared result) pass.new }
 {
     world.fail(pass, rank)

@@ -109,6 +109,7 @@ impl<'a, W: Words<P, A>, P: Packed, A: Allocator + Copy> Future for AgreeFuture<
         ensures pends { OnPending result (Pends P.meld W.alone self.old self.new) }
         ensures ends { IfReady result (λ out. Ends P.meld W.alone self.old out.2 out.1 (W.sight out.0) self.new) }
         ensures woken { OnPending result (cx.new.is_woken ≡ true) }
+        ensures asleep { IfReady result (λ _. cx.new ≡ cx.old) }
         ensures value { IfReady result (⟦<AgreeFuture<'a, W, P, A> as Future>⟧.gives self.old) }
         ensures again { OnPending result (⟦<AgreeFuture<'a, W, P, A> as Future>⟧.can_poll self.new) }
         ensures same { OnPending result ((out : _) → ⟦<AgreeFuture<'a, W, P, A> as Future>⟧.gives self.new out

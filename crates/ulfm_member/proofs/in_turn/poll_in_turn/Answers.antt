@@ -6,7 +6,13 @@ pub learn-requires : goal.learn-requires
 learn-requires g c = c.told.ensures.name_is ∙ (c.poll-answer.ensures.words ∙ c.requires)
 
 pub returns-clause-second : goal.returns-clause-second
-returns-clause-second g c = record { told = g.W.OpenWords.heard c.told.result; mid = c.learn.new.self; learns = c.learn.ensures; polls = c.poll.ensures }
+returns-clause-second g c = record {
+  told = g.W.OpenWords.heard c.told.result;
+  tells = c.told.ensures;
+  mid = c.learn.new.self;
+  learns = c.learn.ensures;
+  polls = c.poll.ensures;
+}
 
 pub returns-clause-short : goal.returns-clause-short
 returns-clause-short g c =
