@@ -196,6 +196,11 @@ none_taken (Some us) (Some vs) None kept done n e none some h k = absurd k
 none_taken (Some us) (Some vs) (Some ws) kept [] n e none some h k = k ∙ sym h
 none_taken (Some us) (Some vs) (Some ws) kept (x ∷ xs) n e none some h k = absurd (omega (arith, ap length e, length-take n (x ∷ xs)))
 
+-- a list without length is empty
+pub no_items : (xs : List ℕ) → length xs ≡ 0 → xs ≡ []
+no_items [] e = refl
+no_items (x ∷ xs) e = absurd (omega (arith, e))
+
 -- nothing is kept of nothing
 pub none_kept : (kept : List ℕ) (n : ℕ) → kept ≡ [] → kept ≡ take n []
 none_kept kept n e = e ∙ sym (take_all n [] (omega arith))

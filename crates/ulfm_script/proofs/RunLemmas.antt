@@ -10,10 +10,10 @@ use Rattle.ulfm_script.specs.declared.line_kind.LineKind.TheVariants.{Cut, Heade
 use Rattle.ulfm_script.specs.declared.fault.RunFault.{RunFault}
 use Rattle.ulfm_script.specs.declared.fault.RunFault.TheVariants.{Line, Memory, Read, Write}
 use Rattle.ulfm_script.specs.{Buffers.{Drains, HasNoNewline, IsOfLine, Puts, TakesLine}, Headers.{header_of}, Written.{Begins, Holds, WritesPart}}
-use Rattle.ulfm_script.specs.Ends.{Claim, EndsAlone, EndsThrough, EndsUpTo, FindsFault, HasFault, HasRunAll, IsOpened, IsTextOf, Known, Opens, PrintsAll, PrintsFrom, PrintsSome, RunEnd, RunsAll, RunsLine, Stage, StopsInLine, StopsInOutput, TakesItem}
-use Rattle.ulfm_script.specs.Scripts.{Asked, Language, Script, asked_last, asked_then, header_at, item_at, script_of, stopped, without_header}
+use Rattle.ulfm_script.specs.Ends.{Claim, EndsAlone, EndsThrough, EndsUpTo, FindsFault, HasFault, HasRunAll, IsOpened, IsTextOf, Known, Opens, PrintsAll, PrintsFrom, PrintsSome, RunEnd, RunsAll, RunsLine, Stage, StopsInLine, StopsInOutput, TakesItem, TakesUpTo}
+use Rattle.ulfm_script.specs.Scripts.{Asked, Language, Script, asked_last, asked_then, header_at, item_at, lines_from, rest_from, script_of, stopped, without_header}
 use Rattle.ulfm_script.proofs.ByteLemmas.{appends_start, appends_then, consumes_keeps, consumes_start, consumes_then, end_behind, taken_of_reader}
-use Rattle.ulfm_script.proofs.ScriptLemmas.{BeginsWith, Comes, asked_from, before_last, comes_cut, comes_end, comes_fault, comes_first, comes_on, comes_unopened, ended_script, going, kept_header, line_comes, no_header, plain_item, script_begins}
+use Rattle.ulfm_script.proofs.ScriptLemmas.{BeginsWith, Comes, asked_from, before_last, comes_cut, comes_end, comes_fault, comes_first, comes_on, comes_unopened, count_on, ended_script, going, kept_header, line_comes, no_header, one_line, one_line_whole, plain_item, script_begins, whole_on}
 
 -- a text that begins with what was taken
 text_of : (a b : Option (List ℕ)) (done : List ℕ) → Consumes a b done → (rest : List ℕ) × IsTextOf a (done ++ rest)
@@ -80,6 +80,24 @@ pub record Going (lang : Language) (HasRun : Stage lang) (known b old mid : Know
   pub has_run : HasRun limits items out
   pub prints : lang.Prints limits items out
   pub counted : number ≡ length items + 2
+  pub whole : rest_from [] done ≡ []
+  pub lines : length (lines_from [] done) + 1 ≡ number
+
+-- nothing behind the next line was taken
+takes_next : (lang : Language) (HasRun : Stage lang) (known b c old mid : Known) (v part : List ℕ) (n m : ℕ) → Going lang HasRun known b old mid v n
+    → m ≡ n → Consumes b c part → IsOfLine part → TakesUpTo m known c
+takes_next lang HasRun known b c old mid v part n m i same q p = record {
+  lines = i.done;
+  part = part;
+  taken = consumes_then known b c i.done part i.taken q;
+  whole = i.whole;
+  counted = i.lines ∙ sym same;
+  partly = p;
+}
+
+-- nothing behind the first line was taken
+pub takes_first : (a b : Known) (part : List ℕ) → Consumes a b part → IsOfLine part → TakesUpTo 1 a b
+takes_first a b part q p = record { lines = []; part = part; taken = q; whole = refl; counted = refl; partly = p }
 
 -- the items so far are the first ones of the script
 some_printed : (lang : Language) (text out : List ℕ) (limits : Limits) (items : List lang.Item) (asked : Asked lang.Item)
@@ -184,13 +202,16 @@ fault_told lang known text old new w out limits items n m kind whole same e prin
 }
 
 -- the text ends inside a line
-pub ended_cut : (lang : Language) (HasRun : Stage lang) (known b c left old mid : Known) (v ahead line : List ℕ) (n : ℕ)
-    → Going lang HasRun known b old mid v n → HasNoNewline line → 0 < length line → Consumes b c line → IsAtEnd c
-    → EndsUpTo lang known left ahead old mid v (Err (Line n Cut))
-ended_cut lang HasRun known b c left old mid v ahead line n i free some q z =
+pub ended_cut : (lang : Language) (HasRun : Stage lang) (known b left old mid : Known) (v ahead line : List ℕ) (n : ℕ)
+    → Going lang HasRun known b old mid v n → HasNoNewline line → 0 < length line → Consumes b (prepend_known ahead left) line
+    → IsAtEnd (prepend_known ahead left) → EndsUpTo lang known left ahead old mid v (Err (Line n Cut))
+ended_cut lang HasRun known b left old mid v ahead line n i free some q z =
+    let c = prepend_known ahead left in
     let e = comes_cut lang i.done line i.limits i.items n i.comes free some in
-    let whole = whole_text known c (i.done ++ line) (consumes_then known b c i.done line i.taken q) z in
-    inl (fault_told lang known (i.done ++ line) old mid v i.out i.limits i.items n n Cut whole refl e i.prints i.held)
+    let whole = whole_text known c (i.done ++ line) (consumes_then known b c i.done line i.taken q) z in (
+      inl (fault_told lang known (i.done ++ line) old mid v i.out i.limits i.items n n Cut whole refl e i.prints i.held),
+      takes_next lang HasRun known b c old mid v line n n i refl q (of_line line free),
+    )
 
 -- a fault that no line alone shows
 fault_found : (lang : Language) (known : Known) (done line behind : List ℕ) (old new : Known) (w out : List ℕ) (limits : Limits)
@@ -233,6 +254,7 @@ ended_line lang Before After known b left old mid new v w ahead line shown kept 
     let text = (i.done ++ (line ++ 10 ∷ [])) ++ x.0 in
     let seen : item_at lang n (take 65 line) ≡ item_at lang n shown = ap (item_at lang n) (sym e) ∙ ap (item_at lang n) (sym same) in
     let held = holds_same old mid new v w i.out i.held r.2 in
+    let fault : RunsAll lang known (Some (m, kind)) (Holds old new w) ⊎ FindsFault lang known m kind (Holds old new w) =
     elim r.1 [
       | inl own ↦
           (let o = comes_fault lang i.done line x.0 i.limits i.items n kind i.comes free (seen ∙ own) in
@@ -240,7 +262,8 @@ ended_line lang Before After known b left old mid new v w ahead line shown kept 
       | inr found ↦
           inr (fault_found lang known i.done line x.0 old new w i.out i.limits i.items n m kind found.0 x.1 i.comes free (seen ∙ found.1)
           (r.0 ∙ i.counted) found.2 i.prints held)
-    ]
+    ] in
+    (fault, takes_next lang Before known b c old mid v (line ++ 10 ∷ []) n m i r.0 q (of_whole_line line free))
 
 -- a line was run
 pub goes_on : (lang : Language) (Before After : Stage lang) (known b c old mid new : Known) (v w line shown kept : List ℕ) (n : ℕ)
@@ -262,6 +285,8 @@ goes_on lang Before After known b c old mid new v w line shown kept n i told fre
         has_run = r.1.2;
         prints = told i.limits (i.items ++ item ∷ []) (i.out ++ r.0) r.1.2;
         counted = omega (arith, i.counted, length-append i.items (item ∷ []));
+        whole = whole_on i.done line i.whole free;
+        lines = count_on i.done line n i.whole free i.lines;
       },
     )
 
@@ -318,14 +343,17 @@ ended_unopened lang HasRun text ahead known left old w Memory e k =
 ended_unopened lang HasRun text ahead known left old w Read e k =
     (stops_first lang known left old old w k.0 HasNoNewline (taken_of_reader known left ahead k.0 k.2 k.3) k.1 (holds_nothing old w e), k.2)
 ended_unopened lang HasRun text ahead known left old w Write e k = absurd k
-ended_unopened lang HasRun text ahead known left old w (Line m kind) e k = inl (record {
-  text = k.0;
-  out = [];
-  whole = k.1;
-  faults = ap (λ (s : Script lang.Item). s.fault) k.3 ∙ ap (λ (n : ℕ). Some (n, kind)) (sym k.2);
-  printed = nothing_to_print lang k.0 kind k.3;
-  told = holds_nothing old w e;
-})
+ended_unopened lang HasRun text ahead known left old w (Line m kind) e k = (
+  inl (record {
+    text = k.0;
+    out = [];
+    whole = k.1;
+    faults = ap (λ (s : Script lang.Item). s.fault) k.3 ∙ ap (λ (n : ℕ). Some (n, kind)) (sym k.2);
+    printed = nothing_to_print lang k.0 kind k.3;
+    told = holds_nothing old w e;
+  }),
+  subst (λ (n : ℕ). TakesUpTo n known (prepend_known ahead left)) (sym k.2) k.4,
+)
 
 -- what a new machine prints couldn't be put
 pub ended_first : (lang : Language) (HasRun : Stage lang) (known left old new : Known) (ahead text shown w rest : List ℕ) (fault : RunFault) → w ≡ []
@@ -373,14 +401,24 @@ goes_first lang HasRun a b old new text w rest told e k p = record {
   has_run = k.new_one;
   prints = told k.limits [] text k.new_one;
   counted = refl;
+  whole = one_line_whole k.line k.free;
+  lines = ap (λ (ls : List (List ℕ)). length ls + 1) (one_line k.line k.free);
 }
 
 -- the first line has a fault
 pub unopened_line : (lang : Language) (a b : Known) (line : List ℕ) (kind : LineKind) → HasNoNewline line → Consumes a b (line ++ 10 ∷ [])
-    → header_at lang line ≡ Err kind → (text : List ℕ) × IsTextOf a text × (script_of lang text ≡ without_header kind)
+    → header_at lang line ≡ Err kind → (text : List ℕ) × IsTextOf a text × (script_of lang text ≡ without_header kind) × TakesUpTo 1 a b
 unopened_line lang a b line kind free q h =
     let x = text_of a b (line ++ 10 ∷ []) q in
-    ((line ++ 10 ∷ []) ++ x.0, x.1, comes_unopened lang line x.0 kind free h)
+    ((line ++ 10 ∷ []) ++ x.0, x.1, comes_unopened lang line x.0 kind free h, takes_first a b (line ++ 10 ∷ []) q (of_whole_line line free))
+
+-- nothing was taken of a text without a byte
+pub takes_none : (a b : Known) → Consumes a b [] → TakesUpTo 1 a b
+takes_none a b q = takes_first a b [] q (of_line [] tt)
+
+-- a text that ends inside its first line was taken whole
+pub takes_cut : (a b : Known) (line : List ℕ) → HasNoNewline line → Consumes a b line → TakesUpTo 1 a b
+takes_cut a b line free q = takes_first a b line q (of_line line free)
 
 -- what the first line gives, by what is kept of it
 pub header_given : (lang : Language) (kind : HeaderKind) (line kept shown : List ℕ) (read : Result Limits LineKind) → kept ≡ take 65 line → shown ≡ kept
@@ -513,12 +551,25 @@ stopped_drained lang known left old mid new w IsPart h k = record {
   told = holds_drained old mid new w h.out h.told k;
 }
 
+-- what waited was written after a run to the fault of a line
+line_drained : (lang : Language) (known old mid new : Known) (w : List ℕ) (n : ℕ) (kind : LineKind)
+    → RunsAll lang known (Some (n, kind)) (Holds old mid w) ⊎ FindsFault lang known n kind (Holds old mid w) → Appends mid new w
+    → RunsAll lang known (Some (n, kind)) (Appends old new) ⊎ FindsFault lang known n kind (Appends old new)
+line_drained lang known old mid new w n kind (inl h) k = inl (all_drained lang known old mid new w (Some (n, kind)) h k)
+line_drained lang known old mid new w n kind (inr h) k = inr (found_drained lang known old mid new w n kind h k)
+
+-- the writer failed then
+line_to_writer : (lang : Language) (known old mid new : Known) (w : List ℕ) (n : ℕ) (kind : LineKind)
+    → RunsAll lang known (Some (n, kind)) (Holds old mid w) ⊎ FindsFault lang known n kind (Holds old mid w) → WritesPart mid new w
+    → StopsInOutput lang known (WritesPart old new)
+line_to_writer lang known old mid new w n kind (inl h) k = all_to_writer lang known old mid new w (Some (n, kind)) h k
+line_to_writer lang known old mid new w n kind (inr h) k = found_to_writer lang known old mid new w n kind h k
+
 -- a script that was run to another fault than the writer's, and then what waits was written
 pub ran_to_fault : (lang : Language) (known left old mid new : Known) (ahead w : List ℕ) (fault : RunFault) → (fault ≡ Write → ⊥)
     → EndsUpTo lang known left ahead old mid w (Err fault) → Appends mid new w → EndsThrough lang known left ahead old new (Err fault)
 ran_to_fault lang known left old mid new ahead w Write other h k = absurd (other refl)
-ran_to_fault lang known left old mid new ahead w (Line n kind) other (inl h) k = inl (all_drained lang known old mid new w (Some (n, kind)) h k)
-ran_to_fault lang known left old mid new ahead w (Line n kind) other (inr h) k = inr (found_drained lang known old mid new w n kind h k)
+ran_to_fault lang known left old mid new ahead w (Line n kind) other h k = (line_drained lang known old mid new w n kind h.0 k, h.1)
 ran_to_fault lang known left old mid new ahead w Memory other h k =
     stopped_drained lang known (prepend_known ahead left) old mid new w IsOfLine h k
 ran_to_fault lang known left old mid new ahead w Read other h k = (stopped_drained lang known left old mid new w HasNoNewline h.0 k, h.1)
@@ -527,8 +578,7 @@ ran_to_fault lang known left old mid new ahead w Read other h k = (stopped_drain
 pub ran_to_writer : (lang : Language) (known left old mid new : Known) (ahead w : List ℕ) (fault : RunFault) → (fault ≡ Write → ⊥)
     → EndsUpTo lang known left ahead old mid w (Err fault) → WritesPart mid new w → EndsThrough lang known left ahead old new (Err Write)
 ran_to_writer lang known left old mid new ahead w Write other h k = absurd (other refl)
-ran_to_writer lang known left old mid new ahead w (Line n kind) other (inl h) k = all_to_writer lang known old mid new w (Some (n, kind)) h k
-ran_to_writer lang known left old mid new ahead w (Line n kind) other (inr h) k = found_to_writer lang known old mid new w n kind h k
+ran_to_writer lang known left old mid new ahead w (Line n kind) other h k = line_to_writer lang known old mid new w n kind h.0 k
 ran_to_writer lang known left old mid new ahead w Memory other h k =
     stopped_to_writer lang known (prepend_known ahead left) old mid new w IsOfLine h k
 ran_to_writer lang known left old mid new ahead w Read other h k = stopped_to_writer lang known left old mid new w HasNoNewline h.0 k

@@ -1,5 +1,5 @@
 -- What a text asks for, line after line.
-use Rattle.std.proofs.Common.{◌≡◌, ◌⊎◌, ℕ, Bool, true, false, ◌==◌, if◌then◌else◌, ◌+◌, ◌<◌, ◌≤◌, List, [], ◌∷◌, ◌++◌, length, take, Some, None, Result, Ok, Err, refl, sym, ap, ◌∙◌, append_assoc, arith, inl, inr}
+use Rattle.std.proofs.Common.{◌≡◌, ◌⊎◌, ℕ, Bool, true, false, ◌==◌, if◌then◌else◌, ◌+◌, ◌<◌, ◌≤◌, List, [], ◌∷◌, ◌++◌, length, take, Some, None, Result, Ok, Err, refl, sym, ap, ◌∙◌, append_assoc, arith, inl, inr, length-append}
 use Rattle.std.proofs.lemmas.{Bool.{ne_eqb, lt-ltb, le-ltb, cases_lt}, List.{append-nil, take_all, length-take}}
 use Rattle.ulfm_model.specs.declared.limits.Limits.{Limits}
 use Rattle.ulfm_script.specs.declared.line_kind.LineKind.{LineKind}
@@ -171,6 +171,39 @@ lines_at false front xs rest x h k = k
 lines_more : (front text rest : List ℕ) → lines_from front (text ++ rest) ≡ lines_from front text ++ lines_from (rest_from front text) rest
 lines_more front [] rest = refl
 lines_more front (x ∷ xs) rest = lines_at (x == 10) front xs rest x (lines_more [] xs rest) (lines_more (front ++ x ∷ []) xs rest)
+
+-- what stands behind the last newline, by that of a text's beginning
+rest_at_next : (ends : Bool) (front xs rest : List ℕ) (x : ℕ) → rest_from [] (xs ++ rest) ≡ rest_from (rest_from [] xs) rest
+    → rest_from (front ++ x ∷ []) (xs ++ rest) ≡ rest_from (rest_from (front ++ x ∷ []) xs) rest
+    → (if ends then rest_from [] (xs ++ rest) else rest_from (front ++ x ∷ []) (xs ++ rest))
+    ≡ rest_from (if ends then rest_from [] xs else rest_from (front ++ x ∷ []) xs) rest
+rest_at_next true front xs rest x h k = h
+rest_at_next false front xs rest x h k = k
+
+rest_more : (front text rest : List ℕ) → rest_from front (text ++ rest) ≡ rest_from (rest_from front text) rest
+rest_more front [] rest = refl
+rest_more front (x ∷ xs) rest = rest_at_next (x == 10) front xs rest x (rest_more [] xs rest) (rest_more (front ++ x ∷ []) xs rest)
+
+-- one line
+pub one_line : (line : List ℕ) → HasNoNewline line → lines_from [] (line ++ 10 ∷ []) ≡ line ∷ []
+one_line line free = lines_step [] line [] free
+
+pub one_line_whole : (line : List ℕ) → HasNoNewline line → rest_from [] (line ++ 10 ∷ []) ≡ []
+one_line_whole line free = rest_step [] line [] free
+
+-- a line behind whole lines
+pub whole_on : (done line : List ℕ) → rest_from [] done ≡ [] → HasNoNewline line → rest_from [] (done ++ (line ++ 10 ∷ [])) ≡ []
+whole_on done line whole free =
+    rest_more [] done (line ++ 10 ∷ []) ∙ ap (λ (front : List ℕ). rest_from front (line ++ 10 ∷ [])) whole ∙ one_line_whole line free
+
+pub count_on : (done line : List ℕ) (n : ℕ) → rest_from [] done ≡ [] → HasNoNewline line → length (lines_from [] done) + 1 ≡ n
+    → length (lines_from [] (done ++ (line ++ 10 ∷ []))) + 1 ≡ n + 1
+count_on done line n whole free count =
+    let more : lines_from [] (done ++ (line ++ 10 ∷ [])) ≡ lines_from [] done ++ line ∷ [] =
+    lines_more [] done (line ++ 10 ∷ [])
+    ∙ ap (λ (front : List ℕ). lines_from [] done ++ lines_from front (line ++ 10 ∷ [])) whole
+    ∙ ap (λ (ls : List (List ℕ)). lines_from [] done ++ ls) (one_line line free) in
+    omega (arith, count, ap length more, length-append (lines_from [] done) (line ∷ []))
 
 asked_last_items : (X : Type 0) (number : ℕ) (last : List ℕ) → (asked_last {X = X} number last).items ≡ []
 asked_last_items X number [] = refl

@@ -37,11 +37,13 @@ HasNoNewline xs = AllByRecursion (λ x. x ≢ 10) xs
 abbrev pub IsOfLine : List ℕ → Type 0
 IsOfLine bytes = (line : List ℕ) × HasNoNewline line × Begins bytes (line ++ 10 ∷ [])
 
--- A line was taken, and so many of its first bytes are kept. Where the reader failed inside it, nothing is pending.
+-- A line was taken, or what stands behind the last newline, and so many of its first bytes are kept; nothing where no byte was left. Where the
+-- reader failed inside it, nothing is pending.
 abbrev pub TakesLine : ℕ → Option (List ℕ) → Option (List ℕ) → List ℕ → List ℕ → Result LineEnd RunFault → Type 0
 TakesLine most old new bytes kept (Ok Newline) = (line : List ℕ) × HasNoNewline line × (kept ≡ take most line) × Consumes old new (line ++ 10 ∷ [])
-TakesLine most old new bytes kept (Ok Cut) = (line : List ℕ) × HasNoNewline line × (0 < length line) × Consumes old new line × IsAtEnd new
-TakesLine most old new bytes kept (Ok Done) = Keeps old new × IsAtEnd new
+TakesLine most old new bytes kept (Ok Cut) =
+    (line : List ℕ) × HasNoNewline line × (0 < length line) × Consumes old new line × IsAtEnd new × (kept ≡ take most line)
+TakesLine most old new bytes kept (Ok Done) = Keeps old new × IsAtEnd new × (kept ≡ [])
 TakesLine most old new bytes kept (Err Read) = (part : List ℕ) × HasNoNewline part × (bytes ≡ []) × Consumes old new part
 TakesLine most old new bytes kept (Err Memory) = (part : List ℕ) × HasNoNewline part × Consumes old new part
 TakesLine most old new bytes kept (Err Write) = ⊥

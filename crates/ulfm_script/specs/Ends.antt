@@ -6,7 +6,7 @@ use Rattle.ulfm_script.specs.declared.line_kind.LineKind.{LineKind}
 use Rattle.ulfm_script.specs.declared.fault.RunFault.{RunFault}
 use Rattle.ulfm_script.specs.declared.fault.RunFault.TheVariants.{Line, Memory, Read, Write}
 use Rattle.ulfm_script.specs.{Buffers.{HasNoNewline, IsOfLine}, Written.{Begins, Holds, WritesPart}}
-use Rattle.ulfm_script.specs.Scripts.{Language, header_at, script_of, without_header}
+use Rattle.ulfm_script.specs.Scripts.{Language, header_at, lines_from, rest_from, script_of, without_header}
 
 -- what these items print on a new world of these limits; a script without a header prints nothing
 abbrev pub PrintsFrom : (lang : Language) → Option Limits → List lang.Item → List ℕ → Type 0
@@ -64,6 +64,15 @@ pub record FindsFault (lang : Language) (known : Known) (number : ℕ) (kind : L
   pub printed : PrintsSome lang text out
   pub told : Told out
 
+-- What was taken of the reader's bytes are whole lines, so many that the next one has this number, and then a part of that line or all of it.
+pub record TakesUpTo (number : ℕ) (known left : Known) : Type 0 where
+  pub lines : List ℕ
+  pub part : List ℕ
+  pub taken : Consumes known left (lines ++ part)
+  pub whole : rest_from [] lines ≡ []
+  pub counted : length (lines_from [] lines) + 1 ≡ number
+  pub partly : IsOfLine part
+
 -- whole lines without a fault, the header among them, or no line at all
 abbrev pub HasNoFault : Language → List ℕ → Type 0
 HasNoFault lang text = (text ≡ []) ⊎ ((script_of lang text).fault ≡ None)
@@ -89,13 +98,14 @@ pub record StopsInOutput (lang : Language) (known : Known) (ToldInPart : Claim) 
   pub told : ToldInPart out
 
 -- How the run of a reader's text ended, where these bytes were read and not taken. At its end, the whole text was read and has no fault,
--- and what all its items print is told. At the fault of a line, it is the text's first one, or one that no line alone shows, and what all
--- items before it print is told. Where memory was refused, what all items print is told that were taken before the line under work. Where the
--- reader failed, what all items print that it gave whole. Where the writer failed, a part of what the first items print.
+-- and what all its items print is told. At the fault of a line, it is the text's first one, or one that no line alone shows, what all items
+-- before it print is told, and nothing behind this line was taken. Where memory was refused, what all items print is told that were taken before
+-- the line under work. Where the reader failed, what all items print that it gave whole. Where the writer failed, a part of what the first items
+-- print.
 abbrev pub Ends : Language → Known → Known → List ℕ → Claim → Claim → RunEnd → Type 0
 Ends lang known left ahead Told ToldInPart (Ok done) = RunsAll lang known None Told × IsAtEnd left
 Ends lang known left ahead Told ToldInPart (Err (Line number kind)) =
-    RunsAll lang known (Some (number, kind)) Told ⊎ FindsFault lang known number kind Told
+    (RunsAll lang known (Some (number, kind)) Told ⊎ FindsFault lang known number kind Told) × TakesUpTo number known (prepend_known ahead left)
 Ends lang known left ahead Told ToldInPart (Err Memory) = StopsInLine lang known (prepend_known ahead left) IsOfLine Told
 Ends lang known left ahead Told ToldInPart (Err Read) = StopsInLine lang known left HasNoNewline Told × (ahead ≡ [])
 Ends lang known left ahead Told ToldInPart (Err Write) = StopsInOutput lang known ToldInPart
@@ -137,12 +147,12 @@ pub record IsOpened (lang : Language) (HasRun : Stage lang) (old new : Known) (t
   pub taken : Consumes old new (line ++ 10 ∷ [])
   pub new_one : HasRun limits [] text
 
--- A machine was opened by the first line; or the text's script has no header; or memory was refused or the reader failed, and a part of the
--- first line was taken. Where the reader failed, nothing is pending.
+-- A machine was opened by the first line; or the text's script has no header; or memory was refused or the reader failed. In these three cases a
+-- part of the first line was taken, or all of it. Where the reader failed, nothing is pending.
 abbrev pub Opens : {M : Type 0} → (lang : Language) → (M → Stage lang) → (M → List ℕ) → Known → Known → List ℕ → Result M RunFault → Type 0
 Opens lang HasRun text old new bytes (Ok machine) = IsOpened lang (HasRun machine) old new (text machine)
 Opens lang HasRun text old new bytes (Err (Line number kind)) =
-    (all : List ℕ) × IsTextOf old all × (number ≡ 1) × (script_of lang all ≡ without_header kind)
+    (all : List ℕ) × IsTextOf old all × (number ≡ 1) × (script_of lang all ≡ without_header kind) × TakesUpTo 1 old new
 Opens lang HasRun text old new bytes (Err Memory) = (part : List ℕ) × IsOfLine part × Consumes old new part
 Opens lang HasRun text old new bytes (Err Read) = (part : List ℕ) × HasNoNewline part × (bytes ≡ []) × Consumes old new part
 Opens lang HasRun text old new bytes (Err Write) = ⊥

@@ -1,5 +1,6 @@
 //! What stands between a script's lines and the devices: a buffer over a reader, and one over a writer.
-ghost use Rattle.std.specs.Prelude.{◌≡◌, ◌+◌, ◌≤◌, ◌<◌, [], length, max, nat_le, IfOk, OnOk};
+ghost use Rattle.std.specs.Prelude.{◌≡◌, ◌+◌, ◌++◌, ◌≤◌, ◌<◌, [], length, max, nat_le, IfOk, OnOk};
+ghost use Rattle.std.specs.Io.KnownBytes.{Keeps};
 ghost use Rattle.ulfm_script.specs.Written.{WritesAll};
 
 use crate::fault::RunFault;
@@ -159,6 +160,9 @@ impl<A: Allocator> Output<A> {
     pub(crate) fn put<W: Write>(&mut self, writer: &mut W, text: &[u8]) -> Result<(), RunFault>
         ensures puts { Puts (waiting self.old) (W.contents writer.old) text.now (waiting self.new) (W.contents writer.new) result }
         ensures few { OnOk result (length (waiting self.new) ≤ max 8192 (length text.now)) }
+        // Nothing is written where there is room for both.
+        ensures waits { length (waiting self.old) + length text.now ≤ 8192 → Keeps (W.contents writer.old) (W.contents writer.new)
+            × OnOk result (waiting self.new ≡ waiting self.old ++ text.now) }
     {
         if !self.has_room(text.len()) {
             self.drain(writer)?;

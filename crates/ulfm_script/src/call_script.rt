@@ -29,13 +29,14 @@ const ROOM: usize = 64;
 /// The first line is `ulfm 1 RANKS COMMS ROUNDS`, the world's limits; each other line is a call as [`crate::read_call`] reads
 /// it, and gives one line as [`crate::print_reply`] prints it. Want of memory is never printed as a reply.
 ///
-/// At `Ok` the whole text was read, and exactly its output was written. At `Line` the fault is the first of the text, in the order
-/// of [`crate::LineKind`] within a line, and exactly the output of the lines before was written. At `Read` exactly the output of
-/// the lines that the reader gave whole was written, and they have no fault. At `Memory`, which is no reply, exactly the output of
-/// the lines before the one under work was written, and they have no fault; the reader gave at most 8 KB behind what was taken of
-/// that line, and [`run_script_through`] shows which line it is. At `Write` a beginning of the output was written: the writer failed,
-/// took nothing, or couldn't be flushed, also where it had to take what waited at another fault. Every error of the reader or the
-/// writer is a fault, of whatever kind; none is tried again. Reader and writer have buffers of 8 KB here and need none of their own.
+/// At `Ok` the whole text was read, and exactly its output was written. At `Line` the fault is the first of the text, in the order of
+/// [`crate::LineKind`] within a line, and exactly the output of the lines before was written; of what stands behind that line the
+/// reader gave at most 8 KB. At `Read` exactly the output of the lines that the reader gave whole was written, and they have no fault.
+/// At `Memory`, which is no reply, exactly the output of the lines before the one under work was written, and they have no fault; the
+/// reader gave at most 8 KB behind what was taken of that line, and [`run_script_through`] shows which line it is. At `Write` a
+/// beginning of the output was written: the writer failed, took nothing, or couldn't be flushed, also where it had to take what waited
+/// at another fault. Every error of the reader or the writer is a fault, of whatever kind; none is tried again. Reader and writer have
+/// buffers of 8 KB here and need none of their own.
 pub fn run_script<M: Machine<A>, A: Allocator + Copy, R: Read, W: Write>(
     alloc: A,
     reader: &mut R,
@@ -48,9 +49,9 @@ pub fn run_script<M: Machine<A>, A: Allocator + Copy, R: Read, W: Write>(
 
 /// Runs a script as [`run_script`] does, through a buffer of the caller's. What it holds of the reader's bytes is read first.
 ///
-/// At `Memory` the buffer holds what was read and not taken. What was taken are exactly the lines that were run and whose output was
-/// written, and then a part of the line under work or all of it, of whose output nothing was written. At `Read` the buffer is empty;
-/// after another end nothing is said of what it holds.
+/// At `Line` and at `Memory` the buffer holds what was read and not taken. What was taken are exactly the lines that were run and whose
+/// output was written, and then a part of the line under work or all of it, of whose output nothing was written. At `Read` the buffer is
+/// empty; after another end nothing is said of what it holds.
 pub fn run_script_through<M: Machine<A>, A: Allocator + Copy, R: Read, W: Write>(
     alloc: A,
     input: &mut Input<A>,

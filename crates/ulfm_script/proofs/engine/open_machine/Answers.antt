@@ -2,7 +2,7 @@ use Rattle.std.proofs.Common.{refl, Ok, Err, []}
 use Rattle.ulfm_script.specs.Buffers.{pending, unread}
 use Rattle.ulfm_script.specs.declared.fault.RunFault.TheVariants.{Memory}
 use Rattle.ulfm_script.proofs.ByteLemmas.{keeps_nothing}
-use Rattle.ulfm_script.proofs.RunLemmas.{handed_on, header_given, unopened_line, unopened_machine, unopened_read, whole_text}
+use Rattle.ulfm_script.proofs.RunLemmas.{handed_on, header_given, takes_cut, takes_none, unopened_line, unopened_machine, unopened_read, whole_text}
 use Rattle.ulfm_script.proofs.ScriptLemmas.{header_cut, no_header}
 use Rattle.ulfm_script.proofs.engine.open_machine.Goals as goal
 
@@ -38,14 +38,15 @@ returns-in-Done g c =
     let a = unread g.R.Read.remaining c.args.input.now c.args.reader.now in
     let b = unread g.R.Read.remaining c.read_line.new.self c.read_line.new.reader in
     let e = rw c.in-Done.is at c.in_ok-read_line.ensures in
-    ([], whole_text a b [] (keeps_nothing a b e.0) e.1, refl, no_header g.M.Interpreter.lang)
+    let none = keeps_nothing a b e.0 in
+    ([], whole_text a b [] none e.1, refl, no_header g.M.Interpreter.lang, takes_none a b none)
 
 pub returns-in-Cut : goal.returns-in-Cut
 returns-in-Cut g c =
     let a = unread g.R.Read.remaining c.args.input.now c.args.reader.now in
     let b = unread g.R.Read.remaining c.read_line.new.self c.read_line.new.reader in
     let e = rw c.in-Cut.is at c.in_ok-read_line.ensures in
-    (e.0, whole_text a b e.0 e.3 e.4, refl, header_cut g.M.Interpreter.lang e.0 e.1 e.2)
+    (e.0, whole_text a b e.0 e.3 e.4, refl, header_cut g.M.Interpreter.lang e.0 e.1 e.2, takes_cut a b e.0 e.1 e.3)
 
 pub returns-in-Err : goal.returns-in-Err
 returns-in-Err g c =
@@ -55,4 +56,4 @@ returns-in-Err g c =
     let kind = c.in-Err.kind in
     let h = header_given g.M.Interpreter.lang c.kind.result e.0 c.read_line.new.line.items c.deref.result.now (Err kind) e.2 c.deref.ensures.value c.kind.ensures c.in-Err.ensures.exact in
     let u = unopened_line g.M.Interpreter.lang a b e.0 kind e.1 e.3 h in
-    (u.0, u.1, refl, u.2)
+    (u.0, u.1, refl, u.2, u.3)

@@ -57,8 +57,8 @@ returns-in-Cut g c =
     let e = rw c.in-Cut.is at c.in_ok-read_line.ensures in
     λ plan known opened. (
       ended_cut g.M.Interpreter.lang (g.M.Interpreter.HasRun plan c.lines.machine) known (unread k c.lines.input c.lines.reader)
-          (unread k c.read_line.new.self c.read_line.new.reader) (k c.read_line.new.reader) (w c.args.writer.now) (w c.lines.writer)
-          (waiting c.lines.output) (pending c.read_line.new.self) e.0 c.lines.number (c.lines.invariant.1 plan known opened) e.1 e.2 e.3 e.4,
+          (k c.read_line.new.reader) (w c.args.writer.now) (w c.lines.writer) (waiting c.lines.output) (pending c.read_line.new.self) e.0
+          c.lines.number (c.lines.invariant.1 plan known opened) e.1 e.2 e.3 e.4,
       tt,
     )
 

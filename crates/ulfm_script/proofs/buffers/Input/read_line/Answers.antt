@@ -1,7 +1,7 @@
 use Rattle.std.proofs.Common.{vec_len, arith, ◌∷◌, [], ◌++◌, ◌∙◌, sym}
 use Rattle.std.proofs.lemmas.Bool.{eqb-false, eqb-true}
 use Rattle.ulfm_script.specs.Buffers.{pending, unread}
-use Rattle.ulfm_script.proofs.ByteLemmas.{consumes_keeps, consumes_start, consumes_then, none_kept, none_taken, no_newline_push, kept_more, kept_full, some_kept, failed_line}
+use Rattle.ulfm_script.proofs.ByteLemmas.{consumes_keeps, consumes_start, consumes_then, none_kept, none_taken, no_newline_push, kept_more, kept_full, no_items, some_kept, failed_line}
 use Rattle.ulfm_script.proofs.buffers.Input.read_line.Goals as goal
 use Rattle.ulfm_script.proofs.buffers.Input.read_line.Goals.{then-len-kept+else-is_err, else-len-kept}
 
@@ -15,7 +15,7 @@ returns-then-is_empty g c =
     let i = c.bytes.invariant in
     let e = rw c.in-Ok-None.field-0-is at c.in-Ok-None.ensures in
     let empty = eqb-true (vec_len c.bytes.line) 0 (sym c.is_empty.ensures ∙ c.if-is_empty.true) in
-    (none_taken (unread k c.args.self.now c.args.reader.now) (unread k c.bytes.self c.bytes.reader) (unread k c.next_byte.new.self c.next_byte.new.reader) c.bytes.line.items i.0 c.args.kept i.2 (omega (arith, empty, c.bytes.line.ok.0)) c.requires i.3 e.0, e.1)
+    (none_taken (unread k c.args.self.now c.args.reader.now) (unread k c.bytes.self c.bytes.reader) (unread k c.next_byte.new.self c.next_byte.new.reader) c.bytes.line.items i.0 c.args.kept i.2 (omega (arith, empty, c.bytes.line.ok.0)) c.requires i.3 e.0, e.1, no_items c.bytes.line.items (omega (arith, empty, c.bytes.line.ok.0)))
 
 pub returns : goal.returns
 returns g c = let i = c.bytes.invariant in (i.0, i.1, i.3)
@@ -48,7 +48,7 @@ returns-in-Ok-None g c =
     let k = g.R.Read.remaining in
     let i = c.bytes.invariant in
     let e = rw c.in-Ok-None.field-0-is at c.in-Ok-None.ensures in
-    (i.0, i.1, some_kept c.bytes.line.items i.0 c.args.kept i.2 (omega (arith, eqb-false (vec_len c.bytes.line) 0 (sym c.is_empty.ensures ∙ c.if-is_empty.false), c.bytes.line.ok.0)), consumes_keeps (unread k c.args.self.now c.args.reader.now) (unread k c.bytes.self c.bytes.reader) (unread k c.next_byte.new.self c.next_byte.new.reader) i.0 i.3 e.0, e.1)
+    (i.0, i.1, some_kept c.bytes.line.items i.0 c.args.kept i.2 (omega (arith, eqb-false (vec_len c.bytes.line) 0 (sym c.is_empty.ensures ∙ c.if-is_empty.false), c.bytes.line.ok.0)), consumes_keeps (unread k c.args.self.now c.args.reader.now) (unread k c.bytes.self c.bytes.reader) (unread k c.next_byte.new.self c.next_byte.new.reader) i.0 i.3 e.0, e.1, i.2)
 
 pub bytes-preserved : goal.bytes-preserved
 bytes-preserved g c =
