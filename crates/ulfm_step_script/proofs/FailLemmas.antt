@@ -128,7 +128,7 @@ piece_without limits plan waits steps trace rest l (Finished q) piece is = (is.0
 piece_without limits plan waits steps trace rest l (Failed q) piece is = is
 
 -- the steps that were counted, and so many more
-made_on : (steps count n made sum : ℕ) → IsCountOf steps made → IsCountOf count n → IsCountOf (made + n) sum → IsCountOf (steps + count) sum
+pub made_on : (steps count n made sum : ℕ) → IsCountOf steps made → IsCountOf count n → IsCountOf (made + n) sum → IsCountOf (steps + count) sum
 made_on steps count n made sum (inl is) (inl more) (inl all) = inl (omega (arith, is.0, more.0, all.0), omega (arith, is.0, more.0, all.1))
 made_on steps count n made sum (inl is) (inl more) (inr full) = inr (full.0, omega (arith, is.0, more.0, full.1))
 made_on steps count n made sum (inl is) (inr most) (inl all) = inr (omega (arith, is.0, most.0, all.0, all.1), omega (arith, most.1))

@@ -1,11 +1,15 @@
 -- How far a script's line takes a call, with the declaration in between.
-use Rattle.std.proofs.Common.{◌≡◌, ◌≢◌, ℕ, ◌+◌, ◌-◌, ◌≤◌, ◌<◌, option_map, Option, Some, None, refl, ap, sym, ◌∙◌, subst, arith, inl, inr}
-use Rattle.std.specs.Prelude.{◌⊎◌, min}
+use Rattle.std.proofs.Common.{◌≡◌, ◌≢◌, ℕ, ◌+◌, ◌-◌, ◌≤◌, ◌<◌, option_map, Option, Some, None, Result, Ok, Err, refl, ap, sym, ◌∙◌, subst, arith, inl, inr}
+use Rattle.std.specs.Prelude.{◌⊎◌, OnOk, min}
+use Rattle.std.proofs.Math.Nat.{add-zero}
+use Rattle.ulfm_laws.specs.declared.flag_and.FlagAnd.{FlagAnd}
+use Rattle.ulfm_model.specs.declared.call.Call.{Call}
 use Rattle.ulfm_model.specs.declared.step_name.StepName.{StepName}
-use Rattle.ulfm_lines.specs.{Progress.{GoesFar, IsReached, Progress}, Walked.{IsCountOf}}
-use Rattle.ulfm_lines.specs.declared.step_machine.Reach.{Reach}
-use Rattle.ulfm_step_script.specs.FailingScripts.{ComesFar, behind_of, fewer, up_to}
-use Rattle.ulfm_step_script.proofs.FailLemmas.{fewer_most, made_below}
+use Rattle.ulfm_trace_model.specs.declared.step_line.StepLine.TheVariants.{Called, Failed}
+use Rattle.ulfm_lines.specs.{Progress.{GoesAsSaid, GoesFar, IsReached, Progress}, Walked.{IsCountOf}}
+use Rattle.ulfm_lines.specs.declared.step_machine.{Reach.{Reach}, Taken.{Taken}}
+use Rattle.ulfm_step_script.specs.FailingScripts.{ComesFar, CountsAsSaid, CountsOn, behind_of, fewer, up_to}
+use Rattle.ulfm_step_script.proofs.FailLemmas.{fewer_most, made_below, made_on}
 
 module _ (old new : Progress) (q : ℕ) (reach : Reach) (made : ℕ) where
   -- steps that aren't cut
@@ -70,3 +74,19 @@ pub comes_all : (old new : ℕ) (next : Option StepName) → ComesFar (record { 
 comes_all old new next (inl over) = over
 comes_all old new next (inr (inl reached)) = absurd (cc reached.1)
 comes_all old new next (inr (inr named)) = absurd (cc named.1)
+
+-- the steps that a machine makes at one walk are counted
+pub counts_walk : (was now : Progress) (q : ℕ) (reach : Reach) (old n sum : ℕ) → GoesFar was now q reach n → IsCountOf (old + n) sum → CountsOn was now old sum
+counts_walk was now q reach old n sum g all = (g.count, g.steps, λ steps is. made_on steps g.count n old sum is g.counted all)
+
+-- a line whose call begins makes none
+pub counts_called : {E : Type 0} (was now : Progress) (made : ℕ) (asked : Call FlagAnd) (result : Result Taken E) → OnOk result (GoesAsSaid was now (Called asked))
+    → OnOk result (CountsAsSaid was now made made (Called asked))
+counts_called was now made asked (Ok taken) same =
+    (0, same ∙ sym (add-zero was.steps), λ steps is. subst (λ n. IsCountOf n made) (sym (add-zero steps)) is)
+counts_called was now made asked (Err fault) same = tt
+
+-- of one that declares a rank none is counted
+pub counts_failed : {E : Type 0} (was now : Progress) (made r : ℕ) (result : Result Taken E) → OnOk result (CountsAsSaid was now made made (Failed r))
+counts_failed was now made r (Ok taken) = refl
+counts_failed was now made r (Err fault) = tt

@@ -65,9 +65,9 @@ pub record FailsAfter (at r number : ℕ) (limits : Limits) (lines : List Script
   pub counted : ranks_events trace ≤ number
   pub out_is : out ≡ trace_text limits trace
 
--- the same for some rank, behind some step
+-- the same for some rank that a script can name, behind some step
 abbrev pub FailsSomewhere : Limits → List ScriptStep → List ℕ → Type 0
-FailsSomewhere limits lines out = (at r number : ℕ) × FailsAfter at r number limits lines out
+FailsSomewhere limits lines out = (at r number : ℕ) × (r < 1024) × FailsAfter at r number limits lines out
 
 -- the line of this number begins a call of a rank that has one under way in the trace of the lines before it, whose text this is
 pub record FindsOpenBehind (limits : Limits) (lines : List ScriptStep) (number : ℕ) (kind : LineKind) (out : List ℕ) : Type 0 where
@@ -170,6 +170,16 @@ TakesStep Says limits plan waits made trace rest step IsOpenStill old new = IsOp
 abbrev pub ComesFar : Reach → ℕ → ℕ → Option StepName → Type 0
 ComesFar reach old new next =
     (next ≡ None) ⊎ ((most : ℕ) × (reach.most ≡ Some most) × IsCountOf (old + most) new) ⊎ ((name : StepName) × (reach.name ≡ Some name) × (next ≡ Some name))
+
+-- The steps that a machine has made meanwhile are counted: so many were counted before, and are counted now.
+abbrev pub CountsOn : Progress → Progress → ℕ → ℕ → Type 0
+CountsOn was now old new =
+    (made : ℕ) × (now.steps ≡ was.steps + made) × ((steps : ℕ) → IsCountOf steps old → IsCountOf (steps + made) new)
+
+-- so it is with each line of a script but those that declare a rank, whose steps aren't counted
+abbrev pub CountsAsSaid : Progress → Progress → ℕ → ℕ → ScriptStep → Type 0
+CountsAsSaid was now old new (Failed r) = new ≡ old
+CountsAsSaid was now old new _ = CountsOn was now old new
 
 -- a script's line that takes steps of a call takes them as far as it says
 abbrev pub ComesAsSaid : Progress → ℕ → ℕ → ScriptStep → Type 0

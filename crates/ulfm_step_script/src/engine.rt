@@ -20,13 +20,14 @@ use ulfm_script::{
 /// [`ulfm_lines::print_line`] prints them. Want of memory is never printed.
 ///
 /// At `Ok` the whole text was read, and exactly its trace was written. At `Line` the fault is the first of the text, in the order of
-/// [`LineKind`] within a line; or it is `Open`: no line before has a fault, and this line begins a call of a rank that has one under way
-/// in the trace so far. Exactly the trace of the lines before was written. At `Read` exactly the trace of the lines that the reader gave
-/// whole was written, and they have no fault. At `Memory` exactly the trace of the lines before the one under work was written, and they
-/// have no fault; the reader gave at most 8 KB behind what was taken of that line, and [`run_step_script_through`] shows which line it
-/// is. At `Write` a beginning of the trace was written: the writer failed, took nothing, or couldn't be flushed, also where it had to take
-/// what waited at another fault. Every error of the reader or the writer is a fault, of whatever kind; none is tried again. Reader and
-/// writer have buffers of 8 KB here and need none of their own.
+/// [`LineKind`] within a line; or it is `Open`: no line before has a fault, and this line begins a call of a rank that has one under
+/// way in the trace so far. Exactly the trace of the lines before was written; of what stands behind that line the reader gave at most
+/// 8 KB. At `Read` exactly the trace of the lines that the reader gave whole was written, and they have no fault. At `Memory` exactly
+/// the trace of the lines before the one under work was written, and they have no fault; the reader gave at most 8 KB behind what was
+/// taken of that line, and [`run_step_script_through`] shows which line it is. At `Write` a beginning of the trace was written: the
+/// writer failed, took nothing, or couldn't be flushed, also where it had to take what waited at another fault. Every error of the
+/// reader or the writer is a fault, of whatever kind; none is tried again. Reader and writer have buffers of 8 KB here and need none
+/// of their own.
 pub fn run_step_script<M: StepMachine<A>, A: Allocator + Copy, R: Read, W: Write>(
     alloc: A,
     reader: &mut R,
@@ -39,9 +40,9 @@ pub fn run_step_script<M: StepMachine<A>, A: Allocator + Copy, R: Read, W: Write
 
 /// Runs a script as [`run_step_script`] does, through a buffer of the caller's. What it holds of the reader's bytes is read first.
 ///
-/// At `Memory` the buffer holds what was read and not taken. What was taken are exactly the lines that were run and whose trace was
-/// written, and then a part of the line under work or all of it, of whose trace nothing was written. At `Read` the buffer is empty;
-/// after another end nothing is said of what it holds.
+/// At `Line` and at `Memory` the buffer holds what was read and not taken. What was taken are exactly the lines that were run and whose
+/// trace was written, and then a part of the line under work or all of it, of whose trace nothing was written. At `Read` the buffer is
+/// empty; after another end nothing is said of what it holds.
 pub fn run_step_script_through<M: StepMachine<A>, A: Allocator + Copy, R: Read, W: Write>(
     alloc: A,
     input: &mut Input<A>,

@@ -4,7 +4,7 @@ ghost use Rattle.ulfm_model.specs.declared.limits.Limits.{Limits as TheLimits};
 ghost use Rattle.ulfm_script.specs.Ends.{EndsAlone, ended};
 ghost use Rattle.ulfm_lines.specs.Stepped.{IsStep};
 ghost use Rattle.ulfm_step_script.specs.FailingScripts.{ComesAsSaid, ComesFar, Declares, HasFailed, Lines, RestsAt, RunsFailing, StandsAt, TakesStep};
-ghost use Rattle.ulfm_step_script.specs.FailingScripts.{TellsWalk, behind_of, failing_scripts, fewer, up_to};
+ghost use Rattle.ulfm_step_script.specs.FailingScripts.{CountsAsSaid, CountsOn, TellsWalk, behind_of, failing_scripts, fewer, up_to};
 
 use crate::engine::tell_header;
 use crate::plan::Failing;
@@ -87,6 +87,7 @@ impl<M: StepMachine<A>, A: Allocator + Copy> FailingLines<M, A> {
         ensures made { self.new.made ≡ self.old.made }
         ensures early { IfOk result (λ due. due ≡ false → self.old.waits ≡ true → self.old.made < self.old.plan.at) }
         ensures idle { IfOk result (λ due. due ≡ false → M.Has self.new.machine ≡ M.Has self.old.machine) }
+        ensures once { IfOk result (λ due. due ≡ true → (self.old.waits ≡ true) × (self.new.waits ≡ false)) }
         ensures told { (limits : TheLimits) (trace rest : Lines) → StandsAt (M.Stands self.old.machine) limits self.old.plan self.old.waits
             self.old.made trace rest → IfOk result (λ due. Declares (M.Stands self.new.machine) limits self.old.plan self.new.waits
             self.new.made trace rest due self.old.teller.text.items self.new.teller.text.items) }
@@ -108,6 +109,9 @@ impl<M: StepMachine<A>, A: Allocator + Copy> FailingLines<M, A> {
             self.old.made trace rest → OnOk result (TellsWalk (M.Stands self.new.machine) limits self.old.plan self.new.waits self.new.made trace rest
             rank reach self.old.teller.text.items self.new.teller.text.items) }
         ensures far { OnOk result (ComesFar reach self.old.made self.new.made ((M.Has self.new.machine).next rank)) }
+        // (The machine also makes the steps of the declaration, which aren't counted.)
+        ensures counts { self.old.waits ≡ self.new.waits
+            → OnOk result (CountsOn (M.Has self.old.machine) (M.Has self.new.machine) self.old.made self.new.made) }
     {
         if !self.waits {
             let made = self.machine.steps(rank, reach, &mut self.teller)?;
@@ -137,6 +141,8 @@ impl<M: StepMachine<A>, A: Allocator + Copy> FailingLines<M, A> {
             self.old.made trace rest → IfOk result (λ taken. TakesStep (M.Stands self.new.machine) limits self.old.plan self.new.waits self.new.made
             trace rest step.now taken self.old.teller.text.items self.new.teller.text.items) }
         ensures far { OnOk result (ComesAsSaid (M.Has self.new.machine) self.old.made self.new.made step.now) }
+        ensures counts { self.old.waits ≡ self.new.waits
+            → OnOk result (CountsAsSaid (M.Has self.old.machine) (M.Has self.new.machine) self.old.made self.new.made step.now) }
     {
         match *step {
             StepLine::Stepped { rank, count } => {
@@ -206,6 +212,7 @@ impl<M: StepMachine<A>, A: Allocator + Copy> Interpreter<A> for FailingLines<M, 
       it.plan.at,
       it.plan.rank,
       it.made,
+      it.plan.fits,
       record {
         trace = ran.trace;
         rest = ran.rest;

@@ -2,7 +2,7 @@ use Rattle.std.proofs.Common.{None, Some, refl}
 use Rattle.ulfm_lines.specs.declared.step_machine.Reach.{Reach}
 use Rattle.ulfm_trace_model.specs.declared.step_line.StepLine.TheVariants.{Before, Finished, Stepped}
 use Rattle.ulfm_trace_model.specs.Traces.{nothing, said_by}
-use Rattle.ulfm_step_script.proofs.Far.{comes_all, comes_before, comes_stepped}
+use Rattle.ulfm_step_script.proofs.Far.{comes_all, comes_before, comes_stepped, counts_called, counts_failed}
 use Rattle.ulfm_step_script.proofs.FailLemmas.{called_events, failed_events, took_other, walk_step}
 use Rattle.ulfm_step_script.proofs.failing.FailingLines.take.Goals as goal
 
@@ -66,3 +66,25 @@ pub returns-in_ok-walk-in-Finished-clause-far : goal.returns-in_ok-walk-in-Finis
 returns-in_ok-walk-in-Finished-clause-far g c =
     let after = c.walk-in-Finished.new.self in
     rw c.in-Finished.is (comes_all c.args.self.now.made after.made ((g.M.StepMachine.Has after.machine).next c.in-Finished.rank) c.in_ok-walk-in-Finished.ensures.far)
+
+pub returns-in-Called-clause-counts : goal.returns-in-Called-clause-counts
+returns-in-Called-clause-counts g c = λ same.
+    let m = g.M.StepMachine.Has in
+    let was = c.args.self.now in
+    rw c.in-Called.is
+    (counts_called (m was.machine) (m c.run.new.self) was.made c.in-Called.field-0 c.run.result (rw c.in-Called.is at c.run.ensures.goes))
+
+pub returns-in-Failed-clause-counts : goal.returns-in-Failed-clause-counts
+returns-in-Failed-clause-counts g c = λ same.
+    let m = g.M.StepMachine.Has in
+    let was = c.args.self.now in
+    rw c.in-Failed.is (counts_failed (m was.machine) (m c.run-in-Failed.new.self) was.made c.in-Failed.rank c.run-in-Failed.result)
+
+pub returns-in_ok-walk-in-Stepped-clause-counts : goal.returns-in_ok-walk-in-Stepped-clause-counts
+returns-in_ok-walk-in-Stepped-clause-counts g c = λ same. rw c.in-Stepped.is (c.in_ok-walk-in-Stepped.ensures.counts same)
+
+pub returns-in_ok-walk-in-Before-clause-counts : goal.returns-in_ok-walk-in-Before-clause-counts
+returns-in_ok-walk-in-Before-clause-counts g c = λ same. rw c.in-Before.is (c.in_ok-walk-in-Before.ensures.counts same)
+
+pub returns-in_ok-walk-in-Finished-clause-counts : goal.returns-in_ok-walk-in-Finished-clause-counts
+returns-in_ok-walk-in-Finished-clause-counts g c = λ same. rw c.in-Finished.is (c.in_ok-walk-in-Finished.ensures.counts same)

@@ -1,8 +1,8 @@
 use Rattle.std.proofs.Common.{arith, ◌≤◌, ◌++◌, ◌∙◌, subst, sym}
 use Rattle.ulfm_trace_model.specs.Traces.{nothing, said_by}
 use Rattle.ulfm_lines.specs.Progress.{Progress}
-use Rattle.ulfm_step_script.specs.FailingScripts.{ComesFar}
-use Rattle.ulfm_step_script.proofs.Far.{far_both, far_cut, far_whole}
+use Rattle.ulfm_step_script.specs.FailingScripts.{ComesFar, CountsOn, up_to}
+use Rattle.ulfm_step_script.proofs.Far.{counts_walk, far_both, far_cut, far_whole}
 use Rattle.ulfm_step_script.proofs.FailLemmas.{is_due, not_cut, not_due, stands_first_part, walk_both, walk_cut, walk_whole}
 use Rattle.ulfm_step_script.proofs.failing.FailingLines.walk.Goals as goal
 
@@ -81,3 +81,23 @@ returns-clause-far g c =
     let last = rw c.cut_behind.ensures at c.in_ok-rest.ensures.goes in
     far_both (m after.machine) (m c.steps-3.new.self) c.args.rank c.args.reach was.made (m was.machine) (m c.steps-2.new.self) left n first c.in_ok-rest.rest c.count_up-self-2.result c.count_up-self-3.result last
     c.count_up-self-2.ensures (rw c.declare.ensures.made at c.count_up-self-3.ensures)
+
+pub returns-then-not-self-clause-counts : goal.returns-then-not-self-clause-counts
+returns-then-not-self-clause-counts g c = λ same.
+    let m = g.M.StepMachine.Has in
+    let was = c.args.self.now in
+    counts_walk (m was.machine) (m c.steps.new.self) c.args.rank c.args.reach was.made c.in_ok-made.made c.count_up-self.result c.in_ok-made.ensures.goes c.count_up-self.ensures
+
+pub returns-then-not-branch-clause-counts : goal.returns-then-not-branch-clause-counts
+returns-then-not-branch-clause-counts g c = λ same.
+    let m = g.M.StepMachine.Has in
+    let was = c.args.self.now in
+    let after = c.declare.new.self in
+    let left = c.saturating_sub-left.result in
+    let far = rw c.cut_to.ensures at c.in_ok-first.ensures.goes in
+    subst (λ (p : Progress). CountsOn (m was.machine) p was.made after.made) (sym (c.in_ok-declare.ensures.idle c.if-not-branch.true))
+    (subst (λ n. CountsOn (m was.machine) (m c.steps-2.new.self) was.made n) (sym c.declare.ensures.made)
+    (counts_walk (m was.machine) (m c.steps-2.new.self) c.args.rank (up_to left c.args.reach) was.made c.in_ok-first.first c.count_up-self-2.result far c.count_up-self-2.ensures))
+
+pub returns-clause-counts : goal.returns-clause-counts
+returns-clause-counts g c = λ same. let once = c.in_ok-declare.ensures.once c.if-not-branch.false in absurd (cc (same, once.0, once.1))
