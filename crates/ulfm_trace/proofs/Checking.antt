@@ -8,8 +8,8 @@ use Rattle.ulfm_laws.specs.{Flags.{flag_meld}, declared.flag_and.FlagAnd.{FlagAn
 use Rattle.ulfm_model.specs.{Words.{MayOpen}, declared.limits.Limits.{Limits}}
 use Rattle.ulfm_script.specs.declared.header_kind.HeaderKind.TheVariants.{Trace}
 use Rattle.ulfm_script.specs.declared.line_kind.LineKind.{LineKind}
-use Rattle.ulfm_script.specs.{Buffers.{HasNoNewline, IsOfLine}, Headers.{header_text}, Ends.{Claim, IsTextOf, Known}, Scripts.{lines_from, rest_from}}
-use Rattle.ulfm_script.proofs.{ByteLemmas.{consumes_keeps, consumes_start, consumes_then, end_behind, taken_of_reader}, RunLemmas.{whole_text}}
+use Rattle.ulfm_script.specs.{Buffers.{HasNoNewline, IsOfLine}, Headers.{header_text}, Ends.{Claim, IsTextOf, Known, TakesUpTo}, Scripts.{lines_from, rest_from}}
+use Rattle.ulfm_script.proofs.{ByteLemmas.{consumes_keeps, consumes_start, consumes_then, end_behind, taken_of_reader}, RunLemmas.{takes_first, whole_text}}
 use Rattle.ulfm_lines.specs.{LineTexts.{TraceLine}, Stepped.{TraceState}, Telling.{Tells}}
 use Rattle.ulfm_trace_model.specs.declared.line.{Why.{Why}, Why.TheVariants.{Text}}
 use Rattle.ulfm_trace_model.specs.Traces.{IsLegalTrace, Takes, Told, nothing, said_by}
@@ -76,19 +76,23 @@ judged now number text group shown line Stands (Ok why) few tells same t =
     (subst (λ (g : List ℕ). (next : TraceState) × Takes flag_meld now g line next why × Stands next) same t)
 judged now number text group shown line Stands (Err e) few tells same t = tt
 
--- a text without a header
-abbrev pub Lacks : Known → Type 0
-Lacks known = (text : List ℕ) × IsTextOf known text × LacksHeader (lines_from [] text)
+-- a text without a header, of which nothing behind the first line was taken
+abbrev pub Lacks : Known → Known → Type 0
+Lacks known left = (text : List ℕ) × IsTextOf known text × LacksHeader (lines_from [] text) × TakesUpTo 1 known left
 
 -- a first line that is no header
-lacks_first : (a b : Known) (line : List ℕ) → HasNoNewline line → Consumes a b (line ++ 10 ∷ []) → ((limits : Limits) → ¬ IsHeader line limits) → Lacks a
+lacks_first : (a b : Known) (line : List ℕ) → HasNoNewline line → Consumes a b (line ++ 10 ∷ []) → ((limits : Limits) → ¬ IsHeader line limits) → Lacks a b
 lacks_first a b line free q none =
     let x = text_of a b (line ++ 10 ∷ []) q in
-    let lacks : LacksHeader (line ∷ lines_from [] x.0) = λ found. none found.0 found.1 in
-    ((line ++ 10 ∷ []) ++ x.0, x.1, subst LacksHeader (sym (first_then line x.0 free)) lacks)
+    let lacks : LacksHeader (line ∷ lines_from [] x.0) = λ found. none found.0 found.1 in (
+      (line ++ 10 ∷ []) ++ x.0,
+      x.1,
+      subst LacksHeader (sym (first_then line x.0 free)) lacks,
+      takes_first a b (line ++ 10 ∷ []) q (of_whole_line line free),
+    )
 
 -- a first line that is too long
-pub lacks_long : (a b : Known) (line kept : List ℕ) → HasNoNewline line → Consumes a b (line ++ 10 ∷ []) → kept ≡ take 8193 line → 8192 < length kept → Lacks a
+pub lacks_long : (a b : Known) (line kept : List ℕ) → HasNoNewline line → Consumes a b (line ++ 10 ∷ []) → kept ≡ take 8193 line → 8192 < length kept → Lacks a b
 lacks_long a b line kept free q e long =
     lacks_first a b line free q (λ limits is. absurd (omega (arith, is.short, long, ap length e, length-take 8193 line)))
 
@@ -101,14 +105,19 @@ unread_header shown read kind limits none only may e = let is : read ≡ Ok limi
 
 -- a first line that was not read as a header
 pub lacks_read : (a b : Known) (line kept shown : List ℕ) (read : Result Limits LineKind) (kind : LineKind) → HasNoNewline line → Consumes a b (line ++ 10 ∷ []) → kept ≡ take 8193 line → length kept ≤ 8192 → shown ≡ kept
-    → read ≡ Err kind → ReadsOnly shown read → Lacks a
+    → read ≡ Err kind → ReadsOnly shown read → Lacks a b
 lacks_read a b line kept shown read kind free q e short same none only =
     lacks_first a b line free q
     (λ limits is. unread_header shown read kind limits none only is.may_open (same ∙ kept_whole line kept e short ∙ is.text_is))
 
 -- a text that ends inside its first line
-pub lacks_cut : (a b : Known) (line : List ℕ) → HasNoNewline line → Consumes a b line → IsAtEnd b → Lacks a
-lacks_cut a b line free q z = (line, whole_text a b line q z, subst LacksHeader (sym (no_line line free)) tt)
+pub lacks_cut : (a b : Known) (line : List ℕ) → HasNoNewline line → Consumes a b line → IsAtEnd b → Lacks a b
+lacks_cut a b line free q z =
+    (line, whole_text a b line q z, subst LacksHeader (sym (no_line line free)) tt, takes_first a b line q (of_line line free))
+
+-- a text without a byte
+pub lacks_all : (a b : Known) → Consumes a b [] → IsAtEnd b → Lacks a b
+lacks_all a b q z = lacks_cut a b [] tt q z
 
 -- a first line that was read as a header
 pub header_found : (line kept shown : List ℕ) (limits : Limits) → kept ≡ take 8193 line → length kept ≤ 8192 → shown ≡ kept → MayOpen limits → shown ≡ header_text Trace limits → IsHeader line limits
@@ -152,6 +161,19 @@ tells_so known b Stands n i = record {
   told = i.told;
   legal = i.legal;
 }
+
+-- nothing behind the next line was taken
+takes_next : (known b c : Known) (Stands : TraceState → Type 0) (part : List ℕ) (n : ℕ) → Going known b Stands n → Consumes b c part → IsOfLine part → TakesUpTo n known c
+takes_next known b c Stands part n i q p =
+    let lines = lines_end i.done (i.header ∷ i.texts) i.comes in
+    record {
+      lines = i.done;
+      part = part;
+      taken = consumes_then known b c i.done part i.taken q;
+      whole = rest_end i.done (i.header ∷ i.texts) i.comes;
+      counted = omega (arith, i.number_is, ap length lines);
+      partly = p;
+    }
 
 -- what was taken is a legal text
 legal_so : (known b : Known) (Stands : TraceState → Type 0) (n : ℕ) (i : Going known b Stands n) → IsLegalText i.done
@@ -235,21 +257,24 @@ some_bytes : (line : List ℕ) → 0 < length line → line ≢ []
 some_bytes line some none = absurd (omega (arith, some, ap length none))
 
 -- the text ends inside a line
-pub ended_cut : (known b c left : Known) (Stands : TraceState → Type 0) (ahead line : List ℕ) (n : ℕ) → Going known b Stands n → HasNoNewline line → 0 < length line → Consumes b c line → IsAtEnd c
-    → ChecksThrough known left ahead (Ok (Illegal n Text))
-ended_cut known b c left Stands ahead line n i free some q z =
+pub ended_cut : (known b left : Known) (Stands : TraceState → Type 0) (ahead line : List ℕ) (n : ℕ) → Going known b Stands n → HasNoNewline line → 0 < length line → Consumes b (prepend_known ahead left) line
+    → IsAtEnd (prepend_known ahead left) → ChecksThrough known left ahead (Ok (Illegal n Text))
+ended_cut known b left Stands ahead line n i free some q z =
+    let c = prepend_known ahead left in
     let lines = i.header ∷ i.texts in
     let breaks = breaks_so known b Stands n i [] line Text (refl, some_bytes line some) in
     let at_lines = subst (λ (ls : List (List ℕ)). BreaksOff ls line n Text) (sym (lines_cut i.done line lines i.comes free)) breaks in (
       i.done ++ line,
       whole_text known c (i.done ++ line) (consumes_then known b c i.done line i.taken q) z,
       inr (subst (λ (r : List ℕ). BreaksOff (lines_from [] (i.done ++ line)) r n Text) (sym (rest_cut i.done line lines i.comes free)) at_lines),
+      takes_next known b c Stands line n i q (of_line line free),
     )
 
 -- a line was bad
-pub ended_bad : (known b c left : Known) (Stood Stands : TraceState → Type 0) (ahead line shown kept : List ℕ) (n : ℕ) (why : Why) (i : Going known b Stood n) → HasNoNewline line → Consumes b c (line ++ 10 ∷ []) → shown ≡ kept
-    → kept ≡ take 8193 line → Judged (said_by (nothing i.limits) i.trace) n shown Stands (Some why) → ChecksThrough known left ahead (Ok (Illegal n why))
-ended_bad known b c left Stood Stands ahead line shown kept n why i free q same e j =
+pub ended_bad : (known b left : Known) (Stood Stands : TraceState → Type 0) (ahead line shown kept : List ℕ) (n : ℕ) (why : Why) (i : Going known b Stood n) → HasNoNewline line
+    → Consumes b (prepend_known ahead left) (line ++ 10 ∷ []) → shown ≡ kept → kept ≡ take 8193 line → Judged (said_by (nothing i.limits) i.trace) n shown Stands (Some why) → ChecksThrough known left ahead (Ok (Illegal n why))
+ended_bad known b left Stood Stands ahead line shown kept n why i free q same e j =
+    let c = prepend_known ahead left in
     let now = said_by (nothing i.limits) i.trace in
     let bad = kept_bad now n line shown why (same ∙ e) j.1 in
     let x = text_of known c (i.done ++ (line ++ 10 ∷ [])) (consumes_then known b c i.done (line ++ 10 ∷ []) i.taken q) in
@@ -261,11 +286,12 @@ ended_bad known b c left Stood Stands ahead line shown kept n why i free q same 
           subst (λ (ls : List (List ℕ)). BreaksOff ls (rest_from [] text) n why)
           (sym (lines_then i.done line x.0 (i.header ∷ i.texts) i.comes free)) breaks
           ),
+      takes_next known b c Stood (line ++ 10 ∷ []) n i q (of_whole_line line free),
     )
 
 -- the text has no header
-pub ended_lacking : (known left : Known) (ahead : List ℕ) → Lacks known → ChecksThrough known left ahead (Ok (Illegal 1 Text))
-ended_lacking known left ahead lacks = (lacks.0, lacks.1, inl (refl, refl, lacks.2))
+pub ended_lacking : (known left : Known) (ahead : List ℕ) → Lacks known (prepend_known ahead left) → ChecksThrough known left ahead (Ok (Illegal 1 Text))
+ended_lacking known left ahead lacks = (lacks.0, lacks.1, inl (refl, refl, lacks.2), lacks.3)
 
 -- the check stops inside the next line
 stops_inside : (known b c : Known) (Stands : TraceState → Type 0) (part : List ℕ) (n : ℕ) (IsPart : Claim) → Going known b Stands n → Consumes b c part → IsPart part → StopsInTrace known c IsPart

@@ -5,7 +5,7 @@ use Rattle.ulfm_laws.specs.{Flags.{flag_meld}, declared.flag_and.FlagAnd.{FlagAn
 use Rattle.ulfm_model.specs.declared.limits.Limits.{Limits}
 use Rattle.ulfm_script.specs.declared.fault.RunFault.TheVariants as fault
 use Rattle.ulfm_script.specs.declared.buffers.LineEnd.{LineEnd}
-use Rattle.ulfm_script.specs.{Buffers.{HasNoNewline, IsOfLine, TakesLine}, Ends.{Claim, IsTextOf, Known}, Scripts.{lines_from}}
+use Rattle.ulfm_script.specs.{Buffers.{HasNoNewline, IsOfLine, TakesLine}, Ends.{Claim, IsTextOf, Known, TakesUpTo}, Scripts.{lines_from}}
 use Rattle.ulfm_lines.specs.Stepped.{TraceState}
 use Rattle.ulfm_trace_model.specs.declared.line.Why.{Why}
 use Rattle.ulfm_trace_model.specs.Traces.{MayCome, Told, after, nothing}
@@ -27,10 +27,11 @@ pub record StopsInTrace (known left : Known) (IsPart : Claim) : Type 0 where
   pub partly : IsPart part
 
 -- How the check of a reader's text ended, where these bytes were read and not taken: the whole text is a legal trace; this line of it is the
--- first that is bad; memory was refused; or the reader failed.
+-- first that is bad, and nothing behind it was taken; memory was refused; or the reader failed.
 abbrev pub ChecksThrough : Known → Known → List ℕ → CheckEnd → Type 0
 ChecksThrough known left ahead (Ok Legal) = (text : List ℕ) × IsTextOf known text × IsLegalText text × IsAtEnd left
-ChecksThrough known left ahead (Ok (Illegal line why)) = (text : List ℕ) × IsTextOf known text × IsFirstBad text line why
+ChecksThrough known left ahead (Ok (Illegal line why)) =
+    (text : List ℕ) × IsTextOf known text × IsFirstBad text line why × TakesUpTo line known (prepend_known ahead left)
 ChecksThrough known left ahead (Err Memory) = StopsInTrace known (prepend_known ahead left) IsOfLine
 ChecksThrough known left ahead (Err Read) = StopsInTrace known left HasNoNewline × (ahead ≡ [])
 
@@ -53,11 +54,11 @@ pub record IsOpened (old new : Known) (Stands : TraceState → Type 0) : Type 0 
   pub taken : Consumes old new (line ++ 10 ∷ [])
   pub stands : Stands (nothing limits)
 
--- A judge was opened by the first line; or the text has no header; or memory was refused or the reader failed, and a part of the first line was
--- taken. Where the reader failed, nothing is pending.
+-- A judge was opened by the first line; or the text has no header; or memory was refused or the reader failed. In these three cases a part of the
+-- first line was taken, or all of it. Where the reader failed, nothing is pending.
 abbrev pub Opens : {J : Type 0} → (J → TraceState → Type 0) → Known → Known → List ℕ → Result (Option J) CheckFault → Type 0
 Opens Stands old new bytes (Ok (Some judge)) = IsOpened old new (Stands judge)
-Opens Stands old new bytes (Ok None) = (text : List ℕ) × IsTextOf old text × LacksHeader (lines_from [] text)
+Opens Stands old new bytes (Ok None) = (text : List ℕ) × IsTextOf old text × LacksHeader (lines_from [] text) × TakesUpTo 1 old new
 Opens Stands old new bytes (Err Memory) = (part : List ℕ) × IsOfLine part × Consumes old new part
 Opens Stands old new bytes (Err Read) = (part : List ℕ) × HasNoNewline part × (bytes ≡ []) × Consumes old new part
 

@@ -23,10 +23,10 @@ const LAST_LINE: u32 = 5_000_000;
 /// The first line is `ulfm-trace 1 RANKS COMMS ROUNDS`, the world's limits; each other line is one as [`ulfm_lines::read_line`] reads it.
 /// There are at most 5,000,000 lines of at most 8,192 bytes, each with its newline.
 ///
-/// At `Legal` the whole text was read. At `Illegal` the line is the first that is bad, and the text behind it counts for nothing. Want of
-/// memory and an error of the reader, of whatever kind, are faults and no verdicts: the lines that were taken before the one under work are
-/// a legal trace then, and at `Memory` at most 8 KB behind what was taken were read. Memory is taken for 8 KB of the text, for one line of at
-/// most 8,193 bytes and for the ranks that it lists, and for what the judge keeps.
+/// At `Legal` the whole text was read. At `Illegal` the line is the first that is bad, and the text behind it counts for nothing: of it at
+/// most 8 KB were read. Want of memory and an error of the reader, of whatever kind, are faults and no verdicts: the lines that were taken
+/// before the one under work are a legal trace then, and at `Memory` at most 8 KB behind what was taken were read. Memory is taken for 8 KB
+/// of the text, for one line of at most 8,193 bytes and for the ranks that it lists, and for what the judge keeps.
 pub fn check_by<J: LineJudge<A>, A: Allocator + Copy, R: Read>(
     alloc: A,
     reader: &mut R,

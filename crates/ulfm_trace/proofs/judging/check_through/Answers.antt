@@ -30,9 +30,8 @@ pub returns-in-Cut : goal.returns-in-Cut
 returns-in-Cut g c =
     let k = g.R.Read.remaining in
     let e = rw c.in-Cut.is at c.in_ok-next_line.ensures in
-    ended_cut (unread k c.args.input.now c.args.reader.now) (unread k c.lines.input c.lines.reader)
-    (unread k c.next_line.new.input c.next_line.new.reader) (k c.next_line.new.reader) (g.J.LineJudge.Stands c.lines.judge)
-    (pending c.next_line.new.input) e.0 c.lines.number c.lines.invariant e.1 e.2 e.3 e.4
+    ended_cut (unread k c.args.input.now c.args.reader.now) (unread k c.lines.input c.lines.reader) (k c.next_line.new.reader)
+    (g.J.LineJudge.Stands c.lines.judge) (pending c.next_line.new.input) e.0 c.lines.number c.lines.invariant e.1 e.2 e.3 e.4
 
 pub returns-in_err-why : goal.returns-in_err-why
 returns-in_err-why g c =
@@ -48,8 +47,8 @@ returns-in-Some-2 g c =
     let i = c.lines.invariant in
     let e = rw c.in-Newline.is at c.in_ok-next_line.ensures in
     let j = rw c.in-Some-2.is at c.in_ok-why.ensures in
-    ended_bad (unread k c.args.input.now c.args.reader.now) (unread k c.lines.input c.lines.reader)
-    (unread k c.next_line.new.input c.next_line.new.reader) (k c.next_line.new.reader) (g.J.LineJudge.Stands c.lines.judge)
+    ended_bad (unread k c.args.input.now c.args.reader.now) (unread k c.lines.input c.lines.reader) (k c.next_line.new.reader)
+    (g.J.LineJudge.Stands c.lines.judge)
     (g.J.LineJudge.Stands c.judge_line.new.judge) (pending c.next_line.new.input) e.0 c.deref.result.now c.next_line.new.line.items
     c.lines.number c.in-Some-2.why i e.1 e.3 c.deref.ensures.value e.2 (j (said_by (nothing i.limits) i.trace) i.stands)
 

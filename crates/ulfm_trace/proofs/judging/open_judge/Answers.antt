@@ -1,7 +1,8 @@
 use Rattle.std.proofs.Common.{◌<◌, ◌≤◌, length, arith}
 use Rattle.ulfm_script.specs.Buffers.{pending, unread}
+use Rattle.ulfm_script.proofs.ByteLemmas.{keeps_nothing}
 use Rattle.ulfm_trace.specs.declared.verdict.CheckFault.TheVariants.{Memory}
-use Rattle.ulfm_trace.proofs.Checking.{handed_on, header_found, lacks_cut, lacks_long, lacks_read, unopened_judge}
+use Rattle.ulfm_trace.proofs.Checking.{handed_on, header_found, lacks_all, lacks_cut, lacks_long, lacks_read, unopened_judge}
 use Rattle.ulfm_trace.proofs.judging.open_judge.Goals as goal
 
 pub returns-then-len-gt-LONGEST : goal.returns-then-len-gt-LONGEST
@@ -19,6 +20,13 @@ returns-in_err-open-in-Ok g c =
     rw (handed_on c.from_residual-in_err-open-in-Ok.result Memory c.from_residual-in_err-open-in-Ok.ensures.1)
     (unopened_judge g.J.LineJudge.Stands (unread k c.args.input.now c.args.reader.now) (unread k c.next_line.new.input c.next_line.new.reader)
     (pending c.next_line.new.input) e.0 e.1 e.3)
+
+pub returns-in-Done : goal.returns-in-Done
+returns-in-Done g c =
+    let a = unread g.R.Read.remaining c.args.input.now c.args.reader.now in
+    let b = unread g.R.Read.remaining c.next_line.new.input c.next_line.new.reader in
+    let e = rw c.in-Done.is at c.in_ok-next_line.ensures in
+    lacks_all a b (keeps_nothing a b e.0) e.1
 
 pub returns-in-Cut : goal.returns-in-Cut
 returns-in-Cut g c =
