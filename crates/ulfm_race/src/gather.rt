@@ -126,6 +126,7 @@ pub(crate) fn hear_all<R: Threads, G: Gate>(
     ensures asked { IfOk result (λ o. Numbered (λ r v. WasLet (G.may_say gate.now r) v.items) 0 o.replies.items) }
     ensures ends { IfErr result (EndsFor gathered.plan (G.may_say gate.now)) }
     ensures ended { (r : ℕ) → r < gathered.plan.ranks → IsEnded gathered.plan outside.new.seen r }
+    ensures still { outside.new.steps ≡ outside.old.steps }
 {
     let mut gathered = gathered;
     let plan = gathered.plan;
@@ -170,6 +171,7 @@ fn hear<'a, R: Threads, G: Gate>(
         (StopsFor ⊤ (G.may_say gate.now r)) }
     ensures ended { (r : ℕ) → StartIs (λ h. IsStarted world.now.words said.now gate.now plan r h.promise) outside.old.seen r one.entry
         → IsEnded plan outside.new.seen r }
+    ensures still { outside.new.steps ≡ outside.old.steps }
 {
     match one {
         Ok(handle) => hear_thread(rt, alloc, world, said, handle, outside),
@@ -189,6 +191,7 @@ fn finish<'a, R: Threads, G: Gate>(
     ensures of { IsOf flag_meld world.now.words outside.new }
     ensures seen { IsPrefix outside.old.seen outside.new.seen }
     ensures learned { IsPrefix result.told.seen outside.new.seen }
+    ensures still { outside.new.steps ≡ outside.old.steps }
     ensures kept { IsReported world.now.words handle.entry.promise.said.now (G.may_say handle.entry.promise.gate.now) handle.entry.promise.plan
         handle.entry.promise.number result }
 {
@@ -216,6 +219,7 @@ fn hear_thread<'a, R: Threads, G: Gate>(
     ensures asked { IfOk result (λ x. WasLet (G.may_say handle.entry.promise.gate.now handle.entry.promise.number) x.replies.items) }
     ensures stops { IfErr result (StopsFor ⊤ (G.may_say handle.entry.promise.gate.now handle.entry.promise.number)) }
     ensures ended { IsEnded handle.entry.promise.plan outside.new.seen handle.entry.promise.number }
+    ensures still { outside.new.steps ≡ outside.old.steps }
 {
     let report = finish(rt, world, handle, outside);
     let heard = read_report(alloc, said, &report);

@@ -1,9 +1,10 @@
-ghost use Rattle.std.specs.Prelude.{◌≡◌, ◌≤◌, [], IfErr, IfOk, IfSome, map, length, vec_capacity};
+ghost use Rattle.std.specs.Prelude.{◌≡◌, ◌+◌, ◌*◌, ◌≤◌, [], None, IfErr, IfOk, IfSome, MatchResult, map, length, vec_capacity};
 ghost use mathlib.Core.List.{IsPrefix};
 ghost use Rattle.ulfm_laws.specs.Flags.{flag_meld};
 ghost use Rattle.ulfm_words.specs.Steps.{IsOf};
 ghost use Rattle.ulfm_comm.specs.Counts.{records_of};
 ghost use Rattle.ulfm_race.specs.Races.{EndsFor, IsDeclared, IsNewRank, IsOutcome, IsPlan, IsReported, IsStarted, Numbered, StartIs, WasLet, limits_of};
+ghost use Rattle.ulfm_race.specs.Worked.{Declares, steps_of};
 
 use crate::gather::{Gathered, hear_all};
 use crate::plan::{Gate, Outcome, Plan, RaceFault};
@@ -173,6 +174,8 @@ fn declare(world: &Shared, plan: Plan, outside: &mut BookPass<FlagAnd>)
     ensures of { IsOf flag_meld world.now.words outside.new }
     ensures seen { IsPrefix outside.old.seen outside.new.seen }
     ensures declared { IfSome plan.fail (IsDeclared outside.new.seen) }
+    ensures once { IfSome plan.fail (λ rank. Declares world.now.words rank outside.old outside.new) }
+    ensures nobody { plan.fail ≡ None → outside.new ≡ outside.old }
 {
     if let Some(rank) = plan.fail {
         let _ = world.fail(outside, rank);
@@ -202,6 +205,7 @@ fn start_all<'s, E, G: Gate + Sync, R: Wait + Sync>(
     ensures started { Numbered (λ r one. StartIs (λ h. IsStarted world.now.words said.now gate.now plan r h.promise) outside.new.seen r one)
         0 started.new.items }
     ensures all { length started.new.items ≡ length ranks.items }
+    ensures few { outside.new.steps ≤ outside.old.steps + steps_of (2 * world.now.words.limits.ranks) started.new.items }
 {
     for rank in ranks {
         let one = start(scope, rt, gate, alloc, world, said, plan, rank, outside);
@@ -228,6 +232,7 @@ fn start<'s, E, G: Gate + Sync, R: Wait + Sync>(
     ensures of { IsOf flag_meld world.now.words outside.new }
     ensures seen { IsPrefix outside.old.seen outside.new.seen }
     ensures started { StartIs (λ h. IsStarted world.now.words said.now gate.now plan rank.own.number h.promise) outside.new.seen rank.own.number result }
+    ensures once { MatchResult result (λ _. outside.new ≡ outside.old) (λ _. Declares world.now.words rank.own.number outside.old outside.new) }
 {
     let number = rank.number();
     let promised = Promised {

@@ -7,10 +7,11 @@ ghost use Rattle.ulfm_model.specs.History.{failures, has};
 ghost use Rattle.ulfm_model.specs.Records.{new_record};
 ghost use Rattle.ulfm_laws.specs.Flags.{flag_meld};
 ghost use Rattle.ulfm_model.specs.declared.{call.Call.TheVariants.{Agree, Shrink}, reply.Reply.{Reply as ReplyOf}};
-ghost use Rattle.ulfm_wait.specs.Waits.{IsAwaited, IsPolledOn};
+ghost use Rattle.ulfm_wait.specs.{Turns.{member_of}, Waits.{IsAwaited, IsPolledOn, MemberPollsOn}};
 ghost use Rattle.ulfm_race.specs.declared.plan.Plan.{Plan as PlanOf};
 ghost use Rattle.ulfm_race.specs.Races.{AreOf, IsAnswered, IsKept, IsPlan, IsReady, IsReported, SaysAgree, Starts, StopsFor, WasLet, Works};
 ghost use Rattle.ulfm_race.specs.Races.{flag_of, is_refused, is_stopped, limits_of};
+ghost use Rattle.ulfm_race.specs.Worked.{Declares, HasPended, HasTurned, HasWorked, TurnIs};
 
 use crate::plan::{Gate, Plan, RaceFault, Turn};
 use std::alloc::Global;
@@ -62,7 +63,8 @@ pub(crate) fn work<G: Gate, R: Wait>(
     requires limits { world.now.words.limits ≡ limits_of plan }
     requires new { rank.own ≡ new_record (limits_of plan) rank.own.number }
     requires own { AreOf world.now.words rank.own pass }
-    ensures { IsReported world.now.words said.now (G.may_say gate.now) plan rank.own.number result }
+    ensures reports { IsReported world.now.words said.now (G.may_say gate.now) plan rank.own.number result }
+    ensures works { HasWorked world.now.words plan (member_of world.now.words rank pass) result }
 {
     let number = rank.number();
     let mut worker = Worker {
@@ -112,7 +114,8 @@ fn declare(world: &Shared, rank: &Own, number: u16, pass: &mut BookPass<FlagAnd>
     ensures own { AreOf world.now.words rank.now.own pass.new }
     ensures seen { IsPrefix pass.old.seen pass.new.seen }
     ensures declared { IsTrue stopped → number < world.now.words.limits.ranks → IsTrue (has (failures pass.new.seen) number) }
-    ensures alone { stopped ≡ false → pass.new.seen ≡ pass.old.seen }
+    ensures once { IsTrue stopped → Declares world.now.words number pass.old pass.new }
+    ensures alone { stopped ≡ false → pass.new ≡ pass.old }
 {
     if stopped {
         let _ = world.fail(pass, number);
@@ -135,6 +138,8 @@ fn take_turns<G: Gate, R: Wait>(
     ensures asks { IfOk result (λ _. WasLet (G.may_say gate.now worker.old.rank.own.number) (map (λ t. t.value) worker.new.tokens.items)) }
     ensures whole { IfOk result (λ whole. list_any is_refused (map (λ t. t.value) worker.new.tokens.items) ≡ not whole) }
     ensures stops { IfErr result (StopsFor ⊤ (G.may_say gate.now worker.old.rank.own.number)) }
+    ensures turns { HasTurned plan worker.old.rank.own.number result (map (λ t. t.value) worker.new.tokens.items)
+        (member_of world.now.words worker.old.rank worker.old.pass) (member_of world.now.words worker.new.rank worker.new.pass) }
 {
     match agree_all(rt, gate, world, said, plan, worker) {
         Ok(true) => {}
@@ -161,6 +166,7 @@ fn keep<R: Wait>(
     ensures shown { AllByRecursion (Shows said.now) tokens.new.items }
     ensures kept { IfOk result (λ _. map (λ t. t.value) tokens.new.items ≡ map (λ t. t.value) tokens.old.items ++ reply ∷ []) }
     ensures stops { IfErr result (λ fault. fault ≡ RaceFault.Memory) }
+    ensures lost { IfErr result (λ _. tokens.new.items ≡ tokens.old.items) }
 {
     match said.push_shown(rt, reply) {
         Ok(token) => match tokens.push(token) {
@@ -193,6 +199,9 @@ fn polled<G: Gate, R: Wait>(
     ensures polls { IfOk result (λ answer. IsPolledOn flag_meld false world.now.words 0 rank.old.own pass.old answer rank.new.own pass.new) }
     ensures asks { IfOk result (λ _. G.may_say gate.now rank.old.own.number Turn.Poll true) }
     ensures stops { IfErr result (λ fault. (fault ≡ RaceFault.Held) × G.may_say gate.now rank.old.own.number Turn.Poll false) }
+    ensures counted { IfOk result (λ answer. MemberPollsOn flag_meld false 0 (member_of world.now.words rank.old pass.old) answer
+        (member_of world.now.words rank.new pass.new)) }
+    ensures pends { IfErr result (λ _. HasPended (member_of world.now.words rank.old pass.old) (member_of world.now.words rank.new pass.new)) }
 {
     let number = rank.number();
     for _ in rt.forever() {
@@ -270,6 +279,8 @@ fn agree<G: Gate, R: Wait>(
         (IsAwaited flag_meld false world.now.words 0 (Agree rank.old.own.number 0 (flag_of rank.old.own.number round)) rank.old.own pass.old
         (Err Refusal.OutOfMemory) rank.new.own pass.new)
         (G.may_say gate.now rank.old.own.number)) }
+    ensures turn { TurnIs (Agree rank.old.own.number 0 (flag_of rank.old.own.number round)) (member_of world.now.words rank.old pass.old) result
+        (member_of world.now.words rank.new pass.new) }
 {
     let number = rank.number();
     if !gate.go(number, Turn::Contribute) {
@@ -303,6 +314,8 @@ fn shrink<G: Gate, R: Wait>(
     ensures stops { IfErr result (StopsFor
         (IsAwaited flag_meld false world.now.words 0 (Shrink rank.old.own.number 0) rank.old.own pass.old (Err Refusal.OutOfMemory) rank.new.own pass.new)
         (G.may_say gate.now rank.old.own.number)) }
+    ensures turn { TurnIs (Shrink rank.old.own.number 0) (member_of world.now.words rank.old pass.old) result
+        (member_of world.now.words rank.new pass.new) }
 {
     let number = rank.number();
     if !gate.go(number, Turn::Contribute) {
@@ -348,6 +361,8 @@ pub(crate) fn agree_all<G: Gate, R: Wait>(
     ensures asks { IfOk result (λ _. WasLet (G.may_say gate.now worker.old.rank.own.number) (map (λ t. t.value) worker.new.tokens.items)) }
     ensures whole { IfOk result (λ goes. list_any is_refused (map (λ t. t.value) worker.new.tokens.items) ≡ not goes) }
     ensures stops { IfErr result (StopsFor ⊤ (G.may_say gate.now worker.old.rank.own.number)) }
+    ensures turns { HasTurned plan worker.old.rank.own.number result (map (λ t. t.value) worker.new.tokens.items)
+        (member_of world.now.words worker.old.rank worker.old.pass) (member_of world.now.words worker.new.rank worker.new.pass) }
 {
     for round in 0..plan.rounds {
         match agree(rt, gate, world, &mut worker.rank, &mut worker.pass, round) {

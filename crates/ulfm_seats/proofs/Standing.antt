@@ -13,7 +13,7 @@ use Rattle.ulfm_stepping.specs.{Failing.{TellsFail}, Seats.{AreOthers, Sits}}
 use Rattle.ulfm_stepping.proofs.Others.{sits_lasts}
 use Rattle.ulfm_lines.specs.{LineTexts.{lines_text}, StepLines.{ScriptStep}, Stepped.{TellsStep}}
 use Rattle.ulfm_lines.specs.declared.step_machine.Taken.TheVariants.{Run}
-use Rattle.ulfm_seats.specs.{Table.{IsNobody, SitsAt, StandsFor}, Walks.{FlagSeat}}
+use Rattle.ulfm_seats.specs.{Table.{IsNobody, OthersStay, SitsAt, StandsFor}, Walks.{FlagSeat}}
 use Rattle.ulfm_lines.proofs.Calls.{find_left_out}
 use Rattle.ulfm_seats.proofs.{Pieces.{AllBy, piece_call, piece_record}}
 
@@ -43,6 +43,18 @@ get_changed {X} (z ∷ zs) (suc i) (suc j) x y is = go (get_changed zs i j x y i
     go : ((j ≡ i) × (y ≡ x)) ⊎ ((j ≢ i) × (slice_get zs j ≡ Some y)) → ((suc j ≡ suc i) × (y ≡ x)) ⊎ ((suc j ≢ suc i) × (slice_get (z ∷ zs) (suc j) ≡ Some y))
     go (inl both) = inl (ap suc both.0, both.1)
     go (inr both) = inr ((λ same. both.0 (omega (arith, same))), both.1)
+
+-- an element of a list with another one changed is as it was
+get_kept : {X : Type 0} (xs : List X) (i j : ℕ) (x : X) → j ≢ i → slice_get (set xs i x) j ≡ slice_get xs j
+get_kept [] i j x ne = refl
+get_kept (z ∷ zs) zero zero x ne = absurd (ne refl)
+get_kept (z ∷ zs) zero (suc j) x ne = refl
+get_kept (z ∷ zs) (suc i) zero x ne = refl
+get_kept (z ∷ zs) (suc i) (suc j) x ne = get_kept zs i j x (λ same. ne (ap suc same))
+
+-- a seat that changes leaves the others
+pub others_stay : (seats : List FlagSeat) (i r : ℕ) (seat : FlagSeat) → i ≡ r → OthersStay r seats (set seats i seat)
+others_stay seats i r seat same q differ = get_kept seats i q seat (λ is. differ (is ∙ same))
 
 -- the element at an index
 pub get_there : {X : Type 0} (xs : List X) (i : ℕ) (d : X) → i < length xs → slice_get xs i ≡ Some (get_or xs i d)

@@ -1,11 +1,13 @@
 -- What the machine of step scripts stands for.
-use Rattle.std.specs.Prelude.{◌≡◌, ℕ, ◌≤◌, List, length, slice_get, Option, Some, None}
+use Rattle.std.specs.Prelude.{◌≡◌, ◌≢◌, ℕ, ◌≤◌, List, length, slice_get, Option, Some, None}
 use Rattle.ulfm_laws.specs.{Flags.{flag_meld}, declared.flag_and.FlagAnd.{FlagAnd}}
 use Rattle.ulfm_model.specs.declared.{event.Caller.{Caller}, step_name.StepName.{StepName}}
 use Rattle.ulfm_words.specs.Steps.{IsOf, Name, Sight}
+use Rattle.ulfm_model.specs.Answers.{rank_of}
 use Rattle.ulfm_comm.specs.Counts.{Ranked}
 use Rattle.ulfm_trace_model.specs.Traces.{Traced, call_by, record_of}
-use Rattle.ulfm_lines.specs.Progress.{Progress}
+use Rattle.ulfm_trace_model.specs.declared.step_line.StepLine.TheVariants.{Before, Called, Failed, Finished, Stepped}
+use Rattle.ulfm_lines.specs.{Progress.{Progress}, StepLines.{ScriptStep}}
 use Rattle.ulfm_stepping.specs.Seats.{Sits, next_in}
 use Rattle.ulfm_seats.specs.Walks.{FlagSeat}
 
@@ -52,3 +54,15 @@ progress_of pass seats = record { steps = pass.steps; next = λ r. next_of (slic
 -- the machine stands for what lines say
 abbrev pub IsTable : Table → Traced FlagAnd → Type 0
 IsTable table now = StandsFor table.name table.pass table.seats now
+
+-- the seats of all ranks but r are as they were, also in what no line tells
+abbrev pub OthersStay : ℕ → List FlagSeat → List FlagSeat → Type 0
+OthersStay r old new = (q : ℕ) → q ≢ r → slice_get new q ≡ slice_get old q
+
+-- a script's line leaves all seats as they are but that of its rank, and a declaration leaves that too
+abbrev pub SeatsStay : ScriptStep → List FlagSeat → List FlagSeat → Type 0
+SeatsStay (Called asked) old new = OthersStay (rank_of asked) old new
+SeatsStay (Stepped r count) old new = OthersStay r old new
+SeatsStay (Before r name) old new = OthersStay r old new
+SeatsStay (Finished r) old new = OthersStay r old new
+SeatsStay (Failed r) old new = new ≡ old

@@ -1,7 +1,7 @@
 // One line of a step script after another, over a world, one pass and the seats of all ranks.
-ghost use Rattle.std.specs.Prelude.{◌≡◌, ◌++◌, ◌≤◌, ℕ, None, length, IfOk, OnOk};
+ghost use Rattle.std.specs.Prelude.{◌≡◌, ◌++◌, ◌+◌, ◌*◌, ◌≤◌, ℕ, None, length, IfOk, OnOk};
 ghost use Rattle.ulfm_laws.specs.{Flags.{flag_meld}, declared.flag_and.FlagAnd.{FlagAnd}};
-ghost use Rattle.ulfm_model.specs.Answers.{traits_of};
+ghost use Rattle.ulfm_model.specs.Answers.{rank_of as caller_in, traits_of};
 ghost use Rattle.ulfm_model.specs.declared.{event.Caller.TheVariants.{Rank as OfRank}, reply.Reply.{Reply}};
 ghost use Rattle.ulfm_words.specs.{Pass.{plain_name}, Steps.{IsOf}};
 ghost use Rattle.ulfm_trace_model.specs.Traces.{Traced};
@@ -9,7 +9,7 @@ ghost use Rattle.ulfm_trace_model.specs.declared.step_line.StepLine.TheVariants.
 ghost use Rattle.ulfm_lines.specs.declared.step_machine.Taken.TheVariants.{Run};
 ghost use Rattle.ulfm_lines.specs.Progress.{GoesAsSaid, GoesFar};
 ghost use Rattle.ulfm_lines.specs.{LineTexts.{lines_text}, StepLines.{IsByRank}, Stepped.{IsStep, TellsStep}, Walked.{TellsSteps}};
-ghost use Rattle.ulfm_seats.specs.{Lines.{BeginsCall}, Table.{StandsFor, progress_of}};
+ghost use Rattle.ulfm_seats.specs.{Lines.{BeginsCall}, Table.{OthersStay, SeatsStay, StandsFor, progress_of}};
 
 use crate::telling::{tell_begun, tell_declaration, tell_unknown};
 use crate::walks::walk_until;
@@ -42,6 +42,7 @@ fn begin_at<A: Allocator + Copy + Drop>(
 }
 
 // A rank begins a call, where the world has the rank, and it has none under way.
+#[tactic(auto, using(crate::proofs::Standing::others_stay))]
 fn run_call<A: Allocator + Copy + Drop>(
     world: &World<PlainWords<FlagAnd>, FlagAnd, A>,
     pass: &PlainPass<FlagAnd, A>,
@@ -55,6 +56,7 @@ fn run_call<A: Allocator + Copy + Drop>(
         → IfOk result (λ taken. TellsStep (StandsFor (plain_name world.now.words.limits) pass.now seats.new) now (Called asked) taken
         teller.old.text.items teller.new.text.items) }
     ensures stands { OnOk result ((next : Traced FlagAnd) × StandsFor (plain_name world.now.words.limits) pass.now seats.new next) }
+    ensures others { OthersStay (caller_in asked) seats.old seats.new }
 {
     let rank = rank_of(&asked);
     if rank as usize >= seats.len() {
@@ -77,6 +79,7 @@ fn has_room<A: Allocator + Copy + Drop>(pass: &PlainPass<FlagAnd, A>)
 }
 
 /// Steps of a rank's call as far as they are to be taken, where the world has the rank and it has a call under way.
+#[tactic(auto, using(crate::proofs::Standing::others_stay))]
 pub(crate) fn walk_rank<A: Allocator + Copy + Drop>(
     world: &World<PlainWords<FlagAnd>, FlagAnd, A>,
     pass: &mut PlainPass<FlagAnd, A>,
@@ -91,6 +94,7 @@ pub(crate) fn walk_rank<A: Allocator + Copy + Drop>(
         → IfOk result (λ made. TellsSteps (StandsFor (plain_name world.now.words.limits) pass.new seats.new) now rank reach made
         teller.old.text.items teller.new.text.items) }
     ensures goes { IfOk result (λ made. GoesFar (progress_of pass.old seats.old) (progress_of pass.new seats.new) rank reach made) }
+    ensures others { OthersStay rank seats.old seats.new }
 {
     has_room(pass);
     if rank as usize >= seats.len() {
@@ -114,9 +118,10 @@ fn run_fail<A: Allocator + Copy + Drop>(
     teller: &mut Teller<A>,
 ) -> Result<(), AllocError>
     requires { (now : Traced FlagAnd) × StandsFor (plain_name world.now.words.limits) pass.old seats.now now }
-    ensures { (now : Traced FlagAnd) → StandsFor (plain_name world.now.words.limits) pass.old seats.now now
+    ensures tells { (now : Traced FlagAnd) → StandsFor (plain_name world.now.words.limits) pass.old seats.now now
         → OnOk result (TellsStep (StandsFor (plain_name world.now.words.limits) pass.new seats.now) now (Failed rank) Run
         teller.old.text.items teller.new.text.items) }
+    ensures few { pass.new.steps ≤ pass.old.steps + 2 * world.now.words.limits.ranks }
 {
     let _ = seats;
     let told = fail_whole(world, pass, rank);
@@ -139,6 +144,7 @@ pub(crate) fn run_line<A: Allocator + Copy + Drop>(
         teller.old.text.items teller.new.text.items) }
     ensures stands { OnOk result ((next : Traced FlagAnd) × StandsFor (plain_name world.now.words.limits) pass.new seats.new next) }
     ensures goes { OnOk result (GoesAsSaid (progress_of pass.old seats.old) (progress_of pass.new seats.new) step.now) }
+    ensures others { OnOk result (SeatsStay step.now seats.old seats.new) }
 {
     match *step {
         StepLine::Called(asked) => return run_call(world, pass, seats, asked, teller),

@@ -29,6 +29,7 @@ loop-one-init g c =
         gathered_none _ c.args.gathered.plan c.args.outside.now.seen c.args.gathered.replies.items c.args.gathered.group.items c.args.gathered.fault nothing.0 nothing.1,
         λ i below. absurd (omega (arith, below)),
       ),
+      refl,
     )
 
 pub hear-heard-requires-clause-one : goal.hear-heard-requires-clause-one
@@ -74,6 +75,7 @@ loop-one-preserved g c =
         gathered_by here plan seen (r + 1) _ _ _ same (c.take_in.ensures.takes seen r heard (gathered_by plan here seen r _ _ _ (sym same) before)),
         below_more (IsEnded plan seen) r (λ i lt. ended_stays plan was seen begins legal i (mine.6 i lt)) (c.hear-heard.ensures.ended r starts.0),
       ),
+      c.hear-heard.ensures.still ∙ inv.10,
     )
 
 pub returns-in-None-fault-clause-answered : goal.returns-in-None-fault-clause-answered

@@ -27,3 +27,4 @@ invariant-loop-one g l =
     × Numbered (λ i one. StartIs (λ h. IsStarted name l.fn.said l.fn.gate plan i h.promise) l.outside.seen i one) r rest
     × IsGathered plan l.outside.seen r (map (λ v. v.items) l.gathered.replies.items) l.gathered.group.items l.gathered.fault
     × ((i : ℕ) → i < r → IsEnded plan l.outside.seen i))
+    × (l.outside.steps ≡ l.fn.outside.steps)

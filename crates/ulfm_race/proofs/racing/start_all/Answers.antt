@@ -1,9 +1,10 @@
-use Rattle.std.proofs.Common.{◌+◌, ap, sym, subst, length, length-append, [], ◌∷◌, arith, refl}
+use Rattle.std.proofs.Common.{◌+◌, ◌*◌, ◌≤◌, ap, sym, subst, length, length-append, [], ◌∷◌, arith, refl}
 use Rattle.ulfm_laws.specs.Flags.{flag_meld}
 use Rattle.ulfm_model.specs.{History.{IsLegal}, Records.{Record}}
 use Rattle.ulfm_comm.specs.Counts.{records_of}
 use Rattle.ulfm_race.specs.Races.{IsNewRank, IsStarted, Numbered, StartIs}
-use Rattle.ulfm_race.proofs.Gathering.{starts_push}
+use Rattle.ulfm_race.specs.Worked.{steps_of}
+use Rattle.ulfm_race.proofs.{Gathering.{starts_push}, Working.{start_steps, steps_push}}
 use Rattle.ulfm_race.proofs.racing.start_all.Goals as goal
 
 pub loop-rank-init : goal.loop-rank-init
@@ -23,6 +24,7 @@ loop-rank-init g c =
         ap length c.requires.nobody,
         c.requires.room,
       ),
+      omega arith,
     )
 
 pub loop-rank-preserved : goal.loop-rank-preserved
@@ -39,7 +41,11 @@ loop-rank-preserved g c =
     let here = subst (λ n. StartIs (λ h. IsStarted c.args.world.now.words c.args.said.now c.args.gate.now plan n h.promise) seen n c.start-one.result) number c.start-one.ensures.started in
     let count = inv.4 in
     let pushed = c.push_reserved.ensures.items in
-    let capacity = c.push_reserved.ensures.capacity in (
+    let capacity = c.push_reserved.ensures.capacity in
+    let most = 2 * c.args.world.now.words.limits.ranks in
+    let few = start_steps c.args.world.now.words c.in-Some.rank.own.number c.start-one.result c.loop-rank.outside c.start-one.new.outside c.start-one.ensures.once in
+    let more = steps_push most c.loop-rank.started.items c.start-one.result in
+    let fewer = c.loop-rank.invariant.5 in (
       refl,
       refl,
       refl,
@@ -53,4 +59,5 @@ loop-rank-preserved g c =
         omega (arith, ap length pushed, length-append c.loop-rank.started.items (c.start-one.result ∷ []), count),
         omega (arith, capacity, inv.5),
       ),
+      subst (λ xs. c.start-one.new.outside.steps ≤ c.args.outside.now.steps + steps_of most xs) (sym pushed) (omega (arith, few, more, fewer)),
     )

@@ -1,8 +1,8 @@
-use Rattle.std.proofs.Common.{◌≡◌, ℕ, ◌+◌, ◌≤◌, length, vec_capacity}
+use Rattle.std.proofs.Common.{◌≡◌, ℕ, ◌+◌, ◌*◌, ◌≤◌, length, vec_capacity}
 use Rattle.ulfm_laws.specs.Flags.{flag_meld}
 use Rattle.ulfm_words.specs.Steps.{IsOf}
 use Rattle.ulfm_comm.specs.Counts.{records_of}
-use Rattle.ulfm_race.specs.Races.{IsNewRank, IsStarted, Numbered, StartIs}
+use Rattle.ulfm_race.specs.{Races.{IsNewRank, IsStarted, Numbered, StartIs}, Worked.{steps_of}}
 use Rattle.ulfm_race.proofs.racing.start_all.Given as goal
 
 abbrev pub invariant-loop-rank : goal.invariant-loop-rank
@@ -20,3 +20,4 @@ invariant-loop-rank g l =
     × Numbered (λ i one. StartIs (λ h. IsStarted name l.fn.said l.fn.gate plan i h.promise) l.outside.seen i one) 0 l.started.items
     × (length l.started.items ≡ r)
     × (length l.fn.ranks.items ≤ vec_capacity l.started))
+    × (l.outside.steps ≤ l.fn.outside.steps + steps_of (2 * name.limits.ranks) l.started.items)

@@ -2,14 +2,16 @@ use Rattle.std.proofs.Common.{◌≡◌, ◌<◌, ◌∙◌, Err, IfErr, IsTrue,
 use Rattle.std.specs.{List.{list_any}, Prelude.{⊤}}
 use Rattle.ulfm_laws.specs.Flags.{flag_meld}
 use Rattle.ulfm_model.specs.{History.{IsLegal, failures, has}, Records.{Fits, new_record}}
+use Rattle.ulfm_wait.specs.Turns.{member_of}
 use Rattle.ulfm_race.specs.Races.{IsAnswered, StopsFor, WasLet, is_refused, is_stopped}
 use Rattle.ulfm_race.specs.declared.plan.RaceFault.{RaceFault}
 use Rattle.ulfm_race.proofs.Stopping.{new_below, refused_stops, some_holds}
-use Rattle.ulfm_race.proofs.Turns.{answered_lasts, ok_holds}
+use Rattle.ulfm_race.specs.Worked.{Declares}
+use Rattle.ulfm_race.proofs.{Turns.{answered_lasts, ok_holds}, Working.{turned_by, whole_goes_on}}
 use Rattle.ulfm_race.proofs.worker.work.Goals as goal
 
-pub returns : goal.returns
-returns g c =
+pub returns-clause-reports : goal.returns-clause-reports
+returns-clause-reports g c =
     let plan = c.args.plan in
     let limits = c.args.world.now.words.limits in
     let number = c.args.rank.own.number in
@@ -38,4 +40,26 @@ returns g c =
       declared = λ f met. subst (λ h. IsTrue (has (failures h) number)) (sym here) (at_last (c.is_stopped.ensures ∙ ap is_stopped (failed f met)));
       stops = λ f met.
           subst (λ o. IfErr o (StopsFor ⊤ (g.G.Gate.may_say c.args.gate.now number))) (failed f met) c.take_turns-ended.ensures.stops;
+    }
+
+pub returns-clause-works : goal.returns-clause-works
+returns-clause-works g c =
+    let plan = c.args.plan in
+    let name = c.args.world.now.words in
+    let number = c.args.rank.own.number in
+    let said = map (λ t. t.value) c.take_turns-ended.new.worker.tokens.items in
+    let start = member_of name c.args.rank c.args.pass in
+    let ended = member_of name c.take_turns-ended.new.worker.rank c.take_turns-ended.new.worker.pass in
+    let stops = c.is_stopped.ensures in
+    let declares : IsTrue c.is_stopped.result → Declares name number ended.pass c.declare.new.pass = λ stopped. subst (λ n. Declares name n ended.pass c.declare.new.pass) c.number-number.ensures (c.declare.ensures.once stopped) in
+    let failed = λ (f : RaceFault) (met : c.fault_in-fault.result ≡ Some f). some_holds (λ fault. c.take_turns-ended.result ≡ Err fault) c.fault_in-fault.result f c.fault_in-fault.ensures.some met in
+    record {
+      ended = ended;
+      turns = turned_by plan number c.take_turns-ended.result c.fault_in-fault.result said start ended c.fault_in-fault.ensures.none c.fault_in-fault.ensures.some c.take_turns-ended.ensures.turns;
+      own_is = refl;
+      after = c.declare.new.pass;
+      refused = λ refused. declares (stops ∙ refused_stops c.take_turns-ended.result (list_any is_refused said) c.take_turns-ended.ensures.whole refused);
+      faulted = λ f met. declares (stops ∙ ap is_stopped (failed f met));
+      alone = λ none whole. c.declare.ensures.alone (stops ∙ whole_goes_on c.take_turns-ended.result (list_any is_refused said) c.take_turns-ended.ensures.whole (c.fault_in-fault.ensures.none none) whole);
+      told_is = (c.told-told.ensures.all refl).0;
     }

@@ -8,10 +8,10 @@ use Rattle.ulfm_seats.proofs.Goes.{goes_all, goes_before, goes_stepped}
 use Rattle.ulfm_seats.proofs.running.run_line.Goals as goal
 
 pub returns-in_ok-run_fail-in-Failed-clause-tells : goal.returns-in_ok-run_fail-in-Failed-clause-tells
-returns-in_ok-run_fail-in-Failed-clause-tells g c = λ now stands. rw c.in-Failed.is (c.in_ok-run_fail-in-Failed.ensures now stands)
+returns-in_ok-run_fail-in-Failed-clause-tells g c = λ now stands. rw c.in-Failed.is (c.in_ok-run_fail-in-Failed.ensures.tells now stands)
 
 pub returns-in_ok-run_fail-in-Failed-clause-stands : goal.returns-in_ok-run_fail-in-Failed-clause-stands
-returns-in_ok-run_fail-in-Failed-clause-stands g c = let t = c.in_ok-run_fail-in-Failed.ensures c.requires.stands.0 c.requires.stands.1 in (t.1, t.3)
+returns-in_ok-run_fail-in-Failed-clause-stands g c = let t = c.in_ok-run_fail-in-Failed.ensures.tells c.requires.stands.0 c.requires.stands.1 in (t.1, t.3)
 
 pub returns-in_ok-walk_rank-in-Stepped-clause-tells : goal.returns-in_ok-walk_rank-in-Stepped-clause-tells
 returns-in_ok-walk_rank-in-Stepped-clause-tells g c = λ now stands.
@@ -64,3 +64,15 @@ pub returns-in_ok-walk_rank-in-Finished-clause-goes : goal.returns-in_ok-walk_ra
 returns-in_ok-walk_rank-in-Finished-clause-goes g c =
     rw c.in-Finished.is
     (goes_all (progress_of c.args.pass.now c.args.seats.now) (progress_of c.walk_rank-in-Finished.new.pass c.walk_rank-in-Finished.new.seats) c.in-Finished.rank c.in_ok-walk_rank-in-Finished.field-0 c.in_ok-walk_rank-in-Finished.ensures.goes)
+
+pub returns-in_ok-walk_rank-in-Stepped-clause-others : goal.returns-in_ok-walk_rank-in-Stepped-clause-others
+returns-in_ok-walk_rank-in-Stepped-clause-others g c = rw c.in-Stepped.is c.walk_rank.ensures.others
+
+pub returns-in_ok-walk_rank-in-Before-clause-others : goal.returns-in_ok-walk_rank-in-Before-clause-others
+returns-in_ok-walk_rank-in-Before-clause-others g c = rw c.in-Before.is c.walk_rank-in-Before.ensures.others
+
+pub returns-in_ok-walk_rank-in-Finished-clause-others : goal.returns-in_ok-walk_rank-in-Finished-clause-others
+returns-in_ok-walk_rank-in-Finished-clause-others g c = rw c.in-Finished.is c.walk_rank-in-Finished.ensures.others
+
+pub returns-in_ok-run_fail-in-Failed-clause-others : goal.returns-in_ok-run_fail-in-Failed-clause-others
+returns-in_ok-run_fail-in-Failed-clause-others g c = rw c.in-Failed.is refl
