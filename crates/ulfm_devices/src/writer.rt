@@ -24,6 +24,8 @@ pub struct Taken {
     pub most: usize,
     /// How often it was written to.
     pub calls: u32,
+    /// How often it was flushed.
+    pub flushes: u32,
     /// The call that fails, counted from 1; none for 0.
     pub failing: u32,
     pub how: Failing,
@@ -35,6 +37,7 @@ impl Taken {
         ensures bytes { result.bytes.items ≡ [] }
         ensures most { result.most ≡ most }
         ensures calls { result.calls ≡ 0 }
+        ensures flushes { result.flushes ≡ 0 }
         ensures failing { result.failing ≡ failing }
         ensures how { result.how ≡ how }
     {
@@ -42,6 +45,7 @@ impl Taken {
             bytes: Vec::new(alloc),
             most,
             calls: 0,
+            flushes: 0,
             failing,
             how,
         }
@@ -65,6 +69,7 @@ impl Write for Taken {
     }
 
     fn flush(&mut self) -> io::Result<()> {
+        self.flushes = self.flushes.wrapping_add(1);
         if self.how == Failing::AtFlush {
             return Err(io::Error::from(ErrorKind::Interrupted));
         }

@@ -14,13 +14,14 @@ use ulfm_step_script::{Failing, run_failing_script, run_step_script};
 /// The first line is `ulfm 1 RANKS COMMS ROUNDS`, the world's limits; each other line is a call as `read_call` reads
 /// it, and gives one line as `print_reply` prints it. Want of memory is never printed as a reply.
 ///
-/// At `Ok` the whole text was read, and exactly its output was written. At `Line` the fault is the first of the text, in the order
-/// of `LineKind` within a line, and exactly the output of the lines before was written. At `Read` exactly the output of
-/// the lines that the reader gave whole was written, and they have no fault. At `Memory`, which is no reply, exactly the output of
-/// the lines before the one under work was written, and they have no fault; the reader gave at most 8 KB behind what was taken of
-/// that line. At `Write` a beginning of the output was written: the writer failed, took nothing, or couldn't be flushed, also where
-/// it had to take what waited at another fault. Every error of the reader or the writer is a fault, of whatever kind; none is tried
-/// again. Reader and writer have buffers of 8 KB here and need none of their own.
+/// At `Ok` the whole text was read, and exactly its output was written. At `Line` the fault is the first of the text, in the
+/// order of `LineKind` within a line, and exactly the output of the lines before was written; of what stands behind that line the
+/// reader gave at most 8 KB. At `Read` exactly the output of the lines that the reader gave whole was written, and they have no
+/// fault. At `Memory`, which is no reply, exactly the output of the lines before the one under work was written, and they have no
+/// fault; the reader gave at most 8 KB behind what was taken of that line. At `Write` a beginning of the output was written: the
+/// writer failed, took nothing, or couldn't be flushed, also where it had to take what waited at another fault. Every error of
+/// the reader or the writer is a fault, of whatever kind; none is tried again. Reader and writer have buffers of 8 KB here and
+/// need none of their own.
 ///
 /// ```
 /// let mut script = b"ulfm 1 1 1 2\nagree 0 0 000000ff\npoll 0 0\n".as_slice();

@@ -169,3 +169,19 @@ fn each_flush_fails(rt: HostRuntime) -> Result<(), Fail> {
     }
     Ok(())
 }
+
+/// The writer is flushed once, at the end, also where that is the fault of a line.
+#[test]
+fn flushes_once(rt: HostRuntime) -> Result<(), Fail> {
+    for engine in ENGINES {
+        let script = engine.script();
+        for text in [script, &script[..script.len().saturating_sub(1)]] {
+            let mut input = Pieces::new(text, 7, 0);
+            let mut output = Taken::new(rt.alloc(), 7, 0, Failing::ByError);
+            let end = engine.run(rt.alloc(), &mut input, &mut output);
+            assert_eq!(rt; end.is_ok(), text.len() == script.len());
+            assert_eq!(rt; output.flushes, 1);
+        }
+    }
+    Ok(())
+}
