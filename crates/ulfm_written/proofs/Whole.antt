@@ -7,14 +7,14 @@ use Rattle.ulfm_model.specs.declared.limits.Limits.{Limits}
 use Rattle.ulfm_model.specs.{History.{IsLegal}, Words.{MayOpen, size_of}}
 use Rattle.ulfm_model.proofs.Lists.{each_append}
 use Rattle.ulfm_script.specs.declared.{header_kind.HeaderKind.TheVariants.{Steps, Trace}, line_kind.LineKind.{LineKind}, line_kind.LineKind.TheVariants.{Limits as BadLimits, Long}}
-use Rattle.ulfm_script.specs.{Written.{Begins}, Ends.{FindsFault, PrintsAll, PrintsSome, RunEnd, Known, PrintsFrom, RunsAll}, Headers.{form_from, header_of, header_text, is_up_to, may_open}, Scripts.{Language, Script, asked_by, header_at, lines_from, no_lines, rest_from, script_by, script_of, with_header}, Words.{word_of}}
+use Rattle.ulfm_script.specs.{Written.{Begins}, Ends.{EndsAlone, FindsFault, PrintsAll, PrintsSome, RunEnd, Known, PrintsFrom, RunsAll}, Headers.{form_from, header_of, header_text, is_up_to, may_open}, Scripts.{Language, Script, asked_by, header_at, lines_from, no_lines, rest_from, script_by, script_of, with_header}, Words.{word_of}}
 use Rattle.ulfm_script.proofs.{ScriptLemmas.{lines_step, rest_step}, WordLemmas.{step_found}}
-use Rattle.ulfm_trace_model.specs.declared.{line.Line.{Line}, step_line.StepLine.TheVariants.{Called, Failed}}
+use Rattle.ulfm_trace_model.specs.declared.{line.Line.{Line}, step_line.StepLine.TheVariants.{Failed}}
 use Rattle.ulfm_trace_model.specs.{Traces.{AreLegalAfter, IsLegalTrace, MayCome, Told, after, nothing, said_by}}
 use Rattle.ulfm_trace_model.proofs.{Answered.{replies_answered}, Kept.{kept_along, kept_nothing as nothing_kept, limits_stay}, Parts.{legal_parts, said_append}}
 use Rattle.ulfm_lines.specs.{LineTexts.{TraceLine, line_text, lines_text}, StepLines.{ScriptStep}, Stepped.{IsStep, TraceState}, Telling.{Tells}}
 use Rattle.ulfm_lines.proofs.ReadLemmas.{printed_told}
-use Rattle.ulfm_step_script.specs.{FailingScripts.{failing_scripts, FailsSomewhere, FindsOpenBehind, LeavesDue, RunsFailing}, StepScripts.{FindsOpenCall, PrintsTrace, RunsSteps, step_scripts, trace_text}}
+use Rattle.ulfm_step_script.specs.{FailingScripts.{failing_scripts, FailsAfter, FailsSomewhere, FindsOpenBehind, LeavesDue, RunsFailing}, StepScripts.{FindsOpenCall, PrintsTrace, RunsSteps, trace_text}}
 use Rattle.ulfm_trace.specs.{Checks.{Checks}, Texts.{AreTold, IsFirstBad, IsLegalText, TraceLines}}
 use Rattle.ulfm_trace.specs.declared.verdict.{Verdict.{Verdict}, Verdict.TheVariants.{Illegal, Legal}}
 use Rattle.ulfm_trace.proofs.{Beginnings.{one_law}, TextLines.{first_then}}
@@ -181,7 +181,7 @@ header_opens line limits is =
     subst MayOpen both.1 (opens_if a.0 both.0)
 
 -- the items of a script of steps in a world of these limits
-record Spells (limits : Limits) (items : List ScriptStep) : Type 0 where
+pub record Spells (limits : Limits) (items : List ScriptStep) : Type 0 where
   wide : MayOpen limits
   steps : AllByRecursion IsStep items
   few : length items ≤ 99999
@@ -261,43 +261,47 @@ trace_legal limits items out spells printed =
     let legal = legal_text limits spells.wide printed.0 printed.2.legal begins.0 (omega (arith, few, most, small)) in
     found_legal out (subst IsLegalText (sym printed.3) legal)
 
--- what the first items of a text print
-first_legal : (text : List ℕ) (o : Option Limits) (first : List ScriptStep) (out : List ℕ) → (script_of step_scripts text).limits ≡ o → Begins first (script_of step_scripts text).items
-    → PrintsFrom step_scripts o first out → IsNoneOrLegal out
-first_legal text None first out is begins printed = inl printed
-first_legal text (Some limits) first out is begins printed =
-    inr (trace_legal limits first out (first_spell limits first (script_of step_scripts text).items begins (text_spells PrintsTrace FindsOpenCall text limits is)) printed)
+-- a text whose items print nothing but legal texts
+module _ (Prints : Limits → List ScriptStep → List ℕ → Type 0) (Finds : Limits → List ScriptStep → ℕ → LineKind → List ℕ → Type 0)
+    (each_legal : (limits : Limits) (items : List ScriptStep) (out : List ℕ) → Spells limits items → Prints limits items out → IsFoundLegal out) where
+  abbrev scripts : Language
+  scripts = StepLanguage Prints Finds
 
-all_legal : (text out : List ℕ) → PrintsAll step_scripts text out → IsNoneOrLegal out
-all_legal text out printed =
-    let items = (script_of step_scripts text).items in
-    first_legal text (script_of step_scripts text).limits items out refl ([], append-nil items) printed
+  -- what the first items of a text print
+  first_legal : (text : List ℕ) (o : Option Limits) (first : List ScriptStep) (out : List ℕ) → (script_of scripts text).limits ≡ o → Begins first (script_of scripts text).items
+      → PrintsFrom scripts o first out → IsNoneOrLegal out
+  first_legal text None first out is begins printed = inl printed
+  first_legal text (Some limits) first out is begins printed =
+      inr (each_legal limits first out (first_spell limits first (script_of scripts text).items begins (text_spells Prints Finds text limits is)) printed)
 
-some_legal : (text out : List ℕ) → PrintsSome step_scripts text out → IsNoneOrLegal out
-some_legal text out (inl none) = inl none
-some_legal text out (inr some) = first_legal text (script_of step_scripts text).limits some.0 out refl some.1 some.2
+  all_legal : (text out : List ℕ) → PrintsAll scripts text out → IsNoneOrLegal out
+  all_legal text out printed =
+      let items = (script_of scripts text).items in
+      first_legal text (script_of scripts text).limits items out refl ([], append-nil items) printed
 
--- what a run has written
+  some_legal : (text out : List ℕ) → PrintsSome scripts text out → IsNoneOrLegal out
+  some_legal text out (inl none) = inl none
+  some_legal text out (inr some) = first_legal text (script_of scripts text).limits some.0 out refl some.1 some.2
+
+  -- what a run has written
+  pub ended_legal : (known left old new : Known) (ended : RunEnd) → EndsAlone scripts known left old new ended → WroteLegal old new ended
+  ended_legal known left old new (Ok done) ends =
+      let run : RunsAll scripts known None (Appends old new) = ends.2.0 in
+      let is = text_opens Prints Finds run.text run.faults in
+      let items = (script_of scripts run.text).items in
+      let printed : Prints is.0 items run.out = subst (λ (l : Option Limits). PrintsFrom scripts l items run.out) is.1 run.printed in
+      (run.out, run.told, each_legal is.0 items run.out (text_spells Prints Finds run.text is.0 is.1) printed)
+  ended_legal known left old new (Err (fault.Line number kind)) ends = go ends.2.0
+    where
+      go : RunsAll scripts known (Some (number, kind)) (Appends old new) ⊎ FindsFault scripts known number kind (Appends old new) → WroteLegal old new (Err (fault.Line number kind))
+      go (inl run) = (run.out, run.told, all_legal run.text run.out run.printed)
+      go (inr found) = (found.out, found.told, some_legal found.text found.out found.printed)
+  ended_legal known left old new (Err fault.Memory) ends = let stops = ends.2 in (stops.out, stops.told, all_legal stops.lines stops.out stops.printed)
+  ended_legal known left old new (Err fault.Read) ends = let stops = ends.2.0 in (stops.out, stops.told, all_legal stops.lines stops.out stops.printed)
+  ended_legal known left old new (Err fault.Write) ends = let stops = ends.2 in (stops.out, stops.told, some_legal stops.text stops.out stops.printed)
+
 pub written_legal : (known left old new : Known) (ended : RunEnd) → RunsSteps known left old new ended → WroteLegal old new ended
-written_legal known left old new (Ok done) ends =
-    let run : RunsAll step_scripts known None (Appends old new) = ends.2.0 in
-    let is = text_opens PrintsTrace FindsOpenCall run.text run.faults in
-    let items = (script_of step_scripts run.text).items in
-    let printed : PrintsTrace is.0 items run.out = subst (λ (l : Option Limits). PrintsFrom step_scripts l items run.out) is.1 run.printed in
-    (run.out, run.told, trace_legal is.0 items run.out (text_spells PrintsTrace FindsOpenCall run.text is.0 is.1) printed)
-written_legal known left old new (Err (fault.Line number kind)) ends = go ends.2
-  where
-    go : RunsAll step_scripts known (Some (number, kind)) (Appends old new) ⊎ FindsFault step_scripts known number kind (Appends old new) → WroteLegal old new (Err (fault.Line number kind))
-    go (inl run) = (run.out, run.told, all_legal run.text run.out run.printed)
-    go (inr found) =
-        let finds : FindsOpenCall found.limits (script_of step_scripts found.text).items number kind found.out = found.finds in
-        let spells = text_spells PrintsTrace FindsOpenCall found.text found.limits found.opened in
-        let is = finds.2 in
-        let first = first_spell found.limits is.first (script_of step_scripts found.text).items (Called is.asked ∷ is.behind, sym is.lines_are) spells in
-        (found.out, found.told, inr (trace_legal found.limits is.first found.out first (finds.0, is.now, is.runs, finds.3)))
-written_legal known left old new (Err fault.Memory) ends = let stops = ends.2 in (stops.out, stops.told, all_legal stops.lines stops.out stops.printed)
-written_legal known left old new (Err fault.Read) ends = let stops = ends.2.0 in (stops.out, stops.told, all_legal stops.lines stops.out stops.printed)
-written_legal known left old new (Err fault.Write) ends = let stops = ends.2 in (stops.out, stops.told, some_legal stops.text stops.out stops.printed)
+written_legal = ended_legal PrintsTrace FindsOpenCall trace_legal
 
 -- a declaration in between begins one call more
 failing_begins : (limits : Limits) (r at steps : ℕ) (trace rest : TraceLines) → r < 1024 → LeavesDue limits r at steps trace rest → AllFit rest → AllFit trace × (calls_in trace ≤ calls_in rest + 1)
@@ -315,18 +319,28 @@ failing_begins limits r at steps trace rest lt (inr left) fits =
       omega (arith, whole, part, one),
     )
 
--- what a run has written in which a rank was declared in between
+-- a trace that steps which some lines spell tell, with a declaration in between
+after_legal : (at r number : ℕ) (limits : Limits) (items : List ScriptStep) (out : List ℕ) → r < 1024 → Spells limits items → FailsAfter at r number limits items out → IsFoundLegal out
+after_legal at r number limits items out lt spells failed =
+    let begins = follows_begins (nothing limits) items failed.rest spells.steps failed.follows in
+    let all = failing_begins limits r at failed.steps failed.trace failed.rest lt failed.left_out begins.0 in
+    let few = begins.1 in
+    let most = spells.few in
+    let one = all.1 in
+    let small = spells.wide.small in
+    let legal = legal_text limits spells.wide failed.trace failed.legal all.0 (omega (arith, few, most, one, small)) in
+    found_legal out (subst IsLegalText (sym failed.out_is) legal)
+
+-- what a run to its end has written in which a rank was declared in between
 pub failing_legal : (at rank number : ℕ) (known old new : Known) → rank < 1024 → RunsFailing at rank number known old new → GotLegal old new
 failing_legal at rank number known old new lt run =
     let limits_are : (script_of failing_scripts run.text).limits ≡ Some run.limits = ap (λ (s : Script ScriptStep). s.limits) run.script_is in
     let items_are : (script_of failing_scripts run.text).items ≡ run.items = ap (λ (s : Script ScriptStep). s.items) run.script_is in
     let spells = subst (Spells run.limits) items_are (text_spells FailsSomewhere FindsOpenBehind run.text run.limits limits_are) in
-    let failed = run.has_run in
-    let begins = follows_begins (nothing run.limits) run.items failed.rest spells.steps failed.follows in
-    let all = failing_begins run.limits rank at failed.steps failed.trace failed.rest lt failed.left_out begins.0 in
-    let few = begins.1 in
-    let most = spells.few in
-    let one = all.1 in
-    let small = spells.wide.small in
-    let legal = legal_text run.limits spells.wide failed.trace failed.legal all.0 (omega (arith, few, most, one, small)) in
-    (run.out, run.told, found_legal run.out (subst IsLegalText (sym failed.out_is) legal))
+    (run.out, run.told, after_legal at rank number run.limits run.items run.out lt spells run.has_run)
+
+-- and what any such run has written
+pub failing_ended_legal : (known left old new : Known) (ended : RunEnd) → EndsAlone failing_scripts known left old new ended → WroteLegal old new ended
+failing_ended_legal =
+    ended_legal FailsSomewhere FindsOpenBehind
+    (λ limits items out spells printed. after_legal printed.0 printed.1 printed.2 limits items out printed.3 spells printed.4)

@@ -4,9 +4,9 @@ use Rattle.std.specs.Io.KnownBytes.{Appends}
 use Rattle.ulfm_laws.specs.Flags.{flag_meld}
 use Rattle.ulfm_model.specs.declared.limits.Limits.{Limits}
 use Rattle.ulfm_model.specs.{History.{History, IsLegal}, Words.{MayOpen, size_of}}
-use Rattle.ulfm_script.specs.{Ends.{Known, RunEnd}, Written.{WritesPart}}
+use Rattle.ulfm_script.specs.{Ends.{EndsAlone, Known, RunEnd}, Written.{WritesPart}}
 use Rattle.ulfm_script.specs.declared.fault.RunFault.TheVariants.{Write}
-use Rattle.ulfm_step_script.specs.{FailingScripts.{RunsFailing}, StepScripts.{RunsSteps, trace_text}}
+use Rattle.ulfm_step_script.specs.{FailingScripts.{RunsFailing, failing_scripts}, StepScripts.{RunsSteps, trace_text}}
 use Rattle.ulfm_trace.specs.{Checks.{Checks}, Texts.{IsLegalText, TraceLines}}
 use Rattle.ulfm_trace_model.specs.Traces.{IsLegalTrace}
 use Rattle.ulfm_written.specs.Calls.{AllFit, calls_in}
@@ -49,3 +49,7 @@ WrittenTracesAreLegal = (known left old new : Known) (ended : RunEnd) → RunsSt
 -- and with one that ran to its end while a rank was declared failed in between
 abbrev pub FailingTracesAreLegal : Type 0
 FailingTracesAreLegal = (at rank number : ℕ) (known old new : Known) → rank < 1024 → RunsFailing at rank number known old new → GotLegal old new
+
+-- and with any such run, however it ended
+abbrev pub FailingEndsAreLegal : Type 0
+FailingEndsAreLegal = (known left old new : Known) (ended : RunEnd) → EndsAlone failing_scripts known left old new ended → WroteLegal old new ended

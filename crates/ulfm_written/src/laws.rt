@@ -1,5 +1,5 @@
 //! What follows from the contracts of runs and of the check, as functions whose contracts are these laws.
-ghost use Rattle.ulfm_written.specs.Written.{EventsAreFew, FailingTracesAreLegal, PrintedTracesAreLegal, WrittenTracesAreLegal};
+ghost use Rattle.ulfm_written.specs.Written.{EventsAreFew, FailingEndsAreLegal, FailingTracesAreLegal, PrintedTracesAreLegal, WrittenTracesAreLegal};
 
 use ulfm_laws::meld::Meld;
 
@@ -23,4 +23,9 @@ pub fn written_traces_are_legal()
 /// What a run that ended well has written is a legal trace, too, where a rank was declared failed in between.
 pub fn failing_traces_are_legal()
     ensures { FailingTracesAreLegal }
+{}
+
+/// What such a run has written that ended in a fault is a legal trace or nothing, too, and a beginning of that where the writer failed.
+pub fn failing_ends_are_legal()
+    ensures { FailingEndsAreLegal }
 {}

@@ -4,5 +4,6 @@
 pub mod laws;
 
 pub use laws::{
-    events_are_few, failing_traces_are_legal, printed_traces_are_legal, written_traces_are_legal,
+    events_are_few, failing_ends_are_legal, failing_traces_are_legal, printed_traces_are_legal,
+    written_traces_are_legal,
 };
