@@ -3,12 +3,14 @@ use Rattle.std.specs.Prelude.{◌≡◌, ◌⊎◌, ℕ, List, Result, Ok, Err}
 use Rattle.std.specs.Io.KnownBytes.{Appends, Keeps}
 use Rattle.ulfm_filters.specs.declared.filter.Filter.{Filter}
 use Rattle.ulfm_filters.specs.declared.filter.Filter.TheVariants.{Calls, Steps, Check}
+use Rattle.ulfm_filters.specs.Notes.{TellsEnd, TellsVerdict, no_memory, no_read}
 use Rattle.ulfm_script.specs.declared.fault.RunFault.{RunFault}
 use Rattle.ulfm_script.specs.declared.fault.RunFault.TheVariants.{Line, Memory, Read, Write}
 use Rattle.ulfm_script.specs.Ends.{Known}
 use Rattle.ulfm_script.specs.Runs.{Runs}
 use Rattle.ulfm_script.specs.Written.{WritesPart}
 use Rattle.ulfm_step_script.specs.StepScripts.{RunsSteps}
+use Rattle.ulfm_trace.specs.declared.verdict.CheckFault.TheVariants as check
 use Rattle.ulfm_trace.specs.declared.verdict.{Verdict.{Verdict}, Verdict.TheVariants.{Legal, Illegal}}
 use Rattle.ulfm_trace.specs.{Checks.{CheckEnd, Checks}, Verdicts.{verdict_text}}
 
@@ -59,3 +61,23 @@ abbrev pub Filtered : Filter → Known → Known → Known → Known → ℕ →
 Filtered Calls known left old new status = RanWith known left old new status
 Filtered Steps known left old new status = StepsRanWith known left old new status
 Filtered Check known left old new status = CheckedWith known left old new status
+
+-- what is said of a check that ended so, at this status
+abbrev pub TellsCheck : CheckEnd → ℕ → Known → Known → Type 0
+TellsCheck (Ok verdict) status old new = TellsVerdict (verdict_status verdict) status old new
+TellsCheck (Err check.Memory) status old new = WritesPart old new no_memory
+TellsCheck (Err check.Read) status old new = WritesPart old new no_read
+
+-- A trace was judged, and what standard error has got is of this end: what the input had and has left, what the output and what standard error
+-- had and have.
+abbrev pub CheckedTelling : Known → Known → Known → Known → Known → Known → ℕ → Type 0
+CheckedTelling known left old new before after status =
+    (end : CheckEnd) × Checks known left end × PrintsEnd end old new status × TellsCheck end status before after
+
+-- the same of a filter that did what it is for
+abbrev pub FilteredTelling : Filter → Known → Known → Known → Known → Known → Known → ℕ → Type 0
+FilteredTelling Calls known left old new before after status =
+    (end : Result (Unit {0}) RunFault) × (status ≡ status_of end) × Runs known left old new end × TellsEnd end before after
+FilteredTelling Steps known left old new before after status =
+    (end : Result (Unit {0}) RunFault) × (status ≡ status_of end) × RunsSteps known left old new end × TellsEnd end before after
+FilteredTelling Check known left old new before after status = CheckedTelling known left old new before after status

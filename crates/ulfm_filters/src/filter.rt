@@ -1,6 +1,7 @@
 //! What the program does from its input to its output.
 ghost use Rattle.std.specs.Prelude.{◌≡◌, ◌≤◌};
-ghost use Rattle.ulfm_filters.specs.Statuses.{CheckedWith, Filtered, PrintsVerdict, status_of};
+ghost use Rattle.ulfm_filters.specs.Notes.{TellsEnd, TellsVerdict};
+ghost use Rattle.ulfm_filters.specs.Statuses.{CheckedTelling, CheckedWith, Filtered, FilteredTelling, PrintsVerdict, status_of, verdict_status};
 
 use crate::telling::{print_text, tell_fault};
 use std::alloc::Allocator;
@@ -33,6 +34,8 @@ pub fn run_filter<A: Allocator + Copy + Drop, R: Read, W: Write, E: Write>(
 ) -> u8
     ensures status { result ≤ 3 }
     ensures filtered { Filtered filter (R.remaining input.old) (R.remaining input.new) (W.contents output.old) (W.contents output.new) result }
+    ensures told { FilteredTelling filter (R.remaining input.old) (R.remaining input.new) (W.contents output.old) (W.contents output.new)
+        (E.contents errors.old) (E.contents errors.new) result }
 {
     match filter {
         Filter::Calls => tell_end(run_calls(alloc, input, output), errors),
@@ -43,7 +46,8 @@ pub fn run_filter<A: Allocator + Copy + Drop, R: Read, W: Write, E: Write>(
 
 /// Tells how a run ended, and gives its status.
 fn tell_end<E: Write>(end: Result<(), RunFault>, errors: &mut E) -> u8
-    ensures { result ≡ status_of end }
+    ensures status { result ≡ status_of end }
+    ensures told { TellsEnd end (E.contents errors.old) (E.contents errors.new) }
 {
     match end {
         Ok(()) => 0,
@@ -58,7 +62,9 @@ fn run_check<A: Allocator + Copy + Drop, R: Read, W: Write, E: Write>(
     output: &mut W,
     errors: &mut E,
 ) -> u8
-    ensures { CheckedWith (R.remaining input.old) (R.remaining input.new) (W.contents output.old) (W.contents output.new) result }
+    ensures checked { CheckedWith (R.remaining input.old) (R.remaining input.new) (W.contents output.old) (W.contents output.new) result }
+    ensures told { CheckedTelling (R.remaining input.old) (R.remaining input.new) (W.contents output.old) (W.contents output.new)
+        (E.contents errors.old) (E.contents errors.new) result }
 {
     match check(alloc, input) {
         Ok(verdict) => print_verdict(alloc, verdict, output, errors),
@@ -75,7 +81,8 @@ fn print_verdict<A: Allocator, W: Write, E: Write>(
     output: &mut W,
     errors: &mut E,
 ) -> u8
-    ensures { PrintsVerdict verdict (W.contents output.old) (W.contents output.new) result }
+    ensures prints { PrintsVerdict verdict (W.contents output.old) (W.contents output.new) result }
+    ensures told { TellsVerdict (verdict_status verdict) result (E.contents errors.old) (E.contents errors.new) }
 {
     let Ok(line) = verdict_line(alloc, verdict) else {
         return tell_fault(RunFault::Memory, errors);
