@@ -22,6 +22,9 @@ from crates import Crates
 from lanes import processors
 from rooms import end_all, end_at_a_signal, lay_crate, run
 
+# how many seconds a test may take, on a slow host beside proofs
+PATIENCE = 900
+
 
 class Proofs:
     """A run of the toolchain's gate, with how far it is."""
@@ -46,6 +49,7 @@ class Proofs:
     def prove(self, copy):
         """Runs the toolchain's gate on the copy, with a line of its own behind each crate that is done. Gives how many passed and failed."""
         how = {"cwd": copy, "stdin": subprocess.DEVNULL, "stdout": subprocess.PIPE, "stderr": subprocess.STDOUT, "text": True, "errors": "replace"}
+        how["env"] = {"RT_SECONDS": str(PATIENCE), **os.environ}
         output = []
         with subprocess.Popen(["rt", "ci"], **how) as command:
             for line in command.stdout:
@@ -66,9 +70,12 @@ class Proofs:
               f"about {minutes} minutes left", flush=True)
 
     def run_tests(self):
-        """Runs the tests that aren't proved, one crate after another, where processors idle."""
+        """Runs the tests that aren't proved, one crate after another, where processors idle. Where some don't pass they are run once more with
+        more time, since beside proofs, on a slow host, a test may come to the toolchain's limit of a minute."""
         for name in self.only_run:
             status, output = run(["nice", "rt", "try", "--test"], self.crates.folder(name))
+            if status and not self.is_over:
+                status, output = run(["rt", "try", "--test", "--seconds", str(PATIENCE)], self.crates.folder(name))
             if self.is_over:
                 return
             if status:
