@@ -12,4 +12,4 @@ returns-in-Ok-race_lines g c =
     let lines : c.deref-in-Ok-race_lines.result.now ≡ race_text c.args.options.rounds (as_lists c.in-Ok.outcome.replies.items) c.in-Ok.outcome.group.items =
     text ∙ (c.in-Ok-race_lines.ensures ∙ ap₂ (λ r q. race_text c.args.options.rounds (as_lists r) q) replies group) in
     raced (plan_of c.args.options) _ (as_lists c.in-Ok.outcome.replies.items) c.in-Ok.outcome.group.items c.deref-in-Ok-race_lines.result.now _ _ c.print_text.result
-    c.in-Ok.ensures.answered lines c.print_text.ensures
+    c.in-Ok.ensures.answered lines c.print_text.ensures.prints
