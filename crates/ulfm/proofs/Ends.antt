@@ -3,14 +3,14 @@ use Rattle.std.proofs.Common.{◌≡◌, ℕ, List, Err, inl, inr, subst}
 use Rattle.ulfm_laws.specs.declared.flag_and.FlagAnd.{FlagAnd}
 use Rattle.ulfm_model.specs.declared.reply.Reply.{Reply}
 use Rattle.ulfm_model.specs.History.{History}
-use Rattle.ulfm_command.specs.CommandLines.{AsksRace, Words}
+use Rattle.ulfm_command.specs.CommandLines.{AsksRace, Arguments}
 use Rattle.ulfm_command.specs.declared.asked.RaceOptions.{RaceOptions}
-use Rattle.ulfm_filters.specs.Statuses.{CheckedWith, Prints, RanWith, StepsRanWith, status_of}
+use Rattle.ulfm_filters.specs.Statuses.{CheckedWith, PrintsWhole, RanWith, StepsRanWith, status_of}
 use Rattle.ulfm_race.specs.declared.plan.Plan.{Plan}
 use Rattle.ulfm_race.specs.Races.{IsOutcome}
 use Rattle.ulfm_race_text.specs.Lines.{race_text}
 use Rattle.ulfm_script.specs.declared.fault.RunFault.TheVariants.{Memory}
-use Rattle.ulfm_script.specs.Ends.{Known}
+use Rattle.ulfm_script.specs.Ends.{KnownText}
 use Rattle.ulfm_script.specs.Runs.{call_scripts}
 use Rattle.ulfm_script.proofs.ByteLemmas.{keeps_start}
 use Rattle.ulfm_script.proofs.RunLemmas.{ran_none}
@@ -21,26 +21,26 @@ use Rattle.ulfm_trace.proofs.Checking.{checked_none}
 use Rattle.ulfm.proofs.OneAnswer.{same_asked}
 
 -- a race whose lines were printed, or not all of them
-pub raced : (plan : Plan) (h : History FlagAnd) (replies : List (List (Reply FlagAnd))) (group text : List ℕ) (old new : Known) (status : ℕ)
-    → IsOutcome plan h replies group → text ≡ race_text plan.rounds replies group → Prints text old new status → RacedWith plan old new status
+pub raced : (plan : Plan) (h : History FlagAnd) (replies : List (List (Reply FlagAnd))) (group text : List ℕ) (old new : KnownText) (status : ℕ)
+    → IsOutcome plan h replies group → text ≡ race_text plan.rounds replies group → PrintsWhole text old new status → RacedWith plan old new status
 raced plan h replies group text old new status is lines shown =
-    inl (record { history = h; replies = replies; group = group; answered = is; printed = subst (λ (t : List ℕ). Prints t old new status) lines shown })
+    inl (record { history = h; replies = replies; group = group; answered = is; printed = subst (λ (t : List ℕ). PrintsWhole t old new status) lines shown })
 
 -- the race that was run is the one that the words ask for
-pub raced_as : (words : Words) (o p : RaceOptions) (old new : Known) (status : ℕ) → AsksRace words o → AsksRace words p → RacedWith (plan_of o) old new status
+pub raced_as : (words : Arguments) (o p : RaceOptions) (old new : KnownText) (status : ℕ) → AsksRace words o → AsksRace words p → RacedWith (plan_of o) old new status
     → RacedWith (plan_of p) old new status
 raced_as words o p old new status a b ended = subst (λ (x : RaceOptions). RacedWith (plan_of x) old new status) (same_asked words o p a b) ended
 
 -- memory was refused before anything was read or printed: to a race
-pub race_ran_out : (plan : Plan) (out : Known) (status : ℕ) → status ≡ status_of (Err Memory) → RacedWith plan out out status
+pub race_ran_out : (plan : Plan) (out : KnownText) (status : ℕ) → status ≡ status_of (Err Memory) → RacedWith plan out out status
 race_ran_out plan out status is = inr (is, keeps_start out)
 
 -- to a script of calls, to one of single steps, and to a trace
-pub ran_out : (known out : Known) (status : ℕ) → status ≡ status_of (Err Memory) → RanWith known known out out status
+pub ran_out : (known out : KnownText) (status : ℕ) → status ≡ status_of (Err Memory) → RanWith known known out out status
 ran_out known out status is = (Err Memory, is, ran_none call_scripts known out)
 
-pub steps_ran_out : (known out : Known) (status : ℕ) → status ≡ status_of (Err Memory) → StepsRanWith known known out out status
+pub steps_ran_out : (known out : KnownText) (status : ℕ) → status ≡ status_of (Err Memory) → StepsRanWith known known out out status
 steps_ran_out known out status is = (Err Memory, is, ran_none step_scripts known out)
 
-pub checked_out : (known out : Known) (status : ℕ) → status ≡ status_of (Err Memory) → CheckedWith known known out out status
+pub checked_out : (known out : KnownText) (status : ℕ) → status ≡ status_of (Err Memory) → CheckedWith known known out out status
 checked_out known out status is = (Err fault.Memory, checked_none known, (is, keeps_start out))

@@ -3,7 +3,7 @@ use Rattle.std.proofs.Common.{◌≡◌, ◌∙◌, ℕ, List, ◌==◌, Bool, t
 use Rattle.std.specs.Prelude.{option_map}
 use Rattle.std.proofs.lemmas.Option.{same_Some, some_pair_parts}
 use Rattle.clap.specs.Words.{Row, Text, subcommand_of}
-use Rattle.ulfm_command.specs.CommandLines.{AsksCheck, AsksRace, AsksRun, AsksSteps, IsRaceOf, NamesRunOf, Words, has_flag, ulfm}
+use Rattle.ulfm_command.specs.CommandLines.{AsksCheck, AsksRace, AsksRun, AsksSteps, IsRaceOf, NamesRunOf, Arguments, has_flag, ulfm}
 use Rattle.ulfm_command.specs.declared.asked.RaceOptions.{RaceOptions}
 use Rattle.ulfm_command.proofs.Numbers.{same_race}
 
@@ -14,51 +14,51 @@ name_of named = option_map (λ p. p.0) named
 one_name : (named : Option (Text × List Row)) (t u : Text) → name_of named ≡ Some t → name_of named ≡ Some u → t ≡ u
 one_name named t u a b = same_Some {A = List ℕ} _ _ (sym a ∙ b)
 
-run_named : (words : Words) (steps : Bool) → NamesRunOf (subcommand_of ulfm words) steps → name_of (subcommand_of ulfm words) ≡ Some (codes "run")
+run_named : (words : Arguments) (steps : Bool) → NamesRunOf (subcommand_of ulfm words) steps → name_of (subcommand_of ulfm words) ≡ Some (codes "run")
 run_named words steps asks = ap name_of asks.is_run
 
 -- words that ask for a run, of calls or of steps, ask for no race
-no_race : (words : Words) (steps : Bool) (options : RaceOptions) → NamesRunOf (subcommand_of ulfm words) steps → AsksRace words options → ⊥
+no_race : (words : Arguments) (steps : Bool) (options : RaceOptions) → NamesRunOf (subcommand_of ulfm words) steps → AsksRace words options → ⊥
 no_race words steps options run race =
     let texts : codes "race" ≡ codes "run" = one_name _ _ _ (ap name_of race.1.1) (run_named words steps run) in
     let bad : true ≡ false = ap (λ (t : List ℕ). slice_index t 1 == 97) texts in
     cc
 
-pub run_is_no_race : (words : Words) (options : RaceOptions) → AsksRun words → AsksRace words options → ⊥
+pub run_is_no_race : (words : Arguments) (options : RaceOptions) → AsksRun words → AsksRace words options → ⊥
 run_is_no_race words options run race = no_race words false options run.1 race
 
-pub steps_are_no_race : (words : Words) (options : RaceOptions) → AsksSteps words → AsksRace words options → ⊥
+pub steps_are_no_race : (words : Arguments) (options : RaceOptions) → AsksSteps words → AsksRace words options → ⊥
 steps_are_no_race words options steps race = no_race words true options steps.1 race
 
 -- nor do they ask for the judgement of a trace
-no_check : (words : Words) (steps : Bool) → NamesRunOf (subcommand_of ulfm words) steps → AsksCheck words → ⊥
+no_check : (words : Arguments) (steps : Bool) → NamesRunOf (subcommand_of ulfm words) steps → AsksCheck words → ⊥
 no_check words steps run check =
     let texts : codes "check" ≡ codes "run" = one_name _ _ _ check.1 (run_named words steps run) in
     let bad : true ≡ false = ap (λ (t : List ℕ). slice_index t 0 == 99) texts in
     cc
 
-pub run_is_no_check : (words : Words) → AsksRun words → AsksCheck words → ⊥
+pub run_is_no_check : (words : Arguments) → AsksRun words → AsksCheck words → ⊥
 run_is_no_check words run check = no_check words false run.1 check
 
-pub steps_are_no_check : (words : Words) → AsksSteps words → AsksCheck words → ⊥
+pub steps_are_no_check : (words : Arguments) → AsksSteps words → AsksCheck words → ⊥
 steps_are_no_check words steps check = no_check words true steps.1 check
 
 -- words that ask for the judgement of a trace ask for no race
-pub check_is_no_race : (words : Words) (options : RaceOptions) → AsksCheck words → AsksRace words options → ⊥
+pub check_is_no_race : (words : Arguments) (options : RaceOptions) → AsksCheck words → AsksRace words options → ⊥
 check_is_no_race words options check race =
     let texts : codes "check" ≡ codes "race" = one_name _ _ _ check.1 (ap name_of race.1.1) in
     let bad : true ≡ false = ap (λ (t : List ℕ). slice_index t 0 == 99) texts in
     cc
 
 -- a script is one of calls or one of steps
-pub run_is_no_steps : (words : Words) → AsksRun words → AsksSteps words → ⊥
+pub run_is_no_steps : (words : Arguments) → AsksRun words → AsksSteps words → ⊥
 run_is_no_steps words run steps =
     let rows : run.1.rows ≡ steps.1.rows = (some_pair_parts {A = Text} {B = List Row} _ _ _ _ (sym run.1.is_run ∙ steps.1.is_run)).1 in
     let bad : false ≡ true = sym run.1.steps_is ∙ (ap (has_flag (codes "steps")) rows ∙ steps.1.steps_is) in
     cc
 
 -- they ask for one race
-pub same_asked : (words : Words) (o p : RaceOptions) → AsksRace words o → AsksRace words p → o ≡ p
+pub same_asked : (words : Arguments) (o p : RaceOptions) → AsksRace words o → AsksRace words p → o ≡ p
 same_asked words o p a b =
     let rows : a.1.0 ≡ b.1.0 = (some_pair_parts {A = Text} {B = List Row} _ _ _ _ (sym a.1.1 ∙ b.1.1)).1 in
     let is : IsRaceOf b.1.0 o = subst (λ (r : List Row). IsRaceOf r o) rows a.1.2 in

@@ -1,7 +1,7 @@
 //! Does what a command line asks for, and gives the exit status that it ends with.
 ghost use Rattle.std.specs.Prelude.{◌≡◌, ◌≤◌, ◌⊎◌, false, map, true};
 ghost use Rattle.std.specs.Io.KnownBytes.{Keeps};
-ghost use Rattle.ulfm_command.specs.CommandLines.{AsksCheck, AsksHelp, AsksRace, AsksRun, AsksSteps, AsksVersion, IsBad, is_in_range};
+ghost use Rattle.ulfm_command.specs.CommandLines.{AsksCheck, AsksHelp, AsksRace, AsksRun, AsksSteps, AsksVersion, AsksNothing, is_in_range};
 ghost use Rattle.ulfm_command.specs.declared.asked.RaceOptions.{RaceOptions as OptionsOf};
 ghost use Rattle.ulfm_filters.specs.Notes.{bad_line, no_memory};
 ghost use Rattle.ulfm_filters.specs.Statuses.{CheckedWith, RanWith, StepsRanWith};
@@ -61,10 +61,10 @@ pub fn answer<T: Threads + Wait + Sync, A: Allocator + Copy + Drop, R: Read, W: 
         → (AsksCheck (map (λ word. word.now) words.now) → ⊥) → Keeps (R.remaining input.old) (R.remaining input.new) }
     ensures help { AsksHelp (map (λ word. word.now) words.now) ⊎ AsksVersion (map (λ word. word.now) words.now) → (result ≡ 0) ⊎ (result ≡ 3) }
     // 3 where memory was refused.
-    ensures bad { IsBad (map (λ word. word.now) words.now) → ((result ≡ 2) ⊎ (result ≡ 3))
+    ensures bad { AsksNothing (map (λ word. word.now) words.now) → ((result ≡ 2) ⊎ (result ≡ 3))
         × Keeps (W.contents output.old) (W.contents output.new) }
     // Only on a terminal there is a second line.
-    ensures told { IsBad (map (λ word. word.now) words.now) → explains ≡ false
+    ensures told { AsksNothing (map (λ word. word.now) words.now) → explains ≡ false
         → WritesPart (E.contents errors.old) (E.contents errors.new) bad_line ⊎ WritesPart (E.contents errors.old) (E.contents errors.new) no_memory }
 {
     match read_words(global, words) {

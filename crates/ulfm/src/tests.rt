@@ -5,7 +5,7 @@ use std::io::{Read, Write};
 use std::sync::Wait;
 use std::test::Fail;
 use std::thread::Threads;
-use ulfm_devices::{Failing, Taken};
+use ulfm_devices::{FailureMode, LimitedWriter};
 
 mod races;
 
@@ -177,7 +177,7 @@ fn reasons_are_explained(rt: HostRuntime) -> Result<(), Fail> {
 fn flush_fails(rt: HostRuntime) -> Result<(), Fail> {
     for word in ["run", "--help"] {
         let mut input = SCRIPT.as_bytes();
-        let mut output = Taken::new(rt.alloc(), 10_000, 0, Failing::AtFlush);
+        let mut output = LimitedWriter::new(rt.alloc(), 10_000, 0, FailureMode::AtFlush);
         let (errors, status) = told(&rt, rt.alloc(), &["ulfm", word], &mut input, &mut output);
         assert_eq!(rt; errors.as_slice(), b"ulfm: write failed\n".as_slice());
         assert_eq!(rt; status, 3);
@@ -192,7 +192,7 @@ fn errors_fail(rt: HostRuntime) -> Result<(), Fail> {
     for (word, script, wanted) in rows {
         let mut input = script.as_bytes();
         let mut output = Vec::new(rt.alloc());
-        let mut errors = Taken::new(rt.alloc(), 1, 1, Failing::ByError);
+        let mut errors = LimitedWriter::new(rt.alloc(), 1, 1, FailureMode::ByError);
         let status = answer(
             &rt,
             rt.alloc(),

@@ -11,7 +11,7 @@ use Rattle.ulfm_model.proofs.Blocks.{block_self, block_some, block_stays, has_bl
 use Rattle.ulfm_words.specs.Places.{IsWithin}
 use Rattle.ulfm_words.proofs.Growing.{prefix_push, prefix_self}
 use Rattle.ulfm_book.specs.declared.{line.Line.{Line}, line.Line.TheVariants.{Cached}}
-use Rattle.ulfm_book.specs.{Logs.{IsLog, cached_in, history_in, limits_in}, Rules.{AddsBlock, IsAddedBlock, IsBlockFound, IsKept, IsOfBlock, LooksBlock, Sees}, Seats.{block_seat, row_of, seat_in}}
+use Rattle.ulfm_book.specs.{Logs.{IsLog, cached_in, history_in, limits_in}, Rules.{AddsBlock, IsAddedBlock, IsBlockFound, Represents, IsOfBlock, LooksBlock, Extends}, Layout.{block_offset, row_length, place_offset}}
 use Rattle.ulfm_book.proofs.{Growing.{cached_in-append, history_in-cached, limits_stay, log_cached, sees}, Moving.{moved, shown, stays}, Seating.{block_seat_lt, one_block_seat, seats_apart}, Standing.{block_among}}
 
 -- a block that is another isn't this one
@@ -32,13 +32,13 @@ or_false false = refl
 
 module _ {P : Type 0} (meld : P → P → P) (pack : P → ℕ) where
   -- the words after this block's at the end of the log
-  module _ (a : Block) (w : ℕ) (cells : List Cell) (log : List (Line P)) (kept : IsKept meld pack cells log) (within : IsBlockWithin (limits_in log) a)
+  module _ (a : Block) (w : ℕ) (cells : List Cell) (log : List (Line P)) (kept : Represents meld pack cells log) (within : IsBlockWithin (limits_in log) a)
       (is : IsBlock meld pack (limits_in log).ranks (history_in log) a w) where
     abbrev limits : Limits
     limits = limits_in log
 
     abbrev key : ℕ
-    key = block_seat limits a
+    key = block_offset limits a
 
     abbrev written : List Cell
     written = slice_set cells key (w, true)
@@ -58,9 +58,9 @@ module _ {P : Type 0} (meld : P → P → P) (pack : P → ℕ) where
     lt : key < length cells
     lt = omega (arith, kept.size, block_seat_lt limits a within)
 
-    word_after : (p : Place) → IsWithin limits p → cell written (seat_in limits p) ≡ (word_at pack (history_in longer) p, true)
+    word_after : (p : Place) → IsWithin limits p → cell written (place_offset limits p) ≡ (word_at pack (history_in longer) p, true)
     word_after p there =
-        get_or-set_other cells key (seat_in limits p) (w, true) (0, false) (λ same. seats_apart limits p a there (sym same))
+        get_or-set_other cells key (place_offset limits p) (w, true) (0, false) (λ same. seats_apart limits p a there (sym same))
         ∙ (kept.words p there ∙ ap (λ h. let c : Cell = (word_at pack h p, true) in c) (sym history_is))
 
     abbrev IsAfter : Block → Cell → Type 0
@@ -77,25 +77,25 @@ module _ {P : Type 0} (meld : P → P → P) (pack : P → ℕ) where
       },
     )
 
-    block_after : (b : Block) → IsBlockWithin limits b → (t : Bool) → (block_seat limits b == key) ≡ t → IsAfter b (cell written (block_seat limits b))
+    block_after : (b : Block) → IsBlockWithin limits b → (t : Bool) → (block_offset limits b == key) ≡ t → IsAfter b (cell written (block_offset limits b))
     block_after b there true same =
-        let at : block_seat limits b ≡ key = eqb-true (block_seat limits b) key same in
+        let at : block_offset limits b ≡ key = eqb-true (block_offset limits b) key same in
         let one : a ≡ b = one_block_seat limits a b within there (sym at) in
         subst (IsAfter b) (sym (ap (cell written) at ∙ get_or-set_same cells key (w, true) (0, false) lt)) (subst (λ x. IsAfter x (w, true)) one own)
     block_after b there false same =
-        let apart : block_seat limits b ≢ key = λ one. let yes = eq-eqb (block_seat limits b) key one in absurd (cc (same, yes)) in
+        let apart : block_offset limits b ≢ key = λ one. let yes = eq-eqb (block_offset limits b) key one in absurd (cc (same, yes)) in
         let stood = kept.blocks b there in
         let among : has_block (cached_in longer) b ≡ has_block (cached_in log) b =
-        cached_is b ∙ (ap (λ t. has_block (cached_in log) b || t) (other_block a b (λ one. apart (ap (block_seat limits) (sym one)))) ∙ or_false (has_block (cached_in log) b)) in
-        subst (IsAfter b) (sym (get_or-set_other cells key (block_seat limits b) (w, true) (0, false) apart))
-        (stood.0, block_among meld pack log longer b (cell cells (block_seat limits b)).0 limits_are (subst (IsPrefix (history_in log)) (sym history_is) (prefix_self (history_in log))) among stood.1)
+        cached_is b ∙ (ap (λ t. has_block (cached_in log) b || t) (other_block a b (λ one. apart (ap (block_offset limits) (sym one)))) ∙ or_false (has_block (cached_in log) b)) in
+        subst (IsAfter b) (sym (get_or-set_other cells key (block_offset limits b) (w, true) (0, false) apart))
+        (stood.0, block_among meld pack log longer b (cell cells (block_offset limits b)).0 limits_are (subst (IsPrefix (history_in log)) (sym history_is) (prefix_self (history_in log))) among stood.1)
 
-    pub cached_after : IsKept meld pack written longer
+    pub cached_after : Represents meld pack written longer
     cached_after = record {
       is_log = log_cached meld log a kept.is_log;
-      size = length-set cells key (w, true) ∙ (kept.size ∙ ap row_of (sym limits_are));
-      words = subst (λ n. (p : Place) → IsWithin n p → cell written (seat_in n p) ≡ (word_at pack (history_in longer) p, true)) (sym limits_are) word_after;
-      blocks = subst (λ n. (b : Block) → IsBlockWithin n b → IsAfter b (cell written (block_seat n b))) (sym limits_are) (λ b there. block_after b there (block_seat limits b == key) refl);
+      size = length-set cells key (w, true) ∙ (kept.size ∙ ap row_length (sym limits_are));
+      words = subst (λ n. (p : Place) → IsWithin n p → cell written (place_offset n p) ≡ (word_at pack (history_in longer) p, true)) (sym limits_are) word_after;
+      blocks = subst (λ n. (b : Block) → IsBlockWithin n b → IsAfter b (cell written (block_offset n b))) (sym limits_are) (λ b there. block_after b there (block_offset limits b == key) refl);
     }
 
     -- the log has the block
@@ -104,18 +104,18 @@ module _ {P : Type 0} (meld : P → P → P) (pack : P → ℕ) where
 
   -- the word of a block, in a log that goes on from what was seen
   record IsAtBlock (a : Block) (old : List (Line P)) (k : ℕ) (cells : List Cell) (log : List (Line P)) : Type 0 where
-    pub sees : Sees meld old log
+    pub sees : Extends meld old log
     pub within : IsBlockWithin (limits_in log) a
-    pub key : k ≡ block_seat (limits_in log) a
+    pub key : k ≡ block_offset (limits_in log) a
     pub lt : k < length cells
     pub home : (cell cells k).1 ≡ true
 
-  is_at_block : (a : Block) (old : List (Line P)) (k : ℕ) (cells : List Cell) (log : List (Line P)) → IsLog meld old → IsBlockWithin (limits_in old) a → k ≡ block_seat (limits_in old) a → IsKept meld pack cells log → IsPrefix old log
+  is_at_block : (a : Block) (old : List (Line P)) (k : ℕ) (cells : List Cell) (log : List (Line P)) → IsLog meld old → IsBlockWithin (limits_in old) a → k ≡ block_offset (limits_in old) a → Represents meld pack cells log → IsPrefix old log
       → IsAtBlock a old k cells log
   is_at_block a old k cells log is within key kept begins =
       let s = sees meld old log is kept.is_log begins in
       let there : IsBlockWithin (limits_in log) a = subst (λ n. IsBlockWithin n a) (sym s.limits) within in
-      let here : k ≡ block_seat (limits_in log) a = key ∙ ap (λ n. block_seat n a) (sym s.limits) in
+      let here : k ≡ block_offset (limits_in log) a = key ∙ ap (λ n. block_offset n a) (sym s.limits) in
       record {
         sees = s;
         within = there;
@@ -125,12 +125,12 @@ module _ {P : Type 0} (meld : P → P → P) (pack : P → ℕ) where
       }
 
   -- the number in a cell is the word of the block that has its key
-  block_found : (cells : List Cell) (log : List (Line P)) (k : ℕ) → IsKept meld pack cells log → IsBlockFound meld pack k (cell cells k).0 log
+  block_found : (cells : List Cell) (log : List (Line P)) (k : ℕ) → Represents meld pack cells log → IsBlockFound meld pack k (cell cells k).0 log
   block_found cells log k kept b within is = subst (λ n. IsOfBlock meld pack log b (cell cells n).0) (sym is) (kept.blocks b within).1
 
   -- a load keeps the rule, and finds what stands at the block
-  pub look_block_moves : (a : Block) (old : List (Line P)) (ask : Line P) (k : ℕ) → IsLog meld old → IsBlockWithin (limits_in old) a → k ≡ block_seat (limits_in old) a
-      → Moves (IsKept meld pack) shown moved k (old, (no_nib, None)) (λ n. n) (LooksBlock meld pack (step k 0 0 ask) (old, (no_nib, None)))
+  pub look_block_moves : (a : Block) (old : List (Line P)) (ask : Line P) (k : ℕ) → IsLog meld old → IsBlockWithin (limits_in old) a → k ≡ block_offset (limits_in old) a
+      → Moves (Represents meld pack) shown moved k (old, (no_nib, None)) (λ n. n) (LooksBlock meld pack (step k 0 0 ask) (old, (no_nib, None)))
   look_block_moves a old ask k is within key cells log kept begins away =
       let at = is_at_block a old k cells log is within key kept begins in
       let goes = stays meld pack old (λ n. n) (LooksBlock meld pack (step k 0 0 ask) (old, (no_nib, None))) cells log k kept at.home refl (at.sees, block_found cells log k kept) in
@@ -138,17 +138,17 @@ module _ {P : Type 0} (meld : P → P → P) (pack : P → ℕ) where
 
   module _ (a : Block) (w : ℕ) (old : List (Line P)) (ask : Line P) (k : ℕ) (is : IsBlock meld pack (limits_in old).ranks (history_in old) a w) where
     abbrev AddGoes : List Cell → List (Line P) → Type 0
-    AddGoes = Goes (IsKept meld pack) shown moved k (old, (no_nib, None)) (λ n. either (n == 0) w n) (AddsBlock meld (step k 0 w ask) (old, (no_nib, None)))
+    AddGoes = Goes (Represents meld pack) shown moved k (old, (no_nib, None)) (λ n. either (n == 0) w n) (AddsBlock meld (step k 0 w ask) (old, (no_nib, None)))
 
     -- what is told of the only block with this key
-    told : (log new : List (Line P)) (n : ℕ) → limits_in new ≡ limits_in log → IsBlockWithin (limits_in log) a → k ≡ block_seat (limits_in log) a → IsAddedBlock w n a old new
-        → (b : Block) → IsBlockWithin (limits_in new) b → k ≡ block_seat (limits_in new) b → IsAddedBlock w n b old new
+    told : (log new : List (Line P)) (n : ℕ) → limits_in new ≡ limits_in log → IsBlockWithin (limits_in log) a → k ≡ block_offset (limits_in log) a → IsAddedBlock w n a old new
+        → (b : Block) → IsBlockWithin (limits_in new) b → k ≡ block_offset (limits_in new) b → IsAddedBlock w n b old new
     told log new n limits within key added b there at =
         let b_there : IsBlockWithin (limits_in log) b = subst (λ m. IsBlockWithin m b) limits there in
-        let b_at : k ≡ block_seat (limits_in log) b = at ∙ ap (λ m. block_seat m b) limits in
+        let b_at : k ≡ block_offset (limits_in log) b = at ∙ ap (λ m. block_offset m b) limits in
         subst (λ x. IsAddedBlock w n x old new) (one_block_seat (limits_in log) a b within b_there (sym key ∙ b_at)) added
 
-    adds_or_stays : (cells : List Cell) (log : List (Line P)) → IsKept meld pack cells log → IsAtBlock a old k cells log → (t : Bool) → ((cell cells k).0 == 0) ≡ t → AddGoes cells log
+    adds_or_stays : (cells : List Cell) (log : List (Line P)) → Represents meld pack cells log → IsAtBlock a old k cells log → (t : Bool) → ((cell cells k).0 == 0) ≡ t → AddGoes cells log
     adds_or_stays cells log kept at t = by t
       where
         longer : List (Line P)
@@ -163,9 +163,9 @@ module _ {P : Type 0} (meld : P → P → P) (pack : P → ℕ) where
         by : (t : Bool) → ((cell cells k).0 == 0) ≡ t → AddGoes cells log
         by true zero =
             let none : (cell cells k).0 ≡ 0 = eqb-true (cell cells k).0 0 zero in
-            let after : IsKept meld pack (slice_set cells k (w, true)) longer = rw at.key (cached_after a w cells log kept at.within now) in
+            let after : Represents meld pack (slice_set cells k (w, true)) longer = rw at.key (cached_after a w cells log kept at.within now) in
             let limits : limits_in longer ≡ limits_in log = limits_stay meld log (Cached a ∷ []) kept.is_log in
-            let seen : Sees meld old longer = record {
+            let seen : Extends meld old longer = record {
               limits = limits ∙ at.sees.limits;
               history = rw (history_in-cached log a) at.sees.history;
               cached = rw (cached_in-append log (Cached a ∷ [])) (prefix_push (cached_in old) (cached_in log) a at.sees.cached);
@@ -188,8 +188,8 @@ module _ {P : Type 0} (meld : P → P → P) (pack : P → ℕ) where
             (at.sees, told log log (cell cells k).0 refl at.within at.key added)
 
     -- an exchange keeps the rule: it adds the block where the word was 0, and otherwise finds the same word
-    pub add_block_moves : IsLog meld old → IsBlockWithin (limits_in old) a → k ≡ block_seat (limits_in old) a
-        → Moves (IsKept meld pack) shown moved k (old, (no_nib, None)) (λ n. either (n == 0) w n) (AddsBlock meld (step k 0 w ask) (old, (no_nib, None)))
+    pub add_block_moves : IsLog meld old → IsBlockWithin (limits_in old) a → k ≡ block_offset (limits_in old) a
+        → Moves (Represents meld pack) shown moved k (old, (no_nib, None)) (λ n. either (n == 0) w n) (AddsBlock meld (step k 0 w ask) (old, (no_nib, None)))
     add_block_moves is_log within key cells log kept begins away =
         let at = is_at_block a old k cells log is_log within key kept begins in
         (at.lt, at.home, adds_or_stays cells log kept at ((cell cells k).0 == 0) refl)

@@ -5,7 +5,7 @@ use Rattle.ulfm_model.specs.declared.{block.Block.{Block}, event.Entry.{Entry}}
 use Rattle.ulfm_model.specs.History.{MayFollow}
 use Rattle.ulfm_model.proofs.Histories.{legal_push}
 use Rattle.ulfm_book.specs.declared.{line.Line.{Line}, line.Line.TheVariants.{Opened, Made, Cached}}
-use Rattle.ulfm_book.specs.{Logs.{HasLimitsFirst, HasNoLimits, IsLog, cached_in, history_in, limits_in}, Rules.{Sees}}
+use Rattle.ulfm_book.specs.{Logs.{HasLimitsFirst, HasNoLimits, IsLog, cached_in, history_in, limits_in}, Rules.{Extends}}
 
 module _ {P : Type 0} where
   pub history_in-append : (xs ys : List (Line P)) → history_in (xs ++ ys) ≡ history_in xs ++ history_in ys
@@ -51,7 +51,7 @@ module _ {P : Type 0} where
     limits_stay log more is = limits_append log more is.limits_first
 
     -- what a log that goes on shows
-    pub sees : (old new : List (Line P)) → IsLog meld old → IsLog meld new → IsPrefix old new → Sees meld old new
+    pub sees : (old new : List (Line P)) → IsLog meld old → IsLog meld new → IsPrefix old new → Extends meld old new
     sees old new old_is new_is begins = record {
       limits = ap limits_in (sym begins.1) ∙ limits_stay old begins.0 old_is;
       history = (history_in begins.0, sym (history_in-append old begins.0) ∙ ap history_in begins.1);

@@ -6,10 +6,11 @@ use Rattle.logbook.specs.Pages.{Book}
 use Rattle.ulfm_model.specs.declared.{block.Block.{Block}, event.Entry.{Entry}, place.Place.{Place}}
 use Rattle.ulfm_model.specs.{Blocks.{IsBlockWithin, IsCached}, History.{History, IsLegal}, Runs.{Did}, Words.{MayOpen, word_at}}
 use Rattle.ulfm_words.specs.declared.{step.Last.{Last}, step.Site.{Site}, step.Step.{Step}}
-use Rattle.ulfm_words.specs.{Blocks.{Caches, LoadsBlock}, Entries.{entry_of}, Pass.{caches_in, last_of}, Places.{IsWithin}, Steps.{Heard, IsOf, Learns, Loads, Sets, Sight}}
+use Rattle.ulfm_words.specs.{Blocks.{Caches, LoadsBlock}, Entries.{entry_of}, Pass.{caches_in, last_of}, Places.{IsWithin}, Steps.{Heard, IsView, Learns, Loads, Sets, Sight}}
 use Rattle.ulfm_words.proofs.{Standing.{caches_loaded, caches_place, caches_set}, Telling.{last_of-push}}
+use Rattle.ulfm_words.specs.Steps.{coding, view_of}
 use Rattle.ulfm_book.specs.declared.{line.Line.{Line}, line.Line.TheVariants.{Made}}
-use Rattle.ulfm_book.specs.{Logs.{IsLog, cached_in, history_in, limits_in}, Rules.{IsAddedBlock, IsBlockFound, IsFound, IsLast, IsOfBlock, Sees, heard_of, name_of, sight_of}, Seats.{block_seat, seat_in}}
+use Rattle.ulfm_book.specs.{Logs.{IsLog, cached_in, history_in, limits_in}, Rules.{IsAddedBlock, IsBlockFound, IsFound, IsLast, IsOfBlock, Extends, heard_of, name_of, sight_of}, Layout.{block_offset, place_offset}}
 use Rattle.ulfm_book.proofs.Growing.{cached_in-append, history_in-append, sees}
 
 -- others' events may have come
@@ -22,12 +23,12 @@ module _ {P : Type 0} (meld : P → P → P) (pack : P → ℕ) where
   made at found load = (record { at = at; word = found; load = load }, load)
 
   -- what was found under a place's key is the place's word
-  found_at : (old new : List (Line P)) (p : Place) (k found : ℕ) → Sees meld old new → IsWithin (limits_in old) p → k ≡ seat_in (limits_in old) p → IsFound pack k found new → word_at pack (history_in new) p ≡ found
-  found_at old new p k found s within key is = is p (subst (λ n. IsWithin n p) (sym s.limits) within) (key ∙ ap (λ n. seat_in n p) (sym s.limits))
+  found_at : (old new : List (Line P)) (p : Place) (k found : ℕ) → Extends meld old new → IsWithin (limits_in old) p → k ≡ place_offset (limits_in old) p → IsFound pack k found new → word_at pack (history_in new) p ≡ found
+  found_at old new p k found s within key is = is p (subst (λ n. IsWithin n p) (sym s.limits) within) (key ∙ ap (λ n. place_offset n p) (sym s.limits))
 
   module _ (b b' : Book) (old new : List (Line P)) (trail trail' : List (Last × Bool)) where
     -- the pass is still of these words
-    still : b' ≡ b → MayOpen (limits_in old) → Sees meld old new → IsOf meld (name_of b (limits_in old)) (sight_of b' new trail')
+    still : b' ≡ b → MayOpen (limits_in old) → Extends meld old new → IsView meld (view_of (name_of b (limits_in old)) (sight_of b' new trail'))
     still same may s = record {
       name_is = ap₂ (λ book n. name_of book n) same s.limits;
       may_open = may;
@@ -42,8 +43,8 @@ module _ {P : Type 0} (meld : P → P → P) (pack : P → ℕ) where
 
     abbrev LoadTells : Place → ℕ → ℕ → Sight P → Type 0
     LoadTells p k found pass =
-        IsOf meld pass.name pass → IsWithin pass.name.limits p → k ≡ seat_in pass.name.limits p → b' ≡ b → Sees meld old new × IsFound pack k found new → trail' ≡ trail ++ made (Site.Place p) found true ∷ []
-        → Loads meld pack false pass.name p pass (sight_of b' new trail')
+        IsView meld (view_of pass.name pass) → IsWithin pass.name.limits p → k ≡ place_offset pass.name.limits p → b' ≡ b → Extends meld old new × IsFound pack k found new → trail' ≡ trail ++ made (Site.Place p) found true ∷ []
+        → Loads meld pack false p (view_of pass.name pass) (view_of pass.name (sight_of b' new trail'))
 
     -- a load
     pub load_tells : (p : Place) (k found : ℕ) (pass : Sight P) → sight_of b old trail ≡ pass → LoadTells p k found pass
@@ -62,12 +63,12 @@ module _ {P : Type 0} (meld : P → P → P) (pack : P → ℕ) where
 
     -- what an exchange of this step sees and finds, where it asked for this line
     abbrev Finds : Step → ℕ → ℕ → Line P → Type 0
-    Finds s k found ask = Sees meld old new × MatchBool (found == 0) (IsLast meld ask old new × IsFound pack k s.word new) (IsFound pack k found new)
+    Finds s k found ask = Extends meld old new × MatchBool (found == 0) (IsLast meld ask old new × IsFound pack k s.word new) (IsFound pack k found new)
 
     abbrev WonTells : (ℕ → Option P) → Step → ℕ → ℕ → Line P → Entry P → Sight P → Type 0
     WonTells unpack s k found ask entry pass =
-        IsOf meld pass.name pass → IsWithin pass.name.limits s.place → k ≡ seat_in pass.name.limits s.place → b' ≡ b → Finds s k found ask → trail' ≡ trail ++ made (Site.Place s.place) found false ∷ []
-        → entry_of unpack s ≡ Some entry → ask ≡ Made entry → found ≡ 0 → Sets meld pack unpack false pass.name s pass (Ok tt) (sight_of b' new trail')
+        IsView meld (view_of pass.name pass) → IsWithin pass.name.limits s.place → k ≡ place_offset pass.name.limits s.place → b' ≡ b → Finds s k found ask → trail' ≡ trail ++ made (Site.Place s.place) found false ∷ []
+        → entry_of unpack s ≡ Some entry → ask ≡ Made entry → found ≡ 0 → Sets meld (coding pack unpack) false s (view_of pass.name pass) (Ok tt) (view_of pass.name (sight_of b' new trail'))
 
     -- an exchange that was won
     pub won_tells : (unpack : ℕ → Option P) (s : Step) (k found : ℕ) (ask : Line P) (entry : Entry P) (pass : Sight P) → sight_of b old trail ≡ pass → WonTells unpack s k found ask entry pass
@@ -95,8 +96,8 @@ module _ {P : Type 0} (meld : P → P → P) (pack : P → ℕ) where
 
     abbrev LostTells : (ℕ → Option P) → Step → ℕ → ℕ → Line P → Sight P → Type 0
     LostTells unpack s k found ask pass =
-        IsOf meld pass.name pass → IsWithin pass.name.limits s.place → k ≡ seat_in pass.name.limits s.place → b' ≡ b → Finds s k found ask → trail' ≡ trail ++ made (Site.Place s.place) found false ∷ []
-        → found ≢ 0 → Sets meld pack unpack false pass.name s pass (Err found) (sight_of b' new trail')
+        IsView meld (view_of pass.name pass) → IsWithin pass.name.limits s.place → k ≡ place_offset pass.name.limits s.place → b' ≡ b → Finds s k found ask → trail' ≡ trail ++ made (Site.Place s.place) found false ∷ []
+        → found ≢ 0 → Sets meld (coding pack unpack) false s (view_of pass.name pass) (Err found) (view_of pass.name (sight_of b' new trail'))
 
     -- an exchange that was lost
     pub lost_tells : (unpack : ℕ → Option P) (s : Step) (k found : ℕ) (ask : Line P) (pass : Sight P) → sight_of b old trail ≡ pass → LostTells unpack s k found ask pass
@@ -119,14 +120,14 @@ module _ {P : Type 0} (meld : P → P → P) (pack : P → ℕ) where
     -- where a block was looked at under this key
     abbrev BlockTells : Block → ℕ → ℕ → Bool → Type 0 → Sight P → Type 0 → Type 0
     BlockTells block k found load Saw pass Told =
-        IsOf meld pass.name pass → IsBlockWithin pass.name.limits block → k ≡ block_seat pass.name.limits block → b' ≡ b → Sees meld old new × Saw → trail' ≡ trail ++ made (Site.Block block) found load ∷ [] → Told
+        IsView meld (view_of pass.name pass) → IsBlockWithin pass.name.limits block → k ≡ block_offset pass.name.limits block → b' ≡ b → Extends meld old new × Saw → trail' ≡ trail ++ made (Site.Block block) found load ∷ [] → Told
 
     -- what was seen of all blocks with this key was seen of this one
-    of_block : (block : Block) (k : ℕ) (Saw : Block → Type 0) → Sees meld old new → IsBlockWithin (limits_in old) block → k ≡ block_seat (limits_in old) block → ((x : Block) → IsBlockWithin (limits_in new) x → k ≡ block_seat (limits_in new) x → Saw x) → Saw block
-    of_block block k Saw s within key all = all block (subst (λ n. IsBlockWithin n block) (sym s.limits) within) (key ∙ ap (λ n. block_seat n block) (sym s.limits))
+    of_block : (block : Block) (k : ℕ) (Saw : Block → Type 0) → Extends meld old new → IsBlockWithin (limits_in old) block → k ≡ block_offset (limits_in old) block → ((x : Block) → IsBlockWithin (limits_in new) x → k ≡ block_offset (limits_in new) x → Saw x) → Saw block
+    of_block block k Saw s within key all = all block (subst (λ n. IsBlockWithin n block) (sym s.limits) within) (key ∙ ap (λ n. block_offset n block) (sym s.limits))
 
     abbrev LoadBlockTells : Block → ℕ → ℕ → Sight P → Type 0
-    LoadBlockTells block k found pass = BlockTells block k found true (IsBlockFound meld pack k found new) pass (LoadsBlock meld pack false pass.name block found pass (sight_of b' new trail'))
+    LoadBlockTells block k found pass = BlockTells block k found true (IsBlockFound meld pack k found new) pass (LoadsBlock meld pack false block found (view_of pass.name pass) (view_of pass.name (sight_of b' new trail')))
 
     -- a load of a block's word
     pub load_block_tells : (block : Block) (k found : ℕ) (pass : Sight P) → sight_of b old trail ≡ pass → LoadBlockTells block k found pass
@@ -147,10 +148,10 @@ module _ {P : Type 0} (meld : P → P → P) (pack : P → ℕ) where
         })
 
     abbrev SawAdded : ℕ → ℕ → ℕ → Type 0
-    SawAdded k word found = (x : Block) → IsBlockWithin (limits_in new) x → k ≡ block_seat (limits_in new) x → IsAddedBlock word found x old new
+    SawAdded k word found = (x : Block) → IsBlockWithin (limits_in new) x → k ≡ block_offset (limits_in new) x → IsAddedBlock word found x old new
 
     abbrev CacheTells : Block → ℕ → ℕ → ℕ → Result (Unit {0}) ℕ → Sight P → Type 0
-    CacheTells block k word found result pass = BlockTells block k found false (SawAdded k word found) pass (Caches meld false pass.name block word pass result (sight_of b' new trail'))
+    CacheTells block k word found result pass = BlockTells block k found false (SawAdded k word found) pass (Caches meld false block word (view_of pass.name pass) result (view_of pass.name (sight_of b' new trail')))
 
     -- an exchange of a block's word that was won
     pub cache_won_tells : (block : Block) (k word found : ℕ) (pass : Sight P) → sight_of b old trail ≡ pass → found ≡ 0 → CacheTells block k word found (Ok tt) pass
@@ -188,7 +189,7 @@ module _ {P : Type 0} (meld : P → P → P) (pack : P → ℕ) where
 
   module _ (b b' t : Book) (old told new : List (Line P)) (trail : List (Last × Bool)) where
     abbrev LearnTells : Heard P → Sight P → Type 0
-    LearnTells heard pass = IsOf meld pass.name pass → b' ≡ b → IsLog meld old → IsPrefix old new → IsPrefix told new → IsLog meld new → Learns meld false pass.name heard pass (sight_of b' new trail)
+    LearnTells heard pass = IsView meld (view_of pass.name pass) → b' ≡ b → IsLog meld old → IsPrefix old new → IsPrefix told new → IsLog meld new → Learns meld false heard (view_of pass.name pass) (view_of pass.name (sight_of b' new trail))
 
     -- what was told is seen
     pub learn_tells : (heard : Heard P) (pass : Sight P) → heard_of t told ≡ heard → sight_of b old trail ≡ pass → LearnTells heard pass

@@ -1,3 +1,3 @@
-pub mod Seats
+pub mod Layout
 pub mod Logs
 pub mod Rules

@@ -4,10 +4,10 @@ ghost use Rattle.ulfm_model.specs.History.{IsLegal};
 ghost use Rattle.ulfm_model.specs.Words.{word_at};
 ghost use Rattle.ulfm_words.specs.Blocks.{Caches, LoadsBlock};
 ghost use Rattle.ulfm_words.specs.Places.{IsWithin};
-ghost use Rattle.ulfm_words.specs.Steps.{IsOf, Loads, MaySet, Sets, Learns};
+ghost use Rattle.ulfm_words.specs.Steps.{coding, view_of, IsView, Loads, MaySet, Sets, Learns};
 ghost use Rattle.ulfm_book.specs.Logs.{IsLog};
 ghost use Rattle.ulfm_book.specs.Rules.{book_of, sight_of, word_named};
-ghost use Rattle.ulfm_book.specs.Seats.{block_seat, seat_in};
+ghost use Rattle.ulfm_book.specs.Layout.{block_offset, place_offset};
 
 use crate::line::Line;
 use crate::rule::{Add, AddBlock, Law, Look, LookBlock, Nothing};
@@ -71,10 +71,10 @@ impl<P: Packed> BookPass<P> {
 
     // The word of this place is loaded.
     pub(crate) fn load(&mut self, word: &Word<Line<P>, u64, Law<P>>, place: Place) -> u64
-        requires of { IsOf P.meld self.old.name self.old }
+        requires of { IsView P.meld (view_of self.old.name self.old) }
         requires within { IsWithin self.old.name.limits place }
-        requires word { word.now ≡ word_named (book_of self.old.name) (seat_in self.old.name.limits place) }
-        ensures loads { Loads P.meld P.pack false self.old.name place self.old self.new }
+        requires word { word.now ≡ word_named (book_of self.old.name) (place_offset self.old.name.limits place) }
+        ensures loads { Loads P.meld P.pack false place (view_of self.old.name self.old) (view_of self.old.name self.new) }
         ensures found { result ≡ word_at P.pack self.new.seen place }
     {
         let nothing = Step {
@@ -102,11 +102,11 @@ impl<P: Packed> BookPass<P> {
         word: &Word<Line<P>, u64, Law<P>>,
         step: Step,
     ) -> Result<(), u64>
-        requires of { IsOf P.meld self.old.name self.old }
+        requires of { IsView P.meld (view_of self.old.name self.old) }
         requires within { IsWithin self.old.name.limits step.place }
-        requires word { word.now ≡ word_named (book_of self.old.name) (seat_in self.old.name.limits step.place) }
+        requires word { word.now ≡ word_named (book_of self.old.name) (place_offset self.old.name.limits step.place) }
         requires may { MaySet P.meld P.pack P.unpack self.old.name.limits self.old.seen step }
-        ensures { Sets P.meld P.pack P.unpack false self.old.name step self.old result self.new }
+        ensures { Sets P.meld (coding P.pack P.unpack) false step (view_of self.old.name self.old) result (view_of self.old.name self.new) }
     {
         let mut offer: Offer<Line<P>, u64, Law<P>, Nothing> = self
             .seen
@@ -131,10 +131,10 @@ impl<P: Packed> BookPass<P> {
 
     // The word of this block is loaded.
     pub(crate) fn load_block(&mut self, word: &Word<Line<P>, u64, Law<P>>, block: Block) -> u64
-        requires of { IsOf P.meld self.old.name self.old }
+        requires of { IsView P.meld (view_of self.old.name self.old) }
         requires within { IsBlockWithin self.old.name.limits block }
-        requires word { word.now ≡ word_named (book_of self.old.name) (block_seat self.old.name.limits block) }
-        ensures { LoadsBlock P.meld P.pack false self.old.name block result self.old self.new }
+        requires word { word.now ≡ word_named (book_of self.old.name) (block_offset self.old.name.limits block) }
+        ensures { LoadsBlock P.meld P.pack false block result (view_of self.old.name self.old) (view_of self.old.name self.new) }
     {
         let mut offer: Offer<Line<P>, u64, Law<P>, Nothing> = self
             .seen
@@ -157,11 +157,11 @@ impl<P: Packed> BookPass<P> {
         block: Block,
         said: u64,
     ) -> Result<(), u64>
-        requires of { IsOf P.meld self.old.name self.old }
+        requires of { IsView P.meld (view_of self.old.name self.old) }
         requires within { IsBlockWithin self.old.name.limits block }
-        requires word { word.now ≡ word_named (book_of self.old.name) (block_seat self.old.name.limits block) }
+        requires word { word.now ≡ word_named (book_of self.old.name) (block_offset self.old.name.limits block) }
         requires may { IsBlock P.meld P.pack self.old.name.limits.ranks self.old.seen block said }
-        ensures { Caches P.meld false self.old.name block said self.old result self.new }
+        ensures { Caches P.meld false block said (view_of self.old.name self.old) result (view_of self.old.name self.new) }
     {
         let mut offer: Offer<Line<P>, u64, Law<P>, Nothing> = self
             .seen
@@ -197,9 +197,9 @@ impl<P: Packed> BookPass<P> {
 
     // What was told is seen, too.
     pub(crate) fn learn(&mut self, told: &BookTold<P>)
-        requires of { IsOf P.meld self.old.name self.old }
+        requires of { IsView P.meld (view_of self.old.name self.old) }
         requires told { told.now.name ≡ self.old.name }
-        ensures { Learns P.meld false self.old.name told.now self.old self.new }
+        ensures { Learns P.meld false told.now (view_of self.old.name self.old) (view_of self.old.name self.new) }
     {
         self.seen.learn(&told.seen);
     }

@@ -14,9 +14,9 @@ pub(crate) struct Law<P: Packed> {
 impl<P: Packed> Rule<Line<P>, u64> for Law<P> {
     ghost use Rattle.std.specs.Prelude.{[]};
     ghost use base.Fml.{ftrue};
-    ghost use Rattle.ulfm_book.specs.Rules.{IsKept};
+    ghost use Rattle.ulfm_book.specs.Rules.{Represents};
 
-    ghost holds = { λ cells log. IsKept P.meld P.pack cells log };
+    ghost holds = { λ cells log. Represents P.meld P.pack cells log };
 
     ghost first = { [] };
 
@@ -64,9 +64,9 @@ pub(crate) struct Add<P: Packed> {
 }
 
 impl<P: Packed> Play<Line<P>, u64> for Add<P> {
-    ghost use Rattle.ulfm_book.specs.Rules.{Adds};
+    ghost use Rattle.ulfm_book.specs.Rules.{Exchanges};
 
-    ghost then = { Adds P.meld P.pack };
+    ghost then = { Exchanges P.meld P.pack };
 }
 
 /// What an exchange asks for: the line of its step's event.

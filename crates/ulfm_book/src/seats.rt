@@ -1,6 +1,6 @@
 //! Where the word of each place, and of each block, stands in the row of shared words.
 ghost use Rattle.std.specs.Prelude.{◌≡◌};
-ghost use Rattle.ulfm_book.specs.Seats.{arrivals_from, block_seat, seat_in, slots_from};
+ghost use Rattle.ulfm_book.specs.Layout.{arrivals_from, block_offset, place_offset, slots_from};
 ghost use Rattle.ulfm_model.specs.Blocks.{IsBlockWithin};
 ghost use Rattle.ulfm_model.specs.Words.{MayOpen, size_of};
 ghost use Rattle.ulfm_words.specs.Places.{IsWithin};
@@ -47,7 +47,7 @@ pub(crate) fn place_in_row(place: Place, limits: Limits, starts: Starts) -> usiz
     requires slots { starts.slots ≡ slots_from limits }
     requires arrivals { starts.arrivals ≡ arrivals_from limits }
     requires within { IsWithin limits place }
-    ensures { result ≡ seat_in limits place }
+    ensures { result ≡ place_offset limits place }
 {
     let ranks = limits.ranks as usize;
     let comms = limits.comms as usize;
@@ -72,7 +72,7 @@ pub(crate) fn block_in_row(block: Block, limits: Limits, starts: Starts) -> usiz
     requires open { MayOpen limits }
     requires blocks { starts.blocks ≡ size_of limits }
     requires within { IsBlockWithin limits block }
-    ensures { result ≡ block_seat limits block }
+    ensures { result ≡ block_offset limits block }
 {
     let round = block.comm as usize * limits.rounds as usize + block.round as usize;
     let side = match block.side {

@@ -3,7 +3,7 @@ ghost use Rattle.ulfm_model.specs.Blocks.{IsBlockWithin};
 ghost use Rattle.ulfm_model.specs.Words.{MayOpen, size_of};
 ghost use Rattle.ulfm_words.specs.Places.{IsWithin};
 ghost use Rattle.ulfm_book.specs.Rules.{IsFault, book_of, word_named};
-ghost use Rattle.ulfm_book.specs.Seats.{block_seat, row_of, seat_in};
+ghost use Rattle.ulfm_book.specs.Layout.{block_offset, row_length, place_offset};
 
 use crate::line::Line;
 use crate::pass::{BookPass, BookTold};
@@ -36,14 +36,14 @@ impl<P: Packed, A: Allocator> Model for BookWords<P, A> {
     ghost use Rattle.ulfm_words.specs.Steps.{Name};
     ghost use Rattle.ulfm_book.specs.Logs.{log_of};
     ghost use Rattle.ulfm_book.specs.Rules.{name_of, word_named};
-    ghost use Rattle.ulfm_book.specs.Seats.{arrivals_from, row_of, slots_from};
+    ghost use Rattle.ulfm_book.specs.Layout.{arrivals_from, row_length, slots_from};
 
     ghost Value = { Name };
 
     ghost view = { λ w. name_of w.start.book w.limits };
 
-    ghost invariant = { λ w. MayOpen w.limits × (w.start.log ≡ log_of w.limits) × (vec_len w.words ≡ row_of w.limits)
-        × ((key : ℕ) → key < row_of w.limits → slice_get w.words.items key ≡ Some (word_named w.start.book key))
+    ghost invariant = { λ w. MayOpen w.limits × (w.start.log ≡ log_of w.limits) × (vec_len w.words ≡ row_length w.limits)
+        × ((key : ℕ) → key < row_length w.limits → slice_get w.words.items key ≡ Some (word_named w.start.book key))
         × (w.starts.slots ≡ slots_from w.limits) × (w.starts.arrivals ≡ arrivals_from w.limits)
         × (w.starts.blocks ≡ size_of w.limits) };
 }
@@ -91,7 +91,7 @@ impl<P: Packed, A: Allocator> BookWords<P, A> {
     // The word of a place.
     fn word(&self, place: Place) -> &Word<Line<P>, u64, Law<P>>
         requires { IsWithin self.now.limits place }
-        ensures { result.now ≡ word_named (book_of self.now) (seat_in self.now.limits place) }
+        ensures { result.now ≡ word_named (book_of self.now) (place_offset self.now.limits place) }
     {
         &self.words[place_in_row(place, self.limits, self.starts)]
     }
@@ -99,7 +99,7 @@ impl<P: Packed, A: Allocator> BookWords<P, A> {
     // The word of a block.
     fn block_word(&self, block: Block) -> &Word<Line<P>, u64, Law<P>>
         requires { IsBlockWithin self.now.limits block }
-        ensures { result.now ≡ word_named (book_of self.now) (block_seat self.now.limits block) }
+        ensures { result.now ≡ word_named (book_of self.now) (block_offset self.now.limits block) }
     {
         &self.words[block_in_row(block, self.limits, self.starts)]
     }

@@ -86,12 +86,12 @@ fn declare_then_learn<P: Packed + Send + Sync, R: Threads>(
     learner: Member<P>,
     rank: u16,
 ) -> Result<Vec<u16>, Refusal>
-    requires { learner.name ≡ teller.name }
+    requires { learner.view.words ≡ teller.words }
 {
     let (told, _) = join(
         rt,
         move || -> BookTold<P>
-            ensures { result.name ≡ teller.name }
+            ensures { result.name ≡ teller.words }
         {
             let mut outside = teller;
             let _ = outside.fail(rank);
@@ -102,7 +102,7 @@ fn declare_then_learn<P: Packed + Send + Sync, R: Threads>(
     let (group, _) = join(
         rt,
         move || -> Result<Vec<u16>, Refusal>
-            requires { told.name ≡ learner.name }
+            requires { told.name ≡ learner.view.words }
         {
             let mut member = learner;
             member.learn(&told);

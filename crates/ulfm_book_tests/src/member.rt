@@ -18,7 +18,7 @@ pub(crate) fn open<P: Packed>(
     alloc: Global,
     ranks: u16,
 ) -> Result<(Outside<P>, Vec<Member<P>>), OpenFault>
-    ensures { IfOk result (λ o. AllByRecursion (λ m. m.name ≡ o.0.name) o.1.items) }
+    ensures { IfOk result (λ o. AllByRecursion (λ m. m.view.words ≡ o.0.words) o.1.items) }
 {
     let limits = Limits {
         ranks,

@@ -1,5 +1,5 @@
 // Threads that set one place at once.
-ghost use Rattle.ulfm_words.specs.Steps.{IsOf};
+ghost use Rattle.ulfm_words.specs.Steps.{view_of, IsView};
 
 use crate::words::{limits, revoke};
 use std::alloc::{AllocError, Global};
@@ -18,18 +18,18 @@ struct Setter<'a, P: Packed> {
 }
 
 impl<'a, P: Packed> Model for Setter<'a, P> {
-    ghost use Rattle.ulfm_words.specs.Steps.{IsOf, Name};
+    ghost use Rattle.ulfm_words.specs.Steps.{IsView, Name, view_of};
 
     ghost Value = { Name };
 
     ghost view = { λ s. s.words.now };
 
-    ghost invariant = { λ s. IsOf P.meld s.words.now s.pass };
+    ghost invariant = { λ s. IsView P.meld (view_of s.words.now s.pass) };
 }
 
 impl<'a, P: Packed> Setter<'a, P> {
     fn new(words: &'a BookWords<P>, pass: BookPass<P>) -> Setter<'a, P>
-        requires { IsOf P.meld words.now pass }
+        requires { IsView P.meld (view_of words.now pass) }
     {
         Setter { words, pass }
     }

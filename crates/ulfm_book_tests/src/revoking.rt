@@ -33,8 +33,8 @@ fn arrive_others<R: Abort>(
     outside: &Outside<FlagAnd>,
     all: Vec<Member<FlagAnd>>,
 ) -> Result<Vec<Member<FlagAnd>>, AllocError>
-    requires { AllByRecursion (λ m. m.name ≡ outside.now.name) all.items }
-    ensures { IfOk result (λ ready. AllByRecursion (λ m. m.name ≡ outside.now.name) ready.items) }
+    requires { AllByRecursion (λ m. m.view.words ≡ outside.now.words) all.items }
+    ensures { IfOk result (λ ready. AllByRecursion (λ m. m.view.words ≡ outside.now.words) ready.items) }
 {
     let mut ready = Vec::with_capacity(alloc, all.len())?;
     for mut member in all {
@@ -48,7 +48,7 @@ fn arrive_others<R: Abort>(
 
 /// The rank that revokes does so, and each other polls four times in a row.
 fn revoke_or_poll(mut member: Member<FlagAnd>) -> (Replies, Member<FlagAnd>)
-    ensures { result.1.name ≡ member.name }
+    ensures { result.1.view.words ≡ member.view.words }
 {
     let replies = if member.number() == REVOKER {
         Replies::Revoke(member.revoke(0))
@@ -69,8 +69,8 @@ fn run_all<R: Threads + Sync>(
     outside: &Outside<FlagAnd>,
     all: Vec<Member<FlagAnd>>,
 ) -> Result<Vec<(Replies, Member<FlagAnd>)>, AllocError>
-    requires { AllByRecursion (λ m. m.name ≡ outside.now.name) all.items }
-    ensures { IfOk result (λ done. AllByRecursion (λ d. d.1.name ≡ outside.now.name) done.items) }
+    requires { AllByRecursion (λ m. m.view.words ≡ outside.now.words) all.items }
+    ensures { IfOk result (λ done. AllByRecursion (λ d. d.1.view.words ≡ outside.now.words) done.items) }
 {
     thread::map_vec(rt, all, &|member| revoke_or_poll(member))
 }
@@ -101,7 +101,7 @@ fn learn_then_poll<R: Abort>(
     told: &BookTold<FlagAnd>,
     open: bool,
 )
-    requires { told.now.name ≡ member.name }
+    requires { told.now.name ≡ member.view.words }
 {
     member.learn(told);
     assert_eq!(rt; member.is_revoked(0), Ok(true));

@@ -2,7 +2,7 @@
 ghost use Rattle.std.specs.Prelude.{◌≡◌, ◌<◌};
 ghost use Rattle.ulfm_model.specs.Words.{word_at};
 ghost use Rattle.ulfm_model.specs.declared.place.Place.TheVariants.{List as ListAt, Revoked as RevokedAt};
-ghost use Rattle.ulfm_words.specs.Steps.{IsOf};
+ghost use Rattle.ulfm_words.specs.Steps.{view_of, IsView};
 
 use linked_list_allocator::LocalHeap;
 use std::alloc::Global;
@@ -35,9 +35,9 @@ pub(crate) fn limits(ranks: u16, rounds: u16) -> Limits
 
 /// Declares a rank in the first entry of the list of failures.
 fn declare<P: Packed>(words: &BookWords<P>, pass: &mut BookPass<P>, rank: u16) -> Result<(), u64>
-    requires of { IsOf P.meld words.now pass.old }
+    requires of { IsView P.meld (view_of words.now pass.old) }
     requires rank { rank < words.now.limits.ranks }
-    ensures of { IsOf P.meld words.now pass.new }
+    ensures of { IsView P.meld (view_of words.now pass.new) }
     ensures set { 0 < word_at P.pack pass.new.seen (ListAt 0) }
 {
     let step = Step {
@@ -54,8 +54,8 @@ pub(crate) fn revoke<P: Packed>(
     pass: &mut BookPass<P>,
     rank: u16,
 ) -> Result<(), u64>
-    requires of { IsOf P.meld words.now pass.old }
-    ensures of { IsOf P.meld words.now pass.new }
+    requires of { IsView P.meld (view_of words.now pass.old) }
+    ensures of { IsView P.meld (view_of words.now pass.new) }
     ensures set { 0 < word_at P.pack pass.new.seen (RevokedAt 0) }
 {
     let step = Step {
@@ -74,14 +74,14 @@ fn declare_then_load<P: Packed + Send, R: Threads>(
     reader: BookPass<P>,
     rank: u16,
 ) -> u64
-    requires writer { IsOf P.meld words.now writer }
-    requires reader { IsOf P.meld words.now reader }
+    requires writer { IsView P.meld (view_of words.now writer) }
+    requires reader { IsView P.meld (view_of words.now reader) }
     requires rank { rank < words.now.limits.ranks }
 {
     let (_, _) = join(
         rt,
         move || -> bool
-            requires { IsOf P.meld words.now writer × (rank < words.now.limits.ranks) }
+            requires { IsView P.meld (view_of words.now writer) × (rank < words.now.limits.ranks) }
         {
             let mut pass = writer;
             declare(words, &mut pass, rank).is_ok()
@@ -91,7 +91,7 @@ fn declare_then_load<P: Packed + Send, R: Threads>(
     let (word, _) = join(
         rt,
         move || -> u64
-            requires { IsOf P.meld words.now reader × (0 < words.now.limits.ranks) }
+            requires { IsView P.meld (view_of words.now reader) × (0 < words.now.limits.ranks) }
         {
             let mut pass = reader;
             words.load(&mut pass, FIRST)
@@ -110,16 +110,16 @@ fn learn_of_both<P: Packed + Send, R: Threads>(
     mut learner: BookPass<P>,
     rank: u16,
 ) -> (u64, u64)
-    requires one { IsOf P.meld words.now one }
-    requires two { IsOf P.meld words.now two }
-    requires learner { IsOf P.meld words.now learner }
+    requires one { IsView P.meld (view_of words.now one) }
+    requires two { IsView P.meld (view_of words.now two) }
+    requires learner { IsView P.meld (view_of words.now learner) }
     requires rank { rank < words.now.limits.ranks }
     ensures { (0 < result.0) × (0 < result.1) }
 {
     let (first, second) = join(
         rt,
         move || -> BookTold<P>
-            requires { IsOf P.meld words.now one × (rank < words.now.limits.ranks) }
+            requires { IsView P.meld (view_of words.now one) × (rank < words.now.limits.ranks) }
             ensures { (result.name ≡ words.entry.now) × (0 < word_at P.pack result.seen (ListAt 0)) }
         {
             let mut pass = one;
@@ -127,7 +127,7 @@ fn learn_of_both<P: Packed + Send, R: Threads>(
             words.told(&pass)
         },
         move || -> BookTold<P>
-            requires { IsOf P.meld words.now two }
+            requires { IsView P.meld (view_of words.now two) }
             ensures { (result.name ≡ words.entry.now) × (0 < word_at P.pack result.seen (RevokedAt 0)) }
         {
             let mut pass = two;

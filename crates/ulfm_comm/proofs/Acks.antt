@@ -3,6 +3,7 @@ use Rattle.std.proofs.Common.{◌≡◌, ℕ, Bool, [], length, filter, max, min
 use Rattle.ulfm_model.specs.declared.call.Call.TheVariants as call
 use Rattle.ulfm_model.specs.declared.{limits.Limits.{Limits}, reply.Reply.TheVariants.{Acked, FailedGroup}}
 use Rattle.ulfm_model.specs.{Answers.{refusal_on}, History.{History, IsLegal, failures, has}, Records.{Fits, Held, Record, held_at, with_held}}
+use Rattle.ulfm_model.specs.Records.{moment}
 use Rattle.ulfm_words.proofs.Trails.{did_none}
 use Rattle.ulfm_comm.specs.{Ends.{IsEndRun}, Look.{Looked}}
 use Rattle.ulfm_comm.proofs.{Holding.{failed_is}, WholeCall.{held_before, replied}}
@@ -12,7 +13,7 @@ module _ {P : Type 0} (meld : P → P → P) (limits : Limits) (alone : Bool) (b
     (rank c : ℕ) (x : Held) (held : held_at mid c ≡ Some x) where
   -- the failed group that the look found has so many ranks
   pub get_failed_is : (n : ℕ) (new : Record) → n ≡ length (filter (has x.group) (failures look)) → new ≡ mid
-      → IsEndRun meld limits alone before look old (call.GetFailed rank c) (FailedGroup n) new
+      → IsEndRun meld limits alone (moment old before) (call.GetFailed rank c) (FailedGroup n) (moment new look)
   get_failed_is n new counted is =
       let at = held_before meld limits alone before look old mid looked c (Some x) held in
       replied meld limits alone before look old mid looked look [] (call.GetFailed rank c) (FailedGroup n) new x
@@ -22,7 +23,7 @@ module _ {P : Type 0} (meld : P → P → P) (limits : Limits) (alone : Bool) (b
   -- so many failures are acknowledged: those asked for that are known, and no fewer than before
   pub ack_failed_is : (asked n : ℕ) (new : Record) → n ≡ max x.acked (min asked (length (filter (has x.group) (failures look))))
       → new ≡ with_held mid c (λ y. record y { acked = n })
-      → IsEndRun meld limits alone before look old (call.Ack rank c asked) (Acked n) new
+      → IsEndRun meld limits alone (moment old before) (call.Ack rank c asked) (Acked n) (moment new look)
   ack_failed_is asked n new counted is =
       let at = held_before meld limits alone before look old mid looked c (Some x) held in
       replied meld limits alone before look old mid looked look [] (call.Ack rank c asked) (Acked n) new x (did_none alone look) legal

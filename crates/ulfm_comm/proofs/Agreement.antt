@@ -9,20 +9,26 @@ use Rattle.ulfm_model.specs.declared.{reply.Reply.{Reply}, reply.Reply.TheVarian
 use Rattle.ulfm_model.specs.{Answers.{closed, traits_of}, History.{History, IsLegal, entries_by, failures, has, slot}, Records.{Fits, Held, Record, held_at}}
 use Rattle.ulfm_model.specs.{Runs.{Did}, Terms.{comm_of}}
 use Rattle.ulfm_model.proofs.Stable.{fits_stays}
-use Rattle.ulfm_words.specs.{Steps.{IsOf, Name, Sight}, declared.step.Site.{Site}}
+use Rattle.ulfm_words.specs.{Steps.{IsView, Name, Sight}, declared.step.Site.{Site}}
 use Rattle.ulfm_model.specs.declared.place.Place.TheVariants.{Slot as SlotAt}
 use Rattle.ulfm_model.specs.declared.step_name.StepName.TheVariants as step
 use Rattle.ulfm_words.proofs.Trails.{did_none, did_prefix, did_wait}
+use Rattle.ulfm_words.specs.Steps.{view_of}
 use Rattle.ulfm_steps.specs.declared.{mark_all.MarkAll.{MarkAll}, blocks.ReadBlocks.{ReadBlocks}, blocks.RoundBlocks.{RoundBlocks}}
-use Rattle.ulfm_steps.specs.Blocks.{AreOf, AtBlock, MayReadBlocks, block_at, is_whole, next_of, site_of, starts_at}
+use Rattle.ulfm_steps.specs.Blocks.{BothTell, AtBlock, MayReadBlocks, block_at, is_whole, next_in_block, site_of, starts_at}
 use Rattle.ulfm_steps.specs.{Marks.{HasMarked as MarkedOn, IsAt, Marks, MayMarkAll, members_in}, Rounds.{IsMissing, IsRoundOf}, Turns.{IsStepAt}}
 use Rattle.ulfm_model.specs.Blocks.{IsSummed}
+use Rattle.ulfm_model.specs.Records.{moment}
 use Rattle.ulfm_steps.proofs.{InBlocks.{are_later, few_members, starts}, Marking.{marks_join, marks_wait, new_members, take_all}}
-use Rattle.ulfm_comm.specs.{Polls.{HasMarked}, Requests.{agreement}, Phase.{Answered, Stands, next_step}, StepsLeft.{MakesStep}}
+use Rattle.ulfm_steps.specs.Turns.{running}
+use Rattle.ulfm_steps.specs.Among.{among}
+use Rattle.ulfm_comm.specs.{Polls.{PollHasMarked}, Requests.{agreement}, Phase.{Answered, Stands, next_step}, StepsLeft.{MakesStep}}
 use Rattle.ulfm_comm.specs.Agreement.{HasReadAll, IsMarking, IsReading, agreed_reply}
 use Rattle.ulfm_comm.specs.declared.phases.phase.Phase.TheVariants.{Marking, Reading}
 use Rattle.ulfm_comm.proofs.{CallRuns.{calls_is}, Holding.{exists_is, group_is, holds, same_held}, AmongOthers.{did_loosely, marks_loosely}}
 use Rattle.ulfm_comm.proofs.Polls.{held_first, later, not_found, not_marked, open_round, poll_agreed, poll_mismatch, poll_pending}
+use Rattle.ulfm_comm.specs.Local.{frame, local}
+use Rattle.ulfm_comm.specs.Requests.{agreeing}
 
 -- the poll of a rank is one in its own name
 pub poll_mine : {P : Type 0} (asked : Call P) (old : Record) (rank comm : ℕ) → asked ≡ call.Poll rank comm → (traits_of asked).by ≡ Rank old.number
@@ -45,8 +51,8 @@ all_in group declared n within past =
 -- a poll under way, after others' events
 marked_later : {P : Type 0} (meld : P → P → P) (limits : Limits) (alone : Bool) (c : ℕ) (shrinks : Bool) (k : ℕ) (x : Held) (old : Record) (before : History P)
     (mid : Record) (now after : History P)
-    → HasMarked meld limits alone c shrinks k x old before mid now → Did alone [] now after → IsLegal meld limits after
-    → HasMarked meld limits alone c shrinks k x old before mid after
+    → PollHasMarked (frame meld limits alone) c (agreeing shrinks k) x (moment old before) (moment mid now) → Did alone [] now after → IsLegal meld limits after
+    → PollHasMarked (frame meld limits alone) c (agreeing shrinks k) x (moment old before) (moment mid after)
 marked_later meld limits alone c shrinks k x old before mid now after p did legal =
     record {
       look = p.look;
@@ -63,25 +69,25 @@ marked_later meld limits alone c shrinks k x old before mid now after p did lega
 -- once all declared members are marked, the reading of those blocks begins that aren't known
 pub reading_begins : {P : Type 0} (meld : P → P → P) (limits : Limits) (alone : Bool) (c : ℕ) (shrinks : Bool) (k : ℕ) (x : Held) (old : Record)
     (before : History P) (mid : Record) (now : History P)
-    → HasMarked meld limits alone c shrinks k x old before mid now → (blocks : RoundBlocks P) (comm round members : ℕ)
-    → AreOf meld now comm round x.group blocks → is_whole blocks (length x.group) ≡ false
+    → PollHasMarked (frame meld limits alone) c (agreeing shrinks k) x (moment old before) (moment mid now) → (blocks : RoundBlocks P) (comm round members : ℕ)
+    → BothTell meld now comm round x.group blocks → is_whole blocks (length x.group) ≡ false
     → (reading : ReadBlocks P) → reading ≡ starts_at comm round blocks members → comm ≡ c → round ≡ k → members ≡ length x.group
-    → IsReading meld limits alone c shrinks reading old before mid now
+    → IsReading (frame meld limits alone) c shrinks reading (moment old before) (moment mid now)
 reading_begins {P} meld limits alone c shrinks k x old before mid now p blocks comm round members are unknown reading is there at size =
     let some : 0 < length x.group = some_member x.group mid.number (holds meld limits p.look mid c x p.fits p.held).member in
-    let begun : IsReading meld limits alone c shrinks (starts_at comm round blocks (length x.group)) old before mid now =
+    let begun : IsReading (frame meld limits alone) c shrinks (starts_at comm round blocks (length x.group)) (moment old before) (moment mid now) =
     record {
       x = x;
-      marked = subst (λ w. HasMarked meld limits alone c shrinks w x old before mid now) (sym at) p;
+      marked = subst (λ w. PollHasMarked (frame meld limits alone) c (agreeing shrinks w) x (moment old before) (moment mid now)) (sym at) p;
       there = there;
       at = starts meld now comm round x.group blocks some are unknown;
     } in
-    subst (λ (r : ReadBlocks P). IsReading meld limits alone c shrinks r old before mid now) (sym (is ∙ ap (starts_at comm round blocks) size)) begun
+    subst (λ (r : ReadBlocks P). IsReading (frame meld limits alone) c shrinks r (moment old before) (moment mid now)) (sym (is ∙ ap (starts_at comm round blocks) size)) begun
 
 -- between two marks
 module _ {P : Type 0} (meld : P → P → P) (limits : Limits) (alone : Bool) (c : ℕ) (shrinks : Bool) (marks : MarkAll) (blocks : RoundBlocks P) (old : Record)
     (before : History P) (own : Record) (now : History P) (legal : IsLegal meld limits now)
-    (p : IsMarking meld limits alone c shrinks marks blocks old before own now) where
+    (p : IsMarking (frame meld limits alone) c shrinks marks blocks (moment old before) (moment own now)) where
   marking_fits : Fits meld limits now own
   marking_fits =
       let did = did_wait alone (entries_by (Rank old.number) p.has_marked.own) p.look p.marked now p.has_marked.did p.waited in
@@ -122,15 +128,15 @@ module _ {P : Type 0} (meld : P → P → P) (limits : Limits) (alone : Bool) (c
         (marks_loosely alone quiet only old.number c marks.round between now after mine))
 
     -- what is known of the blocks is so still
-    marks_blocks : (next : MarkAll) → next.comm ≡ marks.comm → next.round ≡ marks.round → AreOf meld after next.comm next.round p.x.group blocks
+    marks_blocks : (next : MarkAll) → next.comm ≡ marks.comm → next.round ≡ marks.round → BothTell meld after next.comm next.round p.x.group blocks
     marks_blocks next comm round =
         let longer = are_later meld now after marks.comm marks.round p.x.group blocks
         (did_prefix quiet (entries_by (Rank marks.rank) last.own) now after last.did) p.are in
-        subst (λ k. AreOf meld after next.comm k p.x.group blocks) (sym round) (subst (λ w. AreOf meld after w marks.round p.x.group blocks) (sym comm) longer)
+        subst (λ k. BothTell meld after next.comm k p.x.group blocks) (sym round) (subst (λ w. BothTell meld after w marks.round p.x.group blocks) (sym comm) longer)
 
     -- it goes on
     marking_on : (next : MarkAll) → next.next ≡ n → next.rank ≡ marks.rank → next.comm ≡ marks.comm → next.round ≡ marks.round
-        → IsAt p.x.group own.seen next.next next.known → IsMarking meld limits alone c shrinks next blocks old before own after
+        → IsAt p.x.group own.seen next.next next.known → IsMarking (frame meld limits alone) c shrinks next blocks (moment old before) (moment own after)
     marking_on next n_is rank comm round at =
         record {
           look = p.look;
@@ -153,7 +159,7 @@ module _ {P : Type 0} (meld : P → P → P) (limits : Limits) (alone : Bool) (c
 
     -- or all are marked
     marking_ends : (known : ℕ) → IsAt p.x.group own.seen n known → length own.seen ≤ n → IsLegal meld limits after
-        → HasMarked meld limits alone c shrinks marks.round p.x old before own after
+        → PollHasMarked (frame meld limits alone) c (agreeing shrinks marks.round) p.x (moment old before) (moment own after)
     marking_ends known at past longer =
         let all = all_in p.x.group found n (subst (λ s. n ≤ length s) marking_seen at.within) (subst (λ s. length s ≤ n) marking_seen past) in
         record {
@@ -170,10 +176,10 @@ module _ {P : Type 0} (meld : P → P → P) (limits : Limits) (alone : Bool) (c
 
 -- a call that stands between two marks, by what the code knows of the communicator
 module _ {P : Type 0} (meld : P → P → P) (name : Name) (asked : Call P) (marks : MarkAll) (blocks : RoundBlocks P) (shrinks : Bool) (group : List ℕ)
-    (own : Record) (now : Sight P) (of : IsOf meld name now) (y : Held) (w : ℕ) (found : held_at own w ≡ Some y) (w_is : w ≡ comm_of asked)
+    (own : Record) (now : Sight P) (of : IsView meld (view_of name now)) (y : Held) (w : ℕ) (found : held_at own w ≡ Some y) (w_is : w ≡ comm_of asked)
     (members declared : List ℕ) (members_are : members ≡ y.group) (declared_are : declared ≡ own.seen) (alone : Bool) (old : Record) (before : Sight P)
-    (st : Stands meld alone name old before (record { asked = asked; phase = Marking marks blocks shrinks; group = group }) own now) where
-  abbrev marking : IsMarking meld name.limits alone (comm_of asked) shrinks marks blocks old before.seen own now.seen
+    (st : Stands meld alone (local old (view_of name before)) (record { asked = asked; phase = Marking marks blocks shrinks; group = group }) (local own (view_of name now))) where
+  abbrev marking : IsMarking (frame meld name.limits alone) (comm_of asked) shrinks marks blocks (moment old before.seen) (moment own now.seen)
   marking = st.at.1
 
   group_same : members ≡ marking.x.group
@@ -200,7 +206,7 @@ module _ {P : Type 0} (meld : P → P → P) (name : Name) (asked : Call P) (mar
 
   module _ (quiet : Bool) (only : IsTrue alone → IsTrue quiet) (after : Sight P) (next : MarkAll) (rank : next.rank ≡ marks.rank)
       (comm : next.comm ≡ marks.comm) (round : next.round ≡ marks.round) (at : IsAt members declared next.next next.known)
-      (marked : MarkedOn meld quiet name marks members declared next.next now after) where
+      (marked : MarkedOn meld quiet marks (among members declared) next.next (view_of name now) (view_of name after)) where
     at_next : IsAt marking.x.group own.seen next.next next.known
     at_next = subst (λ ms. IsAt ms own.seen next.next next.known) group_same (subst (λ s. IsAt members s next.next next.known) declared_are at)
 
@@ -210,11 +216,11 @@ module _ {P : Type 0} (meld : P → P → P) (name : Name) (asked : Call P) (mar
         (subst (λ s. members_in members s next.next ≡ members_in members s marks.next ++ marked.between) declared_are marked.members_are)
 
     -- more are left
-    pub marking_goes : next.next < length declared → Stands meld alone name old before (record {
+    pub marking_goes : next.next < length declared → Stands meld alone (local old (view_of name before)) (record {
       asked = asked;
       phase = Marking next blocks shrinks;
       group = group;
-    }) own after
+    }) (local own (view_of name after))
     unfolding marking_on
     marking_goes more =
         let on = marking_on meld name.limits alone (comm_of asked) shrinks marks blocks old before.seen own now.seen of.legal marking quiet only after.seen
@@ -234,7 +240,7 @@ module _ {P : Type 0} (meld : P → P → P) (name : Name) (asked : Call P) (mar
     -- none is left
     pub marking_reads : (reading : ReadBlocks P) (size : ℕ) → reading ≡ starts_at next.comm next.round blocks size → size ≡ length members
         → length declared ≤ next.next
-        → Stands meld alone name old before (record { asked = asked; phase = Reading reading shrinks; group = group }) own after
+        → Stands meld alone (local old (view_of name before)) (record { asked = asked; phase = Reading reading shrinks; group = group }) (local own (view_of name after))
     marking_reads reading size is size_is past =
         let ended = marking_ends meld name.limits alone (comm_of asked) shrinks marks blocks old before.seen own now.seen of.legal marking quiet only after.seen
         next.next marked.between members_next marked.marks.marks next.known at_next
@@ -255,7 +261,7 @@ module _ {P : Type 0} (meld : P → P → P) (name : Name) (asked : Call P) (mar
 
 -- one step of the reading
 module _ {P : Type 0} (meld : P → P → P) (limits : Limits) (alone : Bool) (c : ℕ) (shrinks : Bool) (reading : ReadBlocks P) (old : Record) (before : History P)
-    (own : Record) (now : History P) (p : IsReading meld limits alone c shrinks reading old before own now) where
+    (own : Record) (now : History P) (p : IsReading (frame meld limits alone) c shrinks reading (moment old before) (moment own now)) where
   -- the round is one of the members' that the rank holds
   reading_round : IsRoundOf limits now reading.comm reading.round p.x.group
   reading_round =
@@ -269,30 +275,30 @@ module _ {P : Type 0} (meld : P → P → P) (limits : Limits) (alone : Bool) (c
       subst (λ w. IsRoundOf limits now w reading.round p.x.group) (sym p.there) round
 
   module _ (quiet : Bool) (only : IsTrue alone → IsTrue quiet) (after : History P) (did : Did quiet [] now after) (legal : IsLegal meld limits after) where
-    reading_marked : HasMarked meld limits alone c shrinks reading.round p.x old before own after
+    reading_marked : PollHasMarked (frame meld limits alone) c (agreeing shrinks reading.round) p.x (moment old before) (moment own after)
     reading_marked = marked_later meld limits alone c shrinks reading.round p.x old before own now after p.marked
         (did_loosely alone quiet only [] now after did) legal
 
     -- it goes on
     reading_on : (next : ReadBlocks P) → next.comm ≡ reading.comm → next.round ≡ reading.round → AtBlock meld after p.x.group next
-        → IsReading meld limits alone c shrinks next old before own after
+        → IsReading (frame meld limits alone) c shrinks next (moment old before) (moment own after)
     reading_on next comm round at =
         record {
           x = p.x;
-          marked = subst (λ k. HasMarked meld limits alone c shrinks k p.x old before own after) (sym round) reading_marked;
+          marked = subst (λ k. PollHasMarked (frame meld limits alone) c (agreeing shrinks k) p.x (moment old before) (moment own after)) (sym round) reading_marked;
           there = comm ∙ p.there;
           at = at;
         }
 
 -- the poll of an agreement that was read
 module _ {P : Type 0} (meld : P → P → P) (alone : Bool) (name : Name) (c k : ℕ) (old : Record) (before : Sight P) (mid : Record) (after : Sight P)
-    (fits : Fits meld name.limits before.seen old) (of : IsOf meld name after) (onward : before.steps ≤ after.steps) where
+    (fits : Fits meld name.limits before.seen old) (of : IsView meld (view_of name after)) (onward : before.steps ≤ after.steps) where
   abbrev polling : Call P
   polling = call.Poll old.number c
 
   -- one of its members is missing
-  answers_pending : (shrinks : Bool) (x : Held) → HasMarked meld name.limits alone c shrinks k x old before.seen mid after.seen → before.steps < after.steps
-      → IsMissing after.last after.seen c k x.group → Answered meld alone name polling old before Pending mid after
+  answers_pending : (shrinks : Bool) (x : Held) → PollHasMarked (frame meld name.limits alone) c (agreeing shrinks k) x (moment old before.seen) (moment mid after.seen) → before.steps < after.steps
+      → IsMissing after.last after.seen c k x.group → Answered meld alone polling (local old (view_of name before)) Pending (local mid (view_of name after))
   answers_pending shrinks x m in_call one =
       let limits = name.limits in
       let ended = poll_pending meld limits alone before.seen old mid c shrinks k x after.seen m one.rank mid one.member one.empty refl in
@@ -317,13 +323,13 @@ module _ {P : Type 0} (meld : P → P → P) (alone : Bool) (name : Name) (c k :
       }
 
   -- an agree is decided
-  answers_agreed : (x : Held) → HasMarked meld name.limits alone c false k x old before.seen mid after.seen → (all : Summary P)
+  answers_agreed : (x : Held) → PollHasMarked (frame meld name.limits alone) c (agreeing false k) x (moment old before.seen) (moment mid after.seen) → (all : Summary P)
       → IsSummed meld after.seen c k x.group all → (new : Record) → new ≡ closed mid c → (reply : Reply P) → reply ≡ agreed_reply all all.body
-      → Answered meld alone name polling old before reply new after
+      → Answered meld alone polling (local old (view_of name before)) reply (local new (view_of name after))
   answers_agreed x m all read new left reply reply_is =
-      subst (λ (r : Reply P). Answered meld alone name polling old before r new after) (sym reply_is) (by_body all.body refl)
+      subst (λ (r : Reply P). Answered meld alone polling (local old (view_of name before)) r (local new (view_of name after))) (sym reply_is) (by_body all.body refl)
     where
-      mismatch : ((flag : P) → all.body ≡ OfFlags flag → ⊥) → Answered meld alone name polling old before (Refused Mismatch) new after
+      mismatch : ((flag : P) → all.body ≡ OfFlags flag → ⊥) → Answered meld alone polling (local old (view_of name before)) (Refused Mismatch) (local new (view_of name after))
       mismatch other =
           record {
             ends = inr (calls_is meld alone name before after onward polling old (Refused Mismatch) new of fits
@@ -331,7 +337,7 @@ module _ {P : Type 0} (meld : P → P → P) (alone : Bool) (name : Name) (c k :
             pending = λ is agrees. absurd (cc is);
           }
 
-      by_body : (body : Body P) → all.body ≡ body → Answered meld alone name polling old before (agreed_reply all body) new after
+      by_body : (body : Body P) → all.body ≡ body → Answered meld alone polling (local old (view_of name before)) (agreed_reply all body) (local new (view_of name after))
       by_body NoBody is = mismatch (λ flag same. absurd (cc (is, same)))
       by_body (OfFlags value) is =
           let count = all.known.count in
@@ -347,19 +353,19 @@ module _ {P : Type 0} (meld : P → P → P) (alone : Bool) (name : Name) (c k :
 -- a call that reads its round's blocks, by what the code knows of the communicator
 module _ {P : Type 0} (meld : P → P → P) (name : Name) (asked : Call P) (reading : ReadBlocks P) (shrinks : Bool) (group : List ℕ) (own : Record)
     (now : Sight P) (y : Held) (w : ℕ) (found : held_at own w ≡ Some y) (w_is : w ≡ comm_of asked)
-    (members : List ℕ) (members_are : members ≡ y.group) (alone : Bool) (old : Record) (before : Sight P) (st : Stands meld alone name old before (record {
+    (members : List ℕ) (members_are : members ≡ y.group) (alone : Bool) (old : Record) (before : Sight P) (st : Stands meld alone (local old (view_of name before)) (record {
       asked = asked;
       phase = Reading reading shrinks;
       group = group;
-    }) own now) where
-  abbrev reads : IsReading meld name.limits alone (comm_of asked) shrinks reading old before.seen own now.seen
+    }) (local own (view_of name now))) where
+  abbrev reads : IsReading (frame meld name.limits alone) (comm_of asked) shrinks reading (moment old before.seen) (moment own now.seen)
   reads = st.at.1
 
   read_same : members ≡ reads.x.group
   read_same = members_are ∙ ap (λ (z : Held). z.group) (same_held own (comm_of asked) w reads.x y w_is found reads.marked.held)
 
   -- the next one may be made
-  pub reading_may : IsOf meld name now → MayReadBlocks meld name members reading now
+  pub reading_may : IsView meld (view_of name now) → MayReadBlocks meld members (running reading (view_of name now))
   reading_may of =
       record {
         of = of;
@@ -368,27 +374,26 @@ module _ {P : Type 0} (meld : P → P → P) (name : Name) (asked : Call P) (rea
         at = subst (λ ms. AtBlock meld now.seen ms reading) (sym read_same) reads.at;
       }
 
-  module _ (quiet : Bool) (only : IsTrue alone → IsTrue quiet) (after : Sight P) (of : IsOf meld name after) (did : Did quiet [] now.seen after.seen)
+  module _ (quiet : Bool) (only : IsTrue alone → IsTrue quiet) (after : Sight P) (of : IsView meld (view_of name after)) (did : Did quiet [] now.seen after.seen)
       (steps : now.steps ≤ after.steps) where
-    marked_on : HasMarked meld name.limits alone (comm_of asked) shrinks reading.round reads.x old before.seen own after.seen
+    marked_on : PollHasMarked (frame meld name.limits alone) (comm_of asked) (agreeing shrinks reading.round) reads.x (moment old before.seen) (moment own after.seen)
     marked_on = reading_marked meld name.limits alone (comm_of asked) shrinks reading old before.seen own now.seen reads quiet only after.seen did of.legal
 
     module _ (next : ReadBlocks P) (comm : next.comm ≡ reading.comm) (round : next.round ≡ reading.round) where
       -- a member is missing
       pub reading_pends : now.steps < after.steps → IsMissing after.last after.seen next.comm next.round members
-          → Answered meld alone name asked old before Pending own after
+          → Answered meld alone asked (local old (view_of name before)) Pending (local own (view_of name after))
       reading_pends further missing =
           let there : IsMissing after.last after.seen (comm_of asked) reading.round reads.x.group =
           subst (λ ms. IsMissing after.last after.seen (comm_of asked) reading.round ms) read_same
           (subst (λ c. IsMissing after.last after.seen c reading.round members) (comm ∙ reads.there)
           (subst (λ k. IsMissing after.last after.seen next.comm k members) round missing)) in
-          subst (λ (a : Call P). Answered meld alone name a old before Pending own after) (sym st.at.0)
+          subst (λ (a : Call P). Answered meld alone a (local old (view_of name before)) Pending (local own (view_of name after))) (sym st.at.0)
           (answers_pending meld alone name (comm_of asked) reading.round old before own after st.fits of (omega (arith, st.onward, steps)) shrinks reads.x
           marked_on (omega (arith, st.onward, further)) there)
 
       -- more is left
-      pub reading_goes : AtBlock meld after.seen members next → Stands meld alone name old before
-          (record { asked = asked; phase = Reading next shrinks; group = group }) own after
+      pub reading_goes : AtBlock meld after.seen members next → Stands meld alone (local old (view_of name before)) (record { asked = asked; phase = Reading next shrinks; group = group }) (local own (view_of name after))
       reading_goes at =
           let on = reading_on meld name.limits alone (comm_of asked) shrinks reading old before.seen own now.seen reads quiet only after.seen did of.legal next
           comm round (subst (λ ms. AtBlock meld after.seen ms next) read_same at) in
@@ -396,14 +401,14 @@ module _ {P : Type 0} (meld : P → P → P) (name : Name) (asked : Call P) (rea
 
       -- nothing is left: this is what all say
       pub reading_ends : (all : Summary P) → IsSummed meld after.seen next.comm next.round members all
-          → HasReadAll meld alone name asked shrinks next.round all old before own after
+          → HasReadAll meld alone asked (agreeing shrinks next.round) all (local old (view_of name before)) (local own (view_of name after))
       reading_ends all read =
           record {
             fits = st.fits;
             polls = st.at.0;
             onward = omega (arith, st.onward, steps);
             x = reads.x;
-            marked = subst (λ k. HasMarked meld name.limits alone (comm_of asked) shrinks k reads.x old before.seen own after.seen) (sym round) marked_on;
+            marked = subst (λ k. PollHasMarked (frame meld name.limits alone) (comm_of asked) (agreeing shrinks k) reads.x (moment old before.seen) (moment own after.seen)) (sym round) marked_on;
             read = subst (λ c. IsSummed meld after.seen c next.round reads.x.group all) (comm ∙ reads.there)
                 (subst (λ ms. IsSummed meld after.seen next.comm next.round ms all) read_same read);
           }
@@ -413,26 +418,26 @@ pub reads_named : {P : Type 0} (members : List ℕ) (r : ReadBlocks P) (shrinks 
     → IsStepAt (site_of members r) (nat_lt r.read r.width) old new → MakesStep (next_step (Reading r shrinks)) rank c old new
 reads_named {P} members r shrinks rank c old new there one = go (nat_lt r.read r.width) one
   where
-    go : (b : Bool) → IsStepAt (if b then Site.Place (SlotAt r.comm r.round (next_of members r)) else Site.Block (block_at r.comm r.round r.side)) b old new
+    go : (b : Bool) → IsStepAt (if b then Site.Place (SlotAt r.comm r.round (next_in_block members r)) else Site.Block (block_at r.comm r.round r.side)) b old new
         → MakesStep (Some (if b then step.Slot else step.Cache)) rank c old new
-    go true at = (r.round, next_of members r, subst (λ w. IsStepAt (Site.Place (SlotAt w r.round (next_of members r))) true old new) there at)
+    go true at = (r.round, next_in_block members r, subst (λ w. IsStepAt (Site.Place (SlotAt w r.round (next_in_block members r))) true old new) there at)
     go false at = (r.round, r.side, subst (λ w. IsStepAt (Site.Block (block_at w r.round r.side)) false old new) there at)
 
 -- an agree is answered once all that its round's members say is known
 pub round_agrees : {P : Type 0} (meld : P → P → P) (alone : Bool) (name : Name) (asked : Call P) (shrinks : Bool) (k : ℕ) (all : Summary P) (old : Record)
-    (before : Sight P) (mid : Record) (now : Sight P) → IsOf meld name now
-    → HasReadAll meld alone name asked shrinks k all old before mid now → shrinks ≡ false → (w : ℕ) → w ≡ comm_of asked → (new : Record) → new ≡ closed mid w
+    (before : Sight P) (mid : Record) (now : Sight P) → IsView meld (view_of name now)
+    → HasReadAll meld alone asked (agreeing shrinks k) all (local old (view_of name before)) (local mid (view_of name now)) → shrinks ≡ false → (w : ℕ) → w ≡ comm_of asked → (new : Record) → new ≡ closed mid w
     → (reply : Reply P) → reply ≡ agreed_reply all all.body
-    → Answered meld alone name asked old before reply new now
+    → Answered meld alone asked (local old (view_of name before)) reply (local new (view_of name now))
 round_agrees {P} meld alone name asked shrinks k all old before mid now of r is w w_is new left reply reply_is =
-    subst (λ (a : Call P). Answered meld alone name a old before reply new now) (sym r.polls)
+    subst (λ (a : Call P). Answered meld alone a (local old (view_of name before)) reply (local new (view_of name now))) (sym r.polls)
     (answers_agreed meld alone name (comm_of asked) k old before mid now r.fits of r.onward r.x
-    (subst (λ b. HasMarked meld name.limits alone (comm_of asked) b k r.x old before.seen mid now.seen) is r.marked) all r.read new
+    (subst (λ b. PollHasMarked (frame meld name.limits alone) (comm_of asked) (agreeing b k) r.x (moment old before.seen) (moment mid now.seen)) is r.marked) all r.read new
     (left ∙ ap (closed mid) w_is) reply
     reply_is)
 
 -- a shrink's goes on
 pub round_shrinks : {P : Type 0} (meld : P → P → P) (alone : Bool) (name : Name) (asked : Call P) (shrinks : Bool) (k : ℕ) (all : Summary P) (old : Record)
     (before : Sight P) (mid : Record) (now : Sight P)
-    → HasReadAll meld alone name asked shrinks k all old before mid now → shrinks ≡ true → HasReadAll meld alone name asked true k all old before mid now
-round_shrinks meld alone name asked shrinks k all old before mid now r is = subst (λ b. HasReadAll meld alone name asked b k all old before mid now) is r
+    → HasReadAll meld alone asked (agreeing shrinks k) all (local old (view_of name before)) (local mid (view_of name now)) → shrinks ≡ true → HasReadAll meld alone asked (agreeing true k) all (local old (view_of name before)) (local mid (view_of name now))
+round_shrinks meld alone name asked shrinks k all old before mid now r is = subst (λ b. HasReadAll meld alone asked (agreeing b k) all (local old (view_of name before)) (local mid (view_of name now))) is r

@@ -23,6 +23,7 @@ use Rattle.ulfm_comm.specs.declared.{phases.phase.Made.{Made}, phases.phase.Next
 use Rattle.ulfm_comm.specs.declared.phases.phase.Phase.TheVariants.{Over, Begun, Looking, Settling, Arriving, Revoking, Asking, Peeking, Marking, Reading}
 use Rattle.ulfm_comm.specs.declared.phases.phase.Phase.TheVariants.{ReadingOn, Spawning, Waiting, Checking}
 use Rattle.ulfm_comm.proofs.StepsLeft.{passes_none, refusal_same}
+use Rattle.ulfm_comm.specs.Local.{stance}
 
 module _ {P : Type 0} (limits : Limits) (own new : Record) (seen : List ℕ) (asked : Call P) (kept : new ≡ record own { seen = seen }) where
   -- what was seen makes no difference to what follows a look
@@ -54,14 +55,14 @@ module _ {P : Type 0} (limits : Limits) (own new : Record) (seen : List ℕ) (as
   -- a look that goes on makes as many loads as it finds
   pub also_looks_on : (now after : Sight P) → length own.seen < limits.ranks → length new.seen < limits.ranks
       → after.steps + (limits.ranks - length new.seen) ≤ now.steps + (limits.ranks - length own.seen)
-      → AlsoLooks (also_left limits own asked Looking) limits asked own now (Goes Looking) new after
+      → AlsoLooks (also_left limits own asked Looking) limits asked (stance own now) (Goes Looking) (stance new after)
   also_looks_on now after more still few = record { few = omega (arith, also_after_same, more, still, few); sets = λ stand. tt }
 
   -- one that has ended makes one more, at most
   pub also_looks_over : (now after : Sight P) → length own.seen < limits.ranks → length new.seen ≤ limits.ranks
       → after.steps + (limits.ranks - length new.seen - 1) ≤ now.steps + (limits.ranks - length own.seen)
       → (left : Record) (next : Next P) → AlsoFollows limits asked new next left
-      → AlsoLooks (also_left limits own asked Looking) limits asked own now next left after
+      → AlsoLooks (also_left limits own asked Looking) limits asked (stance own now) next (stance left after)
   also_looks_over now after more within few left next follows =
       let rest = follows.few in
       record {
@@ -89,8 +90,8 @@ module _ {P : Type 0} (limits : Limits) (own resumed : Record) (asked : Call P) 
   resumed_size = ap (λ (w : Record). length w.seen) is ∙ length-take (own.limits.ranks - 1) own.seen
 
   pub also_resumes : length own.seen ≤ limits.ranks → (now after : Sight P) (next : Next P) (new : Record)
-      → AlsoLooks (also_left limits resumed asked Looking) limits asked resumed now next new after
-      → AlsoLooks (also_left limits own asked Begun) limits asked own now next new after
+      → AlsoLooks (also_left limits resumed asked Looking) limits asked (stance resumed now) next (stance new after)
+      → AlsoLooks (also_left limits own asked Begun) limits asked (stance own now) next (stance new after)
   also_resumes within now after next new looks =
       let seen = take (own.limits.ranks - 1) own.seen in
       let few = looks.few in
@@ -255,7 +256,7 @@ module _ {P : Type 0} (limits : Limits) (own : Record) (asked : Call P) (x : Hel
   -- a peek that goes on
   pub also_peeks_on : IsPrefix now.cached after.cached → now.steps < after.steps
       → after.steps + peeks_left (length members) next.side ≤ now.steps + peeks_left (length members) peek.side
-      → AlsoSpends (also_left limits own asked (Peeking peek shrinks)) limits asked own now (Goes (Peeking next shrinks)) own after
+      → AlsoSpends (also_left limits own asked (Peeking peek shrinks)) limits asked (stance own now) (Goes (Peeking next shrinks)) (stance own after)
   also_peeks_on begins some turns =
       let few = subst (λ n. after.steps + peeks_left n next.side ≤ now.steps + peeks_left n peek.side) size turns in
       record {
@@ -296,16 +297,16 @@ module _ {P : Type 0} (limits : Limits) (own : Record) (asked : Call P) (x : Hel
   -- with what comes next
   pub also_peeks_over : after.steps ≤ now.steps + peeks_left (length members) peek.side → (new : Record) (following : Next P) → new.seen ≡ own.seen
       → NextBelow 5 following → also_in limits new asked following ≤ also_after_round limits shrinks
-      → AlsoSpends (also_left limits own asked (Peeking peek shrinks)) limits asked own now following new after
+      → AlsoSpends (also_left limits own asked (Peeking peek shrinks)) limits asked (stance own now) following (stance new after)
   also_peeks_over turns new following sees below rest =
       let few = subst (λ n. after.steps ≤ now.steps + peeks_left n peek.side) size turns in
       record { few = omega (arith, few, rest, ap length sees); sets = sets_next new asked after.cached following below }
 
 -- a call goes on from where it stood
 pub also_on : {P : Type 0} (most : ℕ) (limits : Limits) (asked : Call P) (own mid new : Record) (now between after : Sight P) (phase : Phase P) (next : Next P)
-    → AlsoSpends most limits asked own now (Goes phase) mid between
-    → (FindsSetIn mid asked between.cached phase → AlsoSpends (also_left limits mid asked phase) limits asked mid between next new after)
-    → AlsoSpends most limits asked own now next new after
+    → AlsoSpends most limits asked (stance own now) (Goes phase) (stance mid between)
+    → (FindsSetIn mid asked between.cached phase → AlsoSpends (also_left limits mid asked phase) limits asked (stance mid between) next (stance new after))
+    → AlsoSpends most limits asked (stance own now) next (stance new after)
 also_on most limits asked own mid new now between after phase next stood turn =
     let last = turn stood.sets in
     let few = stood.few in
@@ -314,13 +315,13 @@ also_on most limits asked own mid new now between after phase next stood turn =
 
 -- a call that goes on behind its look
 pub also_first : {P : Type 0} (limits : Limits) (asked : Call P) (own : Record) (now : Sight P) (phase : Phase P) → FindsSetIn own asked now.cached phase
-    → AlsoSpends (also_left limits own asked phase) limits asked own now (Goes phase) own now
+    → AlsoSpends (also_left limits own asked phase) limits asked (stance own now) (Goes phase) (stance own now)
 also_first limits asked own now phase all = record { few = omega arith; sets = all }
 
 -- what its turn spends
 pub also_behind : {P : Type 0} (limits : Limits) (asked : Call P) (phase : Phase P) (own : Record) (now : Sight P) (next : Next P) (new : Record)
-    (after : Sight P) → is_looking phase ≡ false → AlsoTurns limits asked phase own now next new after
-    → FindsSetIn own asked now.cached phase → AlsoSpends (also_left limits own asked phase) limits asked own now next new after
+    (after : Sight P) → is_looking phase ≡ false → AlsoTurns limits asked phase (stance own now) next (stance new after)
+    → FindsSetIn own asked now.cached phase → AlsoSpends (also_left limits own asked phase) limits asked (stance own now) next (stance new after)
 also_behind limits asked Begun own now next new after past turn = absurd (cc past)
 also_behind limits asked Looking own now next new after past turn = absurd (cc past)
 also_behind limits asked _ own now next new after past turn = turn
@@ -377,24 +378,24 @@ also_ended limits asked own new now after in_use more some few =
 
 -- a phase that ends the call, by so many steps at most
 pub also_ends : {P : Type 0} (most : ℕ) (limits : Limits) (asked : Call P) (own new : Record) (now after : Sight P) (reply : Reply P)
-    → after.steps ≤ now.steps + most → new.seen ≡ own.seen → AlsoSpends most limits asked own now (Ends reply) new after
+    → after.steps ≤ now.steps + most → new.seen ≡ own.seen → AlsoSpends most limits asked (stance own now) (Ends reply) (stance new after)
 also_ends most limits asked own new now after reply few sees = record { few = omega (arith, few, ap length sees); sets = tt }
 
 -- a reading of arrivals that goes on, or has ended
 pub also_waits : {P : Type 0} (limits : Limits) (asked : Call P) (own : Record) (now after : Sight P) (arrivals next : Arrivals)
     → Spends (steps_left limits own asked (Waiting arrivals)) limits own asked (Goes (Waiting next)) now after
-    → AlsoSpends (also_left limits own asked (Waiting arrivals)) limits asked own now (Goes (Waiting next)) own after
+    → AlsoSpends (also_left limits own asked (Waiting arrivals)) limits asked (stance own now) (Goes (Waiting next)) (stance own after)
 also_waits limits asked own now after arrivals next spends = record { few = omega (arith, spends); sets = tt }
 
 pub also_checks : {P : Type 0} (limits : Limits) (asked : Call P) (own : Record) (now after : Sight P) (arrivals : Arrivals) (missing : Missing)
     → Spends (steps_left limits own asked (Waiting arrivals)) limits own asked (Goes (Checking missing)) now after
-    → AlsoSpends (also_left limits own asked (Waiting arrivals)) limits asked own now (Goes (Checking missing)) own after
+    → AlsoSpends (also_left limits own asked (Waiting arrivals)) limits asked (stance own now) (Goes (Checking missing)) (stance own after)
 also_checks limits asked own now after arrivals missing spends = record { few = omega (arith, spends); sets = tt }
 
 -- a step on the way through the list of communicators
 pub also_spawns : {P : Type 0} (limits : Limits) (asked : Call P) (own new : Record) (now after : Sight P) (append next : Append) (context reach : ℕ)
     → after.steps + turns_left (limits.comms - 1) next ≤ now.steps + turns_left (limits.comms - 1) append → new ≡ own
-    → AlsoSpends (also_left limits own asked (Spawning append context reach)) limits asked own now (Goes (Spawning next context reach)) new after
+    → AlsoSpends (also_left limits own asked (Spawning append context reach)) limits asked (stance own now) (Goes (Spawning next context reach)) (stance new after)
 also_spawns limits asked own new now after append next context reach few same = record {
   few = omega (arith, few, ap (λ (w : Record). length w.seen) same);
   sets = tt;
@@ -404,7 +405,7 @@ also_spawns limits asked own new now after append next context reach few same = 
 pub also_reads_on : {P : Type 0} (limits : Limits) (asked : Call P) (own mid new : Record) (now after : Sight P) (on : ReadOn) (made : Made) (next : Next P)
     → after.steps + length own.seen ≡ now.steps + length mid.seen → new.seen ≡ mid.seen
     → also_in limits new asked next ≤ also_after_round limits true → NextBelow 5 next
-    → AlsoSpends (also_left limits own asked (ReadingOn on made)) limits asked own now next new after
+    → AlsoSpends (also_left limits own asked (ReadingOn on made)) limits asked (stance own now) next (stance new after)
 also_reads_on limits asked own mid new now after on made next loads sees few below =
     record { few = omega (arith, loads, ap length sees, few); sets = sets_next new asked after.cached next below }
 

@@ -6,19 +6,21 @@ use Rattle.ulfm_model.specs.declared.reply.Reply.TheVariants.{Pending, Refused}
 use Rattle.ulfm_model.specs.{Answers.{closed, polled_by}, History.{History, IsLegal, is_revoked}, Records.{Fits, Held, Record, held_at}, Runs.{Did}}
 use Rattle.ulfm_model.specs.Terms.{comm_of}
 use Rattle.ulfm_model.proofs.Stable.{fits_stays}
-use Rattle.ulfm_words.specs.Steps.{IsOf, Name, Sight}
+use Rattle.ulfm_model.specs.Records.{moment}
+use Rattle.ulfm_words.specs.Steps.{view_of, IsView, Name, Sight}
 use Rattle.ulfm_words.proofs.Trails.{did_none, did_prefix, did_wait}
 use Rattle.ulfm_steps.specs.declared.{arrivals.Arrivals.{Arrivals}, arrivals.Missing.{Missing}, arrivals.Missing.TheVariants.{Nobody, Others, Declared}}
 use Rattle.ulfm_steps.specs.{Arriving.{AtArrival, MissingAre}, Rounds.{IsRoundOf}}
-use Rattle.ulfm_comm.specs.{Barrier.{Awaits, missing_leaves, missing_reply, IsChecking, IsWaiting}, Calls.{Replied, HasReplied}, Ends.{IsEndRun}}
+use Rattle.ulfm_comm.specs.{Barrier.{Awaits, missing_leaves, missing_reply, IsChecking, IsWaiting}, Calls.{Linearizes, HasReplied}, Ends.{IsEndRun}}
 use Rattle.ulfm_comm.specs.{Polls.{EndsInMissing, IsAgreement}, Phase.{Answered, Stands}}
 use Rattle.ulfm_comm.specs.declared.phases.phase.Phase.TheVariants.{Waiting, Checking}
 use Rattle.ulfm_comm.proofs.{BarrierPolls.{awaited_round, barrier_polled, barrier_waits, calls_missing_at, polls_revoked}, AmongOthers.{did_loosely}}
 use Rattle.ulfm_comm.proofs.{Revokes.{held_below, standing_before}, Holding.{same_held}}
+use Rattle.ulfm_comm.specs.Local.{frame, local}
 
 -- the poll of a barrier, under way
 module _ {P : Type 0} (meld : P → P → P) (limits : Limits) (alone : Bool) (c k : ℕ) (x : Held) (old : Record) (before : History P) (own : Record)
-    (now : History P) (p : IsWaiting meld limits alone c k x old before own now) where
+    (now : History P) (p : IsWaiting (frame meld limits alone) c k x (moment old before) (moment own now)) where
   abbrev waiting_awaits : IsLegal meld limits now → Awaits meld limits now c k own
   waiting_awaits legal = record {
     fits = fits_stays meld limits p.look now own (did_prefix alone [] p.look now p.waited) legal p.fits;
@@ -33,7 +35,7 @@ module _ {P : Type 0} (meld : P → P → P) (limits : Limits) (alone : Bool) (c
 
   -- after others' events
   waiting_on : (quiet : Bool) → (IsTrue alone → IsTrue quiet) → (after : History P) → Did quiet [] now after
-      → IsWaiting meld limits alone c k x old before own after
+      → IsWaiting (frame meld limits alone) c k x (moment old before) (moment own after)
   waiting_on quiet only after did =
       record {
         look = p.look;
@@ -47,10 +49,10 @@ module _ {P : Type 0} (meld : P → P → P) (limits : Limits) (alone : Bool) (c
 
 -- a call that stands between two loads of arrivals, by what the code knows of the communicator
 module _ {P : Type 0} (meld : P → P → P) (name : Name) (asked : Call P) (arrivals : Arrivals) (group : List ℕ) (own : Record) (now : Sight P)
-    (of : IsOf meld name now) (y : Held) (w : ℕ) (found : held_at own w ≡ Some y) (w_is : w ≡ comm_of asked)
+    (of : IsView meld (view_of name now)) (y : Held) (w : ℕ) (found : held_at own w ≡ Some y) (w_is : w ≡ comm_of asked)
     (members declared : List ℕ) (members_are : members ≡ y.group) (declared_are : declared ≡ own.seen) (alone : Bool) (old : Record) (before : Sight P)
-    (st : Stands meld alone name old before (record { asked = asked; phase = Waiting arrivals; group = group }) own now) where
-  abbrev waits : IsWaiting meld name.limits alone (comm_of asked) arrivals.round st.at.2 old before.seen own now.seen
+    (st : Stands meld alone (local old (view_of name before)) (record { asked = asked; phase = Waiting arrivals; group = group }) (local own (view_of name now))) where
+  abbrev waits : IsWaiting (frame meld name.limits alone) (comm_of asked) arrivals.round st.at.2 (moment old before.seen) (moment own now.seen)
   waits = st.at.3
 
   arrived_same : members ≡ st.at.2.group
@@ -65,12 +67,12 @@ module _ {P : Type 0} (meld : P → P → P) (name : Name) (asked : Call P) (arr
 
   module _ (quiet : Bool) (only : IsTrue alone → IsTrue quiet) (after : Sight P) (did : Did quiet [] now.seen after.seen)
       (steps : now.steps ≤ after.steps) where
-    waits_on : IsWaiting meld name.limits alone (comm_of asked) arrivals.round st.at.2 old before.seen own after.seen
+    waits_on : IsWaiting (frame meld name.limits alone) (comm_of asked) arrivals.round st.at.2 (moment old before.seen) (moment own after.seen)
     waits_on = waiting_on meld name.limits alone (comm_of asked) arrivals.round st.at.2 old before.seen own now.seen waits quiet only after.seen did
 
     -- more are left
     pub waiting_goes : (next : Arrivals) → next.comm ≡ arrivals.comm → next.round ≡ arrivals.round → AtArrival members declared next after.seen
-        → Stands meld alone name old before (record { asked = asked; phase = Waiting next; group = group }) own after
+        → Stands meld alone (local old (view_of name before)) (record { asked = asked; phase = Waiting next; group = group }) (local own (view_of name after))
     waiting_goes next comm round at =
         record {
           fits = st.fits;
@@ -80,14 +82,14 @@ module _ {P : Type 0} (meld : P → P → P) (name : Name) (asked : Call P) (arr
             st.at.0,
             comm ∙ st.at.1,
             st.at.2,
-            subst (λ k. IsWaiting meld name.limits alone (comm_of asked) k st.at.2 old before.seen own after.seen) (sym round) waits_on,
+            subst (λ k. IsWaiting (frame meld name.limits alone) (comm_of asked) k st.at.2 (moment old before.seen) (moment own after.seen)) (sym round) waits_on,
             subst (λ ms. AtArrival ms own.seen next after.seen) arrived_same (subst (λ s. AtArrival members s next after.seen) declared_are at),
           );
         }
 
     -- who is missing is known from now on
     pub waiting_checks : (missing : Missing) → MissingAre after.seen arrivals.comm arrivals.round members declared missing → IsLegal meld name.limits after.seen
-        → IsChecking meld name.limits alone (comm_of asked) missing after.seen old before.seen own after.seen
+        → IsChecking (frame meld name.limits alone) (comm_of asked) missing after.seen (moment old before.seen) (moment own after.seen)
     waiting_checks missing are legal =
         let there : MissingAre after.seen (comm_of asked) arrivals.round members declared missing =
         subst (λ c. MissingAre after.seen c arrivals.round members declared missing) st.at.1 are in
@@ -103,7 +105,7 @@ module _ {P : Type 0} (meld : P → P → P) (name : Name) (asked : Call P) (arr
 
     -- it is known who is missing
     pub waiting_ends : (missing : Missing) → MissingAre after.seen arrivals.comm arrivals.round members declared missing → IsLegal meld name.limits after.seen
-        → Stands meld alone name old before (record { asked = asked; phase = Checking missing; group = group }) own after
+        → Stands meld alone (local old (view_of name before)) (record { asked = asked; phase = Checking missing; group = group }) (local own (view_of name after))
     waiting_ends missing are legal =
         record {
           fits = st.fits;
@@ -115,7 +117,7 @@ module _ {P : Type 0} (meld : P → P → P) (name : Name) (asked : Call P) (arr
 -- its answer, by the revocation
 module _ {P : Type 0} (meld : P → P → P) (alone : Bool) (name : Name) (c k : ℕ) (x : Held) (old : Record) (before : Sight P) (own : Record)
     (earlier : History P) (after : Sight P) (fits : Fits meld name.limits before.seen old)
-    (p : IsWaiting meld name.limits alone c k x old before.seen own earlier) (of : IsOf meld name after) (onward : before.steps ≤ after.steps)
+    (p : IsWaiting (frame meld name.limits alone) c k x (moment old before.seen) (moment own earlier)) (of : IsView meld (view_of name after)) (onward : before.steps ≤ after.steps)
     (wait : Did alone [] earlier after.seen) where
   abbrev asked : Call P
   asked = call.Poll old.number c
@@ -127,11 +129,11 @@ module _ {P : Type 0} (meld : P → P → P) (alone : Bool) (name : Name) (c k :
   awaits = record { fits = p.fits; x = x; held = p.held; open_is = p.open_is }
 
   -- no agreement is open
-  no_agreement : (reply : Reply P) (new : Record) → reply ≡ Pending → IsAgreement (polled_by old asked) → EndsInMissing meld alone name c old before new after
+  no_agreement : (reply : Reply P) (new : Record) → reply ≡ Pending → IsAgreement (polled_by old asked) → EndsInMissing meld alone c (local old (view_of name before)) (local new (view_of name after))
   no_agreement reply new is agrees = absurd (subst IsAgreement (barrier_polled meld name.limits alone before.seen p.look old own p.looked c k awaits) agrees)
 
   answers_revoked : is_revoked after.seen c ≡ true → (new : Record) → new ≡ closed own c
-      → Answered meld alone name asked old before (Refused IsRevoked) new after
+      → Answered meld alone asked (local old (view_of name before)) (Refused IsRevoked) (local new (view_of name after))
   answers_revoked is new left =
       record {
         ends = inr (polls_revoked meld alone name before look after old own fits p.looked c k awaits of onward new
@@ -141,7 +143,7 @@ module _ {P : Type 0} (meld : P → P → P) (alone : Bool) (name : Name) (c k :
 
   answers_missing : is_revoked after.seen c ≡ false → (missing : Missing) → MissingAre earlier c k x.group own.seen missing → IsLegal meld name.limits earlier
       → (new : Record) → new ≡ missing_leaves own c missing
-      → Answered meld alone name asked old before (missing_reply missing) new after
+      → Answered meld alone asked (local old (view_of name before)) (missing_reply missing) (local new (view_of name after))
   answers_missing standing missing are legal new left =
       record {
         ends = inr (by_missing missing (calls_missing_at meld alone name before look after old own fits p.looked c k awaits of onward earlier x.group own.seen
@@ -149,16 +151,16 @@ module _ {P : Type 0} (meld : P → P → P) (alone : Bool) (name : Name) (c k :
         pending = no_agreement (missing_reply missing) new;
       }
     where
-      by_missing : (missing : Missing) → Replied meld alone name asked old before (missing_reply missing) new after
-          → HasReplied meld alone name asked old before (missing_reply missing) new after
+      by_missing : (missing : Missing) → Linearizes meld alone asked (local old (view_of name before)) (missing_reply missing) (local new (view_of name after))
+          → HasReplied meld alone asked (local old (view_of name before)) (missing_reply missing) (local new (view_of name after))
       by_missing Nobody called = called
       by_missing Others called = called
       by_missing Declared called = called
 
 -- a call that stands before the load of the revocation
 module _ {P : Type 0} (meld : P → P → P) (alone : Bool) (name : Name) (asked : Call P) (missing : Missing) (group : List ℕ) (own : Record) (now : Sight P)
-    (of : IsOf meld name now) (old : Record) (before : Sight P)
-    (st : Stands meld alone name old before (record { asked = asked; phase = Checking missing; group = group }) own now) where
+    (of : IsView meld (view_of name now)) (old : Record) (before : Sight P)
+    (st : Stands meld alone (local old (view_of name before)) (record { asked = asked; phase = Checking missing; group = group }) (local own (view_of name now))) where
   -- the communicator has a place of its own
   pub checking_within : (w : ℕ) → w ≡ comm_of asked → w < name.limits.comms
   checking_within w is =
@@ -169,9 +171,9 @@ module _ {P : Type 0} (meld : P → P → P) (alone : Bool) (name : Name) (asked
       let within = held_below meld name.limits now.seen own (comm_of asked) i.x fits p.held of.legal of.may_open in
       omega (arith, is, within)
 
-  module _ (quiet : Bool) (only : IsTrue alone → IsTrue quiet) (after : Sight P) (of_after : IsOf meld name after) (did : Did quiet [] now.seen after.seen)
+  module _ (quiet : Bool) (only : IsTrue alone → IsTrue quiet) (after : Sight P) (of_after : IsView meld (view_of name after)) (did : Did quiet [] now.seen after.seen)
       (went : now.steps ≤ after.steps) (w : ℕ) (w_is : w ≡ comm_of asked) (new : Record) where
-    abbrev i : IsChecking meld name.limits alone (comm_of asked) missing st.at.1 old before.seen own now.seen
+    abbrev i : IsChecking (frame meld name.limits alone) (comm_of asked) missing st.at.1 (moment old before.seen) (moment own now.seen)
     i = st.at.2
 
     onward : before.steps ≤ after.steps
@@ -180,18 +182,18 @@ module _ {P : Type 0} (meld : P → P → P) (alone : Bool) (name : Name) (asked
     wait : Did alone [] st.at.1 after.seen
     wait = did_wait alone [] st.at.1 now.seen after.seen i.waited (did_loosely alone quiet only [] now.seen after.seen did)
 
-    named : (reply : Reply P) → Answered meld alone name (call.Poll old.number (comm_of asked)) old before reply new after
-        → Answered meld alone name asked old before reply new after
-    named reply answered = subst (λ (a : Call P). Answered meld alone name a old before reply new after) (sym st.at.0) answered
+    named : (reply : Reply P) → Answered meld alone (call.Poll old.number (comm_of asked)) (local old (view_of name before)) reply (local new (view_of name after))
+        → Answered meld alone asked (local old (view_of name before)) reply (local new (view_of name after))
+    named reply answered = subst (λ (a : Call P). Answered meld alone a (local old (view_of name before)) reply (local new (view_of name after))) (sym st.at.0) answered
 
-    pub checking_revoked : is_revoked after.seen w ≡ true → new ≡ closed own w → Answered meld alone name asked old before (Refused IsRevoked) new after
+    pub checking_revoked : is_revoked after.seen w ≡ true → new ≡ closed own w → Answered meld alone asked (local old (view_of name before)) (Refused IsRevoked) (local new (view_of name after))
     checking_revoked is left =
         named (Refused IsRevoked)
         (answers_revoked meld alone name (comm_of asked) i.k i.x old before own st.at.1 after st.fits i.waits of_after onward wait
         (sym (ap (is_revoked after.seen) w_is) ∙ is) new (left ∙ ap (closed own) w_is))
 
     pub checking_missing : is_revoked after.seen w ≡ false → (which : Missing) → missing ≡ which → new ≡ missing_leaves own w which
-        → Answered meld alone name asked old before (missing_reply which) new after
+        → Answered meld alone asked (local old (view_of name before)) (missing_reply which) (local new (view_of name after))
     checking_missing standing which is left =
         named (missing_reply which)
         (answers_missing meld alone name (comm_of asked) i.k i.x old before own st.at.1 after st.fits i.waits of_after onward wait
@@ -201,10 +203,10 @@ module _ {P : Type 0} (meld : P → P → P) (alone : Bool) (name : Name) (asked
 -- where the communicator isn't revoked, the answer holds when it was found who was missing
 pub checking_early : {P : Type 0} (meld : P → P → P) (limits : Limits) (alone quiet : Bool) (only : IsTrue alone → IsTrue quiet) (asked : Call P)
     (missing : Missing) (earlier : History P) (old : Record) (before : History P) (own : Record) (now after : History P)
-    → asked ≡ call.Poll old.number (comm_of asked) → (i : IsChecking meld limits alone (comm_of asked) missing earlier old before own now)
+    → asked ≡ call.Poll old.number (comm_of asked) → (i : IsChecking (frame meld limits alone) (comm_of asked) missing earlier (moment old before) (moment own now))
     → Did quiet [] now after → (w : ℕ) → w ≡ comm_of asked → is_revoked after w ≡ false
     → (which : Missing) → missing ≡ which → (new : Record) → new ≡ missing_leaves own w which
-    → IsEndRun meld limits alone before earlier old asked (missing_reply which) new
+    → IsEndRun meld limits alone (moment old before) asked (missing_reply which) (moment new earlier)
 checking_early {P} meld limits alone quiet only asked missing earlier old before own now after polls i did w w_is standing which is new left =
     let c = comm_of asked in
     let p = i.waits in
@@ -212,7 +214,7 @@ checking_early {P} meld limits alone quiet only asked missing earlier old before
     let wait = did_wait alone [] earlier now after i.waited (did_loosely alone quiet only [] now after did) in
     let here = sym (ap (is_revoked after) w_is) ∙ standing in
     let seen = ap (λ (r : Record). r.seen) p.looked.record_is in
-    subst (λ (a : Call P). IsEndRun meld limits alone before earlier old a (missing_reply which) new) (sym polls)
+    subst (λ (a : Call P). IsEndRun meld limits alone (moment old before) a (missing_reply which) (moment new earlier)) (sym polls)
     (barrier_waits meld limits alone before p.look old own p.looked c i.k awaits earlier p.waited i.legal which new
     (standing_before earlier after c (did_prefix alone [] earlier after wait) here)
     (subst (λ s. MissingAre earlier c i.k i.x.group s which) seen (subst (MissingAre earlier c i.k i.x.group own.seen) is i.are))

@@ -7,20 +7,22 @@ use Rattle.ulfm_model.specs.declared.call.Call.TheVariants as call
 use Rattle.ulfm_model.specs.declared.{call.Call.{Call}, call.Request.TheVariants.{Barrier}, event.Caller.TheVariants.{Rank}, event.Entry.{Entry}}
 use Rattle.ulfm_model.specs.declared.{event.Event.TheVariants.{Arrive}, limits.Limits.{Limits}, refusal.Refusal.TheVariants.{Idle, IsRevoked, ProcFailed}}
 use Rattle.ulfm_model.specs.declared.{reply.Reply.{Reply}, reply.Reply.TheVariants.{Done, Pending, Refused}}
-use Rattle.ulfm_model.specs.Answers.{PollReplies, View, barrier_reply, closed, first_refusal, left_by, polled_by, refusal_on}
+use Rattle.ulfm_model.specs.Answers.{PollReplies, AtPoint, barrier_reply, closed, first_refusal, left_by, polled_by, refusal_on}
 use Rattle.ulfm_model.specs.{History.{History, IsLegal, MayFollow, failures, has, has_arrived, is_revoked}, Records.{Fits, FitsRequest, Record, held_at}}
 use Rattle.ulfm_model.specs.Runs.{Did, unsettled_of}
 use Rattle.ulfm_model.specs.Terms.{IsOwn, contexts_of, request_of}
 use Rattle.ulfm_model.proofs.{Histories.{by_events}}
-use Rattle.ulfm_words.specs.Steps.{IsOf, Name, Sight}
+use Rattle.ulfm_model.specs.Records.{moment}
+use Rattle.ulfm_words.specs.Steps.{view_of, IsView, Name, Sight}
 use Rattle.ulfm_words.proofs.Trails.{did_prefix, did_wait}
 use Rattle.ulfm_steps.proofs.Arriving.{arrivals_stay}
 use Rattle.ulfm_steps.specs.Rounds.{IsRoundOf}
 use Rattle.ulfm_steps.specs.Arriving.{MissingAre}
 use Rattle.ulfm_steps.specs.declared.arrivals.{Missing.{Missing}, Missing.TheVariants.{Nobody, Others, Declared}}
-use Rattle.ulfm_comm.specs.{Barrier.{Awaits, missing_leaves, missing_reply}, Calls.{Replied}, Ends.{IsEndRun}, Look.{Looked}}
+use Rattle.ulfm_comm.specs.{Barrier.{Awaits, missing_leaves, missing_reply}, Calls.{Linearizes}, Ends.{IsEndRun}, Look.{Looked}}
 use Rattle.ulfm_comm.proofs.{CallRuns.{calls_early, calls_is}, Revokes.{standing_before}, Holding.{comm_is, exists_is, group_is, holds}}
 use Rattle.ulfm_comm.proofs.WholeCall.{held_before, replied}
+use Rattle.ulfm_comm.specs.Local.{local}
 
 -- an arrival of a legal history is in a round that there is
 arrived_in_rounds : {P : Type 0} (meld : P → P → P) (limits : Limits) (h : History P) → IsLegal meld limits h → (c k r : ℕ) → IsOwn h r (Arrive c k r)
@@ -61,12 +63,12 @@ module _ {P : Type 0} (meld : P → P → P) (limits : Limits) (alone : Bool) (b
   barrier_polled = ap request_of held_first ∙ a.open_is
 
   module _ (point : History P) (did : Did alone [] look point) (legal : IsLegal meld limits point) where
-    abbrev view : View P
+    abbrev view : AtPoint P
     view = record { look = failures look; history = point; own = [] }
 
     -- a poll that has its point here
     barrier_run : (reply : Reply P) (new : Record) → reply ≡ barrier_reply view a.x k → new ≡ left_by limits.ranks point mid asked reply
-        → IsEndRun meld limits alone before point old asked reply new
+        → IsEndRun meld limits alone (moment old before) asked reply (moment new point)
     barrier_run reply new is left =
         replied meld limits alone before look old mid looked point [] asked reply new a.x did legal held_first
         (ap (λ w. refusal_on {P = P} old w asked) held_first ∙ ap (λ request. first_refusal ((not (is_some request), Idle) ∷ [])) a.open_is) tt
@@ -87,13 +89,13 @@ module _ {P : Type 0} (meld : P → P → P) (limits : Limits) (alone : Bool) (b
 
     -- the communicator is revoked
     pub barrier_revoked : (new : Record) → is_revoked point c ≡ true → new ≡ closed mid c
-        → IsEndRun meld limits alone before point old asked (Refused IsRevoked) new
+        → IsEndRun meld limits alone (moment old before) asked (Refused IsRevoked) (moment new point)
     barrier_revoked new is left = barrier_run (Refused IsRevoked) new (by_tests true _ _ is refl refl) left
 
     -- it isn't: by who is missing
     pub barrier_waits : (missing : Missing) (new : Record) → is_revoked point c ≡ false → MissingAre point c k a.x.group (failures look) missing
         → new ≡ missing_leaves mid c missing
-        → IsEndRun meld limits alone before point old asked (missing_reply missing) new
+        → IsEndRun meld limits alone (moment old before) asked (missing_reply missing) (moment new point)
     barrier_waits Nobody new standing are left = barrier_run Done new (by_tests false true _ standing are refl) left
     barrier_waits Others new standing are left = barrier_run Pending new (by_tests false false true standing are.0 are.1) left
     barrier_waits Declared new standing are left = barrier_run (Refused ProcFailed) new (by_tests false false false standing are.0 are.1) left
@@ -101,10 +103,10 @@ module _ {P : Type 0} (meld : P → P → P) (limits : Limits) (alone : Bool) (b
 -- what the poll of a barrier promises
 module _ {P : Type 0} (meld : P → P → P) (alone : Bool) (name : Name) (before look after : Sight P) (old mid : Record)
     (fits : Fits meld name.limits before.seen old) (looked : Looked alone before.seen look.seen old mid)
-    (c k : ℕ) (a : Awaits meld name.limits look.seen c k mid) (of : IsOf meld name after) (onward : before.steps ≤ after.steps) where
+    (c k : ℕ) (a : Awaits meld name.limits look.seen c k mid) (of : IsView meld (view_of name after)) (onward : before.steps ≤ after.steps) where
   -- where the communicator is revoked at its end
   pub polls_revoked : (new : Record) → Did alone [] look.seen after.seen → is_revoked after.seen c ≡ true → new ≡ closed mid c
-      → Replied meld alone name (call.Poll old.number c) old before (Refused IsRevoked) new after
+      → Linearizes meld alone (call.Poll old.number c) (local old (view_of name before)) (Refused IsRevoked) (local new (view_of name after))
   polls_revoked new did is left =
       calls_is meld alone name before after onward (call.Poll old.number c) old (Refused IsRevoked) new of fits
       (barrier_revoked meld name.limits alone before.seen look.seen old mid looked c k a after.seen did of.legal new is left)
@@ -114,7 +116,7 @@ module _ {P : Type 0} (meld : P → P → P) (alone : Bool) (name : Name) (befor
       → Did alone [] point after.seen → is_revoked after.seen c ≡ false
       → group ≡ a.x.group → fs ≡ mid.seen → MissingAre point c k group fs missing → new ≡ missing_leaves mid c missing
       → (missing_reply {P = P} missing ≡ Pending) ⊎ (missing_reply {P = P} missing ≡ Refused ProcFailed)
-      → Replied meld alone name (call.Poll old.number c) old before (missing_reply missing) new after
+      → Linearizes meld alone (call.Poll old.number c) (local old (view_of name before)) (missing_reply missing) (local new (view_of name after))
   calls_waiting_at point group fs missing new did legal wait standing same seen are left early =
       let found = seen ∙ ap (λ (r : Record). r.seen) looked.record_is in
       calls_early meld alone name before after onward (call.Poll old.number c) old (missing_reply missing) new of fits (record {
@@ -133,7 +135,7 @@ module _ {P : Type 0} (meld : P → P → P) (alone : Bool) (name : Name) (befor
   pub calls_missing_at : (point : History P) (group fs : List ℕ) (missing : Missing) (new : Record) → Did alone [] look.seen point
       → IsLegal meld name.limits point → Did alone [] point after.seen → is_revoked after.seen c ≡ false
       → group ≡ a.x.group → fs ≡ mid.seen → MissingAre point c k group fs missing → new ≡ missing_leaves mid c missing
-      → Replied meld alone name (call.Poll old.number c) old before (missing_reply missing) new after
+      → Linearizes meld alone (call.Poll old.number c) (local old (view_of name before)) (missing_reply missing) (local new (view_of name after))
   calls_missing_at point group fs Nobody new did legal wait standing same seen are left =
       calls_is meld alone name before after onward (call.Poll old.number c) old Done new of fits
       (barrier_waits meld name.limits alone before.seen look.seen old mid looked c k a after.seen (did_wait alone [] look.seen point after.seen did wait)

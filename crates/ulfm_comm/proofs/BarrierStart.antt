@@ -8,11 +8,13 @@ use Rattle.ulfm_model.specs.{Answers.{first_refusal, opened}, History.{History, 
 use Rattle.ulfm_model.specs.{Records.{Fits, Held, Record, held_at, with_held}, Runs.{Did}, Words.{MayOpen}}
 use Rattle.ulfm_model.proofs.{Stable.{arrive_stays}}
 use Rattle.ulfm_model.specs.Terms.{tests_of}
-use Rattle.ulfm_words.specs.{Places.{IsCell}, Steps.{IsAdded, IsOf, Name, Sight}, Tries.{MayCome}}
+use Rattle.ulfm_words.specs.{Places.{IsCell}, Steps.{IsAdded, IsView, Name, Sight}, Tries.{MayArrive}}
 use Rattle.ulfm_words.proofs.{Growing.{arrival_stays}, Ranks.{place_within}, Trails.{did_added}}
-use Rattle.ulfm_comm.specs.{Calls.{Replied}, Look.{Looked}}
+use Rattle.ulfm_words.specs.Steps.{view_of}
+use Rattle.ulfm_comm.specs.{Calls.{Linearizes}, Look.{Looked}}
 use Rattle.ulfm_comm.proofs.{CallRuns.{calls_is}, Helds.{change_alike}, Holding.{comm_is, exists_is, group_is, holds}, WholeCall.{held_before, replied}}
 use Rattle.ulfm_comm.proofs.Refusals.{by_tests}
+use Rattle.ulfm_comm.specs.Local.{local}
 
 -- who hasn't arrived hadn't before
 absent_before : {P : Type 0} (h longer : History P) (c k r : ℕ) → IsPrefix h longer → has_arrived longer c k r ≡ false → has_arrived h c k r ≡ false
@@ -47,7 +49,7 @@ module _ {P : Type 0} (meld : P → P → P) (limits : Limits) (look : History P
   barrier_within legal may = place_within meld limits look c x.next_barrier own.number legal may barrier_place
 
   -- and the rank may arrive there while it hasn't
-  pub barrier_may_come : MayCome meld limits look c x.next_barrier own.number
+  pub barrier_may_come : MayArrive meld limits look c x.next_barrier own.number
   barrier_may_come more begins legal absent = arrive_stays meld limits look more c x.next_barrier own.number begins legal
       (barrier_place, absent_before look more c x.next_barrier own.number begins absent) absent
 
@@ -55,7 +57,7 @@ module _ {P : Type 0} (meld : P → P → P) (alone : Bool) (name : Name) (befor
     (old mid : Record) (fits : Fits meld name.limits before.seen old)
     (looked : Looked alone before.seen look.seen old mid) (now : Fits meld name.limits look.seen mid) (x : Held) (held : held_at mid c ≡ Some x)
     (passed : first_refusal (tests_of {P = P} old x (call.Barrier rank c)) ≡ None)
-    (of : IsOf meld name after) (stands : IsTrue (has_arrived after.seen c x.next_barrier mid.number)) where
+    (of : IsView meld (view_of name after)) (stands : IsTrue (has_arrived after.seen c x.next_barrier mid.number)) where
   mine : mid.number ≡ old.number
   mine = ap (λ (w : Record). w.number) looked.record_is
 
@@ -70,7 +72,7 @@ module _ {P : Type 0} (meld : P → P → P) (alone : Bool) (name : Name) (befor
     by = Rank mid.number;
     event = Arrive c x.next_barrier mid.number;
   }) look.seen after.seen → new ≡ with_held mid c (λ y. opened y (Some (Barrier x.next_barrier)))
-      → Replied meld alone name (call.Barrier rank c) old before Started new after
+      → Linearizes meld alone (call.Barrier rank c) (local old (view_of name before)) Started (local new (view_of name after))
   calls_entered new added is =
       calls_is meld alone name before after onward (call.Barrier rank c) old Started new of fits
       (replied meld name.limits alone before.seen look.seen old mid looked after.seen (Arrive x.comm x.next_barrier old.number ∷ [])
@@ -86,7 +88,7 @@ module _ {P : Type 0} (meld : P → P → P) (alone : Bool) (name : Name) (befor
       (λ here polls. absurd (cc polls)))
 
   -- or before
-  pub calls_entered_before : Did alone [] look.seen after.seen → Replied meld alone name (call.Barrier rank c) old before (Refused Twice) mid after
+  pub calls_entered_before : Did alone [] look.seen after.seen → Linearizes meld alone (call.Barrier rank c) (local old (view_of name before)) (Refused Twice) (local mid (view_of name after))
   calls_entered_before did =
       calls_is meld alone name before after onward (call.Barrier rank c) old (Refused Twice) mid of fits
       (replied meld name.limits alone before.seen look.seen old mid looked after.seen [] (call.Barrier rank c) (Refused Twice) mid x did of.legal

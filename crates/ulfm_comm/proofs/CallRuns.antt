@@ -8,23 +8,25 @@ use Rattle.ulfm_model.specs.declared.{reply.Reply.{Reply}, reply.Reply.TheVarian
 use Rattle.ulfm_model.specs.{Answers.{MayOwn, Sees, polled_by, refusal_of}, History.{History, IsLegal, entries_by, failures, has, spawns}}
 use Rattle.ulfm_model.specs.{Records.{Fits, Record, held_at, is_shrink}, Runs.{Did, IsAloneRun, IsCall, IsRun}}
 use Rattle.ulfm_model.specs.Terms.{comm_of}
+use Rattle.ulfm_model.specs.Records.{moment}
 use Rattle.ulfm_model.proofs.{LeftFits.{fits_seen}, LeftRuns.{call_fits}, Lists.{prefix_trans}, Stable.{fits_stays}}
-use Rattle.ulfm_words.specs.Steps.{IsOf, Name, Sight}
+use Rattle.ulfm_words.specs.Steps.{view_of, IsView, Name, Sight}
 use Rattle.ulfm_words.proofs.Trails.{did_none, did_prefix, did_quiet, did_wait}
-use Rattle.ulfm_comm.specs.{Calls.{Calls, HadCome, RanOut, Replied}, Ends.{IsEarlyRun, IsEndRun, IsRefusedAgain}, Look.{Looked}}
+use Rattle.ulfm_comm.specs.{Calls.{Calls, HadCome, RanOut, Linearizes}, Ends.{IsEarlyRun, IsEndRun, IsRefusedAgain}, Look.{Looked}}
 use Rattle.ulfm_comm.proofs.ReplyKinds.{counted_seen}
 use Rattle.ulfm_comm.proofs.WholeCall.{refused_missing, sees_later, self_failed}
+use Rattle.ulfm_comm.specs.Local.{local}
 
 -- a call of a rank where nobody else steps: one that was refused for good before is refused again, without a step
 abbrev pub IsAloneCall : {P : Type 0} → (P → P → P) → Limits → History P → History P → Record → Call P → Reply P → Record → Type 0
 IsAloneCall meld limits before after old asked reply new =
-    (IsTrue old.refused × (after ≡ before) × (reply ≡ Refused SelfFailed) × (new ≡ old)) ⊎ IsAloneRun meld limits before after old asked reply new
+    (IsTrue old.refused × (after ≡ before) × (reply ≡ Refused SelfFailed) × (new ≡ old)) ⊎ IsAloneRun meld limits (moment old before) asked reply (moment new after)
 
 module _ {P : Type 0} (meld : P → P → P) (limits : Limits) (alone : Bool) (before after : History P) (old : Record) (asked : Call P) (reply : Reply P)
     (new : Record) where
   -- a run of which the caller saw the end, and then others' events
-  pub run_early : IsLegal meld limits after → IsEarlyRun meld limits alone before after old asked reply new
-      → IsRun meld limits alone before after old asked reply new
+  pub run_early : IsLegal meld limits after → IsEarlyRun meld limits alone (moment old before) asked reply (moment new after)
+      → IsRun meld limits alone (moment old before) asked reply (moment new after)
   run_early legal early =
       let ended = early.run in
       let span = ended.run.span in
@@ -52,33 +54,31 @@ module _ {P : Type 0} (meld : P → P → P) (limits : Limits) (alone : Bool) (b
       }
 
   -- where nobody else steps, a run is one of the sequential object
-  pub alone_of : IsEndRun meld limits alone before after old asked reply new → IsTrue alone → IsAloneCall meld limits before after old asked reply new
+  pub alone_of : IsEndRun meld limits alone (moment old before) asked reply (moment new after) → IsTrue alone → IsAloneCall meld limits before after old asked reply new
   alone_of ended here = inr (by_alone alone here ended)
     where
-      by_alone : (b : Bool) → IsTrue b → IsEndRun meld limits b before after old asked reply new → IsAloneRun meld limits before after old asked reply new
+      by_alone : (b : Bool) → IsTrue b → IsEndRun meld limits b (moment old before) asked reply (moment new after) → IsAloneRun meld limits (moment old before) asked reply (moment new after)
       by_alone true here ended = record { run = ended.run; at_end = ended.at_end; marks = ended.marks refl }
       by_alone false here ended = absurd (cc here)
 
 -- what a call is, by its end
 module _ {P : Type 0} (meld : P → P → P) (alone : Bool) (name : Name) (asked : Call P) (old : Record) (before : Sight P) (reply : Reply P) (new : Record)
-    (after : Sight P) (called : Calls meld alone name asked old before reply new after) where
+    (after : Sight P) (called : Calls meld alone asked (local old (view_of name before)) reply (local new (view_of name after))) where
   -- it is one of the sequential object, among the steps of others
-  pub called_run : IsCall meld name.limits alone before.seen after.seen old asked reply new
-  called_run = by_end called.ends
+  pub called_run : IsCall meld name.limits alone (moment old before.seen) asked reply (moment new after.seen)
+  called_run = by_end called.linearizes.ends
     where
-      by_end : (IsRefusedAgain old reply new × (after ≡ before)) ⊎ (IsEndRun meld name.limits alone before.seen after.seen old asked reply new ⊎ IsEarlyRun meld
-          name.limits alone before.seen after.seen old asked reply new)
-          → IsCall meld name.limits alone before.seen after.seen old asked reply new
+      by_end : (IsRefusedAgain old reply new × (after ≡ before)) ⊎ (IsEndRun meld name.limits alone (moment old before.seen) asked reply (moment new after.seen) ⊎ IsEarlyRun meld name.limits alone (moment old before.seen) asked reply (moment new after.seen))
+          → IsCall meld name.limits alone (moment old before.seen) asked reply (moment new after.seen)
       by_end (inl (again, same)) = inl (again.refused, ap (λ (w : Sight P). w.seen) same, again.reply_is, again.record_is)
       by_end (inr (inl ended)) = inr ended.run
-      by_end (inr (inr early)) = inr (run_early meld name.limits alone before.seen after.seen old asked reply new called.of.legal early)
+      by_end (inr (inr early)) = inr (run_early meld name.limits alone before.seen after.seen old asked reply new called.linearizes.of.legal early)
 
   -- where nobody else steps, it is one of the sequential object alone
   pub called_alone : IsTrue alone → IsAloneCall meld name.limits before.seen after.seen old asked reply new
-  called_alone here = by_end called.ends
+  called_alone here = by_end called.linearizes.ends
     where
-      by_end : (IsRefusedAgain old reply new × (after ≡ before)) ⊎ (IsEndRun meld name.limits alone before.seen after.seen old asked reply new ⊎ IsEarlyRun meld
-          name.limits alone before.seen after.seen old asked reply new)
+      by_end : (IsRefusedAgain old reply new × (after ≡ before)) ⊎ (IsEndRun meld name.limits alone (moment old before.seen) asked reply (moment new after.seen) ⊎ IsEarlyRun meld name.limits alone (moment old before.seen) asked reply (moment new after.seen))
           → IsAloneCall meld name.limits before.seen after.seen old asked reply new
       by_end (inl (again, same)) = inl (again.refused, ap (λ (w : Sight P). w.seen) same, again.reply_is, again.record_is)
       by_end (inr (inl ended)) = alone_of meld name.limits alone before.seen after.seen old asked reply new ended here
@@ -88,10 +88,9 @@ module _ {P : Type 0} (meld : P → P → P) (alone : Bool) (name : Name) (asked
 
   -- one that counted failures has seen all that are declared at its end
   pub called_counts : (count : ℕ) → reply ≡ FailedGroup count → new.seen ≡ failures after.seen
-  called_counts count is = by_end called.ends
+  called_counts count is = by_end called.linearizes.ends
     where
-      by_end : (IsRefusedAgain old reply new × (after ≡ before)) ⊎ (IsEndRun meld name.limits alone before.seen after.seen old asked reply new ⊎ IsEarlyRun meld
-          name.limits alone before.seen after.seen old asked reply new)
+      by_end : (IsRefusedAgain old reply new × (after ≡ before)) ⊎ (IsEndRun meld name.limits alone (moment old before.seen) asked reply (moment new after.seen) ⊎ IsEarlyRun meld name.limits alone (moment old before.seen) asked reply (moment new after.seen))
           → new.seen ≡ failures after.seen
       by_end (inl (again, same)) = let other = again.reply_is in absurd (cc (other, is))
       by_end (inr (inl ended)) = counted_seen meld name.limits alone before.seen after.seen old asked reply new ended.run count is ∙ ap failures ended.at_end
@@ -103,8 +102,8 @@ module _ {P : Type 0} (meld : P → P → P) (alone : Bool) (name : Name) (asked
 
 module _ {P : Type 0} (meld : P → P → P) (alone : Bool) (name : Name) (before after : Sight P) (onward : before.steps ≤ after.steps) where
   -- a call with its point at its end
-  pub calls_is : (asked : Call P) (old : Record) (reply : Reply P) (new : Record) → IsOf meld name after → Fits meld name.limits before.seen old
-      → IsEndRun meld name.limits alone before.seen after.seen old asked reply new → Replied meld alone name asked old before reply new after
+  pub calls_is : (asked : Call P) (old : Record) (reply : Reply P) (new : Record) → IsView meld (view_of name after) → Fits meld name.limits before.seen old
+      → IsEndRun meld name.limits alone (moment old before.seen) asked reply (moment new after.seen) → Linearizes meld alone asked (local old (view_of name before)) reply (local new (view_of name after))
   calls_is asked old reply new of fits ended =
       record {
         of = of;
@@ -114,8 +113,8 @@ module _ {P : Type 0} (meld : P → P → P) (alone : Bool) (name : Name) (befor
       }
 
   -- the poll of a barrier, with its point where somebody was found missing
-  pub calls_early : (asked : Call P) (old : Record) (reply : Reply P) (new : Record) → IsOf meld name after → Fits meld name.limits before.seen old
-      → IsEarlyRun meld name.limits alone before.seen after.seen old asked reply new → Replied meld alone name asked old before reply new after
+  pub calls_early : (asked : Call P) (old : Record) (reply : Reply P) (new : Record) → IsView meld (view_of name after) → Fits meld name.limits before.seen old
+      → IsEarlyRun meld name.limits alone (moment old before.seen) asked reply (moment new after.seen) → Linearizes meld alone asked (local old (view_of name before)) reply (local new (view_of name after))
   calls_early asked old reply new of fits early =
       record {
         of = of;
@@ -126,16 +125,16 @@ module _ {P : Type 0} (meld : P → P → P) (alone : Bool) (name : Name) (befor
       }
 
   -- a rank that its look finds declared
-  pub calls_declared : (asked : Call P) (old new : Record) → IsOf meld name after → Fits meld name.limits before.seen old → old.refused ≡ false
+  pub calls_declared : (asked : Call P) (old new : Record) → IsView meld (view_of name after) → Fits meld name.limits before.seen old → old.refused ≡ false
       → Did alone [] before.seen after.seen
       → IsTrue (has (failures after.seen) old.number) → new ≡ record old { seen = failures after.seen; refused = true }
-      → Replied meld alone name asked old before (Refused SelfFailed) new after
+      → Linearizes meld alone asked (local old (view_of name before)) (Refused SelfFailed) (local new (view_of name after))
   calls_declared asked old new of fits in_use did declared is =
       calls_is asked old (Refused SelfFailed) new of fits (self_failed meld name.limits alone before.seen after.seen old after.seen asked new in_use did
       (did_none alone after.seen) of.legal declared is)
 
   -- a rank that goes on after its look
-  pub looked_fits : (old mid : Record) → IsOf meld name after → Fits meld name.limits before.seen old → Looked alone before.seen after.seen old mid
+  pub looked_fits : (old mid : Record) → IsView meld (view_of name after) → Fits meld name.limits before.seen old → Looked alone before.seen after.seen old mid
       → Fits meld name.limits after.seen mid
   looked_fits old mid of fits looked =
       let still = fits_stays meld name.limits before.seen after.seen old (did_prefix alone [] before.seen after.seen looked.did) of.legal fits in
@@ -143,20 +142,20 @@ module _ {P : Type 0} (meld : P → P → P) (alone : Bool) (name : Name) (befor
       ([], append-nil (failures after.seen)))
 
   -- a call on a communicator that the rank doesn't hold
-  pub calls_missing : (asked : Call P) (old mid : Record) → IsOf meld name after → Fits meld name.limits before.seen old
+  pub calls_missing : (asked : Call P) (old mid : Record) → IsView meld (view_of name after) → Fits meld name.limits before.seen old
       → Looked alone before.seen after.seen old mid → held_at mid (comm_of asked) ≡ None
-      → Replied meld alone name asked old before (Refused NoSuchComm) mid after
+      → Linearizes meld alone asked (local old (view_of name before)) (Refused NoSuchComm) (local mid (view_of name after))
   calls_missing asked old mid of fits looked missing =
       calls_is asked old (Refused NoSuchComm) mid of fits (refused_missing meld name.limits alone before.seen after.seen old mid looked asked mid of.legal
       missing refl)
 
   -- a call that ran out of memory, of a rank that has then seen so much
-  pub runs_out_after : (asked : Call P) (old new : Record) (look : History P) (own : List (Event P)) → IsOf meld name after
+  pub runs_out_after : (asked : Call P) (old new : Record) (look : History P) (own : List (Event P)) → IsView meld (view_of name after)
       → Fits meld name.limits before.seen old → Looked alone before.seen look old (record old { seen = failures look })
       → Did alone (entries_by (Rank old.number) own) look after.seen → refusal_of old asked ≡ None → AllByRecursion (MayOwn (failures look) old asked) own
       → spawns (entries_by (Rank old.number) own) ≡ [] → HadCome meld name.limits after.seen old.number (comm_of asked) (polled_by old asked)
       → Sees (is_shrink (polled_by old asked)) (failures look) after.seen new.seen → IsPrefix new.seen (failures after.seen)
-      → new ≡ record old { seen = new.seen } → RanOut meld alone name asked old before new after
+      → new ≡ record old { seen = new.seen } → RanOut meld alone asked (local old (view_of name before)) (local new (view_of name after))
   runs_out_after asked old new look own of fits looked did passed may none come sees begins is =
       let to_look = did_prefix alone [] before.seen look looked.did in
       let to_end = did_prefix alone (entries_by (Rank old.number) own) look after.seen did in

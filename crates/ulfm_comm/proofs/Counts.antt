@@ -9,11 +9,12 @@ use Rattle.ulfm_model.specs.declared.step_name.StepName.TheVariants as step
 use Rattle.ulfm_model.specs.{Answers.{refusal_of}, History.{History}, Records.{Fits, Held, Record, held_at}, Words.{MayOpen}}
 use Rattle.ulfm_model.specs.Terms.{comm_of, request_of}
 use Rattle.ulfm_model.proofs.Groups.{members_few}
-use Rattle.ulfm_words.specs.Steps.{IsOf, Name, Sight}
+use Rattle.ulfm_words.specs.Steps.{view_of, IsView, Name, Sight}
 use Rattle.ulfm_comm.specs.{Bound.{call_bound, poll_bound, step_bound}, Calls.{EndsAs, EndsReply, wants_memory}, Counts.{Counted, CountsStep, named_steps}}
 use Rattle.ulfm_comm.specs.{Phase.{next_step}, StepsLeft.{MakesStep, Spends, group_of, steps_left}}
 use Rattle.ulfm_comm.specs.declared.{phases.phase.Next.{Next}}
 use Rattle.ulfm_comm.proofs.Holding.{group_is}
+use Rattle.ulfm_comm.specs.Local.{local}
 
 -- a step that is named is one
 named_is : {P : Type 0} (name : Option StepName) (r c : ℕ) (old new : Sight P) → MakesStep name r c old new
@@ -93,17 +94,17 @@ bound_small {P} meld limits h own asked may fits = go own.refused (is_some (refu
 -- a call's steps are counted onward
 ends_onward : {P : Type 0} (meld : P → P → P) (alone : Bool) (name : Name) (asked : Call P) (old : Record) (before : Sight P) (reply : Reply P) (new : Record)
     (after : Sight P)
-    → EndsReply meld alone name asked old before reply new after → before.steps ≤ after.steps
+    → EndsReply meld alone asked (local old (view_of name before)) reply (local new (view_of name after)) → before.steps ≤ after.steps
 ends_onward {P} meld alone name asked old before reply new after ends = go (wants_memory reply) ends
   where
-    go : (b : Bool) → EndsAs meld alone name asked old before reply b new after → before.steps ≤ after.steps
-    go true ended = ended.0.onward
-    go false called = called.onward
+    go : (b : Bool) → EndsAs meld alone asked (local old (view_of name before)) reply b (local new (view_of name after)) → before.steps ≤ after.steps
+    go true ended = ended.0.ran_out.onward
+    go false called = called.linearizes.onward
 
 -- The difference of two counts modulo 2 ^ 64 is the number of a call's steps.
 module _ {P : Type 0} (meld : P → P → P) (alone : Bool) (name : Name) (asked : Call P) (old : Record) (before : Sight P) (reply : Reply P) (new : Record)
     (after : Sight P)
-    (of : IsOf meld name before) (fits : Fits meld name.limits before.seen old) (ends : EndsReply meld alone name asked old before reply new after)
+    (of : IsView meld (view_of name before)) (fits : Fits meld name.limits before.seen old) (ends : EndsReply meld alone asked (local old (view_of name before)) reply (local new (view_of name after)))
     (steps : after.steps ≤ before.steps + step_bound name.limits old asked) (first last made : ℕ) (first_is : first ≡ before.steps % 2 ^ 64)
     (last_is : last ≡ after.steps % 2 ^ 64)
     (made_is : made ≡ (last + (2 ^ 64 - first)) % 2 ^ 64) where

@@ -10,21 +10,24 @@ use Rattle.ulfm_model.specs.declared.{contribution.Offer.{Offer}, contribution.S
 use Rattle.ulfm_model.specs.declared.{event.Caller.TheVariants.{Rank}, event.Entry.{Entry}, event.Event.{Event}}
 use Rattle.ulfm_model.specs.declared.{event.Event.TheVariants.{Arrive, Revoke, Settle}, limits.Limits.{Limits}, refusal.Refusal.{Refusal}}
 use Rattle.ulfm_model.specs.declared.{refusal.Refusal.TheVariants.{Busy, RoundsUsedUp, ShrinkOpen, Twice}, reply.Reply.TheVariants.{Refused, Standing, Started}}
-use Rattle.ulfm_model.specs.Answers.{CallAdds, Replies, StartReplies, View, first_refusal, opened, refusal_on, traits_of}
+use Rattle.ulfm_model.specs.Answers.{CallAdds, Replies, StartReplies, AtPoint, first_refusal, opened, refusal_on, traits_of}
 use Rattle.ulfm_model.specs.{History.{History, IsLegal, failures, has_arrived, is_revoked}, Records.{Fits, Held, Record, held_at, is_shrink, with_held}}
 use Rattle.ulfm_model.specs.{Runs.{Did}, Words.{MayOpen}}
 use Rattle.ulfm_model.specs.Terms.{comm_of, tests_of}
 use Rattle.ulfm_model.proofs.Stable.{fits_stays}
-use Rattle.ulfm_words.specs.{Places.{IsCell}, Steps.{IsAdded, IsOf, Name, Sight}, Tries.{MayCome, MayEnd}}
+use Rattle.ulfm_model.specs.Records.{moment}
+use Rattle.ulfm_words.specs.{Places.{IsCell}, Steps.{IsAdded, IsView, Name, Sight}, Tries.{MayArrive, MayEnd}}
 use Rattle.ulfm_words.proofs.Trails.{added_after, did_added, did_after, did_prefix}
+use Rattle.ulfm_words.specs.Steps.{view_of}
 use Rattle.ulfm_record.specs.Kept.{HasNext}
-use Rattle.ulfm_comm.specs.{Calls.{Replied, reply_of}, Phase.{Answered, Stands}, Look.{HasLooked}}
+use Rattle.ulfm_comm.specs.{Calls.{Linearizes, reply_of}, Phase.{Answered, Stands}, Look.{HasLooked}}
 use Rattle.ulfm_comm.specs.{Exchange.{StartsWith, Settles, start_leaves, start_result}, Step.{Walks}, Revokes.{revoked}}
 use Rattle.ulfm_comm.specs.declared.phases.phase.Phase.TheVariants.{Settling}
 use Rattle.ulfm_comm.proofs.BarrierStart.{barrier_may_come, barrier_within, calls_entered, calls_entered_before}
 use Rattle.ulfm_comm.proofs.{AmongOthers.{added_loosely, did_loosely, tried_loosely}, WholeCall.{held_before}}
 use Rattle.ulfm_comm.proofs.Revokes.{calls_revoked, calls_standing, held_below, held_may_end}
 use Rattle.ulfm_comm.proofs.Starts.{calls_started}
+use Rattle.ulfm_comm.specs.Local.{frame, local}
 
 -- no test holds, so the first doesn't
 passes_first : (test : Bool) (refusal : Refusal) (tests : List (Bool × Refusal)) → first_refusal ((test, refusal) ∷ tests) ≡ None
@@ -41,7 +44,7 @@ pub record IsStarting {P : Type 0} (meld : P → P → P) (limits : Limits) (ask
   pub no_poll : (traits_of asked).polls ≡ false
   pub starts : (traits_of asked).starts x ≡ Some request
   pub adds : (look : List ℕ) (given : Contribution P) → CallAdds look old.number x asked (Settle x.comm x.next_agreement old.number given)
-  pub replies : (view : View P) → (reply : _) → StartReplies view old x offer reply → Replies meld limits view old x asked reply
+  pub replies : (view : AtPoint P) → (reply : _) → StartReplies view old x offer reply → Replies meld limits view old x asked reply
   pub room : x.next_agreement < old.limits.rounds
   pub next : old.limits.rounds ≤ 4096 → HasNext request
 
@@ -86,7 +89,7 @@ is_starting meld limits (call.Free rank c) old x request offer passes starts = a
 
 -- what is known of a call after its look, where others may have stepped since
 module _ {P : Type 0} (meld : P → P → P) (limits : Limits) (alone : Bool) (asked : Call P) (old : Record) (before : History P) (own : Record) (now : History P)
-    (p : HasLooked meld limits alone asked old before own now) where
+    (p : HasLooked (frame meld limits alone) asked (moment old before) (moment own now)) where
   -- the record fits still
   pub fits_now : IsLegal meld limits now → Fits meld limits now own
   fits_now legal = fits_stays meld limits p.look now own (did_prefix alone [] p.look now p.waited) legal p.fits
@@ -119,15 +122,15 @@ pub tried_after : {P : Type 0} (alone won : Bool) (e : _) (x y z : History P) �
 tried_after alone true e x y z did outcome = added_after alone e x y z did outcome
 tried_after alone false e x y z did outcome = did_after alone [] x y z did outcome
 
-module _ {P : Type 0} (meld : P → P → P) (quiet : Bool) (name : Name) (number : ℕ) (old new : Sight P) (of : IsOf meld name new)
+module _ {P : Type 0} (meld : P → P → P) (quiet : Bool) (name : Name) (number : ℕ) (old new : Sight P) (of : IsView meld (view_of name new))
     (one : new.steps ≡ old.steps + 1) (cached : IsPrefix old.cached new.cached) where
   -- one step without an event
-  pub walks_none : Did quiet [] old.seen new.seen → Walks meld quiet name number old new
+  pub walks_none : Did quiet [] old.seen new.seen → Walks meld quiet number (view_of name old) (view_of name new)
   walks_none did = record { of = of; own = []; did = did; onward = omega (arith, one); cached = cached }
 
   -- one exchange
   pub walks_tried : (won : Bool) (event : Event P) → MatchBool won (IsAdded quiet (record { by = Rank number; event = event }) old.seen new.seen)
-      (Did quiet [] old.seen new.seen) → Walks meld quiet name number old new
+      (Did quiet [] old.seen new.seen) → Walks meld quiet number (view_of name old) (view_of name new)
   walks_tried true event outcome = record {
     of = of;
     own = event ∷ [];
@@ -139,7 +142,7 @@ module _ {P : Type 0} (meld : P → P → P) (quiet : Bool) (name : Name) (numbe
 
   -- the exchange of a contribution
   pub walks_settled : (own : Record) (x : Held) (offer : Offer P) (settled : Result (Unit {0}) (Slot P)) → own.number ≡ number
-      → Settles quiet old.seen new.seen own x offer settled → Walks meld quiet name number old new
+      → Settles quiet old.seen new.seen own x offer settled → Walks meld quiet number (view_of name old) (view_of name new)
   walks_settled own x offer (Ok done) mine gave =
       record {
         of = of;
@@ -170,11 +173,11 @@ settles_loosely alone quiet only now after own x offer (Err put) was = record { 
 
 module _ {P : Type 0} (meld : P → P → P) (alone quiet : Bool) (only : IsTrue alone → IsTrue quiet) (name : Name) (asked : Call P) (request : Request)
     (offer : Offer P) (group : List ℕ) (old : Record) (before : Sight P) (own : Record) (now after : Sight P) (went : now.steps ≤ after.steps)
-    (stood : Stands meld alone name old before (record { asked = asked; phase = Settling request offer; group = group }) own now) (x : Held)
+    (stood : Stands meld alone (local old (view_of name before)) (record { asked = asked; phase = Settling request offer; group = group }) (local own (view_of name now))) (x : Held)
     (held : held_at own (comm_of asked) ≡ Some x) where
-  by_exchange : (settled : Result (Unit {0}) (Slot P)) (new : Record) → IsOf meld name after → Settles quiet now.seen after.seen own x offer settled
+  by_exchange : (settled : Result (Unit {0}) (Slot P)) (new : Record) → IsView meld (view_of name after) → Settles quiet now.seen after.seen own x offer settled
       → new ≡ start_leaves own (comm_of asked) request settled
-      → Replied meld alone name asked old before (reply_of (λ _. Started) (start_result settled)) new after
+      → Linearizes meld alone asked (local old (view_of name before)) (reply_of (λ _. Started) (start_result settled)) (local new (view_of name after))
   by_exchange settled new of settles leaves =
       let p = stood.at.0 in
       let same = found_same meld name.limits alone asked old before.seen own now.seen p x held in
@@ -187,9 +190,9 @@ module _ {P : Type 0} (meld : P → P → P) (alone quiet : Bool) (only : IsTrue
       (settles_loosely alone quiet only now.seen after.seen own x offer settled settles)) refl leaves
 
   -- a start is answered as its exchange says
-  pub start_answered : (settled : Result (Unit {0}) (Slot P)) (new : Record) → IsOf meld name after → Settles quiet now.seen after.seen own x offer settled
+  pub start_answered : (settled : Result (Unit {0}) (Slot P)) (new : Record) → IsView meld (view_of name after) → Settles quiet now.seen after.seen own x offer settled
       → new ≡ start_leaves own (comm_of asked) request settled
-      → Answered meld alone name asked old before (reply_of (λ _. Started) (start_result settled)) new after
+      → Answered meld alone asked (local old (view_of name before)) (reply_of (λ _. Started) (start_result settled)) (local new (view_of name after))
   start_answered (Ok done) new of settles leaves = record { ends = inr (by_exchange (Ok done) new of settles leaves); pending = λ is. absurd (cc is) }
   start_answered (Err (Marked mark)) new of settles leaves = record {
     ends = inr (by_exchange (Err (Marked mark)) new of settles leaves);
@@ -202,7 +205,7 @@ module _ {P : Type 0} (meld : P → P → P) (alone quiet : Bool) (only : IsTrue
 
 -- the start of a barrier, among others' steps since its look
 module _ {P : Type 0} (meld : P → P → P) (limits : Limits) (alone : Bool) (asked : Call P) (old : Record) (before : History P) (own : Record) (now : History P)
-    (p : HasLooked meld limits alone asked old before own now)
+    (p : HasLooked (frame meld limits alone) asked (moment old before) (moment own now))
     (own_fits : Fits meld limits before old) (is : asked ≡ call.Barrier old.number (comm_of asked)) where
   -- a round is left
   pub barrier_room : p.x.next_barrier < limits.rounds
@@ -217,18 +220,18 @@ module _ {P : Type 0} (meld : P → P → P) (limits : Limits) (alone : Bool) (a
   arriving_within legal may = barrier_within meld limits now own (comm_of asked) p.x (fits_now meld limits alone asked old before own now p legal) p.held
       barrier_room legal may
 
-  pub arriving_may : IsLegal meld limits now → MayCome meld limits now (comm_of asked) p.x.next_barrier own.number
+  pub arriving_may : IsLegal meld limits now → MayArrive meld limits now (comm_of asked) p.x.next_barrier own.number
   arriving_may legal = barrier_may_come meld limits now own (comm_of asked) p.x (fits_now meld limits alone asked old before own now p legal) p.held
       barrier_room
 
 module _ {P : Type 0} (meld : P → P → P) (alone quiet : Bool) (only : IsTrue alone → IsTrue quiet) (name : Name) (c round : ℕ) (old : Record) (before : Sight P)
     (own : Record) (now after : Sight P) (onward : before.steps ≤ after.steps) (fits : Fits meld name.limits before.seen old)
-    (p : HasLooked meld name.limits alone (call.Barrier old.number c) old before.seen own now.seen) (round_is : round ≡ p.x.next_barrier)
-    (of : IsOf meld name after) (stands : IsTrue (has_arrived after.seen c round own.number)) where
+    (p : HasLooked (frame meld name.limits alone) (call.Barrier old.number c) (moment old before.seen) (moment own now.seen)) (round_is : round ≡ p.x.next_barrier)
+    (of : IsView meld (view_of name after)) (stands : IsTrue (has_arrived after.seen c round own.number)) where
   -- the rank has arrived by this call, or before
   pub arrived_now : (new : Record) → IsAdded quiet (record { by = Rank own.number; event = Arrive c round own.number }) now.seen after.seen
       → new ≡ with_held own c (λ y. opened y (Some (Barrier round)))
-      → Answered meld alone name (call.Barrier old.number c) old before Started new after
+      → Answered meld alone (call.Barrier old.number c) (local old (view_of name before)) Started (local new (view_of name after))
   arrived_now new added is =
       let look : Sight P = record now { seen = p.look } in
       let e : Entry P = record { by = Rank own.number; event = Arrive c round own.number } in
@@ -242,7 +245,7 @@ module _ {P : Type 0} (meld : P → P → P) (alone quiet : Bool) (only : IsTrue
         pending = λ same. absurd (cc same);
       }
 
-  pub arrived_before : Did quiet [] now.seen after.seen → Answered meld alone name (call.Barrier old.number c) old before (Refused Twice) own after
+  pub arrived_before : Did quiet [] now.seen after.seen → Answered meld alone (call.Barrier old.number c) (local old (view_of name before)) (Refused Twice) (local own (view_of name after))
   arrived_before did =
       let look : Sight P = record now { seen = p.look } in
       let passed = passes_tests meld name.limits alone (call.Barrier old.number c) old before.seen own now.seen p in
@@ -255,11 +258,11 @@ module _ {P : Type 0} (meld : P → P → P) (alone quiet : Bool) (only : IsTrue
 
 -- a revocation, and the question after it
 module _ {P : Type 0} (meld : P → P → P) (alone quiet : Bool) (only : IsTrue alone → IsTrue quiet) (name : Name) (c : ℕ) (old : Record) (before : Sight P)
-    (own : Record) (now after : Sight P) (onward : before.steps ≤ after.steps) (fits : Fits meld name.limits before.seen old) (of : IsOf meld name after) where
-  revoked_once : (p : HasLooked meld name.limits alone (call.Revoke old.number c) old before.seen own now.seen) (won : Bool)
+    (own : Record) (now after : Sight P) (onward : before.steps ≤ after.steps) (fits : Fits meld name.limits before.seen old) (of : IsView meld (view_of name after)) where
+  revoked_once : (p : HasLooked (frame meld name.limits alone) (call.Revoke old.number c) (moment old before.seen) (moment own now.seen)) (won : Bool)
       → MatchBool won (IsAdded quiet (record { by = Rank own.number; event = Revoke c }) now.seen after.seen) (Did quiet [] now.seen after.seen)
       → IsTrue (is_revoked after.seen c)
-      → Replied meld alone name (call.Revoke old.number c) old before (revoked won) own after
+      → Linearizes meld alone (call.Revoke old.number c) (local old (view_of name before)) (revoked won) (local own (view_of name after))
   revoked_once p won outcome stands =
       let mine = number_is meld name.limits alone (call.Revoke old.number c) old before.seen own now.seen p in
       let e : Entry P = record { by = Rank old.number; event = Revoke c } in
@@ -270,17 +273,17 @@ module _ {P : Type 0} (meld : P → P → P) (alone quiet : Bool) (only : IsTrue
       (tried_after alone won e p.look now.seen after.seen p.waited tried) stands
 
   -- the communicator is revoked
-  pub revoke_answered : HasLooked meld name.limits alone (call.Revoke old.number c) old before.seen own now.seen → (won : Bool)
+  pub revoke_answered : HasLooked (frame meld name.limits alone) (call.Revoke old.number c) (moment old before.seen) (moment own now.seen) → (won : Bool)
       → MatchBool won (IsAdded quiet (record { by = Rank own.number; event = Revoke c }) now.seen after.seen) (Did quiet [] now.seen after.seen)
       → IsTrue (is_revoked after.seen c)
-      → Answered meld alone name (call.Revoke old.number c) old before (revoked won) own after
+      → Answered meld alone (call.Revoke old.number c) (local old (view_of name before)) (revoked won) (local own (view_of name after))
   revoke_answered p true outcome stands = record { ends = inr (revoked_once p true outcome stands); pending = λ same. absurd (cc same) }
   revoke_answered p false outcome stands = record { ends = inr (revoked_once p false outcome stands); pending = λ same. absurd (cc same) }
 
   -- whether it is
-  pub asked_answered : HasLooked meld name.limits alone (call.IsRevoked old.number c) old before.seen own now.seen → (found : Bool)
+  pub asked_answered : HasLooked (frame meld name.limits alone) (call.IsRevoked old.number c) (moment old before.seen) (moment own now.seen) → (found : Bool)
       → Did quiet [] now.seen after.seen → found ≡ is_revoked after.seen c
-      → Answered meld alone name (call.IsRevoked old.number c) old before (Standing found) own after
+      → Answered meld alone (call.IsRevoked old.number c) (local old (view_of name before)) (Standing found) (local own (view_of name after))
   asked_answered p found did is =
       record {
         ends = inr (calls_standing meld alone name before (record now { seen = p.look }) after onward old.number c old own fits p.looked p.fits p.x p.held found

@@ -10,7 +10,8 @@ use Rattle.ulfm_model.specs.declared.{event.Caller.TheVariants.{Rank}, limits.Li
 use Rattle.ulfm_model.specs.declared.call.Call.TheVariants as call
 use Rattle.ulfm_model.specs.{Answers.{Contributes, StartReplies}, History.{History, IsLegal, decision, failed, failures, has, known_of, members, round, slot}}
 use Rattle.ulfm_model.specs.{Records.{Fits, Held, Record, free_ids, held_at}, Runs.{IsCall, IsSpan}}
-use Rattle.ulfm_model.specs.Terms.{view_of}
+use Rattle.ulfm_model.specs.Terms.{rests_on}
+use Rattle.ulfm_model.specs.Records.{moment}
 use Rattle.ulfm_model.proofs.{Decisions.{slot_stands}, Histories.{failures_begin, slot_stays}}
 use Rattle.ulfm_model.proofs.{Lists.{all_has, each_from, has_kept, has_prefix, length_prefix, not_in_take, prefix_trans}, Stable.{failed_begins}}
 use Rattle.ulfm_words.proofs.Trails.{did_prefix}
@@ -60,7 +61,7 @@ module _ {P : Type 0} (meld : P → P → P) (limits : Limits) where
   -- the contribution of a shrink stands, and names all of the failed group of before
   module _ (alone : Bool) (before after : History P) (old : Record) (c : ℕ) (x : Held) (fits : Fits meld limits before old) (held : held_at old c ≡ Some x)
       (span : IsSpan meld limits alone before after (Rank old.number)) where
-    contributed : Contributes (view_of span) old x (Ctx (free_ids old.held)) → Excludes meld limits before after old c
+    contributed : Contributes (rests_on span) old x (Ctx (free_ids old.held)) → Excludes meld limits before after old c
     contributed gave =
         let exists = exists_is meld limits before old c x fits held in
         let to_look = did_prefix alone [] before span.look span.looked in
@@ -91,13 +92,13 @@ module _ {P : Type 0} (meld : P → P → P) (limits : Limits) where
               (failed limits.ranks before c) (all_has (failed limits.ranks before c));
         }
 
-    by_start : StartReplies (view_of span) old x (Ctx (free_ids old.held)) Started → Excludes meld limits before after old c
+    by_start : StartReplies (rests_on span) old x (Ctx (free_ids old.held)) Started → Excludes meld limits before after old c
     by_start (inl started) = contributed started.1
     by_start (inr twice) = absurd (cc (twice.0))
 
   -- a shrink that was started does
   pub shrink_excludes : (alone : Bool) (before after : History P) (old : Record) (rank c : ℕ) (new : Record) → Fits meld limits before old
-      → IsCall meld limits alone before after old (call.Shrink rank c) Started new → Excludes meld limits before after old c
+      → IsCall meld limits alone (moment old before) (call.Shrink rank c) Started (moment new after) → Excludes meld limits before after old c
   shrink_excludes alone before after old rank c new fits (inl refused) = absurd (cc (refused.2))
   shrink_excludes alone before after old rank c new fits (inr run) =
       let answered = answered_on meld limits alone before after old (call.Shrink rank c) Started new run (λ refusal is. absurd (cc is)) in
@@ -106,7 +107,7 @@ module _ {P : Type 0} (meld : P → P → P) (limits : Limits) where
   -- so is whether it was
   pub start_excludes : (alone : Bool) (before after : History P) (old : Record) (rank c : ℕ) (result : Result (Unit {0}) Refusal) (new : Record)
       → Fits meld limits before old
-      → IsCall meld limits alone before after old (call.Shrink rank c) (reply_of (λ _. Started) result) new
+      → IsCall meld limits alone (moment old before) (call.Shrink rank c) (reply_of (λ _. Started) result) (moment new after)
       → IfOk result (λ _. Excludes meld limits before after old c)
   start_excludes alone before after old rank c (Ok done) new fits called = shrink_excludes alone before after old rank c new fits called
   start_excludes alone before after old rank c (Err refusal) new fits called = tt

@@ -12,7 +12,7 @@ use Rattle.ulfm_model.specs.declared.reply.Reply.TheVariants.{Refused, Started}
 use Rattle.ulfm_model.specs.{Answers.{first_refusal, polled_by}, Records.{Held, Record, held_at, is_shrink}}
 use Rattle.ulfm_model.specs.Terms.{comm_of, request_of, tests_of}
 use Rattle.ulfm_model.proofs.{Blocks.{has_block_stays}, Lists.{prefix_trans}}
-use Rattle.ulfm_words.specs.Steps.{Name, Sight}
+use Rattle.ulfm_words.specs.Steps.{view_of, Name, Sight}
 use Rattle.ulfm_steps.specs.{Blocks.{AllSet, AreSet, block_at}, declared.blocks.RoundBlocks.{RoundBlocks}}
 use Rattle.ulfm_comm.specs.{Calls.{EndsAs, EndsReply, HasReplied, RepliedAs, is_out_of_memory, reply_of, wants_memory}, Exchange.{start_result}}
 use Rattle.ulfm_comm.specs.{Known.{KnowsIn, KnowsNext}, Phase.{GoesOn, IsMaking, IsPast, LeadsTo, NextBelow, is_looking}}
@@ -22,6 +22,7 @@ use Rattle.ulfm_comm.specs.declared.{phases.phase.Next.{Next}, phases.phase.Next
 use Rattle.ulfm_comm.specs.declared.phases.phase.Phase.TheVariants.{Over, Begun, Looking, Settling, Arriving, Revoking, Asking, Peeking, Marking, Reading}
 use Rattle.ulfm_comm.specs.declared.phases.phase.Phase.TheVariants.{ReadingOn, Spawning, Waiting, Checking}
 use Rattle.ulfm_comm.proofs.Look.{idle_poll}
+use Rattle.ulfm_comm.specs.Local.{local}
 
 -- two requests of agreement rounds are of one round
 one_round : (a b : Bool) (j k : ℕ) → agreement a j ≡ agreement b k → j ≡ k
@@ -230,31 +231,21 @@ memory_of_round _ wants = absurd (cc wants)
 -- a whole call, by what it comes to
 module _ {P : Type 0} (meld : P → P → P) (alone : Bool) (name : Name) (asked : Call P) (old : Record) (before : Sight P) (reply : Reply P) (new : Record)
     (after : Sight P) where
-  pub whole_ends : HasReplied meld alone name asked old before reply new after → IsPrefix before.cached after.cached
+  pub whole_ends : HasReplied meld alone asked (local old (view_of name before)) reply (local new (view_of name after)) → IsPrefix before.cached after.cached
       → (may_cache old asked ≡ false → after.caches ≡ before.caches) → LeavesSet old asked reply after.cached
-      → EndsReply meld alone name asked old before reply new after
+      → EndsReply meld alone asked (local old (view_of name before)) reply (local new (view_of name after))
   whole_ends replied begins caches knows = go (wants_memory reply) refl replied
     where
-      go : (b : Bool) → wants_memory reply ≡ b → RepliedAs meld alone name asked old before reply b new after
-          → EndsAs meld alone name asked old before reply b new after
+      go : (b : Bool) → wants_memory reply ≡ b → RepliedAs meld alone asked (local old (view_of name before)) reply b (local new (view_of name after))
+          → EndsAs meld alone asked (local old (view_of name before)) reply b (local new (view_of name after))
       go true wants ended = (
         record {
-          of = ended.0.of;
-          onward = ended.0.onward;
-          fits = ended.0.fits;
-          run_out = ended.0.run_out;
-          cached = begins;
-          caches = caches;
-          knows = knows (memory_of_round reply wants);
+          ran_out = ended.0;
+          blocks = record { cached = begins; caches = caches; knows = λ _. knows (memory_of_round reply wants) };
         },
         ended.1,
       )
       go false wants ended = record {
-        of = ended.of;
-        onward = ended.onward;
-        fits = ended.fits;
-        ends = ended.ends;
-        cached = begins;
-        caches = caches;
-        knows = knows;
+        linearizes = ended;
+        blocks = record { cached = begins; caches = caches; knows = knows };
       }

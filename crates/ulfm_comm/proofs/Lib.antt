@@ -12,19 +12,15 @@ pub mod BarrierStart
 pub mod Exchange
 pub mod Excludes
 pub mod Look
-pub mod Applying
 pub mod Failing
 pub mod Frees
 pub mod Helds
 pub mod Holding
 pub mod InOrder
-pub mod ShrinkHolds
-pub mod Jobs
 pub mod Stands
 pub mod LeftOut
 pub mod AmongOthers
 pub mod Opening
-pub mod Others
 pub mod Passing
 pub mod Polls
 pub mod Revokes
@@ -39,5 +35,3 @@ pub mod Agreement
 pub mod Peeking
 pub mod Ready
 pub mod Begins
-pub mod MadeFew
-pub mod Lacking

@@ -11,18 +11,20 @@ use Rattle.ulfm_model.specs.declared.reply.Reply.TheVariants.{Acked, FailedGroup
 use Rattle.ulfm_model.specs.{Answers.{Effect, first_refusal, printed, left_with, traits_of}, Answers.Effect.{Keeps}, History.{failures, has}}
 use Rattle.ulfm_model.specs.{Records.{Fits, Held, Record, free_ids, held_at, with_held}, Runs.{Did}}
 use Rattle.ulfm_model.specs.Terms.{comm_of, request_of, tests_of}
-use Rattle.ulfm_words.specs.Steps.{IsOf, Name, Sight}
+use Rattle.ulfm_words.specs.Steps.{view_of, IsView, Name, Sight}
 use Rattle.ulfm_words.proofs.{Ranks.{failures_le, full_has}, Trails.{did_none, did_prefix}}
 use Rattle.std.proofs.lemmas.{Bool.{eqb-false}, List.{length-take, take-append-drop}}
 use mathlib.Core.List.{IsPrefix}
 use Rattle.ulfm_model.proofs.{Histories.{failures_begin}, Lists.{length_prefix, prefix_trans}}
+use Rattle.ulfm_model.specs.Records.{moment}
 use Rattle.ulfm_steps.proofs.Looking.{full_found}
 use Rattle.ulfm_steps.specs.Looks.{LookIs}
-use Rattle.ulfm_comm.specs.{Calls.{Replied, RepliedAs, is_out_of_memory, wants_memory}, Phase.{Answered, Stands}, Look.{HasLooked, JustLooked}}
+use Rattle.ulfm_comm.specs.{Calls.{Linearizes, RepliedAs, is_out_of_memory, wants_memory}, Phase.{Answered, Stands}, Look.{HasLooked, JustLooked}}
 use Rattle.ulfm_comm.specs.Exchange.{StartsWith}
 use Rattle.ulfm_comm.specs.declared.phases.phase.Phase.TheVariants.{Begun, Looking}
 use Rattle.ulfm_comm.proofs.{Acks.{ack_failed_is, get_failed_is}, CallRuns.{calls_declared, calls_is, calls_missing, looked_fits}, Frees.{calls_freed}}
 use Rattle.ulfm_comm.proofs.{WholeCall.{held_before, refused}, Refusals.{by_tests}}
+use Rattle.ulfm_comm.specs.Local.{frame, local}
 
 -- what each test of a call refuses leaves the record as it is, and isn't want of memory
 abbrev IsMild : Bool × Refusal → Type 0
@@ -80,18 +82,18 @@ idle_poll own x (call.Free rank c) refusal polls is = absurd (cc polls)
 
 module _ {P : Type 0} (meld : P → P → P) (alone : Bool) (name : Name) (asked : Call P) (old : Record) (before : Sight P) (new : Record) (after : Sight P) where
   -- a reply that isn't pending, and isn't for want of memory
-  pub answered_by : (reply : Reply P) → wants_memory reply ≡ false → (reply ≡ Pending → ⊥) → Replied meld alone name asked old before reply new after
-      → Answered meld alone name asked old before reply new after
+  pub answered_by : (reply : Reply P) → wants_memory reply ≡ false → (reply ≡ Pending → ⊥) → Linearizes meld alone asked (local old (view_of name before)) reply (local new (view_of name after))
+      → Answered meld alone asked (local old (view_of name before)) reply (local new (view_of name after))
   answered_by reply none other calls =
-      record { ends = inr (subst (λ b. RepliedAs meld alone name asked old before reply b new after) (sym none) calls); pending = λ is. absurd (other is) }
+      record { ends = inr (subst (λ b. RepliedAs meld alone asked (local old (view_of name before)) reply b (local new (view_of name after))) (sym none) calls); pending = λ is. absurd (other is) }
 
 module _ {P : Type 0} (meld : P → P → P) (alone : Bool) (name : Name) (asked : Call P) (old : Record) (before : Sight P) (mid : Record) (now : Sight P)
-    (j : JustLooked meld alone name asked old before mid now) (of : IsOf meld name now) where
+    (j : JustLooked meld alone asked (local old (view_of name before)) (local mid (view_of name now))) (of : IsView meld (view_of name now)) where
   pub just_fits : Fits meld name.limits now.seen mid
   just_fits = looked_fits meld alone name before now j.onward old mid of j.fits j.looked
 
   -- on a communicator that the rank doesn't hold
-  pub just_missing : held_at mid (comm_of asked) ≡ None → Answered meld alone name asked old before (Refused NoSuchComm) mid now
+  pub just_missing : held_at mid (comm_of asked) ≡ None → Answered meld alone asked (local old (view_of name before)) (Refused NoSuchComm) (local mid (view_of name now))
   just_missing missing = answered_by meld alone name asked old before mid now (Refused NoSuchComm) refl (λ is. absurd (cc is))
       (calls_missing meld alone name before now j.onward asked old mid of j.fits j.looked missing)
 
@@ -101,7 +103,7 @@ module _ {P : Type 0} (meld : P → P → P) (alone : Bool) (name : Name) (asked
 
     -- the record refuses the call
     pub just_refused : (refusal : Refusal) → first_refusal (tests_of mid x asked) ≡ Some refusal
-        → Answered meld alone name asked old before (Refused refusal) mid now
+        → Answered meld alone asked (local old (view_of name before)) (Refused refusal) (local mid (view_of name now))
     just_refused refusal is =
         let mild = mild_first (tests_of mid x asked) refusal (mild_tests mid x asked) is in
         let first : first_refusal (tests_of old x asked) ≡ Some refusal = sym (ap first_refusal tests_before) ∙ is in
@@ -114,7 +116,7 @@ module _ {P : Type 0} (meld : P → P → P) (alone : Bool) (name : Name) (asked
         (λ polls. ap₂ (λ (b : Bool) h. if b then request_of h else None) polls at ∙ idle_poll mid x asked refusal polls is)))
 
     -- it doesn't
-    abbrev pub just_passed : first_refusal (tests_of mid x asked) ≡ None → HasLooked meld name.limits alone asked old before.seen mid now.seen
+    abbrev pub just_passed : first_refusal (tests_of mid x asked) ≡ None → HasLooked (frame meld name.limits alone) asked (moment old before.seen) (moment mid now.seen)
     just_passed is =
         record {
           look = now.seen;
@@ -128,10 +130,10 @@ module _ {P : Type 0} (meld : P → P → P) (alone : Bool) (name : Name) (asked
         }
 
 module _ {P : Type 0} (meld : P → P → P) (alone : Bool) (name : Name) (rank c : ℕ) (old : Record) (before : Sight P) (mid : Record) (now : Sight P)
-    (of : IsOf meld name now) (x : Held) (held : held_at mid c ≡ Some x) where
+    (of : IsView meld (view_of name now)) (x : Held) (held : held_at mid c ≡ Some x) where
   -- so many ranks have failed
-  pub just_counted : (n : ℕ) → n ≡ length (filter (has x.group) mid.seen) → JustLooked meld alone name (call.GetFailed rank c) old before mid now
-      → Answered meld alone name (call.GetFailed rank c) old before (FailedGroup n) mid now
+  pub just_counted : (n : ℕ) → n ≡ length (filter (has x.group) mid.seen) → JustLooked meld alone (call.GetFailed rank c) (local old (view_of name before)) (local mid (view_of name now))
+      → Answered meld alone (call.GetFailed rank c) (local old (view_of name before)) (FailedGroup n) (local mid (view_of name now))
   just_counted n is j =
       answered_by meld alone name (call.GetFailed rank c) old before mid now (FailedGroup n) refl (λ same. absurd (cc same))
       (calls_is meld alone name before now j.onward (call.GetFailed rank c) old (FailedGroup n) mid of j.fits
@@ -141,8 +143,8 @@ module _ {P : Type 0} (meld : P → P → P) (alone : Bool) (name : Name) (rank 
 
   -- so many are acknowledged
   pub just_acked : (count n : ℕ) (new : Record) → n ≡ max x.acked (min count (length (filter (has x.group) mid.seen)))
-      → new ≡ with_held mid c (λ y. record y { acked = n }) → JustLooked meld alone name (call.Ack rank c count) old before mid now
-      → Answered meld alone name (call.Ack rank c count) old before (Acked n) new now
+      → new ≡ with_held mid c (λ y. record y { acked = n }) → JustLooked meld alone (call.Ack rank c count) (local old (view_of name before)) (local mid (view_of name now))
+      → Answered meld alone (call.Ack rank c count) (local old (view_of name before)) (Acked n) (local new (view_of name now))
   just_acked count n new is left j =
       answered_by meld alone name (call.Ack rank c count) old before new now (Acked n) refl (λ same. absurd (cc same))
       (calls_is meld alone name before now j.onward (call.Ack rank c count) old (Acked n) new of j.fits
@@ -152,8 +154,8 @@ module _ {P : Type 0} (meld : P → P → P) (alone : Bool) (name : Name) (rank 
 
   -- the communicator is given back
   pub just_freed : (new : Record) → first_refusal (tests_of {P = P} mid x (call.Free rank c)) ≡ None
-      → new ≡ record mid { held = filter (λ y. not (y.comm == c)) mid.held } → JustLooked meld alone name (call.Free rank c) old before mid now
-      → Answered meld alone name (call.Free rank c) old before Freed new now
+      → new ≡ record mid { held = filter (λ y. not (y.comm == c)) mid.held } → JustLooked meld alone (call.Free rank c) (local old (view_of name before)) (local mid (view_of name now))
+      → Answered meld alone (call.Free rank c) (local old (view_of name before)) Freed (local new (view_of name now))
   just_freed new passed left j =
       answered_by meld alone name (call.Free rank c) old before new now Freed refl (λ same. absurd (cc same))
       (calls_freed meld alone name before now j.onward rank c old mid new of j.fits j.looked x held
@@ -161,9 +163,9 @@ module _ {P : Type 0} (meld : P → P → P) (alone : Bool) (name : Name) (rank 
 
 -- a rank that its look finds declared
 pub just_declared : {P : Type 0} (meld : P → P → P) (alone : Bool) (name : Name) (asked : Call P) (old : Record) (before : Sight P) (new : Record)
-    (now : Sight P) → before.steps ≤ now.steps → IsOf meld name now → Fits meld name.limits before.seen old → old.refused ≡ false
+    (now : Sight P) → before.steps ≤ now.steps → IsView meld (view_of name now) → Fits meld name.limits before.seen old → old.refused ≡ false
     → Did alone [] before.seen now.seen → IsTrue (has (failures now.seen) old.number) → new ≡ record old { seen = failures now.seen; refused = true }
-    → Answered meld alone name asked old before (Refused SelfFailed) new now
+    → Answered meld alone asked (local old (view_of name before)) (Refused SelfFailed) (local new (view_of name now))
 just_declared meld alone name asked old before new now onward of fits in_use did declared is =
     answered_by meld alone name asked old before new now (Refused SelfFailed) refl (λ same. absurd (cc same))
     (calls_declared meld alone name before now onward asked old new of fits in_use did declared is)
@@ -205,7 +207,7 @@ starts_shrink {P} asked rank c own mid seen x round ids is mid_is free at =
 -- a call that begins has seen what is a beginning of the list of failures
 begun_seen : {P : Type 0} (meld : P → P → P) (alone : Bool) (name : Name) (asked : Call P) (old : Record) (before : Sight P) (group : List ℕ) (own : Record)
     (now : Sight P)
-    → Stands meld alone name old before (record { asked = asked; phase = Begun; group = group }) own now → IsPrefix own.seen (failures now.seen)
+    → Stands meld alone (local old (view_of name before)) (record { asked = asked; phase = Begun; group = group }) (local own (view_of name now)) → IsPrefix own.seen (failures now.seen)
 begun_seen meld alone name asked old before group own now u =
     let grown = failures_begin before.seen now.seen (did_prefix alone [] before.seen now.seen u.at.2) in
     subst (λ (w : Record). IsPrefix w.seen (failures now.seen)) (sym u.at.1) (prefix_trans old.seen (failures before.seen)
@@ -213,8 +215,8 @@ begun_seen meld alone name asked old before group own now u =
 
 -- that is all ranks, at most
 pub begun_within : {P : Type 0} (meld : P → P → P) (alone : Bool) (name : Name) (asked : Call P) (old : Record) (before : Sight P) (group : List ℕ)
-    (own : Record) (now : Sight P) → IsOf meld name now
-    → Stands meld alone name old before (record { asked = asked; phase = Begun; group = group }) own now → length own.seen ≤ name.limits.ranks
+    (own : Record) (now : Sight P) → IsView meld (view_of name now)
+    → Stands meld alone (local old (view_of name before)) (record { asked = asked; phase = Begun; group = group }) (local own (view_of name now)) → length own.seen ≤ name.limits.ranks
 begun_within meld alone name asked old before group own now of u =
     omega (
       arith,
@@ -225,10 +227,10 @@ begun_within meld alone name asked old before group own now of u =
 
 -- a look begins behind what was seen, or at the last of all ranks
 pub begins_looking : {P : Type 0} (meld : P → P → P) (alone : Bool) (name : Name) (asked : Call P) (old : Record) (before : Sight P) (group : List ℕ)
-    (own new : Record) (now : Sight P) → IsOf meld name now
+    (own new : Record) (now : Sight P) → IsView meld (view_of name now)
     → new ≡ record own { seen = take (own.limits.ranks - 1) own.seen }
-    → Stands meld alone name old before (record { asked = asked; phase = Begun; group = group }) own now
-    → Stands meld alone name old before (record { asked = asked; phase = Looking; group = group }) new now
+    → Stands meld alone (local old (view_of name before)) (record { asked = asked; phase = Begun; group = group }) (local own (view_of name now))
+    → Stands meld alone (local old (view_of name before)) (record { asked = asked; phase = Looking; group = group }) (local new (view_of name now))
 begins_looking meld alone name asked old before group own new now of is u =
     let n = own.limits.ranks - 1 in
     let some : 0 < name.limits.ranks = omega (arith, of.may_open.in_range.some_ranks) in
@@ -253,7 +255,7 @@ begins_looking meld alone name asked old before group own new now of is u =
     }
 
 -- a rank that has seen as many failures as there are ranks has seen them all
-pub full_seen : {P : Type 0} (meld : P → P → P) (name : Name) (own : Record) (now : Sight P) → IsOf meld name now → Fits meld name.limits now.seen own
+pub full_seen : {P : Type 0} (meld : P → P → P) (name : Name) (own : Record) (now : Sight P) → IsView meld (view_of name now) → Fits meld name.limits now.seen own
     → length own.seen ≡ own.limits.ranks → own.seen ≡ failures now.seen
 full_seen meld name own now of fits full =
     let ranks : own.limits.ranks ≡ name.limits.ranks = ap (λ l. l.ranks) fits.same_limits in
@@ -261,10 +263,10 @@ full_seen meld name own now of fits full =
     full_found own.seen (failures now.seen) fits.seen (omega (arith, few, full, ranks))
 
 -- a rank that has seen all ranks declared is one of them
-pub has_seen_all : {P : Type 0} (meld : P → P → P) (alone : Bool) (name : Name) (asked : Call P) (own new : Record) (now : Sight P) → IsOf meld name now
+pub has_seen_all : {P : Type 0} (meld : P → P → P) (alone : Bool) (name : Name) (asked : Call P) (own new : Record) (now : Sight P) → IsView meld (view_of name now)
     → Fits meld name.limits now.seen own → own.refused ≡ false
     → own.number < own.limits.ranks → length own.seen ≡ own.limits.ranks → new ≡ record own { refused = true }
-    → Replied meld alone name asked own now (Refused SelfFailed) new now
+    → Linearizes meld alone asked (local own (view_of name now)) (Refused SelfFailed) (local new (view_of name now))
 has_seen_all meld alone name asked own new now of fits in_use below full is =
     let ranks : own.limits.ranks ≡ name.limits.ranks = ap (λ l. l.ranks) fits.same_limits in
     let all = full_seen meld name own now of fits full in
@@ -274,7 +276,7 @@ has_seen_all meld alone name asked own new now of fits in_use below full is =
     (is ∙ ap (λ s. record own { seen = s; refused = true }) all)
 
 -- one that hasn't has a place left to load
-pub has_place_left : {P : Type 0} (meld : P → P → P) (name : Name) (own : Record) (now : Sight P) → IsOf meld name now → Fits meld name.limits now.seen own
+pub has_place_left : {P : Type 0} (meld : P → P → P) (name : Name) (own : Record) (now : Sight P) → IsView meld (view_of name now) → Fits meld name.limits now.seen own
     → (length own.seen == own.limits.ranks) ≡ false → length own.seen < name.limits.ranks
 has_place_left meld name own now of fits e =
     let ranks : own.limits.ranks ≡ name.limits.ranks = ap (λ l. l.ranks) fits.same_limits in

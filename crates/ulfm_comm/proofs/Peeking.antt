@@ -8,16 +8,22 @@ use Rattle.ulfm_model.specs.declared.{call.Call.{Call}, limits.Limits.{Limits}}
 use Rattle.ulfm_model.specs.{Answers.{traits_of}, Blocks.{IsSide, IsSummed}, History.{History, IsLegal, failures, has, slot}}
 use Rattle.ulfm_model.specs.{Records.{Fits, Held, Record, held_at}, Runs.{Did}, Terms.{comm_of}}
 use Rattle.ulfm_model.proofs.{Lists.{each_from, filter_none}, OnlyReply.{all_member}, Stable.{fits_stays}}
-use Rattle.ulfm_words.specs.{Steps.{IsOf, Name, Sight}, declared.step.Site.{Site}}
+use Rattle.ulfm_model.specs.Records.{moment}
+use Rattle.ulfm_words.specs.{Steps.{IsView, Name, Sight}, declared.step.Site.{Site}}
 use Rattle.ulfm_words.proofs.Trails.{did_none, did_prefix, did_quiet, did_wait}
+use Rattle.ulfm_words.specs.Steps.{view_of}
 use Rattle.ulfm_steps.specs.declared.{mark_all.MarkAll.{MarkAll}, blocks.Peek.{Peek}, blocks.ReadBlocks.{ReadBlocks}}
-use Rattle.ulfm_steps.specs.{Blocks.{AreOf, MayPeek, block_at, is_whole, starts_at}, Marks.{IsAt, Marks, members_in}, Rounds.{IsRoundOf}, Turns.{IsStepAt}}
+use Rattle.ulfm_steps.specs.{Blocks.{BothTell, MayPeek, block_at, is_whole, starts_at}, Marks.{IsAt, Marks, members_in}, Rounds.{IsRoundOf}, Turns.{IsStepAt}}
 use Rattle.ulfm_steps.proofs.{InBlocks.{few_members}, Groups.{members_rise}, Marking.{marks_none}}
-use Rattle.ulfm_comm.specs.{Polls.{HasMarked}, Requests.{agreement}, Phase.{Stands, next_step}, StepsLeft.{MakesStep}}
+use Rattle.ulfm_steps.specs.Turns.{running}
+use Rattle.ulfm_steps.specs.Among.{among}
+use Rattle.ulfm_comm.specs.{Polls.{PollHasMarked}, Requests.{agreement}, Phase.{Stands, next_step}, StepsLeft.{MakesStep}}
 use Rattle.ulfm_comm.specs.Agreement.{HasPeeked, HasReadAll, IsMarking, IsPeeking}
 use Rattle.ulfm_comm.specs.declared.phases.phase.Phase.TheVariants.{Marking, Peeking, Reading}
 use Rattle.ulfm_comm.proofs.{Agreement.{all_in, reading_begins, some_member}, AmongOthers.{did_loosely}, Holding.{exists_is, group_is, holds, same_held}}
 use Rattle.ulfm_comm.proofs.Polls.{open_round}
+use Rattle.ulfm_comm.specs.Local.{frame, local}
+use Rattle.ulfm_comm.specs.Requests.{agreeing}
 
 -- where all members are settled, so are those among these ranks
 members_settled : (p : ℕ → Bool) (group declared : List ℕ) → list_all p group ≡ true → AllByRecursion (λ r. IsTrue (p r)) (filter (has group) declared)
@@ -49,7 +55,7 @@ settled_marks {P} alone number c k group declared look now did each =
     }
 
 module _ {P : Type 0} (meld : P → P → P) (limits : Limits) (alone : Bool) (c : ℕ) (shrinks : Bool) (peek : Peek P) (old : Record) (before : History P)
-    (own : Record) (now : History P) (p : IsPeeking meld limits alone c shrinks peek old before own now) where
+    (own : Record) (now : History P) (p : IsPeeking (frame meld limits alone) c shrinks peek (moment old before) (moment own now)) where
   -- the round is one of the members' that the rank holds
   peeking_round : IsLegal meld limits now → IsRoundOf limits now peek.comm peek.round p.x.group
   peeking_round legal =
@@ -64,8 +70,8 @@ module _ {P : Type 0} (meld : P → P → P) (limits : Limits) (alone : Bool) (c
 
   -- after a further load
   peeking_on : (quiet : Bool) → (IsTrue alone → IsTrue quiet) → (after : History P) → Did quiet [] now after → (next : Peek P) → next.comm ≡ peek.comm
-      → next.round ≡ peek.round → AreOf meld after next.comm next.round p.x.group next.blocks
-      → IsPeeking meld limits alone c shrinks next old before own after
+      → next.round ≡ peek.round → BothTell meld after next.comm next.round p.x.group next.blocks
+      → IsPeeking (frame meld limits alone) c shrinks next (moment old before) (moment own after)
   peeking_on quiet only after did next comm round are =
       record {
         look = p.look;
@@ -82,7 +88,7 @@ module _ {P : Type 0} (meld : P → P → P) (limits : Limits) (alone : Bool) (c
 
   -- where all members are settled, no mark is due
   peeking_marked : IsLegal meld limits now → (all : Summary P) → IsSummed meld now c peek.round p.x.group all
-      → HasMarked meld limits alone c shrinks peek.round p.x old before own now
+      → PollHasMarked (frame meld limits alone) c (agreeing shrinks peek.round) p.x (moment old before) (moment own now)
   peeking_marked legal all read =
       record {
         look = p.look;
@@ -98,10 +104,10 @@ module _ {P : Type 0} (meld : P → P → P) (limits : Limits) (alone : Bool) (c
 
 -- a call that loads its round's blocks, by what the code knows of the communicator
 module _ {P : Type 0} (meld : P → P → P) (name : Name) (asked : Call P) (peek : Peek P) (shrinks : Bool) (group : List ℕ) (own : Record) (now : Sight P)
-    (of : IsOf meld name now) (y : Held) (w : ℕ) (found : held_at own w ≡ Some y) (w_is : w ≡ comm_of asked)
+    (of : IsView meld (view_of name now)) (y : Held) (w : ℕ) (found : held_at own w ≡ Some y) (w_is : w ≡ comm_of asked)
     (members : List ℕ) (members_are : members ≡ y.group) (alone : Bool) (old : Record) (before : Sight P)
-    (st : Stands meld alone name old before (record { asked = asked; phase = Peeking peek shrinks; group = group }) own now) where
-  abbrev peeking : IsPeeking meld name.limits alone (comm_of asked) shrinks peek old before.seen own now.seen
+    (st : Stands meld alone (local old (view_of name before)) (record { asked = asked; phase = Peeking peek shrinks; group = group }) (local own (view_of name now))) where
+  abbrev peeking : IsPeeking (frame meld name.limits alone) (comm_of asked) shrinks peek (moment old before.seen) (moment own now.seen)
   peeking = st.at.1
 
   peek_same : members ≡ peeking.x.group
@@ -112,13 +118,13 @@ module _ {P : Type 0} (meld : P → P → P) (name : Name) (asked : Call P) (pee
       (peeking_round meld name.limits alone (comm_of asked) shrinks peek old before.seen own now.seen peeking of.legal)
 
   -- the next one may be loaded
-  pub peek_may : MayPeek meld name members peek now
+  pub peek_may : MayPeek meld members (running peek (view_of name now))
   peek_may =
       record {
         of = of;
         round = peek_round;
         some = subst (IsSide peek.side) (sym peek_same) st.at.2;
-        are = subst (λ ms. AreOf meld now.seen peek.comm peek.round ms peek.blocks) (sym peek_same) peeking.are;
+        are = subst (λ ms. BothTell meld now.seen peek.comm peek.round ms peek.blocks) (sym peek_same) peeking.are;
       }
 
   pub peek_few : length members ≤ 1024
@@ -129,21 +135,20 @@ module _ {P : Type 0} (meld : P → P → P) (name : Name) (asked : Call P) (pee
       (holds meld name.limits peeking.look own (comm_of asked) peeking.x peeking.fits peeking.held).member)
 
   -- after a further load
-  module _ (quiet : Bool) (only : IsTrue alone → IsTrue quiet) (after : Sight P) (later : IsOf meld name after) (did : Did quiet [] now.seen after.seen)
+  module _ (quiet : Bool) (only : IsTrue alone → IsTrue quiet) (after : Sight P) (later : IsView meld (view_of name after)) (did : Did quiet [] now.seen after.seen)
       (steps : now.steps ≤ after.steps) (next : Peek P) (comm : next.comm ≡ peek.comm)
-      (round : next.round ≡ peek.round) (are : AreOf meld after.seen peek.comm peek.round members next.blocks) where
-    are_there : AreOf meld after.seen next.comm next.round peeking.x.group next.blocks
+      (round : next.round ≡ peek.round) (are : BothTell meld after.seen peek.comm peek.round members next.blocks) where
+    are_there : BothTell meld after.seen next.comm next.round peeking.x.group next.blocks
     are_there =
-        subst (λ c. AreOf meld after.seen c next.round peeking.x.group next.blocks) (sym comm)
-        (subst (λ k. AreOf meld after.seen peek.comm k peeking.x.group next.blocks) (sym round)
-        (subst (λ ms. AreOf meld after.seen peek.comm peek.round ms next.blocks) peek_same are))
+        subst (λ c. BothTell meld after.seen c next.round peeking.x.group next.blocks) (sym comm)
+        (subst (λ k. BothTell meld after.seen peek.comm k peeking.x.group next.blocks) (sym round)
+        (subst (λ ms. BothTell meld after.seen peek.comm peek.round ms next.blocks) peek_same are))
 
-    abbrev on : IsPeeking meld name.limits alone (comm_of asked) shrinks next old before.seen own after.seen
+    abbrev on : IsPeeking (frame meld name.limits alone) (comm_of asked) shrinks next (moment old before.seen) (moment own after.seen)
     on = peeking_on meld name.limits alone (comm_of asked) shrinks peek old before.seen own now.seen peeking quiet only after.seen did next comm round are_there
 
     -- one more is left
-    pub peek_goes : IsSide next.side members → Stands meld alone name old before (record { asked = asked; phase = Peeking next shrinks; group = group }) own
-        after
+    pub peek_goes : IsSide next.side members → Stands meld alone (local old (view_of name before)) (record { asked = asked; phase = Peeking next shrinks; group = group }) (local own (view_of name after))
     unfolding peeking_on
     peek_goes more = record {
       fits = st.fits;
@@ -153,7 +158,7 @@ module _ {P : Type 0} (meld : P → P → P) (name : Name) (asked : Call P) (pee
     }
 
     -- not all were set
-    pub peek_unread : is_whole next.blocks (length members) ≡ false → HasPeeked meld alone name asked shrinks next old before own after
+    pub peek_unread : is_whole next.blocks (length members) ≡ false → HasPeeked meld alone asked shrinks next (local old (view_of name before)) (local own (view_of name after))
     unfolding peeking_on
     peek_unread unknown = record {
       fits = st.fits;
@@ -165,7 +170,7 @@ module _ {P : Type 0} (meld : P → P → P) (name : Name) (asked : Call P) (pee
 
     -- all were: this is what they say
     pub peek_ends : (all : Summary P) → IsSummed meld after.seen peek.comm peek.round members all
-        → HasReadAll meld alone name asked shrinks next.round all old before own after
+        → HasReadAll meld alone asked (agreeing shrinks next.round) all (local old (view_of name before)) (local own (view_of name after))
     unfolding peeking_on
     peek_ends all said =
         let there : IsSummed meld after.seen (comm_of asked) next.round peeking.x.group all =
@@ -193,11 +198,11 @@ peek_named peek shrinks rank c old new there one = (
 
 -- not all blocks were set: what comes next, by what the code knows of the communicator
 module _ {P : Type 0} (meld : P → P → P) (alone : Bool) (name : Name) (asked : Call P) (shrinks : Bool) (peek : Peek P) (old : Record) (before : Sight P)
-    (own : Record) (now : Sight P) (of : IsOf meld name now)
-    (h : HasPeeked meld alone name asked shrinks peek old before own now) (group : List ℕ) (y : Held) (w : ℕ) (found : held_at own w ≡ Some y)
+    (own : Record) (now : Sight P) (of : IsView meld (view_of name now))
+    (h : HasPeeked meld alone asked shrinks peek (local old (view_of name before)) (local own (view_of name now))) (group : List ℕ) (y : Held) (w : ℕ) (found : held_at own w ≡ Some y)
     (w_is : w ≡ comm_of asked) (members declared : List ℕ) (members_are : members ≡ y.group)
     (declared_are : declared ≡ own.seen) where
-  abbrev p : IsPeeking meld name.limits alone (comm_of asked) shrinks peek old before.seen own now.seen
+  abbrev p : IsPeeking (frame meld name.limits alone) (comm_of asked) shrinks peek (moment old before.seen) (moment own now.seen)
   p = h.peeked
 
   unread_same : members ≡ p.x.group
@@ -238,10 +243,10 @@ module _ {P : Type 0} (meld : P → P → P) (alone : Bool) (name : Name) (asked
 
     -- a declared member is marked
     pub unread_marking : (n : ℕ) → marks.rank ≡ n → n ≡ own.number → marks.comm ≡ w → marks.round ≡ peek.round → marks.next < length declared
-        → Stands meld alone name old before (record { asked = asked; phase = Marking marks peek.blocks shrinks; group = group }) own now
+        → Stands meld alone (local old (view_of name before)) (record { asked = asked; phase = Marking marks peek.blocks shrinks; group = group }) (local own (view_of name now))
     unread_marking n rank_is n_is there round more =
         let here : marks.comm ≡ comm_of asked = there ∙ w_is in
-        let marking : IsMarking meld name.limits alone (comm_of asked) shrinks marks peek.blocks old before.seen own now.seen =
+        let marking : IsMarking (frame meld name.limits alone) (comm_of asked) shrinks marks peek.blocks (moment old before.seen) (moment own now.seen) =
         record {
           look = p.look;
           looked = p.looked;
@@ -257,8 +262,8 @@ module _ {P : Type 0} (meld : P → P → P) (alone : Bool) (name : Name) (asked
           has_marked = subst (λ rs. Marks alone old.number (comm_of asked) marks.round rs p.look p.look) (sym none_yet)
               (marks_none alone old.number (comm_of asked) marks.round p.look);
           waited = p.waited;
-          are = subst (λ c. AreOf meld now.seen c marks.round p.x.group peek.blocks) (p.there ∙ sym here)
-              (subst (λ k. AreOf meld now.seen peek.comm k p.x.group peek.blocks) (sym round) p.are);
+          are = subst (λ c. BothTell meld now.seen c marks.round p.x.group peek.blocks) (p.there ∙ sym here)
+              (subst (λ k. BothTell meld now.seen peek.comm k p.x.group peek.blocks) (sym round) p.are);
           unknown = h.unknown;
         } in
         record {
@@ -271,11 +276,11 @@ module _ {P : Type 0} (meld : P → P → P) (alone : Bool) (name : Name) (asked
     -- or, where there is none, the blocks are read
     pub unread_reading : (reading : ReadBlocks P) (size : ℕ) → reading ≡ starts_at w peek.round peek.blocks size → size ≡ length members
         → length declared ≤ marks.next
-        → Stands meld alone name old before (record { asked = asked; phase = Reading reading shrinks; group = group }) own now
+        → Stands meld alone (local old (view_of name before)) (record { asked = asked; phase = Reading reading shrinks; group = group }) (local own (view_of name now))
     unread_reading reading size is size_is past =
         let nobody : filter (has p.x.group) fs ≡ [] = sym (all_in p.x.group fs marks.next at_look.within (subst (λ s. length s ≤ marks.next) seen_are past))
         ∙ none_yet in
-        let marked : HasMarked meld name.limits alone (comm_of asked) shrinks peek.round p.x old before.seen own now.seen =
+        let marked : PollHasMarked (frame meld name.limits alone) (comm_of asked) (agreeing shrinks peek.round) p.x (moment old before.seen) (moment own now.seen) =
         record {
           look = p.look;
           looked = p.looked;
@@ -288,7 +293,7 @@ module _ {P : Type 0} (meld : P → P → P) (alone : Bool) (name : Name) (asked
           waited = p.waited;
           legal = of.legal;
         } in
-        let are : AreOf meld now.seen w peek.round p.x.group peek.blocks = subst (λ c. AreOf meld now.seen c peek.round p.x.group peek.blocks)
+        let are : BothTell meld now.seen w peek.round p.x.group peek.blocks = subst (λ c. BothTell meld now.seen c peek.round p.x.group peek.blocks)
         (p.there ∙ sym w_is) p.are in
         record {
           fits = h.fits;

@@ -13,7 +13,7 @@ use Rattle.ulfm_model.specs.declared.{call.Call.{Call}, call.Request.{Request}, 
 use Rattle.ulfm_model.specs.declared.{contribution.Contribution.{Contribution}, contribution.Slot.TheVariants.{Given}, event.Caller.TheVariants.{Rank}}
 use Rattle.ulfm_model.specs.declared.{event.Event.{Event}, event.Event.TheVariants.{Fail, Settle, Mark, Arrive, Revoke, Spawn}, limits.Limits.{Limits}}
 use Rattle.ulfm_model.specs.declared.{refusal.Refusal.TheVariants.{Idle, Mismatch}, reply.Reply.{Reply}, reply.Reply.TheVariants.{Agreed, Pending, Refused}}
-use Rattle.ulfm_model.specs.Answers.{AgreeReplies, IsPending, MarksDeclared, PollAdds, PollReplies, Sees, View, closed, first_refusal, left_by, polled_by}
+use Rattle.ulfm_model.specs.Answers.{AgreeReplies, IsPending, MarksDeclared, PollAdds, PollReplies, Sees, AtPoint, closed, first_refusal, left_by, polled_by}
 use Rattle.ulfm_model.specs.Answers.{refusal_of, refusal_on}
 use Rattle.ulfm_model.specs.History.{Decision, History, IsLegal, body_of, decision, entries_by, failed, failures, has, is_decided, known_of, members, round}
 use Rattle.ulfm_model.specs.History.{round_among, slot}
@@ -24,9 +24,12 @@ use Rattle.ulfm_model.proofs.{Lists.{at_member, each_filter_map, each_from, has_
 use Rattle.ulfm_model.proofs.{Stable.{decision_is, fits_stays}, StepsRounds.{IsFlagged, IsMasked, IsSort, given_stands, offered}}
 use Rattle.ulfm_words.proofs.Trails.{did_prefix, did_quiet, did_wait}
 use Rattle.ulfm_model.specs.Blocks.{IsSummed}
+use Rattle.ulfm_model.specs.Records.{moment}
 use Rattle.ulfm_steps.specs.Marks.{IsMarkOf}
-use Rattle.ulfm_comm.specs.{Ends.{IsEndRun}, Polls.{HasMarked}, Requests.{agreement}}
+use Rattle.ulfm_comm.specs.{Ends.{IsEndRun}, Polls.{PollHasMarked}, Requests.{agreement}}
 use Rattle.ulfm_comm.proofs.{Holding.{comm_is, failed_is, group_is, holds}, WholeCall.{held_before, replied}}
+use Rattle.ulfm_comm.specs.Local.{frame}
+use Rattle.ulfm_comm.specs.Requests.{agreeing}
 
 -- a body that is a flag or a clash, and no flag
 pub clash_is : {P : Type 0} (body : Body P) → IsFlagged body → ((flag : P) → body ≡ OfFlags flag → ⊥) → body ≡ Clash
@@ -157,7 +160,7 @@ marks_added look x k false event marks = marks
 marks_added look x k true event marks = inl marks
 
 -- both are pending alike
-pending_replies : {P : Type 0} (meld : P → P → P) (limits : Limits) (view : View P) (r : ℕ) (x : Held) (k : ℕ) (shrinks : Bool) → IsPending view x k
+pending_replies : {P : Type 0} (meld : P → P → P) (limits : Limits) (view : AtPoint P) (r : ℕ) (x : Held) (k : ℕ) (shrinks : Bool) → IsPending view x k
     → PollReplies meld limits view r x (Some (agreement shrinks k)) Pending
 pending_replies meld limits view r x k false pending = inl (pending, refl)
 pending_replies meld limits view r x k true pending = inl (pending, refl)
@@ -175,7 +178,7 @@ sees_begin look after seen false k is = ([], append-nil look ∙ sym is)
 sees_begin look after seen true k is = is.0
 
 module _ {P : Type 0} (meld : P → P → P) (limits : Limits) (alone : Bool) (before : History P) (old mid : Record) (c : ℕ) (shrinks : Bool) (k : ℕ) (x : Held)
-    (after : History P) (p : HasMarked meld limits alone c shrinks k x old before mid after) where
+    (after : History P) (p : PollHasMarked (frame meld limits alone) c (agreeing shrinks k) x (moment old before) (moment mid after)) where
   abbrev pub asked : Call P
   asked = call.Poll old.number c
 
@@ -212,9 +215,9 @@ module _ {P : Type 0} (meld : P → P → P) (limits : Limits) (alone : Bool) (b
 
   pub answered : (reply : Reply P) (new : Record) → PollReplies meld limits (record { look = failures p.look; history = after; own = p.marks.own }) old.number x
       (Some (agreement shrinks k)) reply
-      → new ≡ left_by limits.ranks after mid asked reply → IsEndRun meld limits alone before after old asked reply new
+      → new ≡ left_by limits.ranks after mid asked reply → IsEndRun meld limits alone (moment old before) asked reply (moment new after)
   answered reply new replies left =
-      let view : View P = record { look = failures p.look; history = after; own = p.marks.own } in
+      let view : AtPoint P = record { look = failures p.look; history = after; own = p.marks.own } in
       replied meld limits alone before p.look old mid p.looked after p.marks.own asked reply new x whole p.legal held_first not_refused
       (subst (λ request. AllByRecursion (PollAdds (failures p.look) x request) p.marks.own) (sym p.open_is) declared)
       (subst (λ request. PollReplies meld limits view old.number x request reply) (sym p.open_is) replies) left
@@ -233,7 +236,7 @@ module _ {P : Type 0} (meld : P → P → P) (limits : Limits) (alone : Bool) (b
 
   -- nor did the look of such a run find it
   pub not_found : (member : ℕ) (reply : Reply P) (new : Record) → IsFalse (has (failures p.look) member) → new ≡ mid
-      → (run : IsRun meld limits alone before after old asked reply new) → IsFalse (has (failures run.span.look) member)
+      → (run : IsRun meld limits alone (moment old before) asked reply (moment new after)) → IsFalse (has (failures run.span.look) member)
   not_found member reply new alive is run = by_look (has (failures run.span.look) member) refl
     where
       by_look : (b : Bool) → has (failures run.span.look) member ≡ b → has (failures run.span.look) member ≡ false
@@ -247,9 +250,9 @@ module _ {P : Type 0} (meld : P → P → P) (limits : Limits) (alone : Bool) (b
 
   -- somebody who isn't known to have failed is missing
   pub poll_pending : (member : ℕ) (new : Record) → IsTrue (has x.group member) → slot after c k member ≡ None → new ≡ mid
-      → IsEndRun meld limits alone before after old asked Pending new
+      → IsEndRun meld limits alone (moment old before) asked Pending (moment new after)
   poll_pending member new in_group unsettled is =
-      let view : View P = record { look = failures p.look; history = after; own = p.marks.own } in
+      let view : AtPoint P = record { look = failures p.look; history = after; own = p.marks.own } in
       answered Pending new
       (pending_replies meld limits view old.number x k shrinks
       (record {
@@ -261,13 +264,13 @@ module _ {P : Type 0} (meld : P → P → P) (limits : Limits) (alone : Bool) (b
       is
 
 module _ {P : Type 0} (meld : P → P → P) (limits : Limits) (alone : Bool) (before : History P) (old mid : Record) (c k : ℕ) (x : Held) (after : History P)
-    (p : HasMarked meld limits alone c false k x old before mid after)
+    (p : PollHasMarked (frame meld limits alone) c (agreeing false k) x (moment old before) (moment mid after))
     (all : Summary P) (new : Record) (read : IsSummed meld after c k x.group all) where
   still : Fits meld limits after mid
   still = later meld limits alone before old mid c false k x after p
 
   decides : (reply : Reply P) → AgreeReplies (decision meld limits.ranks after c k) reply → new ≡ left_by limits.ranks after mid (call.Poll old.number c) reply
-      → IsEndRun meld limits alone before after old (call.Poll old.number c) reply new
+      → IsEndRun meld limits alone (moment old before) (call.Poll old.number c) reply (moment new after)
   decides reply replies left =
       let at = sym (comm_is meld limits p.look mid c x p.fits p.held) in
       answered meld limits alone before old mid c false k x after p reply new
@@ -278,8 +281,7 @@ module _ {P : Type 0} (meld : P → P → P) (limits : Limits) (alone : Bool) (b
       left
 
   -- the round is decided on a flag
-  pub poll_agreed : (value : P) → all.body ≡ OfFlags value → new ≡ closed mid c → IsEndRun meld limits alone before after old (call.Poll old.number c)
-      (Agreed value all.known.count (nat_lt all.acked.count all.known.count)) new
+  pub poll_agreed : (value : P) → all.body ≡ OfFlags value → new ≡ closed mid c → IsEndRun meld limits alone (moment old before) (call.Poll old.number c) (Agreed value all.known.count (nat_lt all.acked.count all.known.count)) (moment new after)
   poll_agreed value body is =
       let count = count_read meld limits after mid c k x p.legal still p.held all read in
       let raised = raised_read meld limits after mid c k x p.legal still p.held all read in
@@ -288,7 +290,7 @@ module _ {P : Type 0} (meld : P → P → P) (limits : Limits) (alone : Bool) (b
 
   -- it is decided, and some shrank
   pub poll_mismatch : ((flag : P) → all.body ≡ OfFlags flag → ⊥) → new ≡ closed mid c
-      → IsEndRun meld limits alone before after old (call.Poll old.number c) (Refused Mismatch) new
+      → IsEndRun meld limits alone (moment old before) (call.Poll old.number c) (Refused Mismatch) (moment new after)
   poll_mismatch other is =
       let clash = clash_is all.body (read_flagged meld limits after mid c k x p.legal still p.held all read p.open_is) other in
       decides (Refused Mismatch) (inr (body_read meld limits after mid c k x p.legal still p.held all read ∙ clash, refl)) is

@@ -6,10 +6,12 @@ use Rattle.ulfm_model.specs.declared.{event.Caller.TheVariants.{Rank}, event.Eve
 use Rattle.ulfm_model.specs.declared.reply.Reply.TheVariants.{AlreadyRevoked, Revoked, Standing}
 use Rattle.ulfm_model.specs.{History.{History, IsLegal, is_revoked}, Records.{Fits, Held, Record, held_at}, Runs.{Did}, Words.{MayOpen}}
 use Rattle.ulfm_model.proofs.Stable.{revoke_stays}
-use Rattle.ulfm_words.specs.{Steps.{IsAdded, IsOf, Name, Sight}, Tries.{MayEnd}}
+use Rattle.ulfm_words.specs.{Steps.{IsAdded, IsView, Name, Sight}, Tries.{MayEnd}}
 use Rattle.ulfm_words.proofs.{Growing.{revoked_stays}, Ranks.{spawns_below}, Trails.{did_added}}
-use Rattle.ulfm_comm.specs.{Calls.{Replied}, Look.{Looked}, Revokes.{revoked}}
+use Rattle.ulfm_words.specs.Steps.{view_of}
+use Rattle.ulfm_comm.specs.{Calls.{Linearizes}, Look.{Looked}, Revokes.{revoked}}
 use Rattle.ulfm_comm.proofs.{CallRuns.{calls_is}, Holding.{comm_is, exists_is}, WholeCall.{held_before, replied}, Refusals.{by_tests}}
+use Rattle.ulfm_comm.specs.Local.{local}
 
 -- a communicator that isn't revoked wasn't before
 pub standing_before : {P : Type 0} (h longer : History P) (c : ℕ) → IsPrefix h longer → is_revoked longer c ≡ false → is_revoked h c ≡ false
@@ -38,9 +40,9 @@ module _ {P : Type 0} (meld : P → P → P) (alone : Bool) (name : Name) (befor
     (old mid : Record) (fits : Fits meld name.limits before.seen old)
     (looked : Looked alone before.seen look.seen old mid) (now : Fits meld name.limits look.seen mid) (x : Held) (held : held_at mid c ≡ Some x) where
   -- the communicator is revoked, by this call or before
-  pub calls_revoked : (won : Bool) → IsOf meld name after → MatchBool won (IsAdded alone (record { by = Rank old.number; event = Revoke c }) look.seen
+  pub calls_revoked : (won : Bool) → IsView meld (view_of name after) → MatchBool won (IsAdded alone (record { by = Rank old.number; event = Revoke c }) look.seen
       after.seen) (Did alone [] look.seen after.seen) → IsTrue (is_revoked after.seen c)
-      → Replied meld alone name (call.Revoke rank c) old before (revoked won) mid after
+      → Linearizes meld alone (call.Revoke rank c) (local old (view_of name before)) (revoked won) (local mid (view_of name after))
   calls_revoked true of outcome stands =
       calls_is meld alone name before after onward (call.Revoke rank c) old Revoked mid of fits
       (replied meld name.limits alone before.seen look.seen old mid looked after.seen (Revoke c ∷ []) (call.Revoke rank c) Revoked mid x
@@ -56,8 +58,8 @@ module _ {P : Type 0} (meld : P → P → P) (alone : Bool) (name : Name) (befor
       tt (stands, inr (refl, refl)) refl (λ here polls. absurd (cc polls)))
 
   -- whether the communicator is revoked, at the end
-  pub calls_standing : (found : Bool) → IsOf meld name after → Did alone [] look.seen after.seen → found ≡ is_revoked after.seen c
-      → Replied meld alone name (call.IsRevoked rank c) old before (Standing found) mid after
+  pub calls_standing : (found : Bool) → IsView meld (view_of name after) → Did alone [] look.seen after.seen → found ≡ is_revoked after.seen c
+      → Linearizes meld alone (call.IsRevoked rank c) (local old (view_of name before)) (Standing found) (local mid (view_of name after))
   calls_standing found of did is =
       calls_is meld alone name before after onward (call.IsRevoked rank c) old (Standing found) mid of fits
       (replied meld name.limits alone before.seen look.seen old mid looked after.seen [] (call.IsRevoked rank c) (Standing found) mid x did of.legal

@@ -12,7 +12,7 @@ use Rattle.ulfm_model.specs.declared.{call.Call.{Call}, call.Request.TheVariants
 use Rattle.ulfm_model.specs.declared.{event.Caller.TheVariants.{Rank}, event.Event.{Event}, event.Event.TheVariants.{Fail, Settle, Mark, Arrive, Revoke, Spawn}}
 use Rattle.ulfm_model.specs.declared.{limits.Limits.{Limits}, refusal.Refusal.TheVariants.{Mismatch, NoContext, NoRoom, SelfFailed}, reply.Reply.{Reply}}
 use Rattle.ulfm_model.specs.declared.reply.Reply.TheVariants.{Refused, Shrunk}
-use Rattle.ulfm_model.specs.Answers.{IsReply, IsSelfFailed, MayOwn, PollAdds, PollReplies, RepliesBy, Sees, ShrinkReplies, View, closed, left_by, polled_by}
+use Rattle.ulfm_model.specs.Answers.{IsReply, IsSelfFailed, MayOwn, PollAdds, PollReplies, RepliesBy, Sees, ShrinkReplies, AtPoint, closed, left_by, polled_by}
 use Rattle.ulfm_model.specs.Answers.{refusal_of}
 use Rattle.ulfm_model.specs.History.{Decision, Exists, History, IsLegal, decision, entries_by, failed, failures, has, is_decided, is_made, members, says}
 use Rattle.ulfm_model.specs.History.{spawns, without}
@@ -22,14 +22,18 @@ use Rattle.ulfm_model.proofs.{Decisions.{decision_stays}, Histories.{failures_be
 use Rattle.ulfm_model.proofs.{Spawned.{members_of_spawned}, Stable.{failed_begins, fits_stays}, StepsRounds.{IsMasked}}
 use Rattle.ulfm_words.proofs.Trails.{did_after, did_more, did_prefix}
 use Rattle.ulfm_model.specs.Blocks.{IsSummed}
+use Rattle.ulfm_model.specs.Answers.{Replies}
+use Rattle.ulfm_model.specs.Records.{moment}
 use Rattle.ulfm_steps.specs.Marks.{IsMarkOf}
 use Rattle.ulfm_steps.specs.ReadsOn.{ReadsOn}
-use Rattle.ulfm_comm.specs.{Calls.{IsDecidedFor}, Ends.{IsEndRun}, Polls.{HasMarked}}
+use Rattle.ulfm_comm.specs.{Calls.{IsDecidedFor}, Ends.{IsEndRun}, Polls.{PollHasMarked}}
 use Rattle.ulfm_steps.proofs.ReadingOn.{take_begins}
 use Rattle.ulfm_comm.proofs.{LeftOut.{has_first, reached_first, without_among}, Holding.{comm_is, exists_is, failed_is, group_is}}
 use Rattle.ulfm_comm.proofs.Polls.{answered, body_read, declared, due, enough_read, group_read, held_first, later, not_refused, polls_it, read_decided}
 use Rattle.ulfm_comm.proofs.Polls.{read_masked, whole}
 use Rattle.ulfm_comm.proofs.WholeCall.{run_ends}
+use Rattle.ulfm_comm.specs.Local.{frame}
+use Rattle.ulfm_comm.specs.Requests.{agreeing}
 
 -- a body that is a mask or a clash, and no mask
 pub masked_clash : {P : Type 0} (body : Body P) → IsMasked body → ((mask : CtxMask) → body ≡ OfIds mask → ⊥) → body ≡ Clash
@@ -58,7 +62,7 @@ marks_make_none by c k ranks (Revoke comm ∷ own) all = absurd all.0
 marks_make_none by c k ranks (Spawn j comm round ∷ own) all = absurd all.0
 
 module _ {P : Type 0} (meld : P → P → P) (limits : Limits) (alone : Bool) (before : History P) (old mid : Record) (c k : ℕ) (x : Held) (h : History P)
-    (p : HasMarked meld limits alone c true k x old before mid h) (all : Summary P)
+    (p : PollHasMarked (frame meld limits alone) c (agreeing true k) x (moment old before) (moment mid h)) (all : Summary P)
     (read : IsSummed meld h c k x.group all) where
   abbrev poll : Call P
   poll = call.Poll old.number c
@@ -80,7 +84,7 @@ module _ {P : Type 0} (meld : P → P → P) (limits : Limits) (alone : Bool) (b
   here = comm_is meld limits h mid c x still p.held
 
   replied_here : (reply : Reply P) (new : Record) → ShrinkReplies limits h old.number c k (decision meld limits.ranks h c k) reply
-      → new ≡ left_by limits.ranks h mid poll reply → IsEndRun meld limits alone before h old poll reply new
+      → new ≡ left_by limits.ranks h mid poll reply → IsEndRun meld limits alone (moment old before) poll reply (moment new h)
   replied_here reply new replies left =
       answered meld limits alone before old mid c true k x h p reply new
       (inr (
@@ -91,14 +95,14 @@ module _ {P : Type 0} (meld : P → P → P) (limits : Limits) (alone : Bool) (b
 
   -- some agreed
   pub shrink_mismatch : (new : Record) → ((mask : CtxMask) → all.body ≡ OfIds mask → ⊥) → new ≡ closed mid c
-      → IsEndRun meld limits alone before h old poll (Refused Mismatch) new
+      → IsEndRun meld limits alone (moment old before) poll (Refused Mismatch) (moment new h)
   shrink_mismatch new other left =
       replied_here (Refused Mismatch) new (inr (body_read meld limits h mid c k x p.legal still p.held all read ∙ masked_clash all.body masked other, refl))
       left
 
   -- no context id is free at all
   pub shrink_no_context : (mask : CtxMask) (new : Record) → all.body ≡ OfIds mask → mask.bits ≡ 0 → new ≡ closed mid c
-      → IsEndRun meld limits alone before h old poll (Refused NoContext) new
+      → IsEndRun meld limits alone (moment old before) poll (Refused NoContext) (moment new h)
   shrink_no_context mask new body none left =
       replied_here (Refused NoContext) new (inl (mask, body_read meld limits h mid c k x p.legal still p.held all read ∙ body, inl (none, refl))) left
 
@@ -125,7 +129,7 @@ module _ {P : Type 0} (meld : P → P → P) (limits : Limits) (alone : Bool) (b
       abbrev events : List (Event P)
       events = p.marks.own ++ own
 
-      abbrev view : View P
+      abbrev view : AtPoint P
       view = record { look = failures p.look; history = ending; own = events }
 
       pub all_did : Did alone (entries_by (Rank old.number) events) p.look ending
@@ -162,7 +166,7 @@ module _ {P : Type 0} (meld : P → P → P) (limits : Limits) (alone : Bool) (b
           )
 
       ends_so : (reply : Reply P) (new : Record) → IsSelfFailed view old poll reply ⊎ IsReply meld limits view old poll reply
-          → new ≡ left_by limits.ranks ending (record mid { seen = seen }) poll reply → IsEndRun meld limits alone before ending old poll reply new
+          → new ≡ left_by limits.ranks ending (record mid { seen = seen }) poll reply → IsEndRun meld limits alone (moment old before) poll reply (moment new ending)
       ends_so reply new replies left =
           run_ends meld limits alone before p.look old ending events poll reply new seen p.looked.in_use p.looked.did all_did end_legal may_own replies sees_on
           (left ∙ ap (λ (w : Record). left_by limits.ranks ending (record w { seen = seen }) poll reply) p.looked.record_is)
@@ -186,9 +190,9 @@ module _ {P : Type 0} (meld : P → P → P) (limits : Limits) (alone : Bool) (b
           record {
             not_declared = p.looked.not_declared;
             replies =
-                subst (λ held. RepliesBy meld limits view old held poll reply (refusal_of old poll))
+                subst (λ held. RepliesBy {P = P} (λ x. Replies meld limits view old x poll reply) reply held (refusal_of old poll))
                 (sym (held_first meld limits alone before old mid c true k x h p))
-                (subst (RepliesBy meld limits view old (Some x) poll reply) (sym (not_refused meld limits alone before old mid c true k x h p))
+                (subst (RepliesBy {P = P} (λ x. Replies meld limits view old x poll reply) reply (Some x)) (sym (not_refused meld limits alone before old mid c true k x h p))
                 (subst (λ request. PollReplies meld limits view old.number x request reply) (sym p.open_is) polled));
           }
 
@@ -204,7 +208,7 @@ module _ {P : Type 0} (meld : P → P → P) (limits : Limits) (alone : Bool) (b
 
       -- the rank is in the failed group
       pub shrink_self_failed : (new : Record) → IsTrue (has (take reach seen) old.number) → new ≡ record mid { seen = seen; refused = true }
-          → IsEndRun meld limits alone before ending old poll (Refused SelfFailed) new
+          → IsEndRun meld limits alone (moment old before) poll (Refused SelfFailed) (moment new ending)
       shrink_self_failed new among left =
           let to_end = failures_begin after ending (did_prefix alone (entries_by (Rank old.number) own) after ending did) in
           ends_so (Refused SelfFailed) new
@@ -223,7 +227,7 @@ module _ {P : Type 0} (meld : P → P → P) (limits : Limits) (alone : Bool) (b
 
         -- no communicator is left
         pub shrink_no_room : (new : Record) → length (spawns ending) + 1 ≡ limits.comms → IsFalse (is_made ending c k)
-            → new ≡ closed (record mid { seen = seen }) c → IsEndRun meld limits alone before ending old poll (Refused NoRoom) new
+            → new ≡ closed (record mid { seen = seen }) c → IsEndRun meld limits alone (moment old before) poll (Refused NoRoom) (moment new ending)
         shrink_no_room new full unmade left = ends_so (Refused NoRoom) new (inr (replied_then (Refused NoRoom)
             (inl (mask, body_then ∙ body, inr (some, stays_in out, inr (full, unmade, refl)))))) left
 
@@ -233,7 +237,7 @@ module _ {P : Type 0} (meld : P → P → P) (limits : Limits) (alone : Bool) (b
             → new ≡ (let rest = closed (record mid { seen = seen }) c in record rest {
               held = rest.held ++ new_held j context (without x.group (take reach seen)) ∷ [];
             })
-            → IsEndRun meld limits alone before ending old poll (Shrunk j context size) new
+            → IsEndRun meld limits alone (moment old before) poll (Shrunk j context size) (moment new ending)
         shrink_shrunk j context size new there made lowest counted left =
             let spawned = members_of_spawned meld limits ending end_legal (j - 1) c k made in
             let number : j - 1 + 1 ≡ j = omega (arith, there) in

@@ -7,11 +7,12 @@ use Rattle.std.proofs.lemmas.List.{length-map}
 use Rattle.ulfm_model.specs.declared.{event.Caller.{Caller}, event.Event.TheVariants.{Spawn}}
 use Rattle.ulfm_model.specs.{History.{spawns}}
 use Rattle.ulfm_model.proofs.Lists.{in_list}
-use Rattle.ulfm_words.specs.Steps.{Name, Sight}
+use Rattle.ulfm_words.specs.Steps.{view_of, Name, Sight}
 use Rattle.ulfm_words.proofs.{Ranks.{spawns_below}, Trails.{did_added}}
-use Rattle.ulfm_steps.specs.Appends.{Appends}
+use Rattle.ulfm_steps.specs.Appends.{wanted, Appends}
 use Rattle.ulfm_steps.specs.declared.{append.Appended.{Appended}, append.Appended.TheVariants.{Won, Found, Full}, item.Item.{Item}}
 use Rattle.ulfm_steps.specs.declared.item.Item.TheVariants.{Comm}
+use Rattle.ulfm_steps.specs.Rounds.{round_on}
 use Rattle.ulfm_comm.specs.Spawning.{IsFullBy, IsMadeBy}
 
 -- the round at a place of the list
@@ -54,7 +55,7 @@ module _ {P : Type 0} (meld : P → P → P) (alone : Bool) (name : Name) (by : 
   one_more = omega arith
 
   -- this call made it
-  won_makes : Appends meld alone name (Comm c k) by most before (Won i) after → IsMadeBy meld alone name by c k before (i + 1) after
+  won_makes : Appends meld alone (wanted (Comm c k) by) most (view_of name before) (Won i) (view_of name after) → IsMadeBy meld alone by (round_on c k) (view_of name before) (i + 1) (view_of name after)
   won_makes appends =
       record {
         of = appends.of;
@@ -71,7 +72,7 @@ module _ {P : Type 0} (meld : P → P → P) (alone : Bool) (name : Name) (by : 
       }
 
   -- it had been made
-  found_made : Appends meld alone name (Comm c k) by most before (Found i) after → IsMadeBy meld alone name by c k before (i + 1) after
+  found_made : Appends meld alone (wanted (Comm c k) by) most (view_of name before) (Found i) (view_of name after) → IsMadeBy meld alone by (round_on c k) (view_of name before) (i + 1) (view_of name after)
   found_made appends =
       record {
         of = appends.of;
@@ -88,14 +89,14 @@ module _ {P : Type 0} (meld : P → P → P) (alone : Bool) (name : Name) (by : 
       }
 
   -- one or the other
-  pub makes : (end : Appended) → (end ≡ Won i) ⊎ (end ≡ Found i) → Appends meld alone name (Comm c k) by most before end after
-      → IsMadeBy meld alone name by c k before (i + 1) after
-  makes end (inl won) appends = won_makes (subst (λ e. Appends meld alone name (Comm c k) by most before e after) won appends)
-  makes end (inr found) appends = found_made (subst (λ e. Appends meld alone name (Comm c k) by most before e after) found appends)
+  pub makes : (end : Appended) → (end ≡ Won i) ⊎ (end ≡ Found i) → Appends meld alone (wanted (Comm c k) by) most (view_of name before) end (view_of name after)
+      → IsMadeBy meld alone by (round_on c k) (view_of name before) (i + 1) (view_of name after)
+  makes end (inl won) appends = won_makes (subst (λ e. Appends meld alone (wanted (Comm c k) by) most (view_of name before) e (view_of name after)) won appends)
+  makes end (inr found) appends = found_made (subst (λ e. Appends meld alone (wanted (Comm c k) by) most (view_of name before) e (view_of name after)) found appends)
 
 module _ {P : Type 0} (meld : P → P → P) (alone : Bool) (name : Name) (by : Caller) (c k : ℕ) (before after : Sight P) where
   -- all that there may be were made of other rounds
-  pub full_of : (most : ℕ) → Appends meld alone name (Comm c k) by most before Full after → IsFullBy meld alone name c k before after
+  pub full_of : (most : ℕ) → Appends meld alone (wanted (Comm c k) by) most (view_of name before) Full (view_of name after) → IsFullBy meld alone (round_on c k) (view_of name before) (view_of name after)
   full_of most appends =
       let passed = appends.outcome.1 in
       let many = so_many (spawns after.seen) (name.limits.comms - 1) (λ j lt. let at = passed j lt in (at.0, at.1)) in
@@ -113,7 +114,7 @@ module _ {P : Type 0} (meld : P → P → P) (alone : Bool) (name : Name) (by : 
       }
 
   -- its number is small
-  pub number_fits : (j : ℕ) → IsMadeBy meld alone name by c k before j after → j < 2 ^ 16
+  pub number_fits : (j : ℕ) → IsMadeBy meld alone by (round_on c k) (view_of name before) j (view_of name after) → j < 2 ^ 16
   number_fits j made =
       let range = made.of.may_open.in_range in
       let below = spawns_below meld name.limits after.seen made.of.legal range.some_comms in

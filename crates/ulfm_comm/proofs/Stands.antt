@@ -7,18 +7,22 @@ use Rattle.ulfm_model.specs.declared.{call.Call.{Call}, limits.Limits.{Limits}}
 use Rattle.ulfm_model.specs.{Answers.{polled_by}, History.{History, IsLegal, failures}, Records.{Held, Record, is_shrink}, Runs.{Did}}
 use Rattle.ulfm_model.proofs.{Histories.{failures_begin}, Lists.{prefix_trans}}
 use Rattle.ulfm_model.specs.Terms.{comm_of}
-use Rattle.ulfm_words.specs.Steps.{IsOf, Name, Sight}
+use Rattle.ulfm_model.specs.Records.{moment}
+use Rattle.ulfm_words.specs.Steps.{view_of, IsView, Name, Sight}
 use Rattle.ulfm_words.proofs.Trails.{did_prefix, did_wait}
 use Rattle.ulfm_steps.specs.declared.{append.Append.{Append}, mark_all.MarkAll.{MarkAll}, blocks.Peek.{Peek}, blocks.ReadBlocks.{ReadBlocks}}
 use Rattle.ulfm_steps.specs.declared.blocks.RoundBlocks.{RoundBlocks}
 use Rattle.ulfm_steps.proofs.{InBlocks.{are_later, at_block_later}, Appending.{passed_stays}, Arriving.{at_arrival_stays}}
-use Rattle.ulfm_comm.specs.Polls.{HasMarked}
-use Rattle.ulfm_comm.specs.{Look.{HasLooked, Looked}, Spawning.{IsDecided, IsSpawning}, Agreement.{IsMarking, IsPeeking, IsReading}, Barrier.{IsWaiting}}
+use Rattle.ulfm_comm.specs.Polls.{PollHasMarked}
+use Rattle.ulfm_comm.specs.{Look.{HasLooked, Looked}, Spawning.{HasReadMask, IsSpawning}, Agreement.{IsMarking, IsPeeking, IsReading}, Barrier.{IsWaiting}}
 use Rattle.ulfm_comm.proofs.{Known.{reads_on}, Polls.{polls_it}}
 use Rattle.ulfm_comm.specs.Phase.{Stands, StandsAt, UnderWay, Waits}
 use Rattle.ulfm_comm.specs.declared.phases.phase.Phase.{Phase}
 use Rattle.ulfm_comm.specs.declared.phases.phase.Phase.TheVariants.{Over, Begun, Looking, Settling, Arriving, Revoking, Asking, Peeking, Marking, Reading}
 use Rattle.ulfm_comm.specs.declared.phases.phase.Phase.TheVariants.{ReadingOn, Spawning, Waiting, Checking}
+use Rattle.ulfm_comm.specs.Local.{frame, local}
+use Rattle.ulfm_comm.specs.Requests.{agreeing}
+use Rattle.ulfm_comm.specs.Spawning.{decided_as, sought}
 
 module _ {P : Type 0} (meld : P → P → P) (limits : Limits) (alone : Bool) (old : Record) (before : History P) (own : Record) (now later : History P)
     (did : Did alone [] now later) (legal : IsLegal meld limits later) where
@@ -28,7 +32,7 @@ module _ {P : Type 0} (meld : P → P → P) (limits : Limits) (alone : Bool) (o
   pub more_failures : IsPrefix (failures now) (failures later)
   more_failures = failures_begin now later grows
 
-  abbrev pub looked_lasts : (asked : Call P) → HasLooked meld limits alone asked old before own now → HasLooked meld limits alone asked old before own later
+  abbrev pub looked_lasts : (asked : Call P) → HasLooked (frame meld limits alone) asked (moment old before) (moment own now) → HasLooked (frame meld limits alone) asked (moment old before) (moment own later)
   looked_lasts asked p = record {
     look = p.look;
     looked = p.looked;
@@ -40,8 +44,8 @@ module _ {P : Type 0} (meld : P → P → P) (limits : Limits) (alone : Bool) (o
     waited = did_wait alone [] p.look now later p.waited did;
   }
 
-  abbrev pub peeking_lasts : (c : ℕ) (shrinks : Bool) (peek : Peek P) → IsPeeking meld limits alone c shrinks peek old before own now
-      → IsPeeking meld limits alone c shrinks peek old before own later
+  abbrev pub peeking_lasts : (c : ℕ) (shrinks : Bool) (peek : Peek P) → IsPeeking (frame meld limits alone) c shrinks peek (moment old before) (moment own now)
+      → IsPeeking (frame meld limits alone) c shrinks peek (moment old before) (moment own later)
   peeking_lasts c shrinks peek p = record {
     look = p.look;
     looked = p.looked;
@@ -56,8 +60,8 @@ module _ {P : Type 0} (meld : P → P → P) (limits : Limits) (alone : Bool) (o
   }
 
   abbrev pub marking_lasts : (c : ℕ) (shrinks : Bool) (marks : MarkAll) (blocks : RoundBlocks P)
-      → IsMarking meld limits alone c shrinks marks blocks old before own now
-      → IsMarking meld limits alone c shrinks marks blocks old before own later
+      → IsMarking (frame meld limits alone) c shrinks marks blocks (moment old before) (moment own now)
+      → IsMarking (frame meld limits alone) c shrinks marks blocks (moment old before) (moment own later)
   marking_lasts c shrinks marks blocks p = record {
     look = p.look;
     looked = p.looked;
@@ -76,8 +80,8 @@ module _ {P : Type 0} (meld : P → P → P) (limits : Limits) (alone : Bool) (o
     unknown = p.unknown;
   }
 
-  pub marked_lasts : (c : ℕ) (shrinks : Bool) (k : ℕ) (x : Held) → HasMarked meld limits alone c shrinks k x old before own now
-      → HasMarked meld limits alone c shrinks k x old before own later
+  pub marked_lasts : (c : ℕ) (shrinks : Bool) (k : ℕ) (x : Held) → PollHasMarked (frame meld limits alone) c (agreeing shrinks k) x (moment old before) (moment own now)
+      → PollHasMarked (frame meld limits alone) c (agreeing shrinks k) x (moment old before) (moment own later)
   marked_lasts c shrinks k x p =
       record {
         look = p.look;
@@ -91,8 +95,8 @@ module _ {P : Type 0} (meld : P → P → P) (limits : Limits) (alone : Bool) (o
         legal = legal;
       }
 
-  pub reading_lasts : (c : ℕ) (shrinks : Bool) (reading : ReadBlocks P) → IsReading meld limits alone c shrinks reading old before own now
-      → IsReading meld limits alone c shrinks reading old before own later
+  pub reading_lasts : (c : ℕ) (shrinks : Bool) (reading : ReadBlocks P) → IsReading (frame meld limits alone) c shrinks reading (moment old before) (moment own now)
+      → IsReading (frame meld limits alone) c shrinks reading (moment old before) (moment own later)
   reading_lasts c shrinks reading p =
       record {
         x = p.x;
@@ -101,8 +105,8 @@ module _ {P : Type 0} (meld : P → P → P) (limits : Limits) (alone : Bool) (o
         at = at_block_later meld now later p.x.group reading grows p.at;
       }
 
-  abbrev pub decided_lasts : (c k : ℕ) (mask : CtxMask) (x : Held) (count : ℕ) → IsDecided meld limits alone c k mask x count old before own now
-      → IsDecided meld limits alone c k mask x count old before own later
+  abbrev pub decided_lasts : (c k : ℕ) (mask : CtxMask) (x : Held) (count : ℕ) → HasReadMask (frame meld limits alone) c (decided_as k mask count) x (moment old before) (moment own now)
+      → HasReadMask (frame meld limits alone) c (decided_as k mask count) x (moment old before) (moment own later)
   decided_lasts c k mask x count p = record {
     mid = p.mid;
     decided = p.decided;
@@ -119,8 +123,8 @@ module _ {P : Type 0} (meld : P → P → P) (limits : Limits) (alone : Bool) (o
   }
 
   pub spawning_lasts : (c : ℕ) (append : Append) (context reach : ℕ) (group : List ℕ)
-      → IsSpawning meld limits alone c append context reach group old before own now
-      → IsSpawning meld limits alone c append context reach group old before own later
+      → IsSpawning (frame meld limits alone) c append (sought context reach group) (moment old before) (moment own now)
+      → IsSpawning (frame meld limits alone) c append (sought context reach group) (moment old before) (moment own later)
   spawning_lasts c append context reach group p =
       record {
         x = p.x;
@@ -143,7 +147,7 @@ module _ {P : Type 0} (meld : P → P → P) (limits : Limits) (alone : Bool) (o
         more = p.more;
       }
 
-  pub waiting_lasts : (c k : ℕ) (x : Held) → IsWaiting meld limits alone c k x old before own now → IsWaiting meld limits alone c k x old before own later
+  pub waiting_lasts : (c k : ℕ) (x : Held) → IsWaiting (frame meld limits alone) c k x (moment old before) (moment own now) → IsWaiting (frame meld limits alone) c k x (moment old before) (moment own later)
   waiting_lasts c k x p = record {
     look = p.look;
     looked = p.looked;
@@ -155,8 +159,8 @@ module _ {P : Type 0} (meld : P → P → P) (limits : Limits) (alone : Bool) (o
   }
 
 module _ {P : Type 0} (meld : P → P → P) (alone : Bool) (name : Name) (asked : Call P) (old : Record) (before : Sight P) (group : List ℕ) (own : Record)
-    (now later : Sight P) (did : Did alone [] now.seen later.seen) (of : IsOf meld name later) where
-  at_lasts : (phase : Phase P) → StandsAt meld alone name asked old before phase group own now → StandsAt meld alone name asked old before phase group own later
+    (now later : Sight P) (did : Did alone [] now.seen later.seen) (of : IsView meld (view_of name later)) where
+  at_lasts : (phase : Phase P) → StandsAt meld alone asked (local old (view_of name before)) phase group (local own (view_of name now)) → StandsAt meld alone asked (local old (view_of name before)) phase group (local own (view_of name later))
   at_lasts Over p = (p.0, p.1, did_wait alone [] before.seen now.seen later.seen p.2 did)
   at_lasts Begun p = (p.0, p.1, did_wait alone [] before.seen now.seen later.seen p.2 did)
   at_lasts Looking p =
@@ -209,8 +213,8 @@ module _ {P : Type 0} (meld : P → P → P) (alone : Bool) (name : Name) (asked
 
 -- the call stands
 pub stands_lasts : {P : Type 0} (meld : P → P → P) (alone : Bool) (name : Name) (old : Record) (before : Sight P) (doing : UnderWay P) (own : Record)
-    (now later : Sight P) → Stands meld alone name old before doing own now → Waits alone now later
-    → IsOf meld name later → Stands meld alone name old before doing own later
+    (now later : Sight P) → Stands meld alone (local old (view_of name before)) doing (local own (view_of name now)) → Waits alone now later
+    → IsView meld (view_of name later) → Stands meld alone (local old (view_of name before)) doing (local own (view_of name later))
 stands_lasts meld alone name old before doing own now later u waits of =
     record {
       fits = u.fits;
@@ -232,7 +236,7 @@ module _ {P : Type 0} (meld : P → P → P) (alone : Bool) (name : Name) (asked
       → own ≡ record old { seen = own.seen }
   by_looked mid look looked is = is ∙ ap (λ (w : Record). record w { seen = own.seen }) looked.record_is
 
-  pub stands_own : (phase : Phase P) → StandsAt meld alone name asked old before phase group own now → own ≡ record old { seen = own.seen }
+  pub stands_own : (phase : Phase P) → StandsAt meld alone asked (local old (view_of name before)) phase group (local own (view_of name now)) → own ≡ record old { seen = own.seen }
   stands_own Over p = by_same p.1
   stands_own Begun p = by_same p.1
   stands_own Looking p = p.1
@@ -249,7 +253,7 @@ module _ {P : Type 0} (meld : P → P → P) (alone : Bool) (name : Name) (asked
   stands_own (Checking missing) p = by_seen _ p.2.waits.looked.record_is
 
   -- one that reads on polls a shrink
-  pub stands_shrinks : (phase : Phase P) → reads_on phase ≡ true → StandsAt meld alone name asked old before phase group own now
+  pub stands_shrinks : (phase : Phase P) → reads_on phase ≡ true → StandsAt meld alone asked (local old (view_of name before)) phase group (local own (view_of name now))
       → IsTrue (is_shrink (polled_by own asked))
   stands_shrinks (ReadingOn on made) reads p =
       let d = p.2 in

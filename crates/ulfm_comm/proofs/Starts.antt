@@ -5,15 +5,17 @@ use Rattle.ulfm_model.specs.declared.{call.Call.{Call}, call.Request.{Request}, 
 use Rattle.ulfm_model.specs.declared.{contribution.Offer.{Offer}, contribution.Slot.{Slot}, contribution.Slot.TheVariants.{Given, Mark as Marked}}
 use Rattle.ulfm_model.specs.declared.{event.Caller.TheVariants.{Rank}, event.Event.TheVariants.{Settle}, limits.Limits.{Limits}, refusal.Refusal.{Refusal}}
 use Rattle.ulfm_model.specs.declared.{refusal.Refusal.TheVariants.{Twice}, reply.Reply.{Reply}, reply.Reply.TheVariants.{Refused, Started}}
-use Rattle.ulfm_model.specs.Answers.{CallAdds, Replies, StartReplies, View, opened, refusal_of, traits_of}
+use Rattle.ulfm_model.specs.Answers.{CallAdds, Replies, StartReplies, AtPoint, opened, refusal_of, traits_of}
 use Rattle.ulfm_model.specs.{History.{History, IsLegal, IsPlace, failed, failures, has, members, slot}, Records.{Fits, Held, Record, held_at}, Runs.{Did}}
 use Rattle.ulfm_model.specs.Terms.{comm_of}
 use Rattle.ulfm_model.proofs.{Decisions.{slot_stands}, Marking.{failed_few}, Lists.{has_at, has_filter, length_prefix}}
-use Rattle.ulfm_words.specs.Steps.{IsAdded, IsOf, Name, Sight}
+use Rattle.ulfm_model.specs.Records.{moment}
+use Rattle.ulfm_words.specs.Steps.{view_of, IsAdded, IsView, Name, Sight}
 use Rattle.ulfm_words.proofs.Trails.{did_added, did_after}
-use Rattle.ulfm_comm.specs.{Calls.{Replied, reply_of}, Ends.{IsEndRun}, Look.{Looked}, Exchange.{Settles, start_leaves, start_result}}
+use Rattle.ulfm_comm.specs.{Calls.{Linearizes, reply_of}, Ends.{IsEndRun}, Look.{Looked}, Exchange.{Settles, start_leaves, start_result}}
 use Rattle.ulfm_comm.proofs.{CallRuns.{calls_is}, Helds.{change_alike}, Holding.{comm_is, exists_is, failed_is, group_is, holds}, LeftOut.{filter_begins}}
 use Rattle.ulfm_comm.proofs.WholeCall.{held_before, replied, self_failed}
+use Rattle.ulfm_comm.specs.Local.{local}
 
 -- a rank whose place is marked is declared
 marked_declared : {P : Type 0} (meld : P → P → P) (limits : Limits) (h : History P) (c k r : ℕ) (mark : MarkCount) → IsLegal meld limits h
@@ -49,13 +51,13 @@ module _ {P : Type 0} (meld : P → P → P) (alone : Bool) (name : Name) (befor
     (now : History P) (waited : Did alone [] look.seen now)
     (offer : Offer P) (request : Request) (no_poll : (traits_of asked).polls ≡ false) (starts : (traits_of asked).starts x ≡ Some request)
     (adds : (given : Contribution P) → CallAdds (failures look.seen) old.number x asked (Settle x.comm x.next_agreement old.number given))
-    (replies : (view : View P) (reply : Reply P) → StartReplies view old x offer reply → Replies meld name.limits view old x asked reply) where
+    (replies : (view : AtPoint P) (reply : Reply P) → StartReplies view old x offer reply → Replies meld name.limits view old x asked reply) where
   mine : mid.number ≡ old.number
   mine = ap (λ (w : Record). w.number) looked.record_is
 
   by_outcome : (settled : Result (Unit {0}) (Slot P)) (new : Record) → IsLegal meld name.limits after.seen → Settles alone now after.seen mid x offer settled
       → new ≡ start_leaves mid (comm_of asked) request settled
-      → IsEndRun meld name.limits alone before.seen after.seen old asked (reply_of (λ _. Started) (start_result settled)) new
+      → IsEndRun meld name.limits alone (moment old before.seen) asked (reply_of (λ _. Started) (start_result settled)) (moment new after.seen)
   by_outcome (Ok done) new legal gave leaves =
       replied meld name.limits alone before.seen look.seen old mid looked after.seen (Settle x.comm x.next_agreement old.number gave.given ∷ []) asked Started
       new x
@@ -93,11 +95,11 @@ module _ {P : Type 0} (meld : P → P → P) (alone : Bool) (name : Name) (befor
       (λ here polls. absurd (cc (polls, no_poll)))
 
   -- it is answered as its exchange says
-  pub calls_started : (settled : Result (Unit {0}) (Slot P)) (result : Result (Unit {0}) Refusal) (new : Record) → IsOf meld name after
+  pub calls_started : (settled : Result (Unit {0}) (Slot P)) (result : Result (Unit {0}) Refusal) (new : Record) → IsView meld (view_of name after)
       → Settles alone now after.seen mid x offer settled → result ≡ start_result settled
-      → new ≡ start_leaves mid (comm_of asked) request settled → Replied meld alone name asked old before (reply_of (λ _. Started) result) new after
+      → new ≡ start_leaves mid (comm_of asked) request settled → Linearizes meld alone asked (local old (view_of name before)) (reply_of (λ _. Started) result) (local new (view_of name after))
   calls_started settled result new of settles gives leaves =
-      subst (λ r. Replied meld alone name asked old before (reply_of (λ _. Started) r) new after) (sym gives)
+      subst (λ r. Linearizes meld alone asked (local old (view_of name before)) (reply_of (λ _. Started) r) (local new (view_of name after))) (sym gives)
       (calls_is meld alone name before after onward asked old (reply_of (λ _. Started) (start_result settled)) new of fits
       (by_outcome settled new of.legal settles leaves))
 

@@ -10,8 +10,9 @@ use Rattle.ulfm_model.specs.declared.{limits.Limits.{Limits}, reply.Reply.{Reply
 use Rattle.ulfm_model.specs.{Answers.{CallAdds, MarksDeclared, PollAdds, traits_of}, History.{History, IsLegal, entries_by, failures, has}}
 use Rattle.ulfm_model.specs.{Records.{Fits, Held, Record, held_at}, Runs.{Did}}
 use Rattle.ulfm_model.specs.Terms.{comm_of}
-use Rattle.ulfm_words.specs.Steps.{IsAdded, IsOf, Name, Sight}
+use Rattle.ulfm_words.specs.Steps.{view_of, IsAdded, IsView, Name, Sight}
 use Rattle.ulfm_model.proofs.Stable.{fits_stays}
+use Rattle.ulfm_model.specs.Records.{moment}
 use Rattle.ulfm_words.proofs.Trails.{did_added, did_prefix, did_wait}
 use Rattle.ulfm_steps.proofs.Reading.{has_at}
 use Rattle.ulfm_steps.specs.Marks.{MarksOnce}
@@ -23,6 +24,7 @@ use Rattle.ulfm_comm.specs.declared.phases.phase.Phase.{Phase}
 use Rattle.ulfm_comm.specs.declared.phases.phase.Phase.TheVariants.{Over, Begun, Looking, Settling, Arriving, Revoking, Asking, Peeking, Marking, Reading}
 use Rattle.ulfm_comm.specs.declared.phases.phase.Phase.TheVariants.{ReadingOn, Spawning, Waiting, Checking}
 use Rattle.ulfm_comm.proofs.{Exchange.{fits_now, found_same, is_starting, number_is, passes_tests}, Holding.{comm_is}}
+use Rattle.ulfm_comm.specs.Local.{frame, local}
 
 module _ {P : Type 0} (quiet : Bool) (look : List ℕ) (own : Record) (asked : Call P) (reply : Option (Reply P)) (old new : History P) where
   -- nothing
@@ -43,7 +45,7 @@ start_keeps own c request (Err (Given given)) = refl
 
 module _ {P : Type 0} (meld : P → P → P) (quiet : Bool) (name : Name) (asked : Call P) (request : Request) (offer : Offer P) (group : List ℕ) (old : Record)
     (before : Sight P) (own : Record) (now : Sight P) (after : History P)
-    (stood : Stands meld false name old before (record { asked = asked; phase = Settling request offer; group = group }) own now) (x : Held)
+    (stood : Stands meld false (local old (view_of name before)) (record { asked = asked; phase = Settling request offer; group = group }) (local own (view_of name now))) (x : Held)
     (held : held_at own (comm_of asked) ≡ Some x) where
   -- the rank's contribution is one that its call may add
   may_settle : (given : Contribution P) → CallAdds own.seen own.number x asked (Settle x.comm x.next_agreement own.number given)
@@ -71,7 +73,7 @@ module _ {P : Type 0} (meld : P → P → P) (quiet : Bool) (name : Name) (asked
 -- the exchange of an arrival, and of a revocation
 module _ {P : Type 0} (meld : P → P → P) (quiet : Bool) (limits : Limits) (asked : Call P) (old : Record) (before : History P) (own : Record)
     (now after : History P) (legal : IsLegal meld limits now)
-    (p : HasLooked meld limits false asked old before own now) where
+    (p : HasLooked (frame meld limits false) asked (moment old before) (moment own now)) where
   named : p.x.comm ≡ comm_of asked
   named = comm_is meld limits now own (comm_of asked) p.x (fits_now meld limits false asked old before own now p legal) p.held
 
@@ -108,13 +110,13 @@ module _ {P : Type 0} (meld : P → P → P) (quiet : Bool) (limits : Limits) (a
 
 -- the exchange of a mark
 module _ {P : Type 0} (meld : P → P → P) (quiet : Bool) (name : Name) (asked : Call P) (marks : MarkAll) (blocks : RoundBlocks P) (shrinks : Bool)
-    (group : List ℕ) (old : Record) (before : Sight P) (own : Record) (now : Sight P) (after : History P) (of : IsOf meld name now)
-    (stood : Stands meld false name old before (record {
+    (group : List ℕ) (old : Record) (before : Sight P) (own : Record) (now : Sight P) (after : History P) (of : IsView meld (view_of name now))
+    (stood : Stands meld false (local old (view_of name before)) (record {
       asked = asked;
       phase = Marking marks blocks shrinks;
       group = group;
-    }) own now) (reply : Option (Reply P)) where
-  abbrev marking : IsMarking meld name.limits false (comm_of asked) shrinks marks blocks old before.seen own now.seen
+    }) (local own (view_of name now))) (reply : Option (Reply P)) where
+  abbrev marking : IsMarking (frame meld name.limits false) (comm_of asked) shrinks marks blocks (moment old before.seen) (moment own now.seen)
   marking = stood.at.1
 
   marking_seen : own.seen ≡ failures marking.look

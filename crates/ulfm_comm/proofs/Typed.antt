@@ -6,20 +6,22 @@ use Rattle.ulfm_model.specs.declared.{call.Call.{Call}, event.Caller.TheVariants
 use Rattle.ulfm_model.specs.declared.reply.Reply.TheVariants.{FailedGroup}
 use Rattle.ulfm_model.specs.{Answers.{MayOwn, polled_by}, History.{entries_by, failed, failures, has, spawns}, Records.{Fits, Held, Record, held_at, is_shrink}}
 use Rattle.ulfm_model.specs.Runs.{IsCall, IsRun}
+use Rattle.ulfm_model.specs.Records.{moment}
 use Rattle.ulfm_model.proofs.Histories.{members_stay}
-use Rattle.ulfm_words.specs.Steps.{Name, Sight}
+use Rattle.ulfm_words.specs.Steps.{view_of, Name, Sight}
 use Rattle.ulfm_comm.specs.Calls.{Calls, EndsAs, EndsReply, RunsOut, wants_memory}
 use Rattle.ulfm_comm.proofs.{CallRuns.{called_counts, called_run}, Holding.{exists_is, failed_is}, ReplyKinds.{answered_on}}
+use Rattle.ulfm_comm.specs.Local.{local}
 
 module _ {P : Type 0} (meld : P → P → P) (alone : Bool) (name : Name) (asked : Call P) (old : Record) (before : Sight P) (new : Record) (after : Sight P) where
-  calls_as : (reply : Reply P) (b : Bool) → EndsAs meld alone name asked old before reply b new after → is_shrink (polled_by old asked) ≡ false
-      → Calls meld alone name asked old before reply new after
+  calls_as : (reply : Reply P) (b : Bool) → EndsAs meld alone asked (local old (view_of name before)) reply b (local new (view_of name after)) → is_shrink (polled_by old asked) ≡ false
+      → Calls meld alone asked (local old (view_of name before)) reply (local new (view_of name after))
   calls_as reply true ended other = absurd (cc (ended.1, other))
   calls_as reply false ended other = ended
 
   -- only the poll of a shrink runs out of memory
-  pub ends_calls : (reply : Reply P) → EndsReply meld alone name asked old before reply new after → is_shrink (polled_by old asked) ≡ false
-      → Calls meld alone name asked old before reply new after
+  pub ends_calls : (reply : Reply P) → EndsReply meld alone asked (local old (view_of name before)) reply (local new (view_of name after)) → is_shrink (polled_by old asked) ≡ false
+      → Calls meld alone asked (local old (view_of name before)) reply (local new (view_of name after))
   ends_calls reply ends other = calls_as reply (wants_memory reply) ends other
 
 -- a query of the failed group adds nothing
@@ -35,12 +37,12 @@ pub record HasCounted {P : Type 0} (meld : P → P → P) (alone : Bool) (name :
   pub held : held_at new c ≡ Some x
   pub group : filter (has x.group) new.seen ≡ failed name.limits.ranks after.seen c
   pub counted : count ≡ length (filter (has x.group) new.seen)
-  pub run_out : RunsOut meld alone name (call.GetFailed rank c) old before new after
+  pub run_out : RunsOut meld alone (call.GetFailed rank c) (local old (view_of name before)) (local new (view_of name after))
 
 module _ {P : Type 0} (meld : P → P → P) (alone : Bool) (name : Name) (rank c count : ℕ) (old : Record) (before : Sight P) (new : Record) (after : Sight P)
     (fits : Fits meld name.limits before.seen old)
-    (called : Calls meld alone name (call.GetFailed rank c) old before (FailedGroup count) new after) where
-  by_run : IsRun meld name.limits alone before.seen after.seen old (call.GetFailed rank c) (FailedGroup count) new
+    (called : Calls meld alone (call.GetFailed rank c) (local old (view_of name before)) (FailedGroup count) (local new (view_of name after))) where
+  by_run : IsRun meld name.limits alone (moment old before.seen) (call.GetFailed rank c) (FailedGroup count) (moment new after.seen)
       → HasCounted meld alone name rank c count old before new after
   by_run run =
       let limits = name.limits in
@@ -51,7 +53,7 @@ module _ {P : Type 0} (meld : P → P → P) (alone : Bool) (name : Name) (rank 
       let held : held_at new c ≡ Some answered.x = ap (λ (r : Record). held_at r c) is ∙ answered.held in
       let end = called_counts meld alone name (call.GetFailed rank c) old before (FailedGroup count) new after called count refl in
       let group : filter (has answered.x.group) new.seen ≡ failed limits.ranks after.seen c = ap (filter (has answered.x.group)) end
-      ∙ failed_is meld limits after.seen new c answered.x called.fits held in
+      ∙ failed_is meld limits after.seen new c answered.x called.linearizes.fits held in
       let exists = (members_stay limits.ranks before.seen span.point c span.point_begins
       (exists_is meld limits before.seen old c answered.x fits answered.held)).0 in
       let members_same = (members_stay limits.ranks span.point after.seen c span.point_ends exists).1 in
@@ -64,27 +66,27 @@ module _ {P : Type 0} (meld : P → P → P) (alone : Bool) (name : Name) (rank 
         group = group;
         counted = number ∙ ap length (sym failed_same ∙ sym group);
         run_out = record {
-          of = called.of;
-          onward = called.onward;
-          fits = called.fits;
-          run_out = record {
-            in_use = run.in_use;
-            span = span;
-            not_declared = answered.not_declared;
-            not_refused = answered.passed;
-            own = run.answer.own;
-            makes_none = none_made (failures span.look) old rank c span.own run.answer.own;
-            had_come = tt;
-            sees = run.answer.leaves.seen;
-            record_is = is;
+          ran_out = record {
+            of = called.linearizes.of;
+            onward = called.linearizes.onward;
+            fits = called.linearizes.fits;
+            run_out = record {
+              in_use = run.in_use;
+              span = span;
+              not_declared = answered.not_declared;
+              not_refused = answered.passed;
+              own = run.answer.own;
+              makes_none = none_made (failures span.look) old rank c span.own run.answer.own;
+              had_come = tt;
+              sees = run.answer.leaves.seen;
+              record_is = is;
+            };
           };
-          cached = called.cached;
-          caches = called.caches;
-          knows = tt;
+          blocks = record { cached = called.blocks.cached; caches = called.blocks.caches; knows = λ _. tt };
         };
       }
 
-  by_call : IsCall meld name.limits alone before.seen after.seen old (call.GetFailed rank c) (FailedGroup count) new
+  by_call : IsCall meld name.limits alone (moment old before.seen) (call.GetFailed rank c) (FailedGroup count) (moment new after.seen)
       → HasCounted meld alone name rank c count old before new after
   by_call (inl refused) = absurd (cc (refused.2))
   by_call (inr run) = by_run run

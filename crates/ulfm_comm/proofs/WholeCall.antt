@@ -5,11 +5,12 @@ use Rattle.std.specs.List.{AllByRecursion}
 use mathlib.Core.List.{IsPrefix}
 use Rattle.ulfm_model.specs.declared.{call.Call.{Call}, event.Caller.TheVariants.{Rank}, event.Event.{Event}, limits.Limits.{Limits}, refusal.Refusal.{Refusal}}
 use Rattle.ulfm_model.specs.declared.{refusal.Refusal.TheVariants.{NoSuchComm, SelfFailed}, reply.Reply.{Reply}, reply.Reply.TheVariants.{Refused}}
-use Rattle.ulfm_model.specs.Answers.{CallAdds, IsReply, IsSelfFailed, MayOwn, Replies, RepliesBy, Sees, View, left_by, polled_by, refusal_of, refusal_on}
+use Rattle.ulfm_model.specs.Answers.{CallAdds, IsReply, IsSelfFailed, MayOwn, Replies, RepliesBy, Sees, AtPoint, left_by, polled_by, refusal_of, refusal_on}
 use Rattle.ulfm_model.specs.Answers.{traits_of}
 use Rattle.ulfm_model.specs.{History.{History, IsLegal, entries_by, failures, has}, Records.{Held, Record, held_at, is_shrink}, Runs.{Did, unsettled_of}}
 use Rattle.ulfm_model.specs.Terms.{comm_of, request_of, settled_by}
 use Rattle.ulfm_model.proofs.{Histories.{failures_begin}, LeftRuns.{left_keeps}, Lists.{each_from, prefix_trans}}
+use Rattle.ulfm_model.specs.Records.{moment}
 use Rattle.ulfm_words.proofs.Trails.{did_none, did_prefix, did_quiet}
 use Rattle.ulfm_comm.specs.{Ends.{IsEndRun}, Look.{Looked}}
 
@@ -26,7 +27,7 @@ sees_later true look after longer seen more sees = (sees.0, prefix_trans seen (f
 
 module _ {P : Type 0} (meld : P → P → P) (limits : Limits) (alone : Bool) (before look : History P) (old : Record) where
   -- what a reply at the end of a call rests on
-  abbrev pub view_at : History P → List (Event P) → View P
+  abbrev pub view_at : History P → List (Event P) → AtPoint P
   view_at after own = record { look = failures look; history = after; own = own }
 
   -- where nobody else steps, the poll of a rank that isn't declared has marked the unsettled declared members
@@ -41,7 +42,7 @@ module _ {P : Type 0} (meld : P → P → P) (limits : Limits) (alone : Bool) (b
       → IsSelfFailed (view_at after own) old asked reply ⊎ IsReply meld limits (view_at after own) old asked reply
       → Sees (is_shrink (polled_by old asked)) (failures look) after seen
       → new ≡ left_by limits.ranks after (record old { seen = seen }) asked reply → Marks asked own
-      → IsEndRun meld limits alone before after old asked reply new
+      → IsEndRun meld limits alone (moment old before) asked reply (moment new after)
   run_ends after own asked reply new seen in_use looked did legal may replies sees is marks =
       let begins = did_prefix alone (entries_by (Rank old.number) own) look after did in
       let same : new.seen ≡ seen = ap (λ (w : Record). w.seen) is ∙ (left_keeps limits.ranks after (record old { seen = seen }) asked reply).1 in
@@ -76,7 +77,7 @@ module _ {P : Type 0} (meld : P → P → P) (limits : Limits) (alone : Bool) (b
       → Did alone (entries_by (Rank old.number) own) look after → IsLegal meld limits after → AllByRecursion (MayOwn (failures look) old asked) own
       → IsSelfFailed (view_at after own) old asked reply ⊎ IsReply meld limits (view_at after own) old asked reply
       → new ≡ left_by limits.ranks after (record old { seen = failures look }) asked reply → Marks asked own
-      → IsEndRun meld limits alone before after old asked reply new
+      → IsEndRun meld limits alone (moment old before) asked reply (moment new after)
   run_at_end after own asked reply new in_use looked did legal may replies is marks =
       run_ends after own asked reply new (failures look) in_use looked did legal may replies
       (sees_look (is_shrink (polled_by old asked)) (failures look) after (failures_begin look after
@@ -86,7 +87,7 @@ module _ {P : Type 0} (meld : P → P → P) (limits : Limits) (alone : Bool) (b
   pub self_failed : (after : History P) (asked : Call P) (new : Record) → IsFalse old.refused → Did alone [] before look → Did alone [] look after
       → IsLegal meld limits after
       → IsTrue (has (failures after) old.number) → new ≡ record old { seen = failures look; refused = true }
-      → IsEndRun meld limits alone before after old asked (Refused SelfFailed) new
+      → IsEndRun meld limits alone (moment old before) asked (Refused SelfFailed) (moment new after)
   self_failed after asked new in_use looked did legal declared is =
       run_at_end after [] asked (Refused SelfFailed) new in_use looked did legal tt (inl (record {
         reply_is = refl;
@@ -110,12 +111,12 @@ module _ {P : Type 0} (meld : P → P → P) (limits : Limits) (alone : Bool) (b
   -- a call that its record refuses
   pub refused : (asked : Call P) (refusal : Refusal) (new : Record) → IsLegal meld limits look → refusal_of old asked ≡ Some refusal
       → new ≡ left_by limits.ranks look mid asked (Refused refusal)
-      → (IsTrue (traits_of asked).polls → polled_by old asked ≡ None) → IsEndRun meld limits alone before look old asked (Refused refusal) new
+      → (IsTrue (traits_of asked).polls → polled_by old asked ≡ None) → IsEndRun meld limits alone (moment old before) asked (Refused refusal) (moment new look)
   refused asked refusal new legal is left idle =
       run_at_end meld limits alone before look old look [] asked (Refused refusal) new looked.in_use looked.did (did_none alone look) legal tt
       (inr (record {
         not_declared = looked.not_declared;
-        replies = subst (RepliesBy meld limits (view_at meld limits alone before look old look []) old (held_at old (comm_of asked)) asked (Refused refusal))
+        replies = subst (RepliesBy {P = P} (λ x. Replies meld limits (view_at meld limits alone before look old look []) old x asked (Refused refusal)) (Refused refusal) (held_at old (comm_of asked)))
             (sym is) refl;
       }))
       (left_is look asked (Refused refusal) new left)
@@ -123,7 +124,7 @@ module _ {P : Type 0} (meld : P → P → P) (limits : Limits) (alone : Bool) (b
 
   -- a call on a communicator that the rank doesn't hold
   pub refused_missing : (asked : Call P) (new : Record) → IsLegal meld limits look → held_at mid (comm_of asked) ≡ None → new ≡ mid
-      → IsEndRun meld limits alone before look old asked (Refused NoSuchComm) new
+      → IsEndRun meld limits alone (moment old before) asked (Refused NoSuchComm) (moment new look)
   refused_missing asked new legal missing is =
       refused asked NoSuchComm new legal (ap (λ held. refusal_on old held asked) (held_before (comm_of asked) None missing)) is
       (λ polls. ap₂ (λ (b : Bool) held. if b then request_of held else None) polls (held_before (comm_of asked) None missing))
@@ -133,9 +134,9 @@ module _ {P : Type 0} (meld : P → P → P) (limits : Limits) (alone : Bool) (b
       → Did alone (entries_by (Rank old.number) own) look after → IsLegal meld limits after
       → held_at old (comm_of asked) ≡ Some x → refusal_of old asked ≡ None → AllByRecursion (CallAdds (failures look) old.number x asked) own
       → Replies meld limits (record { look = failures look; history = after; own = own }) old x asked reply → new ≡ left_by limits.ranks after mid asked reply
-      → Marks meld limits alone before look old asked own → IsEndRun meld limits alone before after old asked reply new
+      → Marks meld limits alone before look old asked own → IsEndRun meld limits alone (moment old before) asked reply (moment new after)
   replied after own asked reply new x did legal held passed adds replies left marks =
-      let view : View P = record { look = failures look; history = after; own = own } in
+      let view : AtPoint P = record { look = failures look; history = after; own = own } in
       run_at_end meld limits alone before look old after own asked reply new looked.in_use looked.did did legal
       (each_from (CallAdds (failures look) old.number x asked) (MayOwn (failures look) old asked) (λ e added. record {
         not_declared = looked.not_declared;
@@ -144,8 +145,8 @@ module _ {P : Type 0} (meld : P → P → P) (limits : Limits) (alone : Bool) (b
       }) own adds)
       (inr (record {
         not_declared = looked.not_declared;
-        replies = subst (λ held. RepliesBy meld limits view old held asked reply (refusal_of old asked)) (sym held)
-            (subst (RepliesBy meld limits view old (Some x) asked reply) (sym passed) replies);
+        replies = subst (λ held. RepliesBy {P = P} (λ x. Replies meld limits view old x asked reply) reply held (refusal_of old asked)) (sym held)
+            (subst (RepliesBy {P = P} (λ x. Replies meld limits view old x asked reply) reply (Some x)) (sym passed) replies);
       }))
       (left_is after asked reply new left)
       marks

@@ -5,75 +5,70 @@ use Rattle.ulfm_laws.specs.declared.summary.Body.TheVariants.{Unit as Nothing, F
 use Rattle.ulfm_model.specs.declared.call.Call.TheVariants as call
 use Rattle.ulfm_model.specs.declared.{call.Call.{Call}, limits.Limits.{Limits}, refusal.Refusal.TheVariants.{Mismatch}, reply.Reply.{Reply}}
 use Rattle.ulfm_model.specs.declared.reply.Reply.TheVariants.{Agreed, Refused}
-use Rattle.ulfm_model.specs.{History.{History, IsLegal, failures}, Records.{Fits, Held, Record, held_at}, Runs.{Did}, Terms.{comm_of}}
-use Rattle.ulfm_words.specs.Steps.{Name, Sight}
+use Rattle.ulfm_model.specs.{History.{History, IsLegal, failures}, Records.{Fits, Held, Moment, held_at}, Runs.{Did}, Terms.{comm_of}}
 use Rattle.ulfm_steps.specs.declared.{mark_all.MarkAll.{MarkAll}, blocks.Peek.{Peek}, blocks.ReadBlocks.{ReadBlocks}}
 use Rattle.ulfm_steps.specs.declared.blocks.RoundBlocks.{RoundBlocks}
 use Rattle.ulfm_model.specs.Blocks.{IsSummed}
-use Rattle.ulfm_steps.specs.{Blocks.{AreOf, AtBlock, is_whole}, Marks.{IsAt, Marks, members_in}}
-use Rattle.ulfm_comm.specs.{Look.{Looked}, Polls.{HasMarked}, Requests.{agreement}}
+use Rattle.ulfm_steps.specs.{Blocks.{BothTell, AtBlock, is_whole}, Marks.{IsAt, Marks, members_in}}
+use Rattle.ulfm_comm.specs.{Local.{Frame, Local, frame_of, moment_of}, Look.{Looked}, Polls.{PollHasMarked}, Requests.{Agreeing, agreeing, agreement}}
 
 -- The poll of an agreement has looked, and loads the blocks of its round, of which it knows those that were set. Since its look there were
 -- others' events alone.
-pub record IsPeeking {P : Type 0} (meld : P → P → P) (limits : Limits) (alone : Bool) (c : ℕ) (shrinks : Bool) (peek : Peek P) (old : Record)
-    (before : History P) (mid : Record) (now : History P) : Type 0 where
+pub record IsPeeking {P : Type 0} (by : Frame P) (c : ℕ) (shrinks : Bool) (peek : Peek P) (start now : Moment P) : Type 0 where
   pub look : History P
-  pub looked : Looked alone before look old mid
-  pub legal : IsLegal meld limits look
-  pub fits : Fits meld limits look mid
+  pub looked : Looked by.alone start.seen look start.own now.own
+  pub legal : IsLegal by.meld by.limits look
+  pub fits : Fits by.meld by.limits look now.own
   pub x : Held
-  pub held : held_at mid c ≡ Some x
+  pub held : held_at now.own c ≡ Some x
   pub open_is : x.request ≡ Some (agreement shrinks peek.round)
   pub there : peek.comm ≡ c
-  pub are : AreOf meld now peek.comm peek.round x.group peek.blocks
-  pub waited : Did alone [] look now
+  pub are : BothTell by.meld now.seen peek.comm peek.round x.group peek.blocks
+  pub waited : Did by.alone [] look now.seen
 
 -- It has loaded them, and not all were set; it has marked the declared members up to the machine's next one. Since then there were others'
 -- events alone.
-pub record IsMarking {P : Type 0} (meld : P → P → P) (limits : Limits) (alone : Bool) (c : ℕ) (shrinks : Bool) (marks : MarkAll) (blocks : RoundBlocks P)
-    (old : Record) (before : History P) (mid : Record) (now : History P) : Type 0 where
+pub record IsMarking {P : Type 0} (by : Frame P) (c : ℕ) (shrinks : Bool) (marks : MarkAll) (blocks : RoundBlocks P) (start now : Moment P) : Type 0 where
   pub look : History P
-  pub looked : Looked alone before look old mid
-  pub legal : IsLegal meld limits look
-  pub fits : Fits meld limits look mid
+  pub looked : Looked by.alone start.seen look start.own now.own
+  pub legal : IsLegal by.meld by.limits look
+  pub fits : Fits by.meld by.limits look now.own
   pub x : Held
-  pub held : held_at mid c ≡ Some x
+  pub held : held_at now.own c ≡ Some x
   pub open_is : x.request ≡ Some (agreement shrinks marks.round)
-  pub mine : marks.rank ≡ old.number
+  pub mine : marks.rank ≡ start.own.number
   pub there : marks.comm ≡ c
   pub at : IsAt x.group (failures look) marks.next marks.known
   pub marked : History P
-  pub has_marked : Marks alone old.number c marks.round (members_in x.group (failures look) marks.next) look marked
-  pub waited : Did alone [] marked now
-  pub are : AreOf meld now marks.comm marks.round x.group blocks
+  pub has_marked : Marks by.alone start.own.number c marks.round (members_in x.group (failures look) marks.next) look marked
+  pub waited : Did by.alone [] marked now.seen
+  pub are : BothTell by.meld now.seen marks.comm marks.round x.group blocks
   pub unknown : is_whole blocks (length x.group) ≡ false
 
 -- It has marked them all, and reads the blocks that weren't set.
-pub record IsReading {P : Type 0} (meld : P → P → P) (limits : Limits) (alone : Bool) (c : ℕ) (shrinks : Bool) (reading : ReadBlocks P) (old : Record)
-    (before : History P) (mid : Record) (now : History P) : Type 0 where
+pub record IsReading {P : Type 0} (by : Frame P) (c : ℕ) (shrinks : Bool) (reading : ReadBlocks P) (start now : Moment P) : Type 0 where
   pub x : Held
-  pub marked : HasMarked meld limits alone c shrinks reading.round x old before mid now
+  pub marked : PollHasMarked by c (agreeing shrinks reading.round) x start now
   pub there : reading.comm ≡ c
-  pub at : AtBlock meld now x.group reading
+  pub at : AtBlock by.meld now.seen x.group reading
 
 -- the poll of an agreement has just loaded its round's blocks, of which not all were set
-pub record HasPeeked {P : Type 0} (meld : P → P → P) (alone : Bool) (name : Name) (asked : Call P) (shrinks : Bool) (peek : Peek P) (old : Record)
-    (before : Sight P) (mid : Record) (now : Sight P) : Type 0 where
-  pub fits : Fits meld name.limits before.seen old
-  pub polls : asked ≡ call.Poll old.number (comm_of asked)
-  pub onward : before.steps ≤ now.steps
-  pub peeked : IsPeeking meld name.limits alone (comm_of asked) shrinks peek old before.seen mid now.seen
+pub record HasPeeked {P : Type 0} (meld : P → P → P) (alone : Bool) (asked : Call P) (shrinks : Bool) (peek : Peek P) (start now : Local P) : Type 0 where
+  pub fits : Fits meld start.view.words.limits start.view.pass.seen start.own
+  pub polls : asked ≡ call.Poll start.own.number (comm_of asked)
+  pub onward : start.view.pass.steps ≤ now.view.pass.steps
+  pub peeked : IsPeeking (frame_of meld alone start) (comm_of asked) shrinks peek (moment_of start) (moment_of now)
   pub unknown : is_whole peek.blocks (length peeked.x.group) ≡ false
 
 -- the poll of an agreement has just found what all its round's members say together
-pub record HasReadAll {P : Type 0} (meld : P → P → P) (alone : Bool) (name : Name) (asked : Call P) (shrinks : Bool) (k : ℕ) (all : Summary P) (old : Record)
-    (before : Sight P) (mid : Record) (now : Sight P) : Type 0 where
-  pub fits : Fits meld name.limits before.seen old
-  pub polls : asked ≡ call.Poll old.number (comm_of asked)
-  pub onward : before.steps ≤ now.steps
+pub record HasReadAll {P : Type 0} (meld : P → P → P) (alone : Bool) (asked : Call P) (which : Agreeing) (all : Summary P) (start now : Local P)
+    : Type 0 where
+  pub fits : Fits meld start.view.words.limits start.view.pass.seen start.own
+  pub polls : asked ≡ call.Poll start.own.number (comm_of asked)
+  pub onward : start.view.pass.steps ≤ now.view.pass.steps
   pub x : Held
-  pub marked : HasMarked meld name.limits alone (comm_of asked) shrinks k x old before.seen mid now.seen
-  pub read : IsSummed meld now.seen (comm_of asked) k x.group all
+  pub marked : PollHasMarked (frame_of meld alone start) (comm_of asked) which x (moment_of start) (moment_of now)
+  pub read : IsSummed meld now.view.pass.seen (comm_of asked) which.round x.group all
 
 -- what an agree's round says, as a reply
 abbrev pub agreed_reply : {P : Type 0} → Summary P → Body P → Reply P

@@ -3,9 +3,8 @@ use Rattle.std.specs.Prelude.{◌≡◌, ℕ, ◌+◌, ◌-◌, ◌*◌, ◌≤�
 use Rattle.ulfm_model.specs.declared.{block.Block.{Block}, block.Side.TheVariants.{Front, Back}}
 use Rattle.ulfm_model.specs.declared.{call.Call.{Call}, call.Request.{Request}, call.Request.TheVariants.{Agree, Shrink, Barrier}, limits.Limits.{Limits}}
 use Rattle.ulfm_model.specs.{Answers.{refusal_of}, Blocks.{has_block}, Records.{Record, held_at}, Terms.{comm_of, request_of}}
-use Rattle.ulfm_words.specs.Steps.{Sight}
 use Rattle.ulfm_steps.specs.{Blocks.{block_at, has_back, peeks_left}, declared.blocks.Peek.{Peek}}
-use Rattle.ulfm_comm.specs.{Begins.{reads_again}, Requests.{BlocksStand}, StepsLeft.{behind, group_of, steps_left}}
+use Rattle.ulfm_comm.specs.{Begins.{reads_again}, Local.{Stance}, Requests.{BlocksStand}, StepsLeft.{behind, group_of, steps_left}}
 use Rattle.ulfm_comm.specs.declared.{phases.phase.Next.{Next}, phases.phase.Next.TheVariants.{Goes, Ends}, phases.phase.Phase.{Phase}}
 use Rattle.ulfm_comm.specs.declared.phases.phase.Phase.TheVariants.{Begun, Looking, Peeking, Marking, Reading, ReadingOn}
 
@@ -66,28 +65,27 @@ FindsSetNext own asked cached (Goes phase) = FindsSetIn own asked cached phase
 FindsSetNext own asked cached (Ends reply) = ⊤
 
 -- the steps that a call makes, with those that are left then, are no more than so many and one for each failure that its rank has seen more
-abbrev pub AlsoFew : {P : Type 0} → ℕ → Limits → Call P → Record → Sight P → Next P → Record → Sight P → Type 0
-AlsoFew most limits asked own now next new after = after.steps + also_in limits new asked next + length own.seen ≤ now.steps + most + length new.seen
+abbrev pub AlsoFew : {P : Type 0} → ℕ → Limits → Call P → Stance P → Next P → Stance P → Type 0
+AlsoFew most limits asked old next new =
+    new.pass.steps + also_in limits new.own asked next + length old.own.seen ≤ old.pass.steps + most + length new.own.seen
 
 -- so it is of a step, and the call still finds its round's blocks set
-pub record AlsoSpends {P : Type 0} (most : ℕ) (limits : Limits) (asked : Call P) (own : Record) (now : Sight P) (next : Next P) (new : Record)
-    (after : Sight P) : Type 0 where
-  pub few : AlsoFew most limits asked own now next new after
-  pub sets : FindsSetNext new asked after.cached next
+pub record AlsoSpends {P : Type 0} (most : ℕ) (limits : Limits) (asked : Call P) (old : Stance P) (next : Next P) (new : Stance P) : Type 0 where
+  pub few : AlsoFew most limits asked old next new
+  pub sets : FindsSetNext new.own asked new.pass.cached next
 
 -- So it is of a step of the look, whatever is set; and what comes next finds its round's blocks set where they are known to be once that step
 -- is made.
-pub record AlsoLooks {P : Type 0} (most : ℕ) (limits : Limits) (asked : Call P) (own : Record) (now : Sight P) (next : Next P) (new : Record)
-    (after : Sight P) : Type 0 where
-  pub few : AlsoFew most limits asked own now next new after
-  pub sets : BlocksStand own asked after.cached → FindsSetNext new asked after.cached next
+pub record AlsoLooks {P : Type 0} (most : ℕ) (limits : Limits) (asked : Call P) (old : Stance P) (next : Next P) (new : Stance P) : Type 0 where
+  pub few : AlsoFew most limits asked old next new
+  pub sets : BlocksStand old.own asked new.pass.cached → FindsSetNext new.own asked new.pass.cached next
 
 -- what a step of a call spends that stood here
-abbrev pub AlsoTurns : {P : Type 0} → Limits → Call P → Phase P → Record → Sight P → Next P → Record → Sight P → Type 0
-AlsoTurns limits asked Begun own now next new after = AlsoLooks (also_left limits own asked Begun) limits asked own now next new after
-AlsoTurns limits asked Looking own now next new after = AlsoLooks (also_left limits own asked Looking) limits asked own now next new after
-AlsoTurns limits asked phase own now next new after =
-    FindsSetIn own asked now.cached phase → AlsoSpends (also_left limits own asked phase) limits asked own now next new after
+abbrev pub AlsoTurns : {P : Type 0} → Limits → Call P → Phase P → Stance P → Next P → Stance P → Type 0
+AlsoTurns limits asked Begun old next new = AlsoLooks (also_left limits old.own asked Begun) limits asked old next new
+AlsoTurns limits asked Looking old next new = AlsoLooks (also_left limits old.own asked Looking) limits asked old next new
+AlsoTurns limits asked phase old next new =
+    FindsSetIn old.own asked old.pass.cached phase → AlsoSpends (also_left limits old.own asked phase) limits asked old next new
 
 -- What comes after a look that has just ended, with no step in between: no more than may come, by a rank that has seen what it had, and that
 -- still finds its round's blocks set.

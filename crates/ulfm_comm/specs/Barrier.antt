@@ -3,10 +3,10 @@ use Rattle.std.specs.Prelude.{◌≡◌, ◌⊎◌, ℕ, Bool, [], Some}
 use Rattle.ulfm_model.specs.declared.{call.Call.{Call}, call.Request.TheVariants.{Barrier}, limits.Limits.{Limits}}
 use Rattle.ulfm_model.specs.declared.{refusal.Refusal.TheVariants.{IsRevoked, ProcFailed}, reply.Reply.{Reply}}
 use Rattle.ulfm_model.specs.declared.reply.Reply.TheVariants.{Pending, Refused, Done}
-use Rattle.ulfm_model.specs.{History.{History, IsLegal}, Records.{Fits, Held, Record, held_at}, Runs.{Did}, Answers.{closed}}
+use Rattle.ulfm_model.specs.{History.{History, IsLegal}, Records.{Fits, Held, Moment, Record, held_at, moment}, Runs.{Did}, Answers.{closed}}
 use Rattle.ulfm_steps.specs.Arriving.{MissingAre}
 use Rattle.ulfm_steps.specs.declared.{arrivals.Missing.{Missing}, arrivals.Missing.TheVariants.{Nobody, Others, Declared}}
-use Rattle.ulfm_comm.specs.{Ends.{IsEndRun}, Look.{Looked}}
+use Rattle.ulfm_comm.specs.{Ends.{IsEndRun}, Local.{Frame}, Look.{Looked}}
 
 -- a rank that has a barrier open in this round
 pub record Awaits {P : Type 0} (meld : P → P → P) (limits : Limits) (h : History P) (c k : ℕ) (own : Record) : Type 0 where
@@ -28,27 +28,25 @@ missing_leaves own c Others = own
 missing_leaves own c Declared = closed own c
 
 -- The poll of a barrier has looked; since then there were others' events alone.
-pub record IsWaiting {P : Type 0} (meld : P → P → P) (limits : Limits) (alone : Bool) (c k : ℕ) (x : Held) (old : Record) (before : History P) (mid : Record)
-    (now : History P) : Type 0 where
+pub record IsWaiting {P : Type 0} (by : Frame P) (c k : ℕ) (x : Held) (start now : Moment P) : Type 0 where
   pub look : History P
-  pub looked : Looked alone before look old mid
-  pub legal : IsLegal meld limits look
-  pub fits : Fits meld limits look mid
-  pub held : held_at mid c ≡ Some x
+  pub looked : Looked by.alone start.seen look start.own now.own
+  pub legal : IsLegal by.meld by.limits look
+  pub fits : Fits by.meld by.limits look now.own
+  pub held : held_at now.own c ≡ Some x
   pub open_is : x.request ≡ Some (Barrier k)
-  pub waited : Did alone [] look now
+  pub waited : Did by.alone [] look now.seen
 
 -- The poll of a barrier is about to load the revocation: who was missing was found when this had been seen.
-pub record IsChecking {P : Type 0} (meld : P → P → P) (limits : Limits) (alone : Bool) (c : ℕ) (missing : Missing) (earlier : History P) (old : Record)
-    (before : History P) (own : Record) (now : History P) : Type 0 where
+pub record IsChecking {P : Type 0} (by : Frame P) (c : ℕ) (missing : Missing) (earlier : History P) (start now : Moment P) : Type 0 where
   pub x : Held
   pub k : ℕ
-  pub waits : IsWaiting meld limits alone c k x old before own earlier
-  pub are : MissingAre earlier c k x.group own.seen missing
-  pub legal : IsLegal meld limits earlier
-  pub waited : Did alone [] earlier now
+  pub waits : IsWaiting by c k x start (moment now.own earlier)
+  pub are : MissingAre earlier c k x.group now.own.seen missing
+  pub legal : IsLegal by.meld by.limits earlier
+  pub waited : Did by.alone [] earlier now.seen
 
 -- where nobody was missing, the poll is answered so; where somebody was, that is when it is answered; unless it finds a revocation
-abbrev pub AnswersEarly : {P : Type 0} → (P → P → P) → Limits → Bool → Call P → Missing → History P → Record → History P → Reply P → Record → Type 0
-AnswersEarly meld limits alone asked missing earlier old before reply new =
-    ((missing ≡ Nobody) × (reply ≡ Done)) ⊎ ((reply ≡ Refused IsRevoked) ⊎ IsEndRun meld limits alone before earlier old asked reply new)
+abbrev pub AnswersEarly : {P : Type 0} → Frame P → Call P → Missing → Moment P → Reply P → Moment P → Type 0
+AnswersEarly by asked missing start reply found =
+    ((missing ≡ Nobody) × (reply ≡ Done)) ⊎ ((reply ≡ Refused IsRevoked) ⊎ IsEndRun by.meld by.limits by.alone start asked reply found)

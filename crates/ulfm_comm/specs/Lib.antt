@@ -1,3 +1,4 @@
+pub mod Local
 pub mod Requests
 pub mod Look
 pub mod Ends
@@ -10,7 +11,6 @@ pub mod Polls
 pub mod Revokes
 pub mod Spawning
 pub mod Fails
-pub mod Jobs
 pub mod Replies
 pub mod StepsLeft
 pub mod Bound

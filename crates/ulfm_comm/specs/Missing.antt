@@ -2,24 +2,28 @@
 use Rattle.std.specs.Prelude.{◌≡◌, Bool, IsTrue, ⊤}
 use Rattle.ulfm_model.specs.declared.call.Call.TheVariants as call
 use Rattle.ulfm_model.specs.declared.reply.Reply.{Reply}
-use Rattle.ulfm_model.specs.{History.{History}, Records.{Fits, Record}, Terms.{comm_of}}
-use Rattle.ulfm_words.specs.Steps.{Name, Sight}
+use Rattle.ulfm_model.specs.{History.{History}, Records.{Fits, Record, moment}, Terms.{comm_of}}
+use Rattle.ulfm_words.specs.Steps.{Sight, view_of}
 use Rattle.ulfm_steps.specs.declared.arrivals.Missing.{Missing}
+use Rattle.ulfm_comm.specs.Local.{Local, frame_of, local, moment_of}
 use Rattle.ulfm_comm.specs.{Barrier.{AnswersEarly, IsChecking}, Phase.{Stands, UnderWay}}
 use Rattle.ulfm_comm.specs.declared.{phases.phase.Next.{Next}, phases.phase.Next.TheVariants.{Goes, Ends}, phases.phase.Phase.{Phase}}
 use Rattle.ulfm_comm.specs.declared.phases.phase.Phase.TheVariants.{Waiting, Checking}
 
--- a call between two steps: what it does, its rank's record, and its pass
+-- a call between two steps: what it does, and what its rank goes by
 pub record Midway (P : Type 0) : Type 0 where
   pub doing : UnderWay P
-  pub own : Record
-  pub pass : Sight P
+  pub rank : Local P
+
+abbrev pub midway : {P : Type 0} → UnderWay P → Local P → Midway P
+midway doing rank = record { doing = doing; rank = rank }
 
 -- A step of a call that stood so finds who is missing: whenever the call began, it was found when this had been seen.
-abbrev pub FindsMissing : {P : Type 0} → (P → P → P) → Bool → Name → Midway P → Record → Sight P → Missing → Type 0
-FindsMissing {P} meld quiet name at new after missing =
-    (alone : Bool) → (IsTrue alone → IsTrue quiet) → (old : Record) → (before : Sight P) → Stands meld alone name old before at.doing at.own at.pass
-    → IsChecking meld name.limits alone (comm_of at.doing.asked) missing after.seen old before.seen new after.seen
+abbrev pub FindsMissing : {P : Type 0} → (P → P → P) → Bool → Midway P → Local P → Missing → Type 0
+FindsMissing {P} meld quiet at new missing =
+    (alone : Bool) → (IsTrue alone → IsTrue quiet) → (old : Record) → (before : Sight P)
+    → Stands meld alone (local old (view_of at.rank.view.words before)) at.doing at.rank
+    → IsChecking (frame_of meld alone at.rank) (comm_of at.doing.asked) missing new.view.pass.seen (moment old before.seen) (moment_of new)
 
 -- so a step does that ends the reading of a barrier's arrivals; of any other nothing is said
 abbrev pub FoundNow : {P : Type 0} → (Missing → Type 0) → Phase P → Next P → Type 0
@@ -27,19 +31,19 @@ FoundNow Finds (Waiting arrivals) (Goes (Checking missing)) = Finds missing
 FoundNow Finds _ _ = ⊤
 
 -- The call that stands so is a poll that began with this record, when this had been seen, and has found who is missing.
-pub record HasFound {P : Type 0} (meld : P → P → P) (alone : Bool) (name : Name) (at : Midway P) (missing : Missing) : Type 0 where
+pub record HasFound {P : Type 0} (meld : P → P → P) (alone : Bool) (at : Midway P) (missing : Missing) : Type 0 where
   pub old : Record
   pub before : History P
-  pub fits : Fits meld name.limits before old
+  pub fits : Fits meld at.rank.view.words.limits before old
   pub polls : at.doing.asked ≡ call.Poll old.number (comm_of at.doing.asked)
   pub earlier : History P
-  pub checking : IsChecking meld name.limits alone (comm_of at.doing.asked) missing earlier old before at.own at.pass.seen
+  pub checking : IsChecking (frame_of meld alone at.rank) (comm_of at.doing.asked) missing earlier (moment old before) (moment_of at.rank)
 
 -- A step answers such a call as it was answered when that was found, unless nobody was missing, or it finds a revocation.
-abbrev pub AnswersMissing : {P : Type 0} → (P → P → P) → Bool → Name → Midway P → Record → Missing → Reply P → Type 0
-AnswersMissing meld quiet name at new missing reply =
-    (alone : Bool) → (IsTrue alone → IsTrue quiet) → (found : HasFound meld alone name at missing)
-    → AnswersEarly meld name.limits alone at.doing.asked missing found.earlier found.old found.before reply new
+abbrev pub AnswersMissing : {P : Type 0} → (P → P → P) → Bool → Midway P → Record → Missing → Reply P → Type 0
+AnswersMissing meld quiet at new missing reply =
+    (alone : Bool) → (IsTrue alone → IsTrue quiet) → (found : HasFound meld alone at missing)
+    → AnswersEarly (frame_of meld alone at.rank) at.doing.asked missing (moment found.old found.before) reply (moment new found.earlier)
 
 -- so the last step of a barrier's poll does; of any other nothing is said
 abbrev pub AnsweredNow : {P : Type 0} → (Missing → Reply P → Type 0) → Phase P → Next P → Type 0

@@ -4,10 +4,11 @@ use Rattle.ulfm_model.specs.declared.call.Call.TheVariants as call
 use Rattle.ulfm_model.specs.declared.{call.Call.{Call}, event.Caller.TheVariants.{Rank}, reply.Reply.{Reply}}
 use Rattle.ulfm_model.specs.{Answers.{traits_of}, History.{History, failures}, Records.{Fits, Held, Record}, Runs.{Did}, Terms.{comm_of}}
 use Rattle.ulfm_model.specs.Blocks.{IsSide}
-use Rattle.ulfm_words.specs.Steps.{Name, Sight}
+use Rattle.ulfm_words.specs.Steps.{Sight, view_of}
 use Rattle.ulfm_steps.specs.{Arriving.{AtArrival}, Looks.{LookIs}, ReadsOn.{AtFailure}}
+use Rattle.ulfm_comm.specs.Local.{Local, frame_of, local, moment_of}
 use Rattle.ulfm_comm.specs.{Calls.{HasReplied}, Ends.{IsRefusedAgain}, Polls.{PendsIn}, Look.{HasLooked}, Exchange.{StartsWith}}
-use Rattle.ulfm_comm.specs.{Agreement.{IsMarking, IsPeeking, IsReading}, Spawning.{IsDecided, IsSpawning}, Barrier.{IsWaiting, IsChecking}}
+use Rattle.ulfm_comm.specs.{Agreement.{IsMarking, IsPeeking, IsReading}, Spawning.{HasReadMask, IsSpawning, sought}, Barrier.{IsWaiting, IsChecking}}
 use Rattle.ulfm_comm.specs.declared.{phases.phase.Next.{Next}, phases.phase.Next.TheVariants.{Goes, Ends}, phases.phase.Phase.{Phase}}
 use Rattle.ulfm_model.specs.declared.step_name.StepName.{StepName}
 use Rattle.ulfm_comm.specs.declared.phases.phase.Phase.TheVariants.{Over, Begun, Looking, Settling, Arriving, Revoking, Asking, Peeking, Marking}
@@ -19,6 +20,9 @@ pub record UnderWay (P : Type 0) : Type 0 where
   pub asked : Call P
   pub phase : Phase P
   pub group : List ℕ
+
+abbrev pub under_way : {P : Type 0} → Call P → Phase P → List ℕ → UnderWay P
+under_way asked phase group = record { asked = asked; phase = phase; group = group }
 
 -- the name of the next step
 abbrev pub next_step : {P : Type 0} → Phase P → Option StepName
@@ -116,47 +120,54 @@ next_of None phase = Goes phase
 next_of (Some reply) phase = Ends reply
 
 -- where a call stands that goes on with this phase
-abbrev pub StandsAt : {P : Type 0} → (P → P → P) → Bool → Name → Call P → Record → Sight P → Phase P → List ℕ → Record → Sight P → Type 0
-StandsAt meld alone name asked old before Over group own now = IsTrue old.refused × (own ≡ old) × Did alone [] before.seen now.seen
-StandsAt meld alone name asked old before Begun group own now = IsFalse old.refused × (own ≡ old) × Did alone [] before.seen now.seen
-StandsAt meld alone name asked old before Looking group own now =
-    IsFalse old.refused × (own ≡ record old { seen = own.seen }) × Did alone [] before.seen now.seen × LookIs name.limits false own.seen now.seen
-StandsAt meld alone name asked old before (Settling request offer) group own now =
-    (p : HasLooked meld name.limits alone asked old before.seen own now.seen) × StartsWith asked old p.x request offer
-StandsAt meld alone name asked old before (Arriving round) group own now =
-    (p : HasLooked meld name.limits alone asked old before.seen own now.seen) × (asked ≡ call.Barrier old.number (comm_of asked)) × (round ≡ p.x.next_barrier)
-StandsAt meld alone name asked old before Revoking group own now =
-    HasLooked meld name.limits alone asked old before.seen own now.seen × (asked ≡ call.Revoke old.number (comm_of asked))
-StandsAt meld alone name asked old before Asking group own now =
-    HasLooked meld name.limits alone asked old before.seen own now.seen × (asked ≡ call.IsRevoked old.number (comm_of asked))
-StandsAt meld alone name asked old before (Peeking peek shrinks) group own now =
-    (asked ≡ call.Poll old.number (comm_of asked)) × (p : IsPeeking meld name.limits alone (comm_of asked) shrinks peek old before.seen own now.seen)
-    × IsSide peek.side p.x.group
-StandsAt meld alone name asked old before (Marking marks blocks shrinks) group own now =
-    (asked ≡ call.Poll old.number (comm_of asked)) × (p : IsMarking meld name.limits alone (comm_of asked) shrinks marks blocks old before.seen own now.seen)
+abbrev pub StandsAt : {P : Type 0} → (P → P → P) → Bool → Call P → Local P → Phase P → List ℕ → Local P → Type 0
+StandsAt meld alone asked start Over group now =
+    IsTrue start.own.refused × (now.own ≡ start.own) × Did alone [] start.view.pass.seen now.view.pass.seen
+StandsAt meld alone asked start Begun group now =
+    IsFalse start.own.refused × (now.own ≡ start.own) × Did alone [] start.view.pass.seen now.view.pass.seen
+StandsAt meld alone asked start Looking group now =
+    IsFalse start.own.refused × (now.own ≡ record start.own { seen = now.own.seen }) × Did alone [] start.view.pass.seen now.view.pass.seen
+    × LookIs start.view.words.limits false now.own.seen now.view.pass.seen
+StandsAt meld alone asked start (Settling request offer) group now =
+    (p : HasLooked (frame_of meld alone start) asked (moment_of start) (moment_of now)) × StartsWith asked start.own p.x request offer
+StandsAt meld alone asked start (Arriving round) group now =
+    (p : HasLooked (frame_of meld alone start) asked (moment_of start) (moment_of now))
+    × (asked ≡ call.Barrier start.own.number (comm_of asked)) × (round ≡ p.x.next_barrier)
+StandsAt meld alone asked start Revoking group now =
+    HasLooked (frame_of meld alone start) asked (moment_of start) (moment_of now) × (asked ≡ call.Revoke start.own.number (comm_of asked))
+StandsAt meld alone asked start Asking group now =
+    HasLooked (frame_of meld alone start) asked (moment_of start) (moment_of now) × (asked ≡ call.IsRevoked start.own.number (comm_of asked))
+StandsAt meld alone asked start (Peeking peek shrinks) group now =
+    (asked ≡ call.Poll start.own.number (comm_of asked))
+    × (p : IsPeeking (frame_of meld alone start) (comm_of asked) shrinks peek (moment_of start) (moment_of now)) × IsSide peek.side p.x.group
+StandsAt meld alone asked start (Marking marks blocks shrinks) group now =
+    (asked ≡ call.Poll start.own.number (comm_of asked))
+    × (p : IsMarking (frame_of meld alone start) (comm_of asked) shrinks marks blocks (moment_of start) (moment_of now))
     × (marks.next < length (failures p.look))
-StandsAt meld alone name asked old before (Reading reading shrinks) group own now =
-    (asked ≡ call.Poll old.number (comm_of asked)) × IsReading meld name.limits alone (comm_of asked) shrinks reading old before.seen own now.seen
-StandsAt meld alone name asked old before (ReadingOn on made) group own now =
-    (asked ≡ call.Poll old.number (comm_of asked)) × (x : Held)
-    × IsDecided meld name.limits alone (comm_of asked) made.round made.mask x made.count old before.seen own now.seen
-    × AtFailure x.group made.count on own.seen × (on.found < made.count)
-StandsAt meld alone name asked old before (Spawning append context reach) group own now =
-    (asked ≡ call.Poll old.number (comm_of asked)) × IsSpawning meld name.limits alone (comm_of asked) append context reach group old before.seen own now.seen
-StandsAt meld alone name asked old before (Waiting arrivals) group own now =
-    (asked ≡ call.Poll old.number (comm_of asked)) × (arrivals.comm ≡ comm_of asked) × (x : Held)
-    × (p : IsWaiting meld name.limits alone (comm_of asked) arrivals.round x old before.seen own now.seen) × AtArrival x.group own.seen arrivals now.seen
-StandsAt {P} meld alone name asked old before (Checking missing) group own now =
-    (asked ≡ call.Poll old.number (comm_of asked)) × (earlier : History P)
-    × IsChecking meld name.limits alone (comm_of asked) missing earlier old before.seen own now.seen
+StandsAt meld alone asked start (Reading reading shrinks) group now =
+    (asked ≡ call.Poll start.own.number (comm_of asked))
+    × IsReading (frame_of meld alone start) (comm_of asked) shrinks reading (moment_of start) (moment_of now)
+StandsAt meld alone asked start (ReadingOn on made) group now =
+    (asked ≡ call.Poll start.own.number (comm_of asked)) × (x : Held)
+    × HasReadMask (frame_of meld alone start) (comm_of asked) made x (moment_of start) (moment_of now)
+    × AtFailure x.group made.count on now.own.seen × (on.found < made.count)
+StandsAt meld alone asked start (Spawning append context reach) group now =
+    (asked ≡ call.Poll start.own.number (comm_of asked))
+    × IsSpawning (frame_of meld alone start) (comm_of asked) append (sought context reach group) (moment_of start) (moment_of now)
+StandsAt meld alone asked start (Waiting arrivals) group now =
+    (asked ≡ call.Poll start.own.number (comm_of asked)) × (arrivals.comm ≡ comm_of asked) × (x : Held)
+    × (p : IsWaiting (frame_of meld alone start) (comm_of asked) arrivals.round x (moment_of start) (moment_of now))
+    × AtArrival x.group now.own.seen arrivals now.view.pass.seen
+StandsAt {P} meld alone asked start (Checking missing) group now =
+    (asked ≡ call.Poll start.own.number (comm_of asked)) × (earlier : History P)
+    × IsChecking (frame_of meld alone start) (comm_of asked) missing earlier (moment_of start) (moment_of now)
 
 -- A call that began with this record, and when this was seen, stands here now.
-pub record Stands {P : Type 0} (meld : P → P → P) (alone : Bool) (name : Name) (old : Record) (before : Sight P) (doing : UnderWay P) (own : Record)
-    (now : Sight P) : Type 0 where
-  pub fits : Fits meld name.limits before.seen old
-  pub mine : (traits_of doing.asked).by ≡ Rank old.number
-  pub onward : before.steps ≤ now.steps
-  pub at : StandsAt meld alone name doing.asked old before doing.phase doing.group own now
+pub record Stands {P : Type 0} (meld : P → P → P) (alone : Bool) (start : Local P) (doing : UnderWay P) (now : Local P) : Type 0 where
+  pub fits : Fits meld start.view.words.limits start.view.pass.seen start.own
+  pub mine : (traits_of doing.asked).by ≡ Rank start.own.number
+  pub onward : start.view.pass.steps ≤ now.view.pass.steps
+  pub at : StandsAt meld alone doing.asked start doing.phase doing.group now
 
 -- since then there were others' events alone
 pub record Waits {P : Type 0} (alone : Bool) (old new : Sight P) : Type 0 where
@@ -165,25 +176,22 @@ pub record Waits {P : Type 0} (alone : Bool) (old new : Sight P) : Type 0 where
 
 -- A call's reply: of a rank that was refused for good before; or as the sequential object answers, or for want of memory. A
 -- pending agreement ends in a load that found a member missing.
-pub record Answered {P : Type 0} (meld : P → P → P) (alone : Bool) (name : Name) (asked : Call P) (old : Record) (before : Sight P) (reply : Reply P)
-    (new : Record) (after : Sight P) : Type 0 where
-  pub ends : (IsRefusedAgain old reply new × Waits alone before after) ⊎ HasReplied meld alone name asked old before reply new after
-  pub pending : PendsIn meld alone name asked old before reply new after
+pub record Answered {P : Type 0} (meld : P → P → P) (alone : Bool) (asked : Call P) (start : Local P) (reply : Reply P) (new : Local P) : Type 0 where
+  pub ends : (IsRefusedAgain start.own reply new.own × Waits alone start.view.pass new.view.pass) ⊎ HasReplied meld alone asked start reply new
+  pub pending : PendsIn meld alone asked start reply new
 
 -- what comes next: further steps, or the reply
-abbrev pub NextIs : {P : Type 0} → (P → P → P) → Bool → Name → Call P → Record → Sight P → Next P → List ℕ → Record → Sight P → Type 0
-NextIs meld alone name asked old before (Goes phase) group own now =
-    Stands meld alone name old before (record { asked = asked; phase = phase; group = group }) own now
-NextIs meld alone name asked old before (Ends reply) group own now = Answered meld alone name asked old before reply own now
+abbrev pub NextIs : {P : Type 0} → (P → P → P) → Bool → Call P → Local P → Next P → List ℕ → Local P → Type 0
+NextIs meld alone asked start (Goes phase) group now = Stands meld alone start (under_way asked phase group) now
+NextIs meld alone asked start (Ends reply) group now = Answered meld alone asked start reply now
 
 -- one step leads on from where a call stood, also where nobody else steps
-abbrev pub Turns : {P : Type 0} → (P → P → P) → Bool → Name → Call P → Phase P → List ℕ → Record → Sight P → Next P → List ℕ → Record → Sight P → Type 0
-Turns {P} meld quiet name asked phase group own now next left new after =
+abbrev pub Turns : {P : Type 0} → (P → P → P) → Bool → UnderWay P → Local P → Next P → List ℕ → Local P → Type 0
+Turns {P} meld quiet doing now next left new =
     (alone : Bool) → (IsTrue alone → IsTrue quiet) → (old : Record) → (before : Sight P)
-    → Stands meld alone name old before (record { asked = asked; phase = phase; group = group }) own now
-    → NextIs meld alone name asked old before next left new after
+    → Stands meld alone (local old (view_of now.view.words before)) doing now
+    → NextIs meld alone doing.asked (local old (view_of now.view.words before)) next left new
 
 -- a call stands so, whenever it began
-abbrev pub StillStands : {P : Type 0} → (P → P → P) → Name → Call P → Phase P → List ℕ → Record → Sight P → Type 0
-StillStands {P} meld name asked phase group own now =
-    (old : Record) × (before : Sight P) × Stands meld false name old before (record { asked = asked; phase = phase; group = group }) own now
+abbrev pub StillStands : {P : Type 0} → (P → P → P) → UnderWay P → Local P → Type 0
+StillStands {P} meld doing now = (old : Record) × (before : Sight P) × Stands meld false (local old (view_of now.view.words before)) doing now

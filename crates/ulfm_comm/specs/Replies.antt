@@ -10,17 +10,17 @@ pub data Kind : Type 0 where
   Starts Counts Acknowledges Frees Revokes Asks Polls : Kind
 
 -- a reply to such a call
-abbrev pub Answers : {P : Type 0} → Kind → Reply P → Type 0
-Answers kind (Refused refusal) = ⊤
-Answers Kind.Starts Started = ⊤
-Answers Kind.Counts (FailedGroup count) = ⊤
-Answers Kind.Acknowledges (Acked count) = ⊤
-Answers Kind.Frees Freed = ⊤
-Answers Kind.Revokes Revoked = ⊤
-Answers Kind.Revokes AlreadyRevoked = ⊤
-Answers Kind.Asks (Standing revoked) = ⊤
-Answers Kind.Polls Pending = ⊤
-Answers Kind.Polls (Agreed value count raised) = ⊤
-Answers Kind.Polls (Shrunk j context size) = ⊤
-Answers Kind.Polls Done = ⊤
-Answers kind reply = ⊥
+abbrev pub IsOfKind : {P : Type 0} → Kind → Reply P → Type 0
+IsOfKind kind (Refused refusal) = ⊤
+IsOfKind Kind.Starts Started = ⊤
+IsOfKind Kind.Counts (FailedGroup count) = ⊤
+IsOfKind Kind.Acknowledges (Acked count) = ⊤
+IsOfKind Kind.Frees Freed = ⊤
+IsOfKind Kind.Revokes Revoked = ⊤
+IsOfKind Kind.Revokes AlreadyRevoked = ⊤
+IsOfKind Kind.Asks (Standing revoked) = ⊤
+IsOfKind Kind.Polls Pending = ⊤
+IsOfKind Kind.Polls (Agreed value count raised) = ⊤
+IsOfKind Kind.Polls (Shrunk j context size) = ⊤
+IsOfKind Kind.Polls Done = ⊤
+IsOfKind kind reply = ⊥

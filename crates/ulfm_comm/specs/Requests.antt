@@ -12,6 +12,14 @@ abbrev pub agreement : Bool → ℕ → Request
 agreement false k = Agree k
 agreement true k = Shrink k
 
+-- an agreement that is open: whether it is a shrink, and its round
+pub record Agreeing : Type 0 where
+  pub shrinks : Bool
+  pub round : ℕ
+
+abbrev pub agreeing : Bool → ℕ → Agreeing
+agreeing shrinks k = record { shrinks = shrinks; round = k }
+
 -- A poll finds its round's blocks set: where an agree or a shrink is open on its communicator, all blocks of that round are among these.
 abbrev pub BlocksStand : {P : Type 0} → Record → Call P → List Block → Type 0
 BlocksStand own (call.Poll rank c) cached =

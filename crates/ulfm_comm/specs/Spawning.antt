@@ -6,20 +6,21 @@ use Rattle.ulfm_model.specs.declared.call.Call.TheVariants as call
 use Rattle.ulfm_model.specs.declared.{call.Call.{Call}, event.Caller.TheVariants.{Rank}, event.Event.{Event}, limits.Limits.{Limits}, event.Caller.{Caller}}
 use Rattle.ulfm_model.specs.declared.{event.Event.TheVariants.{Spawn}, place.Place.TheVariants.{Comm as CommAt}}
 use Rattle.ulfm_model.specs.declared.{refusal.Refusal.TheVariants.{NoRoom}, reply.Reply.TheVariants.{Refused}}
-use Rattle.ulfm_model.specs.{History.{History, entries_by, failures, has, without, is_made, spawns}, Records.{Fits, Held, IsLowestId, Record, held_at}}
+use Rattle.ulfm_model.specs.History.{History, entries_by, failures, has, without, is_made, spawns}
+use Rattle.ulfm_model.specs.Records.{Fits, Held, IsLowestId, Moment, Record, held_at, moment}
 use Rattle.ulfm_model.specs.{Runs.{Did}, Terms.{comm_of, contexts_of, new_held, settled_by}, Answers.{closed}}
-use Rattle.ulfm_words.specs.Steps.{IsOf, Name, Sight}
+use Rattle.ulfm_words.specs.Steps.{IsView, Sight, View}
 use Rattle.ulfm_steps.specs.declared.{append.Append.{Append}, item.Item.TheVariants.{Comm as OfComm}}
 use Rattle.ulfm_model.specs.Blocks.{IsSummed}
-use Rattle.ulfm_steps.specs.{Appends.{Passed, room, MayAppend, turns_left}, ReadsOn.{ReadsOn}, Turns.{Takes}}
-use Rattle.ulfm_comm.specs.Polls.{HasMarked}
+use Rattle.ulfm_steps.specs.{Appends.{Passed, room, MayAppend, turns_left}, ReadsOn.{ReadsOn}, Rounds.{RoundOn, round_on}, Turns.{Running, TakesFirst, running}}
+use Rattle.ulfm_comm.specs.{Local.{Frame, Local, frame_of, moment_of}, Polls.{PollHasMarked}, Requests.{agreeing}}
 use Rattle.ulfm_comm.specs.declared.{phases.phase.Made.{Made}, phases.phase.Next.{Next}, phases.phase.Next.TheVariants.{Ends}}
 use Rattle.ulfm_comm.specs.declared.phases.spawning.Spawned.{Spawned}
 use Rattle.ulfm_comm.specs.declared.phases.spawning.Spawned.TheVariants as spawned
 use Rattle.std.specs.List.{AllByRecursion}
 
 -- a step may be made in the list of communicators, on the way to that of a round
-pub record MaySpawn {P : Type 0} (meld : P → P → P) (limits : Limits) (seen : History P) (c k : ℕ) (append : Append) : Type 0 where
+pub record MayGoSpawning {P : Type 0} (meld : P → P → P) (limits : Limits) (seen : History P) (c k : ℕ) (append : Append) : Type 0 where
   pub item : append.item ≡ OfComm c k
   pub may : MayAppend meld limits seen (OfComm c k)
   pub in_rounds : k < limits.rounds
@@ -35,42 +36,40 @@ pub record MayHold (own : Record) (c context size : ℕ) : Type 0 where
   pub fresh : AllByRecursion (λ i. nat_eq i context ≡ false) (contexts_of own.held)
 
 -- communicator j was made of the round, by this call or before; no block was cached
-pub record IsMadeBy {P : Type 0} (meld : P → P → P) (alone : Bool) (name : Name) (by : Caller) (c k : ℕ) (before : Sight P) (j : ℕ) (after : Sight P)
-    : Type 0 where
-  pub of : IsOf meld name after
+pub record IsMadeBy {P : Type 0} (meld : P → P → P) (alone : Bool) (by : Caller) (at : RoundOn) (old : View P) (j : ℕ) (new : View P) : Type 0 where
+  pub of : IsView meld new
   pub own : List (Event P)
-  pub makes : AllByRecursion (λ event. (i : ℕ) × (event ≡ Spawn i c k)) own
-  pub few : (own ≡ []) ⊎ ((i : ℕ) × (own ≡ Spawn i c k ∷ []))
+  pub makes : AllByRecursion (λ event. (i : ℕ) × (event ≡ Spawn i at.comm at.round)) own
+  pub few : (own ≡ []) ⊎ ((i : ℕ) × (own ≡ Spawn i at.comm at.round ∷ []))
   pub settles_none : settled_by own ≡ []
-  pub did : Did alone (entries_by by own) before.seen after.seen
+  pub did : Did alone (entries_by by own) old.pass.seen new.pass.seen
   pub some : 0 < j
-  pub made : slice_get (spawns after.seen) (j - 1) ≡ Some (c, k)
-  pub onward : before.steps ≤ after.steps
-  pub cached : IsPrefix before.cached after.cached
-  pub caches : after.caches ≡ before.caches
+  pub made : slice_get (spawns new.pass.seen) (j - 1) ≡ Some (at.comm, at.round)
+  pub onward : old.pass.steps ≤ new.pass.steps
+  pub cached : IsPrefix old.pass.cached new.pass.cached
+  pub caches : new.pass.caches ≡ old.pass.caches
 
 -- all communicators that there may be were made, and not of this round; no block was cached
-pub record IsFullBy {P : Type 0} (meld : P → P → P) (alone : Bool) (name : Name) (c k : ℕ) (before after : Sight P) : Type 0 where
-  pub of : IsOf meld name after
-  pub did : Did alone [] before.seen after.seen
-  pub full : length (spawns after.seen) + 1 ≡ name.limits.comms
-  pub unmade : IsFalse (is_made after.seen c k)
-  pub onward : before.steps ≤ after.steps
-  pub cached : IsPrefix before.cached after.cached
-  pub caches : after.caches ≡ before.caches
+pub record IsFullBy {P : Type 0} (meld : P → P → P) (alone : Bool) (at : RoundOn) (old new : View P) : Type 0 where
+  pub of : IsView meld new
+  pub did : Did alone [] old.pass.seen new.pass.seen
+  pub full : length (spawns new.pass.seen) + 1 ≡ new.words.limits.comms
+  pub unmade : IsFalse (is_made new.pass.seen at.comm at.round)
+  pub onward : old.pass.steps ≤ new.pass.steps
+  pub cached : IsPrefix old.pass.cached new.pass.cached
+  pub caches : new.pass.caches ≡ old.pass.caches
 
 -- it isn't found yet, and the next step may be made; no block was cached
-pub record IsSoughtBy {P : Type 0} (meld : P → P → P) (alone : Bool) (name : Name) (c k : ℕ) (old : Append) (before : Sight P) (new : Append) (after : Sight P)
-    : Type 0 where
-  pub of : IsOf meld name after
-  pub did : Did alone [] before.seen after.seen
-  pub item : new.item ≡ old.item
-  pub mine : new.by ≡ old.by
-  pub passed : Passed after.seen (OfComm c k) new.index
-  pub more : new.index < name.limits.comms - 1
-  pub onward : before.steps ≤ after.steps
-  pub cached : IsPrefix before.cached after.cached
-  pub caches : after.caches ≡ before.caches
+pub record IsSoughtBy {P : Type 0} (meld : P → P → P) (alone : Bool) (at : RoundOn) (old new : Running Append P) : Type 0 where
+  pub of : IsView meld new.view
+  pub did : Did alone [] old.view.pass.seen new.view.pass.seen
+  pub item : new.state.item ≡ old.state.item
+  pub mine : new.state.by ≡ old.state.by
+  pub passed : Passed new.view.pass.seen (OfComm at.comm at.round) new.state.index
+  pub more : new.state.index < new.view.words.limits.comms - 1
+  pub onward : old.view.pass.steps ≤ new.view.pass.steps
+  pub cached : IsPrefix old.view.pass.cached new.view.pass.cached
+  pub caches : new.view.pass.caches ≡ old.view.pass.caches
 
 -- the rank holds communicator j, with these members, in place of the request on its parent
 pub record Holds (c context : ℕ) (group : List ℕ) (old : Record) (j size : ℕ) (new : Record) : Type 0 where
@@ -87,58 +86,86 @@ spawn_left limits next spawned.Full = 0
 -- else a load
 abbrev pub SpawnTakes : {P : Type 0} → Bool → Limits → Append → Spawned → Append → Sight P → Sight P → Type 0
 SpawnTakes whole limits old result new =
-    Takes whole (CommAt (old.index + 1)) (not old.empty) (turns_left (limits.comms - 1) old) (spawn_left limits new result)
+    TakesFirst whole (CommAt (old.index + 1)) (not old.empty) (turns_left (limits.comms - 1) old) (spawn_left limits new result)
+
+-- what a communicator will be once it is made and held: of this round, with this context id and these members
+pub record Target : Type 0 where
+  pub at : RoundOn
+  pub context : ℕ
+  pub group : List ℕ
+
+abbrev pub target : ℕ → ℕ → ℕ → List ℕ → Target
+target c k context group = record { at = round_on c k; context = context; group = group }
+
+-- a shrink's poll that looks for its communicator: the place that it tries, and what its rank goes by
+pub record Seeking (P : Type 0) : Type 0 where
+  pub append : Append
+  pub rank : Local P
+
+abbrev pub seeking : {P : Type 0} → Append → Local P → Seeking P
+seeking append rank = record { append = append; rank = rank }
 
 -- the round's communicator isn't found yet; or it is made and held; or there is no room for it
-abbrev pub SpawnIs : {P : Type 0} → (P → P → P) → Bool → Name → ℕ → ℕ → ℕ → Append → Append → List ℕ → Record → Sight P → Spawned → Record → Sight P → Type 0
-SpawnIs meld alone name c k context append next group old before spawned.Unknown new after =
-    IsSoughtBy meld alone name c k append before next after × (new ≡ old)
-SpawnIs meld alone name c k context append next group old before (spawned.Made j size) new after =
-    IsMadeBy meld alone name append.by c k before j after × Holds c context group old j size new
-SpawnIs meld alone name c k context append next group old before spawned.Full new after = IsFullBy meld alone name c k before after × (new ≡ old)
+abbrev pub SpawnIs : {P : Type 0} → (P → P → P) → Bool → Target → Seeking P → Spawned → Seeking P → Type 0
+SpawnIs meld alone makes old spawned.Unknown new =
+    IsSoughtBy meld alone makes.at (running old.append old.rank.view) (running new.append new.rank.view) × (new.rank.own ≡ old.rank.own)
+SpawnIs meld alone makes old (spawned.Made j size) new =
+    IsMadeBy meld alone old.append.by makes.at old.rank.view j new.rank.view
+    × Holds makes.at.comm makes.context makes.group old.rank.own j size new.rank.own
+SpawnIs meld alone makes old spawned.Full new = IsFullBy meld alone makes.at old.rank.view new.rank.view × (new.rank.own ≡ old.rank.own)
+
+-- what a shrink decided on: in this round, these context ids, with so many failed members
+abbrev pub decided_as : ℕ → CtxMask → ℕ → Made
+decided_as round mask count = record { round = round; mask = mask; count = count }
 
 -- The poll of a shrink has read the round through, which is decided on this mask, and has read on in the list of failures.
-pub record IsDecided {P : Type 0} (meld : P → P → P) (limits : Limits) (alone : Bool) (c k : ℕ) (mask : CtxMask) (x : Held) (count : ℕ) (old : Record)
-    (before : History P) (own : Record) (now : History P) : Type 0 where
+pub record HasReadMask {P : Type 0} (by : Frame P) (c : ℕ) (made : Made) (x : Held) (start now : Moment P) : Type 0 where
   pub mid : Record
   pub decided : History P
-  pub marked : HasMarked meld limits alone c true k x old before mid decided
+  pub marked : PollHasMarked by c (agreeing true made.round) x start (moment mid decided)
   pub all : Summary P
-  pub read : IsSummed meld decided c k x.group all
-  pub body : all.body ≡ OfIds mask
-  pub some : 0 < mask.bits
-  pub count_is : count ≡ all.known.count
-  pub waited : Did alone [] decided now
-  pub own_is : own ≡ record mid { seen = own.seen }
-  pub goes_on : IsPrefix mid.seen own.seen
-  pub begins : IsPrefix own.seen (failures now)
+  pub read : IsSummed by.meld decided c made.round x.group all
+  pub body : all.body ≡ OfIds made.mask
+  pub some : 0 < made.mask.bits
+  pub count_is : made.count ≡ all.known.count
+  pub waited : Did by.alone [] decided now.seen
+  pub own_is : now.own ≡ record mid { seen = now.own.seen }
+  pub goes_on : IsPrefix mid.seen now.own.seen
+  pub begins : IsPrefix now.own.seen (failures now.seen)
+
+-- the communicator that is looked for: its context id, how far the failures reach that it leaves out, and its members
+pub record Sought : Type 0 where
+  pub context : ℕ
+  pub reach : ℕ
+  pub group : List ℕ
+
+abbrev pub sought : ℕ → ℕ → List ℕ → Sought
+sought context reach group = record { context = context; reach = reach; group = group }
 
 -- The whole failed group of the decision is read, the rank isn't in it, and the communicator is looked for.
-pub record IsSpawning {P : Type 0} (meld : P → P → P) (limits : Limits) (alone : Bool) (c : ℕ) (append : Append) (context reach : ℕ) (group : List ℕ)
-    (old : Record) (before : History P) (own : Record) (now : History P) : Type 0 where
+pub record IsSpawning {P : Type 0} (by : Frame P) (c : ℕ) (append : Append) (seeks : Sought) (start now : Moment P) : Type 0 where
   pub x : Held
   pub round : ℕ
   pub mask : CtxMask
   pub count : ℕ
-  pub decided : IsDecided meld limits alone c round mask x count old before own now
-  pub lowest : IsLowestId mask.bits context
-  pub reads : ReadsOn x.group count decided.mid.seen own.seen (failures now) reach
-  pub stays : IsFalse (has (take reach own.seen) own.number)
-  pub left : group ≡ without x.group (take reach own.seen)
+  pub decided : HasReadMask by c (decided_as round mask count) x start now
+  pub lowest : IsLowestId mask.bits seeks.context
+  pub reads : ReadsOn x.group count decided.mid.seen now.own.seen (failures now.seen) seeks.reach
+  pub stays : IsFalse (has (take seeks.reach now.own.seen) now.own.number)
+  pub left : seeks.group ≡ without x.group (take seeks.reach now.own.seen)
   pub item : append.item ≡ OfComm c round
-  pub mine : append.by ≡ Rank old.number
-  pub passed : Passed now append.item append.index
-  pub more : append.index < room append.item limits
+  pub mine : append.by ≡ Rank start.own.number
+  pub passed : Passed now.seen append.item append.index
+  pub more : append.index < room append.item by.limits
 
 -- the poll of a shrink has just read the list of failures as far as the decision's failed group reaches
-pub record HasReached {P : Type 0} (meld : P → P → P) (alone : Bool) (name : Name) (asked : Call P) (made : Made) (reach : ℕ) (old : Record) (before : Sight P)
-    (own : Record) (now : Sight P) : Type 0 where
-  pub fits : Fits meld name.limits before.seen old
-  pub polls : asked ≡ call.Poll old.number (comm_of asked)
-  pub onward : before.steps ≤ now.steps
+pub record HasReached {P : Type 0} (meld : P → P → P) (alone : Bool) (asked : Call P) (made : Made) (reach : ℕ) (start now : Local P) : Type 0 where
+  pub fits : Fits meld start.view.words.limits start.view.pass.seen start.own
+  pub polls : asked ≡ call.Poll start.own.number (comm_of asked)
+  pub onward : start.view.pass.steps ≤ now.view.pass.steps
   pub x : Held
-  pub decided : IsDecided meld name.limits alone (comm_of asked) made.round made.mask x made.count old before.seen own now.seen
-  pub reads : ReadsOn x.group made.count decided.mid.seen own.seen (failures now.seen) reach
+  pub decided : HasReadMask (frame_of meld alone start) (comm_of asked) made x (moment_of start) (moment_of now)
+  pub reads : ReadsOn x.group made.count decided.mid.seen now.own.seen (failures now.view.pass.seen) reach
 
 -- Where the world has no room for a communicator more, the memory for its members was there before: the vector has them.
 abbrev pub HadMemory : {P : Type 0} → Call P → ℕ → Record → Next P → List ℕ → Type 0

@@ -5,22 +5,23 @@ use Rattle.ulfm_model.specs.declared.{block.Block.{Block}, call.Call.{Call}, eve
 use Rattle.ulfm_model.specs.declared.{refusal.Refusal.TheVariants.{SelfFailed}, reply.Reply.{Reply}, reply.Reply.TheVariants.{Refused, Revoked, Started}}
 use Rattle.ulfm_model.specs.{Answers.{CallAdds, polled_by, traits_of}, History.{History, entries_by, failures, has}}
 use Rattle.ulfm_model.specs.{Records.{Held, Record, held_at, is_shrink}, Runs.{Did}, Terms.{comm_of}}
-use Rattle.ulfm_words.specs.Steps.{IsOf, Name, Sight}
+use Rattle.ulfm_words.specs.Steps.{IsView, Sight, View, view_of}
 use Rattle.ulfm_comm.specs.{Look.{JustLooked}, StepsLeft.{FewerLeft, MakesStep, Spends, steps_left}}
-use Rattle.ulfm_comm.specs.Missing.{AnsweredNow, AnswersMissing, FindsMissing, FoundNow}
+use Rattle.ulfm_comm.specs.Missing.{AnsweredNow, AnswersMissing, FindsMissing, FoundNow, midway}
 use Rattle.ulfm_comm.specs.{AlsoLeft.{AlsoTurns, FindsSetIn, also_left}, Known.{KnowsIn, KnowsNext}, Requests.{BlocksStand, LeavesSet, may_cache}}
-use Rattle.ulfm_comm.specs.Phase.{Answered, UnderWay, is_looking, next_step, IsFurther, IsPast, LeadsTo, NextIs, reply_in, Stands, Turns}
+use Rattle.ulfm_comm.specs.Local.{Local, local, stance_of}
+use Rattle.ulfm_comm.specs.Phase.{Answered, UnderWay, under_way, is_looking, next_step, IsFurther, IsPast, LeadsTo, NextIs, reply_in, Stands, Turns}
 use Rattle.ulfm_comm.specs.declared.{phases.phase.Next.{Next}, phases.phase.Next.TheVariants.{Ends}, phases.phase.Phase.{Phase}}
 use Rattle.ulfm_comm.specs.declared.phases.phase.Phase.TheVariants.{Over, Begun, Looking, Settling, Arriving, Revoking, Marking, ReadingOn}
 use Rattle.ulfm_comm.specs.declared.phases.phase.Phase.TheVariants.{Spawning}
 
 -- steps of one rank, with own events alone where nobody else steps; what was known to be set still is
-pub record Walks {P : Type 0} (meld : P → P → P) (quiet : Bool) (name : Name) (rank : ℕ) (old new : Sight P) : Type 0 where
-  pub of : IsOf meld name new
+pub record Walks {P : Type 0} (meld : P → P → P) (quiet : Bool) (rank : ℕ) (old new : View P) : Type 0 where
+  pub of : IsView meld new
   pub own : List (Event P)
-  pub did : Did quiet (entries_by (Rank rank) own) old.seen new.seen
-  pub onward : old.steps ≤ new.steps
-  pub cached : IsPrefix old.cached new.cached
+  pub did : Did quiet (entries_by (Rank rank) own) old.pass.seen new.pass.seen
+  pub onward : old.pass.steps ≤ new.pass.steps
+  pub cached : IsPrefix old.pass.cached new.pass.cached
 
 -- An event that a call adds in a step with this reply, if it ends so. A start adds one only where it has started, and a revocation
 -- only where it has revoked.
@@ -31,14 +32,14 @@ pub record Makes {P : Type 0} (look : List ℕ) (own : Record) (asked : Call P) 
   pub wins : (traits_of asked).polls ≡ false → (reply ≡ Some Started) ⊎ (reply ≡ Some Revoked)
 
 -- the look of a call has just ended, whenever the call began
-abbrev pub HasJustLooked : {P : Type 0} → (P → P → P) → Name → Call P → Record → Sight P → Type 0
-HasJustLooked {P} meld name asked own now = (old : Record) × (before : Sight P) × JustLooked meld false name asked old before own now
+abbrev pub HasJustLooked : {P : Type 0} → (P → P → P) → Call P → Local P → Type 0
+HasJustLooked {P} meld asked now = (old : Record) × (before : Sight P) × JustLooked meld false asked (local old (view_of now.view.words before)) now
 
 -- what comes next leads on from the end of the look, also where nobody else steps
-abbrev pub FollowsLook : {P : Type 0} → (P → P → P) → Name → Call P → Record → Sight P → Next P → Record → Type 0
-FollowsLook {P} meld name asked own now next new =
-    (group : List ℕ) (alone : Bool) (old : Record) (before : Sight P) → JustLooked meld alone name asked old before own now
-    → NextIs meld alone name asked old before next group new now
+abbrev pub FollowsLook : {P : Type 0} → (P → P → P) → Call P → Local P → Next P → Record → Type 0
+FollowsLook {P} meld asked now next new =
+    (group : List ℕ) (alone : Bool) (old : Record) (before : Sight P) → JustLooked meld alone asked (local old (view_of now.view.words before)) now
+    → NextIs meld alone asked (local old (view_of now.view.words before)) next group (local new now.view)
 
 -- nothing happened but others' events, or one event of the call's own after them
 pub record Adds {P : Type 0} (quiet : Bool) (look : List ℕ) (own : Record) (asked : Call P) (reply : Option (Reply P)) (old new : History P) : Type 0 where
@@ -75,42 +76,51 @@ pub record LooksOn {P : Type 0} (limits : Limits) (own : Record) (now : Sight P)
 -- on, fewer steps are left, also beside the failures that it has seen more, and it does what its phase leads to. What it knows of blocks is of
 -- such as are known to be set. The poll of a barrier that found somebody missing is answered, after its last load, as it was when that was
 -- found.
-pub record Stepped {P : Type 0} (meld : P → P → P) (quiet : Bool) (name : Name) (was : UnderWay P) (own : Record) (now : Sight P)
-    (next : Next P) (new : Record) (after : Sight P) : Type 0 where
-  pub of : IsOf meld name after
-  pub onward : now.steps ≤ after.steps
-  pub cached : IsPrefix now.cached after.cached
-  pub caches : may_cache own was.asked ≡ false → after.caches ≡ now.caches
-  pub named : MakesStep (next_step was.phase) own.number (comm_of was.asked) now after
-  pub nearer : FewerLeft (steps_left name.limits own was.asked was.phase) name.limits new was.asked next
-  pub also : AlsoTurns name.limits was.asked was.phase own now next new after
-  pub over : was.phase ≡ Over → (next ≡ Ends (Refused SelfFailed)) × (new ≡ own)
-  pub adds : StepAdds quiet own was.asked was.phase (reply_in next) now.seen after.seen
-  pub sees : StepSees was.phase own.seen new.seen
-  pub looks : is_looking was.phase ≡ true → LooksOn name.limits own now next new after
-  pub knows : KnowsIn own was.asked now.cached was.phase → KnowsNext own was.asked after.cached next
+pub record Stepped {P : Type 0} (meld : P → P → P) (quiet : Bool) (was : UnderWay P) (old : Local P) (next : Next P) (new : Local P) : Type 0 where
+  pub of : IsView meld new.view
+  pub onward : old.view.pass.steps ≤ new.view.pass.steps
+  pub cached : IsPrefix old.view.pass.cached new.view.pass.cached
+  pub caches : may_cache old.own was.asked ≡ false → new.view.pass.caches ≡ old.view.pass.caches
+  pub named : MakesStep (next_step was.phase) old.own.number (comm_of was.asked) old.view.pass new.view.pass
+  pub nearer : FewerLeft (steps_left new.view.words.limits old.own was.asked was.phase) new.view.words.limits new.own was.asked next
+  pub also : AlsoTurns new.view.words.limits was.asked was.phase (stance_of old) next (stance_of new)
+  pub over : was.phase ≡ Over → (next ≡ Ends (Refused SelfFailed)) × (new.own ≡ old.own)
+  pub adds : StepAdds quiet old.own was.asked was.phase (reply_in next) old.view.pass.seen new.view.pass.seen
+  pub sees : StepSees was.phase old.own.seen new.own.seen
+  pub looks : is_looking was.phase ≡ true → LooksOn new.view.words.limits old.own old.view.pass next new.own new.view.pass
+  pub knows : KnowsIn old.own was.asked old.view.pass.cached was.phase → KnowsNext old.own was.asked new.view.pass.cached next
   pub leads : LeadsTo was.phase next
-  pub checks : FoundNow (FindsMissing meld quiet name (record { doing = was; own = own; pass = now }) new after) was.phase next
-  pub early : AnsweredNow (AnswersMissing meld quiet name (record { doing = was; own = own; pass = now }) new) was.phase next
+  pub checks : FoundNow (FindsMissing meld quiet (midway was old) new) was.phase next
+  pub early : AnsweredNow (AnswersMissing meld quiet (midway was old) new.own) was.phase next
+
+-- what comes next, and the members of a communicator that the call makes
+pub record Coming (P : Type 0) : Type 0 where
+  pub next : Next P
+  pub group : List ℕ
+
+abbrev pub coming : {P : Type 0} → Next P → List ℕ → Coming P
+coming next group = record { next = next; group = group }
 
 -- A call takes its turn in a phase, by one step or by all of them: it walks on, by the step that is named, comes nearer to its reply, spends
 -- no more steps than it may, also by what it sees more, adds and sees what the phase may, knows no block that isn't known to be set, does what
 -- the phase leads to, and stands where it goes on, or is answered.
-pub record TakesTurn {P : Type 0} (meld : P → P → P) (quiet whole : Bool) (name : Name) (asked : Call P) (phase : Phase P) (group : List ℕ) (own : Record)
-    (now : Sight P) (next : Next P) (left : List ℕ) (new : Record) (after : Sight P) : Type 0 where
-  pub walks : Walks meld quiet name own.number now after
-  pub caches : may_cache own asked ≡ false → after.caches ≡ now.caches
-  pub named : whole ≡ false → MakesStep (next_step phase) own.number (comm_of asked) now after
-  pub nearer : whole ≡ false → FewerLeft (steps_left name.limits own asked phase) name.limits new asked next
-  pub spends : Spends (steps_left name.limits own asked phase) name.limits new asked next now after
-  pub also : AlsoTurns name.limits asked phase own now next new after
-  pub further : whole ≡ true → IsFurther phase next
-  pub adds : whole ≡ false → StepAdds quiet own asked phase (reply_in next) now.seen after.seen
-  pub sees : StepSees phase own.seen new.seen
-  pub looks : is_looking phase ≡ true → LooksOn name.limits own now next new after
-  pub knows : KnowsIn own asked now.cached phase → KnowsNext own asked after.cached next
-  pub leads : LeadsTo phase next
-  pub turns : Turns meld quiet name asked phase group own now next left new after
+pub record TakesTurn {P : Type 0} (meld : P → P → P) (quiet whole : Bool) (was : UnderWay P) (old : Local P) (comes : Coming P) (new : Local P)
+    : Type 0 where
+  pub walks : Walks meld quiet old.own.number old.view new.view
+  pub caches : may_cache old.own was.asked ≡ false → new.view.pass.caches ≡ old.view.pass.caches
+  pub named : whole ≡ false → MakesStep (next_step was.phase) old.own.number (comm_of was.asked) old.view.pass new.view.pass
+  pub nearer : whole ≡ false
+      → FewerLeft (steps_left new.view.words.limits old.own was.asked was.phase) new.view.words.limits new.own was.asked comes.next
+  pub spends : Spends (steps_left new.view.words.limits old.own was.asked was.phase) new.view.words.limits new.own was.asked comes.next old.view.pass
+      new.view.pass
+  pub also : AlsoTurns new.view.words.limits was.asked was.phase (stance_of old) comes.next (stance_of new)
+  pub further : whole ≡ true → IsFurther was.phase comes.next
+  pub adds : whole ≡ false → StepAdds quiet old.own was.asked was.phase (reply_in comes.next) old.view.pass.seen new.view.pass.seen
+  pub sees : StepSees was.phase old.own.seen new.own.seen
+  pub looks : is_looking was.phase ≡ true → LooksOn new.view.words.limits old.own old.view.pass comes.next new.own new.view.pass
+  pub knows : KnowsIn old.own was.asked old.view.pass.cached was.phase → KnowsNext old.own was.asked new.view.pass.cached comes.next
+  pub leads : LeadsTo was.phase comes.next
+  pub turns : Turns meld quiet was old comes.next comes.group new
 
 -- The poll of a shrink has read on in the list of failures, behind what its look found. All blocks of its round are known to be set then.
 pub record HasReadOn {P : Type 0} (old : Record) (asked : Call P) (found seen : List ℕ) (cached : List Block) : Type 0 where
@@ -120,21 +130,23 @@ pub record HasReadOn {P : Type 0} (old : Record) (asked : Call P) (found seen : 
 
 -- The rest of a call, behind its look: no more steps than are left, also by what it sees more. It sees more only where it reads on for a shrink.
 -- It leaves its round's blocks known where they have told its reply, and it is answered.
-pub record RunsOn {P : Type 0} (meld : P → P → P) (alone : Bool) (name : Name) (asked : Call P) (phase : Phase P) (own : Record) (now : Sight P)
-    (reply : Reply P) (new : Record) (after : Sight P) : Type 0 where
-  pub of : IsOf meld name after
-  pub begins : IsPrefix now.seen after.seen
-  pub cached : IsPrefix now.cached after.cached
-  pub caches : may_cache own asked ≡ false → after.caches ≡ now.caches
-  pub onward : now.steps ≤ after.steps
-  pub spends : after.steps ≤ now.steps + steps_left name.limits own asked phase
-  pub also : FindsSetIn own asked now.cached phase → after.steps + length own.seen ≤ now.steps + also_left name.limits own asked phase + length new.seen
-  pub sees : KnowsIn own asked now.cached phase → (new.seen ≡ own.seen) ⊎ HasReadOn own asked own.seen new.seen after.cached
-  pub knows : KnowsIn own asked now.cached phase → LeavesSet own asked reply after.cached
-  pub turns : (old : Record) → (before : Sight P) → Stands meld alone name old before (record { asked = asked; phase = phase; group = [] }) own now
-      → Answered meld alone name asked old before reply new after
+pub record RunsOn {P : Type 0} (meld : P → P → P) (alone : Bool) (asked : Call P) (phase : Phase P) (old : Local P) (reply : Reply P) (new : Local P)
+    : Type 0 where
+  pub of : IsView meld new.view
+  pub begins : IsPrefix old.view.pass.seen new.view.pass.seen
+  pub cached : IsPrefix old.view.pass.cached new.view.pass.cached
+  pub caches : may_cache old.own asked ≡ false → new.view.pass.caches ≡ old.view.pass.caches
+  pub onward : old.view.pass.steps ≤ new.view.pass.steps
+  pub spends : new.view.pass.steps ≤ old.view.pass.steps + steps_left new.view.words.limits old.own asked phase
+  pub also : FindsSetIn old.own asked old.view.pass.cached phase
+      → new.view.pass.steps + length old.own.seen ≤ old.view.pass.steps + also_left new.view.words.limits old.own asked phase + length new.own.seen
+  pub sees : KnowsIn old.own asked old.view.pass.cached phase
+      → (new.own.seen ≡ old.own.seen) ⊎ HasReadOn old.own asked old.own.seen new.own.seen new.view.pass.cached
+  pub knows : KnowsIn old.own asked old.view.pass.cached phase → LeavesSet old.own asked reply new.view.pass.cached
+  pub turns : (own : Record) → (before : Sight P) → Stands meld alone (local own (view_of old.view.words before)) (under_way asked phase []) old
+      → Answered meld alone asked (local own (view_of old.view.words before)) reply new
 
 -- a phase of one step ends its call, with this reply
-abbrev pub EndsTurn : {P : Type 0} → (P → P → P) → Bool → Name → Call P → Phase P → Record → Sight P → Reply P → Record → Sight P → Type 0
-EndsTurn meld quiet name asked phase own now reply new after =
-    (group : List ℕ) (whole : Bool) → TakesTurn meld quiet whole name asked phase group own now (Ends reply) group new after
+abbrev pub EndsTurn : {P : Type 0} → (P → P → P) → Bool → Call P → Phase P → Local P → Reply P → Local P → Type 0
+EndsTurn meld quiet asked phase old reply new =
+    (group : List ℕ) (whole : Bool) → TakesTurn meld quiet whole (under_way asked phase group) old (coming (Ends reply) group) new

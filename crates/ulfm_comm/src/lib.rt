@@ -3,13 +3,11 @@
 
 pub mod calls;
 mod groups;
-pub mod job;
 pub mod phases;
 pub mod rank;
 pub mod world;
 
 pub use calls::polled::Polled;
-pub use job::Job;
 pub use phases::phase::Doing;
 pub use rank::Rank;
 pub use world::World;

@@ -3,14 +3,15 @@ ghost use Rattle.std.specs.Prelude.{MatchOption, IfOk};
 ghost use Rattle.std.specs.List.{IsDistinct};
 ghost use mathlib.Core.List.{IsPrefix};
 ghost use Rattle.ulfm_model.specs.{Records.{Held, free_ids, held_at, new_record, with_held}, History.{failures, first_ranks, without}, Words.{MayOpen}};
-ghost use Rattle.ulfm_model.specs.{Answers.{closed, first_refusal, opened}, Terms.{tests_of}};
-ghost use Rattle.ulfm_words.specs.Steps.{IsOf, Goes};
+ghost use Rattle.ulfm_model.specs.{Answers.{closed, first_refusal, opened}, Terms.{request_of, tests_of}};
+ghost use Rattle.ulfm_words.specs.Steps.{view_of, IsView, Goes};
 ghost use Rattle.ulfm_steps.specs.{Looks.{LookIs, LookTakes}, ReadsOn.{AtFailure, MayReadOn, ReadOnTakes}};
 ghost use Rattle.ulfm_steps.specs.declared.item.Item.TheVariants.{Comm as OfComm};
 ghost use Rattle.ulfm_record.specs.Kept.{HasNext};
 ghost use Rattle.ulfm_comm.specs.Counts.{new_rank};
-ghost use Rattle.ulfm_comm.specs.Spawning.{MayHold, MaySpawn, SpawnIs, SpawnTakes};
+ghost use Rattle.ulfm_comm.specs.Spawning.{seeking, target, MayHold, MayGoSpawning, SpawnIs, SpawnTakes};
 ghost use Rattle.ulfm_comm.specs.declared.phases.spawning.Spawned.TheVariants.{Unknown};
+ghost use Rattle.ulfm_comm.specs.Local.{local};
 
 use crate::groups::without;
 use crate::phases::spawning::{Spawned, place_in};
@@ -33,7 +34,7 @@ const ROOM: usize = 32;
 
 // What a rank keeps of its calls. Contracts see it as its record.
 #[derive(Drop)]
-pub(crate) struct RankRecord<P: Packed, A: Allocator> {
+pub(crate) struct LocalState<P: Packed, A: Allocator> {
     number: u16,
     limits: Limits,
     held: Vec<HeldComm<A>, A>,
@@ -43,7 +44,7 @@ pub(crate) struct RankRecord<P: Packed, A: Allocator> {
     flags: PhantomData<P>,
 }
 
-impl<P: Packed, A: Allocator> Model for RankRecord<P, A> {
+impl<P: Packed, A: Allocator> Model for LocalState<P, A> {
     ghost use Rattle.ulfm_model.specs.Records.{Record};
     ghost use Rattle.std.specs.Prelude.{vec_capacity};
     ghost use Rattle.ulfm_comm.specs.Ranks.{IsKept};
@@ -55,14 +56,14 @@ impl<P: Packed, A: Allocator> Model for RankRecord<P, A> {
     ghost invariant = { λ a. IsKept a.number a.limits (vec_capacity a.seen) (vec_capacity a.held) a.held.items };
 }
 
-impl<P: Packed, A: Allocator + Copy> RankRecord<P, A> {
+impl<P: Packed, A: Allocator + Copy> LocalState<P, A> {
     // A new rank of a world, whose ranks these are.
     pub(crate) fn new(
         alloc: A,
         limits: Limits,
         number: u16,
         ranks: &[u16],
-    ) -> Result<RankRecord<P, A>, AllocError>
+    ) -> Result<LocalState<P, A>, AllocError>
         requires may_open { MayOpen limits }
         requires below { number < limits.ranks }
         requires ranks { ranks.now ≡ first_ranks limits.ranks }
@@ -72,7 +73,7 @@ impl<P: Packed, A: Allocator + Copy> RankRecord<P, A> {
         let seen = Vec::with_capacity(alloc, limits.ranks as usize)?;
         let mut held = Vec::with_capacity(alloc, ROOM)?;
         held.push(HeldComm::new(0, 0, group))?;
-        Ok(RankRecord {
+        Ok(LocalState {
             number,
             limits,
             held,
@@ -83,7 +84,7 @@ impl<P: Packed, A: Allocator + Copy> RankRecord<P, A> {
     }
 }
 
-impl<P: Packed, A: Allocator> RankRecord<P, A> {
+impl<P: Packed, A: Allocator> LocalState<P, A> {
     // Its number.
     pub(crate) fn number(&self) -> u16
         ensures { result ≡ self.now.number }
@@ -219,10 +220,11 @@ impl<P: Packed, A: Allocator> RankRecord<P, A> {
         pass: &mut W::Pass,
         whole: bool,
     ) -> bool
-        requires of { IsOf P.meld (W.name words.now) (W.sight pass.old) }
+        requires of { IsView P.meld (view_of (W.name words.now) (W.sight pass.old)) }
         requires limits { self.old.limits ≡ (W.name words.now).limits }
         requires look { LookIs (W.name words.now).limits false self.old.seen (W.sight pass.old).seen }
-        ensures goes { Goes P.meld W.alone false (W.name words.now) (W.name words.now).limits.ranks (W.sight pass.old) (W.sight pass.new) }
+        ensures goes { Goes P.meld W.alone false (W.name words.now).limits.ranks (view_of (W.name words.now) (W.sight pass.old))
+            (view_of (W.name words.now) (W.sight pass.new)) }
         ensures takes { LookTakes whole (W.name words.now).limits self.old.seen result self.new.seen (W.sight pass.old) (W.sight pass.new) }
         ensures kept { self.new ≡ record self.old { seen = self.new.seen } }
         ensures look { LookIs (W.name words.now).limits result self.new.seen (W.sight pass.new).seen }
@@ -244,12 +246,13 @@ impl<P: Packed, A: Allocator> RankRecord<P, A> {
         count: u16,
         whole: bool,
     )
-        requires of { IsOf P.meld (W.name words.now) (W.sight pass.old) }
+        requires of { IsView P.meld (view_of (W.name words.now) (W.sight pass.old)) }
         requires limits { self.old.limits ≡ (W.name words.now).limits }
         requires may { (x : Held) × (held_at self.old comm ≡ Some x) × MayReadOn x.group count self.old.seen (failures (W.sight pass.old).seen)
             × AtFailure x.group count on.old self.old.seen }
         requires more { on.old.found < count }
-        ensures goes { Goes P.meld W.alone false (W.name words.now) (W.name words.now).limits.ranks (W.sight pass.old) (W.sight pass.new) }
+        ensures goes { Goes P.meld W.alone false (W.name words.now).limits.ranks (view_of (W.name words.now) (W.sight pass.old))
+            (view_of (W.name words.now) (W.sight pass.new)) }
         ensures takes { ReadOnTakes whole (W.name words.now).limits self.old.seen self.new.seen (W.sight pass.old) (W.sight pass.new) }
         ensures further { (W.sight pass.new).steps + length self.old.seen ≡ (W.sight pass.old).steps + length self.new.seen }
         ensures kept { self.new ≡ record self.old { seen = self.new.seen } }
@@ -273,7 +276,7 @@ impl<P: Packed, A: Allocator> RankRecord<P, A> {
     }
 }
 
-impl<P: Packed, A: Allocator + Copy> RankRecord<P, A> {
+impl<P: Packed, A: Allocator + Copy> LocalState<P, A> {
     // Its memory. Its world may be opened.
     pub(crate) fn allocator(&self) -> A
         ensures { MayOpen self.now.limits }
@@ -311,12 +314,13 @@ impl<P: Packed, A: Allocator + Copy> RankRecord<P, A> {
         whole: bool,
         group: &mut Vec<u16, A>,
     ) -> Spawned
-        requires of { IsOf P.meld (W.name words.now) (W.sight pass.old) }
-        requires may { (k : ℕ) × MaySpawn P.meld (W.name words.now).limits (W.sight pass.old).seen comm k append.old }
+        requires of { IsView P.meld (view_of (W.name words.now) (W.sight pass.old)) }
+        requires may { (k : ℕ) × MayGoSpawning P.meld (W.name words.now).limits (W.sight pass.old).seen comm k append.old }
         requires holds { MayHold self.old comm context (length group.old.items) }
         ensures spawns { (k : ℕ) → append.old.item ≡ OfComm comm k
-            → SpawnIs P.meld W.alone (W.name words.now) comm k context append.old append.new group.old.items self.old (W.sight pass.old) result self.new
-            (W.sight pass.new) }
+            → SpawnIs P.meld W.alone (target comm k context group.old.items) (seeking append.old
+            (local self.old (view_of (W.name words.now) (W.sight pass.old)))) result (seeking append.new
+            (local self.new (view_of (W.name words.now) (W.sight pass.new)))) }
         ensures takes { SpawnTakes whole (W.name words.now).limits append.old result append.new (W.sight pass.old) (W.sight pass.new) }
         ensures kept { result ≡ Unknown → group.new.items ≡ group.old.items }
         ensures done { whole ≡ true → result ≢ Unknown }
@@ -336,15 +340,18 @@ impl<P: Packed, A: Allocator + Copy> RankRecord<P, A> {
     }
 }
 
-/// A rank of a world. Contracts see it as its record, and how many steps its last call made.
+/// A rank of a world. In contracts it stands for its record, that is what it keeps between calls, and how many steps its last call made.
 ///
-/// Each of its calls begins with a look: loads of the list of failures, from behind those that it has seen to the first empty
-/// place. So with N ranks, of which it has seen v declared, a look makes N - v steps at most. A communicator is any number: one that the rank doesn't hold is
-/// refused as `NoSuchComm`. A refusal leaves the rank as it was, but for what the look has seen, and where a call says more; a
-/// rank that was refused as `SelfFailed` is refused so for good, without a step. Examples are of rank 0 in a world of two.
+/// A step is one atomic load or compare-exchange of a shared word. Each call begins with a look: loads of the list of declared failures,
+/// from behind those that the rank has seen to the first empty place. So with N ranks, of which it has seen v declared, a look makes N - v
+/// steps at most. What its calls have seen is in the pass that each is given, a local view of the words.
+///
+/// A communicator is named by a number. A rank holds the world's, 0, and those that its shrinks made, until it frees them; a call on any
+/// other is refused as `NoSuchComm`. A refusal leaves the rank as it was, but for what the look has seen, and where the call's own page says
+/// more. A rank that was refused as `SelfFailed` is refused so for good, without a step. Examples are of rank 0 in a world of two.
 #[derive(Drop)]
 pub struct Rank<P: Packed, A: Allocator> {
-    pub(crate) own: RankRecord<P, A>,
+    pub(crate) own: LocalState<P, A>,
     // The steps of its last call.
     pub(crate) last: u32,
 }
@@ -370,13 +377,13 @@ impl<P: Packed, A: Allocator + Copy> Rank<P, A> {
         requires ranks { ranks.now ≡ first_ranks limits.ranks }
         ensures { IfOk result (λ r. r ≡ new_rank limits number) }
     {
-        let own = RankRecord::new(alloc, limits, number, ranks)?;
+        let own = LocalState::new(alloc, limits, number, ranks)?;
         Ok(Rank { own, last: 0 })
     }
 }
 
 impl<P: Packed, A: Allocator> Rank<P, A> {
-    /// Its number, 0 to 1023. It is no step.
+    /// The rank's number, 0 to 1023. It makes no atomic step.
     ///
     /// ```
     /// assert!(rt; rank.number() == 0);
@@ -387,7 +394,7 @@ impl<P: Packed, A: Allocator> Rank<P, A> {
         self.own.number()
     }
 
-    /// All failures that it has seen, in order. A call's look begins behind them. It is no step.
+    /// All ranks that it has seen to be declared failed, in the order of the declarations. A call's look begins behind them. It makes no atomic step.
     ///
     /// ```
     /// // Rank 1 was declared failed before.
@@ -401,7 +408,7 @@ impl<P: Packed, A: Allocator> Rank<P, A> {
         self.own.failures()
     }
 
-    /// The members of a communicator that it holds, in order; none where it doesn't hold it. It is no step.
+    /// The ranks that are members of a communicator, in order; `None` where this rank doesn't hold the communicator. It makes no atomic step.
     ///
     /// ```
     /// assert!(rt; rank.members(0) == Some([0, 1].as_slice()));
@@ -414,8 +421,8 @@ impl<P: Packed, A: Allocator> Rank<P, A> {
         self.own.members(comm)
     }
 
-    /// The context id of a communicator that it holds, 0 to 31; none where it doesn't hold it. No two that it holds have the same.
-    /// It is no step.
+    /// The context id of a communicator, 0 to 31; `None` where the rank doesn't hold the communicator. No two communicators that it holds
+    /// have the same id. It makes no atomic step.
     ///
     /// ```
     /// assert!(rt; rank.context(0) == Some(0));
@@ -429,8 +436,25 @@ impl<P: Packed, A: Allocator> Rank<P, A> {
         self.own.context(comm)
     }
 
-    /// How many atomic steps its last call made, 0 before any. A call that is taken step by step counts when it is answered. It is no
+    /// The request that is open on a communicator; `None` where none is, or where the rank doesn't hold the communicator. It makes no atomic
     /// step.
+    ///
+    /// ```
+    /// rank.ishrink(&world, &mut pass, 0)?;
+    /// assert!(rt; rank.request(0) == Some(Request::Shrink { round: 0 }));
+    /// assert!(rt; rank.request(1).is_none());
+    /// ```
+    pub fn request(&self, comm: u16) -> Option<Request>
+        ensures { result ≡ request_of (held_at self.now.own comm) }
+    {
+        match self.own.held(comm) {
+            Some(x) => x.request,
+            None => None,
+        }
+    }
+
+    /// How many atomic steps its last call made, 0 before any. A call that is taken step by step counts from when it is answered. It makes
+    /// no atomic step itself.
     ///
     /// ```
     /// // Rank 1 was declared failed before.

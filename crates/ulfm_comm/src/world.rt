@@ -4,7 +4,7 @@ ghost use Rattle.ulfm_model.specs.History.{first_ranks as all_below};
 ghost use Rattle.ulfm_model.specs.Words.{MayOpen};
 ghost use Rattle.ulfm_model.specs.Records.{Fits};
 ghost use Rattle.ulfm_model.specs.declared.limits.OpenFault.TheVariants.{OutOfMemory};
-ghost use Rattle.ulfm_words.specs.Steps.{IsOf, IsNew, Tells, Learns};
+ghost use Rattle.ulfm_words.specs.Steps.{view_of, IsView, IsNew, Tells, Learns};
 ghost use Rattle.ulfm_comm.specs.Counts.{new_rank, records_of};
 
 use crate::rank::Rank;
@@ -15,7 +15,8 @@ use ulfm_model::limits::{Limits, OpenFault};
 use ulfm_steps::group::first_ranks;
 use ulfm_words::{OpenWords, Words};
 
-/// A world over words. Its ranks are given out once, when it is opened. Examples are of a world of two ranks.
+/// A world of ranks and communicators, over words: 64-bit registers, each of which is set at most once. Its ranks are given out once, when
+/// it is opened. Examples are of a world of two ranks.
 #[derive(Drop)]
 pub struct World<W, P, A> {
     // Each atomic step of a call is one of theirs. Nobody outside gets at them: nobody opens a second world over the same words.
@@ -28,7 +29,7 @@ impl<W, P: Packed, A: Allocator + Copy> World<W, P, A>
 where
     W: Words<P, A>,
 {
-    /// A world over new words, and one rank of each number, in order. Memory is the only thing that it may lack.
+    /// A world over new words, and one rank of each number, in order. It fails only where memory is refused.
     ///
     /// ```
     /// let words: PlainWords<FlagAnd> = PlainWords::open(limits)?;
@@ -57,7 +58,7 @@ where
         }
     }
 
-    /// The limits that it was opened with. It is no step.
+    /// The limits that the world was opened with. It makes no atomic step.
     ///
     /// ```
     /// assert!(rt; world.limits().ranks == 2);
@@ -73,19 +74,20 @@ impl<W, P: Packed, A: Allocator> World<W, P, A>
 where
     W: OpenWords<P, A>,
 {
-    /// A pass that has seen nothing. Memory is the only thing that it may lack. It is no step.
+    /// A new pass, one caller's local view of the words, which has seen nothing. It fails only where memory is refused. It makes no atomic
+    /// step.
     ///
     /// ```
     /// let mut pass = world.pass(alloc)?;
     /// assert!(rt; world.fail(&mut pass, 1) == Ok(true));
     /// ```
     pub fn pass(&self, alloc: A) -> Result<W::Pass, AllocError>
-        ensures { IfOk result (λ p. IsNew P.meld (W.name self.now.words) (W.sight p)) }
+        ensures { IfOk result (λ p. IsNew P.meld (view_of (W.name self.now.words) (W.sight p))) }
     {
         self.words.pass(alloc)
     }
 
-    /// What a pass has seen, to be handed to another. It is no step.
+    /// What a pass has seen, as a value that another pass may `learn`. It makes no atomic step.
     ///
     /// ```
     /// let mut pass = world.pass(alloc)?;
@@ -94,13 +96,13 @@ where
     /// world.learn(&mut other, &world.told(&pass));
     /// ```
     pub fn told(&self, pass: &W::Pass) -> W::Told
-        requires of { IsOf P.meld (W.name self.now.words) (W.sight pass.now) }
-        ensures { Tells W.tells_all (W.name self.now.words) (W.sight pass.now) (W.heard result) }
+        requires of { IsView P.meld (view_of (W.name self.now.words) (W.sight pass.now)) }
+        ensures { Tells W.tells_all (view_of (W.name self.now.words) (W.sight pass.now)) (W.heard result) }
     {
         self.words.told(pass)
     }
 
-    /// From now on the pass has seen what was told, too. It is no step.
+    /// The pass takes in what another told: from now on it has seen that too. It makes no atomic step.
     ///
     /// ```
     /// let mut pass = world.pass(alloc)?;
@@ -110,9 +112,10 @@ where
     /// world.learn(&mut other, &told);
     /// ```
     pub fn learn(&self, pass: &mut W::Pass, told: &W::Told)
-        requires of { IsOf P.meld (W.name self.now.words) (W.sight pass.old) }
+        requires of { IsView P.meld (view_of (W.name self.now.words) (W.sight pass.old)) }
         requires told { (W.heard told.now).name ≡ W.name self.now.words }
-        ensures { Learns P.meld W.alone (W.name self.now.words) (W.heard told.now) (W.sight pass.old) (W.sight pass.new) }
+        ensures { Learns P.meld W.alone (W.heard told.now) (view_of (W.name self.now.words) (W.sight pass.old))
+            (view_of (W.name self.now.words) (W.sight pass.new)) }
     {
         self.words.learn(pass, told)
     }

@@ -6,7 +6,9 @@ use linked_list_allocator::LocalHeap;
 use std::alloc::{AllocError, Allocator, Global};
 use std::process::Abort;
 use std::test::Fail;
-use ulfm_comm::{Job, Polled, World};
+use ulfm_comm::{Polled, World};
+use ulfm_intruder::Intruder;
+use ulfm_job::Job;
 use ulfm_laws::counts::{Acked, Known};
 use ulfm_laws::flag_and::FlagAnd;
 use ulfm_member::Member;
@@ -17,7 +19,6 @@ use ulfm_model::limits::Limits;
 use ulfm_model::place::Place;
 use ulfm_model::refusal::Refusal;
 use ulfm_model::reply::Reply;
-use ulfm_steps::Intruder;
 use ulfm_words::{PlainWords, Step};
 
 pub(crate) fn agreed(bits: u32, failed: u16, raised: bool) -> Reply<FlagAnd> {

@@ -5,7 +5,7 @@ use crate::play::{Play, Verb, call_of};
 use std::alloc::Global;
 use std::process::Abort;
 use std::test::Fail;
-use ulfm_comm::Job;
+use ulfm_job::Job;
 use ulfm_laws::flag_and::FlagAnd;
 use ulfm_model::call::Call;
 use ulfm_model::limits::Limits;

@@ -5,7 +5,7 @@ use linked_list_allocator::LocalHeap;
 use std::alloc::{AllocError, Allocator, Global};
 use std::process::Abort;
 use std::test::Fail;
-use ulfm_comm::Job;
+use ulfm_job::Job;
 use ulfm_laws::flag_and::FlagAnd;
 use ulfm_model::call::Call;
 use ulfm_model::limits::Limits;

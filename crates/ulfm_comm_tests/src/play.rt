@@ -4,21 +4,21 @@ ghost use Rattle.std.specs.List.{AllByRecursion};
 ghost use Rattle.ulfm_model.specs.Answers.{traits_of};
 ghost use Rattle.ulfm_model.specs.Records.{Fits};
 ghost use Rattle.ulfm_model.specs.declared.event.Caller.TheVariants.{Rank as OfRank};
-ghost use Rattle.ulfm_words.specs.Steps.{IsNew, IsOf};
-ghost use Rattle.ulfm_comm_tests.specs.Seats.{IsPlay, Sits};
+ghost use Rattle.ulfm_words.specs.Steps.{view_of, IsNew, IsView};
+ghost use Rattle.ulfm_comm_tests.specs.Playing.{IsPlay, Plays};
 ghost use Rattle.ulfm_comm.specs.{Counts.{records_of}, Phase.{Waits}};
 
 use std::alloc::{AllocError, Allocator, Global};
 use std::marker::Model;
 use std::test::Fail;
 use ulfm_comm::{Doing, Rank, World};
+use ulfm_intruder::Intruder;
 use ulfm_laws::flag_and::FlagAnd;
 use ulfm_laws::meld::Packed;
 use ulfm_model::call::Call;
 use ulfm_model::refusal::Refusal;
 use ulfm_model::reply::Reply;
 use ulfm_model::step_name::StepName;
-use ulfm_steps::Intruder;
 use ulfm_words::{OpenWords, Step, Words};
 
 /// What a rank is asked, on a communicator.
@@ -54,20 +54,20 @@ pub(crate) fn call_of<P: Packed>(rank: u16, comm: u16, verb: Verb<P>) -> Call<P>
 
 /// A rank, and its call under way, if there is one.
 #[derive(Drop)]
-struct Seat<P: Packed, A: Allocator> {
+struct Player<P: Packed, A: Allocator> {
     own: Rank<P, A>,
     doing: Option<Doing<P, A>>,
 }
 
-impl<P: Packed, A: Allocator> Model for Seat<P, A> {
-    ghost use Rattle.ulfm_comm_tests.specs.Seats.{Seated};
+impl<P: Packed, A: Allocator> Model for Player<P, A> {
+    ghost use Rattle.ulfm_comm_tests.specs.Playing.{Playing};
 
-    ghost Value = { Seated P };
+    ghost Value = { Playing P };
 
     ghost view = { λ a. record { own = a.own.own; doing = a.doing } };
 }
 
-impl<P: Packed, A: Allocator + Copy> Seat<P, A> {
+impl<P: Packed, A: Allocator + Copy> Player<P, A> {
     /// The rank begins a call: whether it had none under way.
     fn begin<W: Words<P, A>>(
         &mut self,
@@ -76,9 +76,9 @@ impl<P: Packed, A: Allocator + Copy> Seat<P, A> {
         comm: u16,
         verb: Verb<P>,
     ) -> bool
-        requires of { IsOf P.meld (W.name world.now.words) (W.sight pass.now) }
-        requires sits { Sits P.meld (W.name world.now.words) (W.sight pass.now) self.old }
-        ensures sits { Sits P.meld (W.name world.now.words) (W.sight pass.now) self.new }
+        requires of { IsView P.meld (view_of (W.name world.now.words) (W.sight pass.now)) }
+        requires sits { Plays P.meld (W.name world.now.words) (W.sight pass.now) self.old }
+        ensures sits { Plays P.meld (W.name world.now.words) (W.sight pass.now) self.new }
     {
         let _ = world;
         let _ = pass;
@@ -98,11 +98,11 @@ impl<P: Packed, A: Allocator + Copy> Seat<P, A> {
         world: &World<W, P, A>,
         pass: &mut W::Pass,
     ) -> Option<Reply<P>>
-        requires of { IsOf P.meld (W.name world.now.words) (W.sight pass.old) }
-        requires sits { Sits P.meld (W.name world.now.words) (W.sight pass.old) self.old }
-        ensures of { IsOf P.meld (W.name world.now.words) (W.sight pass.new) }
+        requires of { IsView P.meld (view_of (W.name world.now.words) (W.sight pass.old)) }
+        requires sits { Plays P.meld (W.name world.now.words) (W.sight pass.old) self.old }
+        ensures of { IsView P.meld (view_of (W.name world.now.words) (W.sight pass.new)) }
         ensures waits { Waits false (W.sight pass.old) (W.sight pass.new) }
-        ensures sits { Sits P.meld (W.name world.now.words) (W.sight pass.new) self.new }
+        ensures sits { Plays P.meld (W.name world.now.words) (W.sight pass.new) self.new }
     {
         let Some(mut doing) = self.doing.take() else {
             return None;
@@ -117,7 +117,7 @@ impl<P: Packed, A: Allocator + Copy> Seat<P, A> {
     }
 }
 
-impl<P: Packed, A: Allocator + Copy> Seat<P, A> {
+impl<P: Packed, A: Allocator + Copy> Player<P, A> {
     /// The rank revokes a communicator by a whole call, between the steps of others. None where it has a call under way.
     fn revoke<W: Words<P, A>>(
         &mut self,
@@ -125,11 +125,11 @@ impl<P: Packed, A: Allocator + Copy> Seat<P, A> {
         pass: &mut W::Pass,
         comm: u16,
     ) -> Option<Result<bool, Refusal>>
-        requires of { IsOf P.meld (W.name world.now.words) (W.sight pass.old) }
-        requires sits { Sits P.meld (W.name world.now.words) (W.sight pass.old) self.old }
-        ensures of { IsOf P.meld (W.name world.now.words) (W.sight pass.new) }
+        requires of { IsView P.meld (view_of (W.name world.now.words) (W.sight pass.old)) }
+        requires sits { Plays P.meld (W.name world.now.words) (W.sight pass.old) self.old }
+        ensures of { IsView P.meld (view_of (W.name world.now.words) (W.sight pass.new)) }
         ensures waits { Waits false (W.sight pass.old) (W.sight pass.new) }
-        ensures sits { Sits P.meld (W.name world.now.words) (W.sight pass.new) self.new }
+        ensures sits { Plays P.meld (W.name world.now.words) (W.sight pass.new) self.new }
     {
         match self.doing {
             Some(_) => None,
@@ -144,8 +144,8 @@ fn seats_of<P: Packed, A: Allocator + Copy, W: Words<P, A>>(
     world: &World<W, P, A>,
     pass: &W::Pass,
     ranks: Vec<Rank<P, A>, A>,
-) -> Result<Vec<Seat<P, A>, A>, AllocError>
-    requires new { IsNew P.meld (W.name world.now.words) (W.sight pass.now) }
+) -> Result<Vec<Player<P, A>, A>, AllocError>
+    requires new { IsNew P.meld (view_of (W.name world.now.words) (W.sight pass.now)) }
     requires fits { AllByRecursion (Fits P.meld (W.name world.now.words).limits []) (records_of ranks.items) }
     ensures { IfOk result (λ seats. IsPlay P.meld (W.name world.now.words) (W.sight pass.now) seats.items) }
 {
@@ -153,7 +153,7 @@ fn seats_of<P: Packed, A: Allocator + Copy, W: Words<P, A>>(
     let _ = pass;
     let mut seats = Vec::with_capacity(alloc, ranks.len())?;
     for own in ranks {
-        seats.push(Seat { own, doing: None })?;
+        seats.push(Player { own, doing: None })?;
     }
     Ok(seats)
 }
@@ -164,12 +164,12 @@ pub(crate) struct Play<W: Words<P, A>, P: Packed, A: Allocator> {
     world: World<W, P, A>,
     pass: W::Pass,
     // In the order of their numbers.
-    seats: Vec<Seat<P, A>, A>,
+    seats: Vec<Player<P, A>, A>,
 }
 
 impl<W: Words<P, A>, P: Packed, A: Allocator> Model for Play<W, P, A> {
     ghost use Rattle.ulfm_words.specs.Steps.{Name};
-    ghost use Rattle.ulfm_comm_tests.specs.Seats.{IsPlay};
+    ghost use Rattle.ulfm_comm_tests.specs.Playing.{IsPlay};
 
     ghost Value = { Name };
 

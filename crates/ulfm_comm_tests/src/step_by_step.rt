@@ -5,7 +5,8 @@ use crate::play::{Play, Verb, call_of};
 use std::alloc::{AllocError, Global};
 use std::process::Abort;
 use std::test::Fail;
-use ulfm_comm::Job;
+use ulfm_intruder::Intruder;
+use ulfm_job::Job;
 use ulfm_laws::flag_and::FlagAnd;
 use ulfm_model::call::Call;
 use ulfm_model::event::{Caller, Entry, Event};
@@ -15,7 +16,6 @@ use ulfm_model::reply::Reply;
 use ulfm_model::step_name::StepName::{
     self, Arrival, Arrive, Block, Cache, Comm, List, Mark, Revocation, Revoke, Settle, Slot, Spawn,
 };
-use ulfm_steps::Intruder;
 use ulfm_words::{PlainWords, Words};
 
 type Plain = Play<PlainWords<FlagAnd>, FlagAnd, Global>;

@@ -5,7 +5,7 @@ use Rattle.clap.specs.declared.error.kind.ErrorKind.{ErrorKind}
 use Rattle.clap.specs.declared.error.kind.ErrorKind.TheVariants.{DisplayHelp, DisplayVersion}
 use Rattle.ulfm_command.specs.declared.asked.Asked.{Asked}
 use Rattle.ulfm_command.specs.declared.asked.Asked.TheVariants.{Run, RunSteps, Check, Race, Shown, Bad, Memory}
-use Rattle.ulfm_command.specs.CommandLines.{IsAskedBy, IsEntered, Named, NamesCheck, NamesRace, NamesRun, NamesSteps, Words, ulfm}
+use Rattle.ulfm_command.specs.CommandLines.{IsAskedBy, IsEntered, Named, NamesCheck, NamesRace, NamesRun, NamesSteps, Arguments, ulfm}
 
 no_kind : (k : ErrorKind) (kinds : List ErrorKind) → kinds ≡ [] → kinds ≡ k ∷ [] → ⊥
 no_kind k kinds none one =
@@ -13,7 +13,7 @@ no_kind k kinds none one =
     cc
 
 -- where no fault is found in the words, they ask for what the command asks for that they name
-pub entered_is : (words : Words) (named : Named) (asked : Asked) → fault_of ulfm words ≡ [] → named ≡ subcommand_of ulfm words → IsEntered named asked → IsAskedBy words asked
+pub entered_is : (words : Arguments) (named : Named) (asked : Asked) → fault_of ulfm words ≡ [] → named ≡ subcommand_of ulfm words → IsEntered named asked → IsAskedBy words asked
 entered_is words named Run free is entered = (free, subst NamesRun is entered)
 entered_is words named RunSteps free is entered = (free, subst NamesSteps is entered)
 entered_is words named Check free is entered = (free, subst NamesCheck is entered)

@@ -15,8 +15,8 @@ use Rattle.ulfm_command.specs.declared.asked.Asked.TheVariants.{Run, RunSteps, C
 use Rattle.ulfm_command.specs.declared.asked.RaceOptions.{RaceOptions}
 
 -- the words of a command line, the program's own name first
-abbrev pub Words : Type 0
-Words = List Text
+abbrev pub Arguments : Type 0
+Arguments = List Text
 
 -- an option of this name, whose value passes the parser
 abbrev pub number_rule : Text → ValueParser → Rule
@@ -145,31 +145,31 @@ IsEntered named (Shown text) = ⊥
 IsEntered named Memory = ⊥
 
 -- the command line crate finds no fault in the words, and they name a run of a call script
-abbrev pub AsksRun : Words → Type 0
+abbrev pub AsksRun : Arguments → Type 0
 AsksRun words = (fault_of ulfm words ≡ []) × NamesRun (subcommand_of ulfm words)
 
 -- it finds no fault in them, and they name a run of a step script
-abbrev pub AsksSteps : Words → Type 0
+abbrev pub AsksSteps : Arguments → Type 0
 AsksSteps words = (fault_of ulfm words ≡ []) × NamesSteps (subcommand_of ulfm words)
 
 -- it finds no fault in them, and they name the judgement of a trace
-abbrev pub AsksCheck : Words → Type 0
+abbrev pub AsksCheck : Arguments → Type 0
 AsksCheck words = (fault_of ulfm words ≡ []) × NamesCheck (subcommand_of ulfm words)
 
 -- it finds no fault in them, and they name a race with these options
-abbrev pub AsksRace : Words → RaceOptions → Type 0
+abbrev pub AsksRace : Arguments → RaceOptions → Type 0
 AsksRace words options = (fault_of ulfm words ≡ []) × NamesRace (subcommand_of ulfm words) options
 
 -- it finds that help is asked for, and nothing else
-abbrev pub AsksHelp : Words → Type 0
+abbrev pub AsksHelp : Arguments → Type 0
 AsksHelp words = fault_of ulfm words ≡ DisplayHelp ∷ []
 
 -- it finds that the version is asked for, and nothing else
-abbrev pub AsksVersion : Words → Type 0
+abbrev pub AsksVersion : Arguments → Type 0
 AsksVersion words = fault_of ulfm words ≡ DisplayVersion ∷ []
 
 -- there is nothing that the words ask for
-pub record IsBad (words : Words) : Type 0 where
+pub record AsksNothing (words : Arguments) : Type 0 where
   pub no_run : AsksRun words → ⊥
   pub no_steps : AsksSteps words → ⊥
   pub no_check : AsksCheck words → ⊥
@@ -178,7 +178,7 @@ pub record IsBad (words : Words) : Type 0 where
   pub no_version : IsAmong DisplayVersion (fault_of ulfm words) → ⊥
 
 -- the words were read as bad: there is nothing that they ask for alone
-pub record IsRefused (words : Words) : Type 0 where
+pub record IsRefused (words : Arguments) : Type 0 where
   pub no_run : AsksRun words → ⊥
   pub no_steps : AsksSteps words → ⊥
   pub no_check : AsksCheck words → ⊥
@@ -187,7 +187,7 @@ pub record IsRefused (words : Words) : Type 0 where
   pub no_version : AsksVersion words → ⊥
 
 -- the words were read as asking for this
-abbrev pub IsAskedBy : Words → Asked → Type 0
+abbrev pub IsAskedBy : Arguments → Asked → Type 0
 IsAskedBy words Run = AsksRun words
 IsAskedBy words RunSteps = AsksSteps words
 IsAskedBy words Check = AsksCheck words

@@ -1,4 +1,4 @@
-ghost use Rattle.ulfm_script.specs.Runs.{Runs};
+ghost use Rattle.ulfm_script.specs.Runs.{RunsBuffered};
 
 use crate::object_machine::ObjectMachine;
 use std::alloc::Allocator;
@@ -13,7 +13,7 @@ pub fn run_over_object<A: Allocator + Copy + Drop, R: Read, W: Write>(
     reader: &mut R,
     writer: &mut W,
 ) -> Result<(), RunFault>
-    ensures { Runs (R.remaining reader.old) (R.remaining reader.new) (W.contents writer.old) (W.contents writer.new) result }
+    ensures { RunsBuffered (R.remaining reader.old) (R.remaining reader.new) (W.contents writer.old) (W.contents writer.new) result }
 {
     run_script::<ObjectMachine<A>, A, R, W>(alloc, reader, writer)
 }

@@ -5,4 +5,4 @@ pub mod reader;
 pub mod writer;
 
 pub use reader::Pieces;
-pub use writer::{Failing, Taken};
+pub use writer::{FailureMode, LimitedWriter};

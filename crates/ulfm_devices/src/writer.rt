@@ -5,7 +5,7 @@ use std::io::{self, ErrorKind, Write};
 
 /// How a writer fails.
 #[derive(Clone, Copy, Debug, PartialEq, Eq)]
-pub enum Failing {
+pub enum FailureMode {
     /// One call says `BrokenPipe`.
     ByError,
     /// One call says `Interrupted`, which some writers' users try again.
@@ -18,7 +18,7 @@ pub enum Failing {
 
 /// Takes at most so many bytes a call, and fails at one call, or at each flush.
 #[derive(Drop)]
-pub struct Taken {
+pub struct LimitedWriter {
     /// What was taken.
     pub bytes: Vec<u8>,
     pub most: usize,
@@ -28,12 +28,12 @@ pub struct Taken {
     pub flushes: u32,
     /// The call that fails, counted from 1; none for 0.
     pub failing: u32,
-    pub how: Failing,
+    pub how: FailureMode,
 }
 
-impl Taken {
+impl LimitedWriter {
     /// Nothing was taken yet.
-    pub fn new(alloc: Global, most: usize, failing: u32, how: Failing) -> Taken
+    pub fn new(alloc: Global, most: usize, failing: u32, how: FailureMode) -> LimitedWriter
         ensures bytes { result.bytes.items ≡ [] }
         ensures most { result.most ≡ most }
         ensures calls { result.calls ≡ 0 }
@@ -41,7 +41,7 @@ impl Taken {
         ensures failing { result.failing ≡ failing }
         ensures how { result.how ≡ how }
     {
-        Taken {
+        LimitedWriter {
             bytes: Vec::new(alloc),
             most,
             calls: 0,
@@ -52,15 +52,15 @@ impl Taken {
     }
 }
 
-impl Write for Taken {
+impl Write for LimitedWriter {
     fn write(&mut self, buf: &[u8]) -> io::Result<usize> {
         self.calls = self.calls.wrapping_add(1);
         if self.calls == self.failing {
             match self.how {
-                Failing::ByError => return Err(io::Error::from(ErrorKind::BrokenPipe)),
-                Failing::ByInterruption => return Err(io::Error::from(ErrorKind::Interrupted)),
-                Failing::ByNothing => return Ok(0),
-                Failing::AtFlush => {}
+                FailureMode::ByError => return Err(io::Error::from(ErrorKind::BrokenPipe)),
+                FailureMode::ByInterruption => return Err(io::Error::from(ErrorKind::Interrupted)),
+                FailureMode::ByNothing => return Ok(0),
+                FailureMode::AtFlush => {}
             }
         }
         let count = self.most.min(buf.len());
@@ -70,7 +70,7 @@ impl Write for Taken {
 
     fn flush(&mut self) -> io::Result<()> {
         self.flushes = self.flushes.wrapping_add(1);
-        if self.how == Failing::AtFlush {
+        if self.how == FailureMode::AtFlush {
             return Err(io::Error::from(ErrorKind::Interrupted));
         }
         Ok(())

@@ -23,7 +23,7 @@ pub(crate) const TWO: Limits = Limits {
 
 /// The outside, and the member of rank 0.
 pub(crate) fn two(rt: &impl Abort, alloc: Global) -> Result<(Outside, Member), Fail>
-    ensures { IfOk result (λ o. o.1.name ≡ o.0.name) }
+    ensures { IfOk result (λ o. o.1.view.words ≡ o.0.words) }
 {
     let words: Words = PlainWords::open(TWO)?;
     let (outside, mut members) = ulfm_member::open(alloc, words)?;

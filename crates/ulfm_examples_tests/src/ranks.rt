@@ -4,7 +4,7 @@ use crate::open::two;
 use std::test::Fail;
 use ulfm_comm::Polled;
 use ulfm_laws::FlagAnd;
-use ulfm_model::{Call, Refusal, StepName};
+use ulfm_model::{Call, Refusal, Reply, Request, StepName};
 
 #[test]
 fn rank_number(rt: HostRuntime) -> Result<(), Fail> {
@@ -48,6 +48,18 @@ fn rank_context(rt: HostRuntime) -> Result<(), Fail> {
 
     assert!(rt; rank.context(0) == Some(0));
     assert!(rt; rank.context(1).is_none());
+
+    Ok(())
+}
+
+#[test]
+fn rank_request(rt: HostRuntime) -> Result<(), Fail> {
+    let (_, member) = two(&rt, rt.alloc())?;
+    let (world, mut rank, mut pass) = member.into_parts();
+
+    rank.ishrink(&world, &mut pass, 0)?;
+    assert!(rt; rank.request(0) == Some(Request::Shrink { round: 0 }));
+    assert!(rt; rank.request(1).is_none());
 
     Ok(())
 }
@@ -285,6 +297,21 @@ fn doing_is_checking(rt: HostRuntime) -> Result<(), Fail> {
     };
     let doing = rank.begin(asked);
     assert!(rt; !doing.is_checking());
+
+    Ok(())
+}
+
+#[test]
+fn rank_call(rt: HostRuntime) -> Result<(), Fail> {
+    let (_, member) = two(&rt, rt.alloc())?;
+    let (world, mut rank, mut pass) = member.into_parts();
+
+    let asked = Call::Revoke {
+        rank: rank.number(),
+        comm: 0,
+    };
+    assert!(rt; rank.call(&world, &mut pass, asked) == Reply::Revoked);
+    assert!(rt; rank.call(&world, &mut pass, asked) == Reply::AlreadyRevoked);
 
     Ok(())
 }

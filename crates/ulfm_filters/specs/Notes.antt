@@ -5,7 +5,7 @@ use Rattle.ulfm_filters.specs.declared.command_line.Unread.{Unread}
 use Rattle.ulfm_filters.specs.declared.command_line.Unread.TheVariants.{Memory as OfMemory, NoText}
 use Rattle.ulfm_script.specs.declared.fault.RunFault.{RunFault}
 use Rattle.ulfm_script.specs.declared.fault.RunFault.TheVariants.{Line, Memory, Read, Write}
-use Rattle.ulfm_script.specs.Ends.{Known, RunEnd}
+use Rattle.ulfm_script.specs.Ends.{KnownText, RunEnd}
 use Rattle.ulfm_script.specs.Written.{WritesPart}
 
 -- a text as one line
@@ -28,27 +28,27 @@ abbrev pub bad_line : List ℕ
 bad_line = line (codes "ulfm: bad command line")
 
 -- what is said of a fault that no line of a script has
-abbrev pub TellsFault : RunFault → Known → Known → Type 0
+abbrev pub TellsFault : RunFault → KnownText → KnownText → Type 0
 TellsFault (Line number kind) old new = ⊤
 TellsFault Memory old new = WritesPart old new no_memory
 TellsFault Read old new = WritesPart old new no_read
 TellsFault Write old new = WritesPart old new no_write
 
 -- what is said of a run that ended so: nothing where it ended well
-abbrev pub TellsEnd : RunEnd → Known → Known → Type 0
+abbrev pub TellsEnd : RunEnd → KnownText → KnownText → Type 0
 TellsEnd (Ok done) old new = Keeps old new
 TellsEnd (Err fault) old new = TellsFault fault old new
 
 -- what is said of a text that was printed at this status: nothing at 0
-abbrev pub TellsPrinted : ℕ → Known → Known → Type 0
+abbrev pub TellsPrinted : ℕ → KnownText → KnownText → Type 0
 TellsPrinted status old new = ((status ≡ 0) × Keeps old new) ⊎ ((status ≡ 3) × WritesPart old new no_write)
 
 -- what is said of a verdict whose line was to be printed at this status: nothing at that of the verdict
-abbrev pub TellsVerdict : ℕ → ℕ → Known → Known → Type 0
+abbrev pub TellsVerdict : ℕ → ℕ → KnownText → KnownText → Type 0
 TellsVerdict wanted status old new =
     ((status ≡ wanted) × Keeps old new) ⊎ ((status ≡ 3) × (WritesPart old new no_memory ⊎ WritesPart old new no_write))
 
 -- what is said of words that couldn't be read
-abbrev pub TellsUnread : Unread → Known → Known → Type 0
+abbrev pub TellsUnread : Unread → KnownText → KnownText → Type 0
 TellsUnread OfMemory old new = WritesPart old new no_memory
 TellsUnread NoText old new = WritesPart old new bad_line

@@ -2,7 +2,7 @@
 ghost use Rattle.std.specs.Prelude.{◌≡◌, ◌↔◌, IfOk, MatchResult, map, string_bytes};
 ghost use Rattle.std.specs.IoError.{error_kind};
 ghost use Rattle.std.specs.Vec.Iter.{into_iter_items};
-ghost use Rattle.ulfm_filters.specs.Answers.{IsAnswer};
+ghost use Rattle.ulfm_filters.specs.Answers.{MayAnswer};
 ghost use Rattle.ulfm_filters.specs.declared.command_line.Unread.TheVariants.{Memory as OfMemory, NoText};
 ghost use Rattle.ulfm_filters.specs.Notes.{TellsUnread, bad_line};
 ghost use Rattle.ulfm_script.specs.Written.{WritesPart};
@@ -32,7 +32,7 @@ pub fn answer_args<F: FnOnce(&[&str]) -> u8 + Drop>(
 ) -> Result<u8, Unread>
     requires { F.IsAlwaysCallable answer }
     ensures answered { IfOk result (λ status. MatchResult args
-        (λ given. IsAnswer F.FnOnce answer (map string_bytes (into_iter_items given)) status) (λ error. ⊥)) }
+        (λ given. MayAnswer F.FnOnce answer (map string_bytes (into_iter_items given)) status) (λ error. ⊥)) }
     ensures no_text { (result ≡ Err NoText) ↔ MatchResult args (λ given. ⊥) (λ error. ¬ (error_kind error ≡ ErrorKind.OutOfMemory)) }
 {
     let owned = read_args(alloc, args)?;

@@ -34,8 +34,9 @@ pub fn run_filter<A: Allocator + Copy + Drop, R: Read, W: Write, E: Write>(
 ) -> u8
     ensures status { result ≤ 3 }
     ensures filtered { Filtered filter (R.remaining input.old) (R.remaining input.new) (W.contents output.old) (W.contents output.new) result }
-    ensures told { FilteredTelling filter (R.remaining input.old) (R.remaining input.new) (W.contents output.old) (W.contents output.new)
-        (E.contents errors.old) (E.contents errors.new) result }
+    ensures told { FilteredTelling filter
+        (record { input = R.remaining input.old; output = W.contents output.old; errors = E.contents errors.old })
+        (record { input = R.remaining input.new; output = W.contents output.new; errors = E.contents errors.new }) result }
 {
     match filter {
         Filter::Calls => tell_end(run_calls(alloc, input, output), errors),
@@ -63,8 +64,9 @@ fn run_check<A: Allocator + Copy + Drop, R: Read, W: Write, E: Write>(
     errors: &mut E,
 ) -> u8
     ensures checked { CheckedWith (R.remaining input.old) (R.remaining input.new) (W.contents output.old) (W.contents output.new) result }
-    ensures told { CheckedTelling (R.remaining input.old) (R.remaining input.new) (W.contents output.old) (W.contents output.new)
-        (E.contents errors.old) (E.contents errors.new) result }
+    ensures told { CheckedTelling
+        (record { input = R.remaining input.old; output = W.contents output.old; errors = E.contents errors.old })
+        (record { input = R.remaining input.new; output = W.contents output.new; errors = E.contents errors.new }) result }
 {
     match check(alloc, input) {
         Ok(verdict) => print_verdict(alloc, verdict, output, errors),

@@ -1,7 +1,7 @@
 //! What is printed, what is said of a fault, and the status that it gives.
 ghost use Rattle.std.specs.Prelude.{◌≡◌, Err};
 ghost use Rattle.ulfm_filters.specs.Notes.{TellsFault, TellsPrinted};
-ghost use Rattle.ulfm_filters.specs.Statuses.{Prints, status_of};
+ghost use Rattle.ulfm_filters.specs.Statuses.{PrintsWhole, status_of};
 ghost use Rattle.ulfm_script.specs.Written.{WritesPart};
 
 use std::io::Write;
@@ -38,7 +38,7 @@ pub fn tell<E: Write>(note: &[u8], errors: &mut E)
 /// error of the output is a fault, of whatever kind; none is tried again.
 #[tactic(auto, using(crate::proofs::Ends::told, crate::proofs::Ends::part_kept, ulfm_script::proofs::ByteLemmas::appends_keeps))]
 pub fn print_text<W: Write, E: Write>(text: &[u8], output: &mut W, errors: &mut E) -> u8
-    ensures prints { Prints text.now (W.contents output.old) (W.contents output.new) result }
+    ensures prints { PrintsWhole text.now (W.contents output.old) (W.contents output.new) result }
     ensures told { TellsPrinted result (E.contents errors.old) (E.contents errors.new) }
 {
     if write_out(text, output).is_err() || output.flush().is_err() {

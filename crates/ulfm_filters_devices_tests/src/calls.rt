@@ -4,7 +4,7 @@ use crate::told::{require, run};
 use crate::writes::{Failure, Texts, fail_all_writes, fail_each_write, fail_write};
 use std::alloc::{AllocError, Global};
 use std::test::Fail;
-use ulfm_devices::{Failing, Pieces};
+use ulfm_devices::{FailureMode, Pieces};
 use ulfm_filters::Filter;
 use ulfm_worked_rows::calls::{OUTPUT, SCRIPT};
 
@@ -75,7 +75,7 @@ fn each_read_fails(rt: HostRuntime) -> Result<(), Fail> {
 }
 
 /// Of a long output the first writes of 7 bytes fail in this way, those about the end of the first buffer, and each of writes that take all.
-fn fail_long_writes(alloc: Global, long: Texts<'_>, how: Failing) -> Result<(), Fail> {
+fn fail_long_writes(alloc: Global, long: Texts<'_>, how: FailureMode) -> Result<(), Fail> {
     let all = Failure { most: 10_000, how };
     fail_each_write(alloc, Filter::Calls, long, all)?;
     let failure = Failure { most: 7, how };
@@ -94,9 +94,9 @@ fn each_write_fails(rt: HostRuntime) -> Result<(), Fail> {
         output: &output,
     };
     for how in [
-        Failing::ByError,
-        Failing::ByInterruption,
-        Failing::ByNothing,
+        FailureMode::ByError,
+        FailureMode::ByInterruption,
+        FailureMode::ByNothing,
     ] {
         fail_all_writes(rt.alloc(), Filter::Calls, short_texts(), how)?;
         fail_long_writes(rt.alloc(), long, how)?;

@@ -4,7 +4,7 @@ use crate::told::{require, run};
 use crate::writes::{Texts, fail_all_writes};
 use std::alloc::Global;
 use std::test::Fail;
-use ulfm_devices::{Failing, Pieces};
+use ulfm_devices::{FailureMode, Pieces};
 use ulfm_filters::Filter;
 use ulfm_worked_rows::Row;
 use ulfm_worked_rows::steps::CONTRIBUTION_IN_FLIGHT;
@@ -70,8 +70,8 @@ fn fail_writes_of(alloc: Global, filter: Filter, row: &Row) -> Result<(), Fail> 
         script: row.script.as_bytes(),
         output: row.output.as_bytes(),
     };
-    fail_all_writes(alloc, filter, texts, Failing::ByError)?;
-    fail_all_writes(alloc, filter, texts, Failing::ByNothing)
+    fail_all_writes(alloc, filter, texts, FailureMode::ByError)?;
+    fail_all_writes(alloc, filter, texts, FailureMode::ByNothing)
 }
 
 #[test]

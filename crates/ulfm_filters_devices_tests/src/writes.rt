@@ -2,7 +2,7 @@
 use crate::told::{require, run};
 use std::alloc::Global;
 use std::test::Fail;
-use ulfm_devices::{Failing, Taken};
+use ulfm_devices::{FailureMode, LimitedWriter};
 use ulfm_filters::Filter;
 use ulfm_worked_rows::calls::SCRIPT;
 
@@ -10,7 +10,7 @@ use ulfm_worked_rows::calls::SCRIPT;
 #[derive(Clone, Copy)]
 pub(crate) struct Failure {
     pub(crate) most: usize,
-    pub(crate) how: Failing,
+    pub(crate) how: FailureMode,
 }
 
 /// What a filter reads, and what it writes where no device fails.
@@ -30,7 +30,7 @@ pub(crate) fn fail_write(
     failing: u32,
 ) -> Result<bool, Fail> {
     let mut input = texts.script;
-    let mut taken = Taken::new(alloc, failure.most, failing, failure.how);
+    let mut taken = LimitedWriter::new(alloc, failure.most, failing, failure.how);
     let told = run(alloc, filter, &mut input, &mut taken);
     let has_failed = taken.calls >= failing;
     let is_wanted = if has_failed {
@@ -62,7 +62,7 @@ pub(crate) fn fail_all_writes(
     alloc: Global,
     filter: Filter,
     texts: Texts<'_>,
-    how: Failing,
+    how: FailureMode,
 ) -> Result<(), Fail> {
     for most in [1, 7, 10_000] {
         fail_each_write(alloc, filter, texts, Failure { most, how })?;
@@ -75,7 +75,7 @@ pub(crate) fn fail_all_writes(
 fn flush_fails(rt: HostRuntime) -> Result<(), Fail> {
     for script in [SCRIPT, "ulfm 1 1 1 1\n?\n"] {
         let mut input = script.as_bytes();
-        let mut output = Taken::new(rt.alloc(), 10_000, 0, Failing::AtFlush);
+        let mut output = LimitedWriter::new(rt.alloc(), 10_000, 0, FailureMode::AtFlush);
         let told = run(rt.alloc(), Filter::Calls, &mut input, &mut output);
         require(told.is_fault(b"ulfm: write failed\n"))?;
     }

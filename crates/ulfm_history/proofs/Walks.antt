@@ -7,7 +7,7 @@ use mathlib.Core.List.{IsPrefix}
 use Rattle.ulfm_model.specs.declared.event.Entry.{Entry}
 use Rattle.ulfm_model.specs.History.{Exists, History, first_ranks, members, members_after, members_by, spawns, without}
 use Rattle.ulfm_model.specs.Terms.{group_among}
-use Rattle.ulfm_history.specs.Walked.{IsMissing, IsOrigin}
+use Rattle.ulfm_history.specs.Walked.{IsNotMade, IsOrigin}
 use Rattle.ulfm_model.proofs.Says.{made_by}
 use Rattle.ulfm_model.proofs.Histories.{members_made, members_stay, spawns_push}
 
@@ -37,7 +37,7 @@ module _ {P : Type 0} where
           ap (λ (b : Bool). if b then without (earlier made.0) (group_among (earlier made.0) (reverse past) made.0 made.1) else earlier c) other ∙ before (omega (arith, above))
 
   -- the members of a communicator that was not made: all ranks where it is the world's, and else nobody
-  pub members_missing : (ranks : ℕ) (h : History P) (c : ℕ) → IsMissing h c → members ranks h c ≡ first_ranks (if c == 0 then ranks else 0)
+  pub members_missing : (ranks : ℕ) (h : History P) (c : ℕ) → IsNotMade h c → members ranks h c ≡ first_ranks (if c == 0 then ranks else 0)
   members_missing ranks h c (inl world) =
       let begins : IsPrefix [] h = (h, refl) in
       ap (members ranks h) world ∙ ((members_stay ranks [] h 0 begins (omega arith)).1 ∙ ap (λ (c : ℕ). first_ranks (if c == 0 then ranks else 0)) (sym world))

@@ -9,8 +9,8 @@ abbrev pub decision_of : {P A : Type 0} → Decided P A → Decision P
 decision_of made = record { body = made.body; failed = made.failed.items; raised = made.raised }
 
 -- a communicator was not made, as the world's never is
-abbrev pub IsMissing : {P : Type 0} → History P → ℕ → Type 0
-IsMissing h c = (c ≡ 0) ⊎ (length (spawns h) < c)
+abbrev pub IsNotMade : {P : Type 0} → History P → ℕ → Type 0
+IsNotMade h c = (c ≡ 0) ⊎ (length (spawns h) < c)
 
 -- the event at this place makes communicator c, of this parent and round
 pub record IsOrigin {P : Type 0} (h : History P) (c place parent round : ℕ) : Type 0 where

@@ -3,7 +3,7 @@ ghost use Rattle.std.specs.Prelude.{◌≡◌, ◌==◌, IfOk, MatchOption, if�
 ghost use Rattle.std.specs.List.{list_any};
 ghost use Rattle.ulfm_model.specs.Terms.{group_among};
 ghost use Rattle.ulfm_model.specs.History.{failed, failed_among, first_ranks, has, known_of, members, round_among, union_of, without};
-ghost use Rattle.ulfm_history.specs.Walked.{IsMissing, IsOrigin};
+ghost use Rattle.ulfm_history.specs.Walked.{IsNotMade, IsOrigin};
 
 use crate::reads::{has_rank, is_declared, slot};
 use crate::says::{declared, made};
@@ -139,7 +139,7 @@ fn left_out<P: Copy, A: Allocator + Copy + Drop>(
 
 /// Where a communicator other than the world's was made.
 fn find_origin<P: Copy>(history: &[Entry<P>], comm: u16) -> Option<Origin>
-    ensures { MatchOption result (IsMissing history.now comm) (λ at. IsOrigin history.now comm at.place at.parent at.round) }
+    ensures { MatchOption result (IsNotMade history.now comm) (λ at. IsOrigin history.now comm at.place at.parent at.round) }
 {
     let mut count = 0usize;
     for (place, entry) in history.iter().enumerate() {

@@ -6,7 +6,7 @@ use Rattle.std.proofs.lemmas.Bool.Decides.{Decides-and, Decides-like, Decides-or
 use Rattle.ulfm_laws.specs.declared.{summary.Body.{Body}, ctx_mask.CtxMask.{CtxMask}}
 use Rattle.ulfm_model.specs.declared.{call.Call.{Call}, call.Request.{Request}, contribution.Contribution.{Contribution}, event.Caller.{Caller}, event.Event.{Event}, limits.Limits.{Limits}}
 use Rattle.ulfm_model.specs.{Answers.{CallAdds, MarksDeclared, MayOwn, PollAdds, comm_of, refusal_of}, History.{History, IsPlace, MayFollow, MaySpawn, decision, failed, failures, has, has_arrived, is_decided, is_made, is_revoked, members, slot, spawns}, Records.{Held, Record, held_at}}
-use Rattle.ulfm_trace_model.specs.Traces.{IsLookDue, MayAdd, MayAddBy, Traced, Under, call_by, found_by, record_of}
+use Rattle.ulfm_trace_model.specs.Traces.{IsLookDue, MayAdd, MayAddBy, Traced, Under, call_by, found_by, record_in}
 use Rattle.ulfm_judge.specs.Seen.{seen_of}
 use Rattle.ulfm_judge.specs.Tests.{due_test, own_call_test, own_by_test, adds_on_test, adds_test, arrives_test, at_test, follow_test, ids_test, makes_test, marks_test, own_test, place_test, poll_test, revokes_test, settles_test, spawn_test}
 
@@ -168,10 +168,10 @@ own_on look old asked event held calm free at =
     ∙ both_false (has look old.number) (is_some (refusal_of old asked)) (adds_on_test look old.number (held_at old (comm_of asked)) asked event) calm free
 
 -- where its call is open, whether a look is due is decided by the call's look and the rank's record
-pub due_decides : {P : Type 0} (now : Traced P) (r : ℕ) (u : Under P) → call_by now (Caller.Rank r) ≡ Some u → Decides (due_test (record_of now r) u.look) (IsLookDue now r)
-due_decides {P} now r u there = by_record (record_of now r) refl
+pub due_decides : {P : Type 0} (now : Traced P) (r : ℕ) (u : Under P) → call_by now (Caller.Rank r) ≡ Some u → Decides (due_test (record_in now r) u.look) (IsLookDue now r)
+due_decides {P} now r u there = by_record (record_in now r) refl
   where
-    by_record : (own : Option Record) → record_of now r ≡ own → Decides (due_test own u.look) (IsLookDue now r)
+    by_record : (own : Option Record) → record_in now r ≡ own → Decides (due_test own u.look) (IsLookDue now r)
     by_record None is = never_decides (λ due. cc (is, due.has_record))
     by_record (Some own) is =
         Decides-like _ (λ p. record { call = u; is_open = there; first = p.0; own = own; has_record = is; in_use = p.1 })
@@ -183,9 +183,9 @@ due_decides {P} now r u there = by_record (record_of now r) refl
 
 pub own_by_decides : {P : Type 0} (now : Traced P) (by : Caller) (event : Event P) → Decides (own_by_test now by event) (MayAddBy now by event)
 own_by_decides now Caller.Outside event = (λ e. tt, λ e. refl)
-own_by_decides {P} now (Caller.Rank r) event = by_call (call_by now (Caller.Rank r)) refl (record_of now r) refl
+own_by_decides {P} now (Caller.Rank r) event = by_call (call_by now (Caller.Rank r)) refl (record_in now r) refl
   where
-    by_call : (call : Option (Under P)) → call_by now (Caller.Rank r) ≡ call → (own : Option Record) → record_of now r ≡ own → Decides (own_call_test now call own event) (MayAdd now r event)
+    by_call : (call : Option (Under P)) → call_by now (Caller.Rank r) ≡ call → (own : Option Record) → record_in now r ≡ own → Decides (own_call_test now call own event) (MayAdd now r event)
     by_call None is own has_own = never_decides (λ q. cc (is, q.is_open))
     by_call (Some u) is None has_own = never_decides (λ q. cc (has_own, q.has_record))
     by_call (Some u) is (Some own) has_own =

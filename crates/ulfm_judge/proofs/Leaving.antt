@@ -11,9 +11,9 @@ use Rattle.ulfm_model.specs.{Answers.{Effect, comm_of, left_by, left_with, print
 use Rattle.ulfm_model.proofs.Lists.{each_from}
 use Rattle.ulfm_record.specs.{declared.record.RankRecord.{RankRecord}, Kept.{FitsNext, record_of}}
 use Rattle.ulfm_trace_model.specs.declared.line.{Line.{Line}, Why.{Why}}
-use Rattle.ulfm_trace_model.specs.Traces.{MayReply, Takes, Traced, Under, after_reply, call_by, caller_of, record_of as record_at, records_after, same_caller}
+use Rattle.ulfm_trace_model.specs.Traces.{MayReply, Takes, Traced, Under, after_reply, call_by, caller_of, record_in, records_after, same_caller}
 use Rattle.ulfm_judge.specs.ReplyTests.{reply_test}
-use Rattle.ulfm_judge.specs.{declared.calls.OpenCall.{OpenCall}, declared.numbers.Numbers.{Numbers}, Kept.{AreCalls, GoesWith, MayLeave, traced_of}, Telling.{Goes, Tells}}
+use Rattle.ulfm_judge.specs.{declared.calls.OpenCall.{OpenCall}, declared.numbers.Numbers.{Numbers}, Kept.{AreCalls, GoesWith, MayLeave, traced_of}, Telling.{TellsSome, TablesTell}}
 use Rattle.ulfm_judge.proofs.{Answering.{reply_decides}, Deciding.{true_and}}
 
 -- a reply leaves a record's number
@@ -67,11 +67,11 @@ module _ {X Y : Type 0} (v : X → Y) (number : Y → ℕ) (r : ℕ) (f : Y → 
   one_changed xs i d y distinct at is = let first = position-Some (λ (x : X). number (v x) == r) xs i d at in changed_at xs i d y distinct is first.0 first.1 first.2
 
 -- what a rank's reply says that has started has a round whose next number fits, if so it is by the record that is found
-pub may_leave : {P : Type 0} (now : Traced P) (r : ℕ) (u : Under P) (reply : Reply P) (own : Record) → record_at now r ≡ Some own
+pub may_leave : {P : Type 0} (now : Traced P) (r : ℕ) (u : Under P) (reply : Reply P) (own : Record) → record_in now r ≡ Some own
     → ((x : Held) → reply ≡ Reply.Started → held_at own (comm_of u.asked) ≡ Some x → FitsNext ((traits_of u.asked).starts x)) → MayLeave now (Caller.Rank r) u reply
 may_leave now r u reply own has fits = λ s other x is found starts holds.
     let same : r ≡ s = cc is in
-    let one : other ≡ own = cc (found, ap (record_at now) (sym same) ∙ has) in
+    let one : other ≡ own = cc (found, ap (record_in now) (sym same) ∙ has) in
     fits x starts (ap (λ (o : Record). held_at o (comm_of u.asked)) (sym one) ∙ holds)
 
 module _ {P A : Type 0} (meld : P → P → P) (pack : P → ℕ) (tells : (x y : P) → pack x ≡ pack y → x ≡ y)
@@ -84,10 +84,10 @@ module _ {P A : Type 0} (meld : P → P → P) (pack : P → ℕ) (tells : (x y 
     line = Line.Replied by point (Some reply)
 
     abbrev IsTest : Under P → Bool → Type 0
-    IsTest u b = reply_test meld pack now by point group reply (Some u) ≡ b
+    IsTest u b = reply_test meld pack now group line (Some u) ≡ b
 
-    at_call : (u : Under P) → call_by now by ≡ Some u → (b : Bool) → IsTest u b → reply_test meld pack now by point group reply (call_by now by) ≡ b
-    at_call u there b is = ap (λ o. reply_test meld pack now by point group reply o) there ∙ is
+    at_call : (u : Under P) → call_by now by ≡ Some u → (b : Bool) → IsTest u b → reply_test meld pack now group line (call_by now by) ≡ b
+    at_call u there b is = ap (λ o. reply_test meld pack now group line o) there ∙ is
 
     -- a reply to a caller that has no call open
     pub no_call_replied : call_by now by ≡ None → Takes meld now group line now (Some Why.Call)
@@ -100,7 +100,7 @@ module _ {P A : Type 0} (meld : P → P → P) (pack : P → ℕ) (tells : (x y 
         refl,
         ap is_some there,
         λ may.
-            let yes_it : reply_test meld pack now by point group reply (call_by now by) ≡ true = (reply_decides meld pack tells now by point group reply).1 may in
+            let yes_it : reply_test meld pack now group line (call_by now by) ≡ true = (reply_decides meld pack tells now by point group reply).1 may in
             absurd (cc (yes_it, at_call u there false is)),
       ),
       refl,
@@ -123,8 +123,8 @@ pub packs_apart : {P : Type 0} (pack : P → ℕ) (unpack : ℕ → Option P) �
 packs_apart pack unpack back x y e = let same : Some x ≡ Some y = sym (back x) ∙ (ap unpack e ∙ back y) in cc same
 
 -- a rank without a record has none
-pub no_record : {P : Type 0} (now : Traced P) (r s : ℕ) (own : Record) → record_at now r ≡ None → Caller.Rank r ≡ Caller.Rank s → record_at now s ≡ Some own → ⊥
-no_record now r s own none is found = let same : r ≡ s = cc is in let gone : None ≡ Some own = sym none ∙ (ap (record_at now) same ∙ found) in cc gone
+pub no_record : {P : Type 0} (now : Traced P) (r s : ℕ) (own : Record) → record_in now r ≡ None → Caller.Rank r ≡ Caller.Rank s → record_in now s ≡ Some own → ⊥
+no_record now r s own none is found = let same : r ≡ s = cc is in let gone : None ≡ Some own = sym none ∙ (ap (record_in now) same ∙ found) in cc gone
 
 -- where three tests hold, a fourth is that of them all
 pub all_and : (a b d l x : Bool) → a ≡ true → b ≡ true → d ≡ true → x ≡ l → x ≡ (a && (b && (d && l)))
@@ -154,15 +154,15 @@ on_test (Err e) test Q goes same = tt
 
 -- a state whose history stays passes where what is said with it does
 pub goes_on : {P A E W : Type 0} {g : _} (limits : Limits) (numbers : Numbers P A g) (records : List (RankRecord A)) (calls : List (OpenCall P A)) (Taken : Traced P → W → Type 0) (h : History P) (result : Result W E)
-    → Tells limits.ranks numbers h → IfOk result (GoesWith calls (λ next. Taken (traced_of limits h records next))) → IfOk result (Goes limits numbers records calls Taken)
+    → TablesTell limits.ranks numbers h → IfOk result (GoesWith calls (λ next. Taken (traced_of limits h records next))) → IfOk result (TellsSome limits numbers records calls Taken)
 goes_on limits numbers records calls Taken h (Ok why) tells taken = (h, taken.0, tells, taken.1, taken.2)
 goes_on limits numbers records calls Taken h (Err e) tells taken = tt
 
 -- what is kept stands for what lines said, before a line and after it
 pub stands_on : {P A E : Type 0} {g : _} (meld : P → P → P) (limits : Limits) (numbers : Numbers P A g) (records : List (RankRecord A)) (calls : List (OpenCall P A)) (group : List ℕ) (told : Line P) (result : Result (Option Why) E) (old new : Traced P)
-    → new ≡ old → IfOk result (Goes limits numbers records calls (Takes meld old group told))
+    → new ≡ old → IfOk result (TellsSome limits numbers records calls (Takes meld old group told))
     → IfOk result (λ why. (next : Traced P) × Takes meld new group told next why
-    × (Tells limits.ranks numbers next.history × AreCalls calls next.calls × (next ≡ traced_of limits next.history records next.calls)))
+    × (TablesTell limits.ranks numbers next.history × AreCalls calls next.calls × (next ≡ traced_of limits next.history records next.calls)))
 stands_on meld limits numbers records calls group told (Ok why) old new same goes =
     let next = traced_of limits goes.0 records goes.1 in (next, subst (λ w. Takes meld w group told next why) (sym same) goes.4, (goes.2, goes.3, refl))
 stands_on meld limits numbers records calls group told (Err e) old new same goes = tt

@@ -7,14 +7,15 @@ use Rattle.ulfm_laws.specs.declared.{counts.Acked.{Acked}, summary.Body.{Body}, 
 use Rattle.ulfm_laws.specs.{Counts.{same_acked, same_known}, Masks.{same_mask}}
 use Rattle.ulfm_model.specs.declared.{event.Event.{Event}, limits.Limits.{Limits}, refusal.Refusal.{Refusal}, reply.Reply.{Reply}}
 use Rattle.ulfm_model.specs.declared.{contribution.Contribution.{Contribution}, contribution.Offer.{Offer}, contribution.Slot.{Slot}}
-use Rattle.ulfm_model.specs.Answers.{AgreeReplies, ShrinkReplies, StartReplies, View}
+use Rattle.ulfm_model.specs.Answers.{AgreeReplies, ShrinkReplies, StartReplies, AtPoint}
 use Rattle.ulfm_model.specs.Computed.{lowest_id}
 use Rattle.ulfm_model.specs.History.{Decision, History, has, is_made, made_of, members, slot, spawns}
 use Rattle.ulfm_model.specs.Records.{Held, IsLowestId, Record}
 use Rattle.ulfm_model.proofs.LowestId.{lowest_is as lowest_of}
 use Rattle.ulfm_model.proofs.OnlySpawned.{lowest_is}
-use Rattle.ulfm_judge.specs.Seen.{seen_of}
-use Rattle.ulfm_judge.specs.ReplyTests.{agree_test, clash_test, flag_test, full_test, given_test, gives_test, is_given, least_test, made_test, no_ids_test, same_offer, shrink_test, shrunk_test, stands_test, start_test, unmade_test}
+use Rattle.ulfm_judge.specs.declared.replies.Due.{Due}
+use Rattle.ulfm_judge.specs.CallsAt.{CallAt, call_of}
+use Rattle.ulfm_judge.specs.ReplyTests.{agree_test, clash_test, due_of, flag_test, full_test, given_test, gives_test, is_given, least_test, made_test, no_ids_test, offer_test, same_offer, shrink_test, shrunk_test, stands_test, unmade_test}
 use Rattle.ulfm_judge.proofs.Deciding.{eq_decides, false_decides, ids_decides, lt_decides, never_decides, true_decides}
 use Rattle.ulfm_judge.proofs.Replying.{answer_decides, empty_decides, only_decides, refusal_decides}
 
@@ -25,13 +26,13 @@ same_given {P = P} x y offers known acked =
     let make : (x.acked.count ≤ x.known.count) → Contribution P = λ w. record { offer = x.offer; known = x.known; acked = x.acked; within = w } in
     subst (λ o. Q o y.known y.acked) offers (subst (λ m. Q x.offer m y.acked) known (subst (λ n. Q x.offer x.known n) acked (λ w. ap make (le_prop x.within w)))) y.within
 
--- a contribution has this offer and these counts
-abbrev IsThat : {P : Type 0} → Offer P → ℕ → ℕ → Contribution P → Type 0
-IsThat offer known acked given = (given.offer ≡ offer) × ((given.known.count ≡ known) × (given.acked.count ≡ acked))
+-- a contribution is the one that is due
+abbrev IsThat : {P : Type 0} → Due P → Contribution P → Type 0
+IsThat due given = (given.offer ≡ due.offer) × ((given.known.count ≡ due.known) × (given.acked.count ≡ due.acked))
 
 -- there is one such
-same_that : {P : Type 0} (offer : Offer P) (known acked : ℕ) (x y : Contribution P) → IsThat offer known acked x → IsThat offer known acked y → x ≡ y
-same_that offer known acked x y one other =
+same_that : {P : Type 0} (due : Due P) (x y : Contribution P) → IsThat due x → IsThat due y → x ≡ y
+same_that due x y one other =
     same_given x y (one.0 ∙ sym other.0) (same_known x.known y.known (one.1.0 ∙ sym other.1.0)) (same_acked x.acked y.acked (one.1.1 ∙ sym other.1.1))
 
 -- a contribution stands there
@@ -76,43 +77,43 @@ module _ {P : Type 0} (pack : P → ℕ) (tells : (x y : P) → pack x ≡ pack 
   offer_decides (Offer.Ctx x) (Offer.Ctx y) =
       Decides-like _ (λ e. ap Offer.Ctx (same_mask x y e)) (λ e. let same : x ≡ y = cc e in ap (λ (m : CtxMask). m.bits) same) (eq_decides x.bits y.bits)
 
-  that_decides : (offer : Offer P) (known acked : ℕ) (given : Contribution P) → Decides (given_test pack offer known acked given) (IsThat offer known acked given)
-  that_decides offer known acked given =
-      Decides-and _ _ (offer_decides given.offer offer) (Decides-and _ _ (eq_decides given.known.count known) (eq_decides given.acked.count acked))
+  that_decides : (due : Due P) (given : Contribution P) → Decides (given_test pack due given) (IsThat due given)
+  that_decides due given =
+      Decides-and _ _ (offer_decides given.offer due.offer) (Decides-and _ _ (eq_decides given.known.count due.known) (eq_decides given.acked.count due.acked))
 
-  -- an event is such a contribution of a rank to a round
-  gives_decides : (c k r : ℕ) (offer : Offer P) (known acked : ℕ) (event : Event P)
-      → Decides (gives_test pack c k r offer known acked event) ((given : Contribution P) × (event ≡ Event.Settle c k r given) × IsThat offer known acked given)
-  gives_decides c k r offer known acked (Event.Settle d l s given) =
+  -- an event is the contribution that is due, of a rank to a round
+  gives_decides : (c k r : ℕ) (due : Due P) (event : Event P)
+      → Decides (gives_test pack c k r due event) ((given : Contribution P) × (event ≡ Event.Settle c k r given) × IsThat due given)
+  gives_decides c k r due (Event.Settle d l s given) =
       Decides-like _ (λ p. (given, cc (p.0, p.1.0, p.1.1.0), p.1.1.1))
       (λ q.
       let comm : d ≡ c = cc (q.1) in
       let round : l ≡ k = cc (q.1) in
       let rank : s ≡ r = cc (q.1) in
       let same : q.0 ≡ given = cc (q.1) in
-      (comm, (round, (rank, subst (IsThat offer known acked) same q.2))))
-      (Decides-and _ _ (eq_decides d c) (Decides-and _ _ (eq_decides l k) (Decides-and _ _ (eq_decides s r) (that_decides offer known acked given))))
-  gives_decides c k r offer known acked _ = never_decides (λ q. cc (q.1))
+      (comm, (round, (rank, subst (IsThat due) same q.2))))
+      (Decides-and _ _ (eq_decides d c) (Decides-and _ _ (eq_decides l k) (Decides-and _ _ (eq_decides s r) (that_decides due given))))
+  gives_decides c k r due _ = never_decides (λ q. cc (q.1))
 
-  -- such a contribution stands there
-  stands_decides : (offer : Offer P) (known acked : ℕ) (stood : Option (Slot P))
-      → Decides (stands_test pack offer known acked stood) ((given : Contribution P) × (stood ≡ Some (Slot.Given given)) × IsThat offer known acked given)
-  stands_decides offer known acked (Some (Slot.Given given)) =
-      Decides-like _ (λ p. (given, refl, p)) (λ q. let same : q.0 ≡ given = cc (q.1) in subst (IsThat offer known acked) same q.2) (that_decides offer known acked given)
-  stands_decides offer known acked (Some (Slot.Mark mark)) = never_decides (λ q. cc (q.1))
-  stands_decides offer known acked None = never_decides (λ q. cc (q.1))
+  -- the contribution that is due stands there
+  stands_decides : (due : Due P) (stood : Option (Slot P))
+      → Decides (stands_test pack due stood) ((given : Contribution P) × (stood ≡ Some (Slot.Given given)) × IsThat due given)
+  stands_decides due (Some (Slot.Given given)) =
+      Decides-like _ (λ p. (given, refl, p)) (λ q. let same : q.0 ≡ given = cc (q.1) in subst (IsThat due) same q.2) (that_decides due given)
+  stands_decides due (Some (Slot.Mark mark)) = never_decides (λ q. cc (q.1))
+  stands_decides due None = never_decides (λ q. cc (q.1))
 
   -- the start of an agree or of a shrink is answered so
-  pub start_decides : (view : View P) (old : Record) (x : Held) (offer : Offer P) (reply : Reply P)
-      → Decides (start_test pack view.own (slot view.history x.comm x.next_agreement old.number) (length (filter (has x.group) view.look)) old.number x offer reply) (StartReplies view old x offer reply)
-  start_decides view old x offer Reply.Started =
-      let known : ℕ = length (filter (has x.group) view.look) in
+  pub start_decides : (limits : Limits) (view : AtPoint P) (old : Record) (x : Held) (offer : Offer P) (reply : Reply P)
+      → Decides (offer_test pack (call_of limits view old) x offer reply) (StartReplies view old x offer reply)
+  start_decides limits view old x offer Reply.Started =
+      let due : Due P = due_of (call_of limits view old) x offer in
       Decides-like _
       (λ p.
       let own = p.0 in
       let gives = own.2 in
       let there = p.1 in
-      let same : there.0 ≡ gives.0 = same_that offer known x.acked there.0 gives.0 there.2 gives.2 in
+      let same : there.0 ≡ gives.0 = same_that due there.0 gives.0 there.2 gives.2 in
       inl (
         refl,
         record {
@@ -127,20 +128,20 @@ module _ {P : Type 0} (pack : P → ℕ) (tells : (x y : P) → pack x ≡ pack 
       (λ q. elim q [
         | inl a ↦
             let did = a.1 in
-            let that : IsThat offer known x.acked did.given = (did.offer_is, (did.known, did.acked)) in
+            let that : IsThat due did.given = (did.offer_is, (did.known, did.acked)) in
             ((Event.Settle x.comm x.next_agreement old.number did.given, did.own, (did.given, refl, that)), (did.given, did.stands, that))
         | inr b ↦ absurd (cc (b.0))
       ])
       (Decides-and _ _
-      (only_decides (gives_test pack x.comm x.next_agreement old.number offer known x.acked)
-      (λ event. (given : Contribution P) × (event ≡ Event.Settle x.comm x.next_agreement old.number given) × IsThat offer known x.acked given)
-      (gives_decides x.comm x.next_agreement old.number offer known x.acked) view.own)
-      (stands_decides offer known x.acked (slot view.history x.comm x.next_agreement old.number)))
-  start_decides view old x offer (Reply.Refused refusal) =
+      (only_decides (gives_test pack x.comm x.next_agreement old.number due)
+      (λ event. (given : Contribution P) × (event ≡ Event.Settle x.comm x.next_agreement old.number given) × IsThat due given)
+      (gives_decides x.comm x.next_agreement old.number due) view.own)
+      (stands_decides due (slot view.history x.comm x.next_agreement old.number)))
+  start_decides limits view old x offer (Reply.Refused refusal) =
       Decides-like _ (λ p. inr (ap Reply.Refused p.0, p.1.0, p.1.1))
       (λ q. elim q [ inl a ↦ absurd (cc (a.0)) | inr b ↦ let same : refusal ≡ Refusal.Twice = cc (b.0) in (same, (b.1, b.2)) ])
       (Decides-and _ _ (refusal_decides refusal Refusal.Twice) (Decides-and _ _ (empty_decides view.own) (given_decides (slot view.history x.comm x.next_agreement old.number))))
-  start_decides view old x offer _ = never_decides (λ q. elim q [ inl a ↦ cc (a.0) | inr b ↦ cc (b.0) ])
+  start_decides limits view old x offer _ = never_decides (λ q. elim q [ inl a ↦ cc (a.0) | inr b ↦ cc (b.0) ])
 
   flag_decides : (body : Body P) (value : P) → Decides (flag_test pack body value) (body ≡ Body.Flag value)
   flag_decides (Body.Flag x) value = Decides-like _ (λ e. ap Body.Flag e) (λ e. cc e) (value_decides x value)
@@ -180,9 +181,18 @@ module _ {P : Type 0} (pack : P → ℕ) (tells : (x y : P) → pack x ≡ pack 
         (Decides-and _ _ (true_decides decided) (Decides-and _ _ (refusal_decides refusal Refusal.Mismatch) (clash_decides made.body)))
     agree_decides _ = never_decides (λ q. elim q [ inl a ↦ cc (a.1) | inr b ↦ elim (b.1) [ inl f ↦ cc (f.2) | inr g ↦ cc (g.1) ] ])
 
-    module _ (limits : Limits) (h : History P) (r c k : ℕ) where
+    module _ (limits : Limits) (view : AtPoint P) (old : Record) (c k : ℕ) where
+      abbrev call : CallAt P
+      call = call_of limits view old
+
+      abbrev h : History P
+      h = view.history
+
+      abbrev r : ℕ
+      r = old.number
+
       -- no room is left for what a shrink would make
-      full_decides : Decides (full_test limits (seen_of limits.ranks h) r c k made)
+      full_decides : Decides (full_test call c k made)
           (((mask : CtxMask) × (made.body ≡ Body.Ctx mask) × (0 < mask.bits)) × (IsFalse (has made.failed r) × ((length (spawns h) + 1 ≡ limits.comms) × IsFalse (is_made h c k))))
       full_decides =
           Decides-and _ _ (ids_decides made.body)
@@ -205,7 +215,7 @@ module _ {P : Type 0} (pack : P → ℕ) (tells : (x y : P) → pack x ≡ pack 
         | inr clash ↦ unrefused Refusal.Mismatch (clash.1)
       ]
 
-      shrunk_decides : (j context size : ℕ) → Decides (shrunk_test (seen_of limits.ranks h) r c k made j context size) (Decided (Reply.Shrunk j context size))
+      shrunk_decides : (j context size : ℕ) → Decides (shrunk_test call c k made (record { comm = j; context = context; size = size })) (Decided (Reply.Shrunk j context size))
       shrunk_decides j context size =
           Decides-like _
           (λ p.
@@ -232,7 +242,7 @@ module _ {P : Type 0} (pack : P → ℕ) (tells : (x y : P) → pack x ≡ pack 
           (Decides-and _ _ (false_decides (has made.failed r))
           (Decides-and _ _ (lt_decides 0 j) (Decides-and _ _ (made_decides (made_of h j) c k) (eq_decides size (length (members limits.ranks h j)))))))
 
-      unmade_decides : (refusal : Refusal) → Decides (unmade_test limits (seen_of limits.ranks h) r c k made refusal) (Decided (Reply.Refused refusal))
+      unmade_decides : (refusal : Refusal) → Decides (unmade_test call c k made refusal) (Decided (Reply.Refused refusal))
       unmade_decides refusal =
           Decides-like _
           (λ p. elim p [
@@ -255,7 +265,7 @@ module _ {P : Type 0} (pack : P → ℕ) (tells : (x y : P) → pack x ≡ pack 
           (Decides-and _ _ (refusal_decides refusal Refusal.Mismatch) (clash_decides made.body))))
 
       -- a shrink's poll is answered so
-      pub shrink_decides : (reply : Reply P) → Decides (shrink_test limits (seen_of limits.ranks h) r c k late decided made reply) (Either Late decided (Decided reply) reply)
+      pub shrink_decides : (reply : Reply P) → Decides (shrink_test call c k late decided made reply) (Either Late decided (Decided reply) reply)
       shrink_decides Reply.Pending =
           Decides-like _ (λ p. inl (p, refl)) (λ q. elim q [ inl a ↦ a.0 | inr b ↦ absurd (not_other Reply.Pending (λ j context size e. cc e) (λ refusal e. cc e) (b.1)) ]) pending
       shrink_decides (Reply.Shrunk j context size) =

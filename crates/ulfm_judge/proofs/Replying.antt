@@ -6,7 +6,7 @@ use Rattle.std.proofs.lemmas.Bool.{eqb-true, eq-eqb, or_cases, or_left, or_right
 use Rattle.std.proofs.lemmas.Bool.Decides.{Decides-and, Decides-like, Decides-or, Decides-eqb}
 use Rattle.std.proofs.lemmas.Slice.Eq.{slice_eq-Decides}
 use Rattle.ulfm_model.specs.declared.{call.Call.{Call}, event.Event.{Event}, limits.Limits.{Limits}, refusal.Refusal.{Refusal}, reply.Reply.{Reply}}
-use Rattle.ulfm_model.specs.Answers.{AnswersFail, BarrierStartReplies, DoneOrFound, IsPending, IsSelfFailed, View, printed, traits_of}
+use Rattle.ulfm_model.specs.Answers.{AnswersFail, BarrierStartReplies, DoneOrFound, IsPending, IsSelfFailed, AtPoint, printed, traits_of}
 use Rattle.ulfm_model.specs.History.{failures, has, has_arrived, is_revoked, slot}
 use Rattle.ulfm_model.specs.Records.{Held, Record, new_held}
 use Rattle.ulfm_judge.specs.Seen.{seen_of}
@@ -85,7 +85,7 @@ refused_decides refusal _ = never_decides (λ e. cc e)
 -- ---- declarations, and refusals for good
 
 -- a declaration is answered so
-pub fail_decides : {P : Type 0} (limits : Limits) (view : View P) (r : ℕ) (reply : Reply P) → Decides (fail_test limits (has (failures view.history) r) view.own r reply) (AnswersFail limits view r reply)
+pub fail_decides : {P : Type 0} (limits : Limits) (view : AtPoint P) (r : ℕ) (reply : Reply P) → Decides (fail_test limits (has (failures view.history) r) view.own r reply) (AnswersFail limits view r reply)
 fail_decides limits view r Reply.Declared =
     Decides-like _ (λ p. inl (refl, p.0, p.1)) (λ q. elim q [ inl a ↦ (a.1, a.2) | inr (inl b) ↦ absurd (cc (b.0)) | inr (inr d) ↦ absurd (cc (d.0)) ])
     (Decides-and _ _ (only_one (fails_test r) (Event.Fail r) (fails_decides r) view.own) (true_decides (has (failures view.history) r)))
@@ -109,14 +109,14 @@ starts_decides own (Call.Shrink rank c) = Decides-like (length own == 0) (λ non
 starts_decides own (Call.Barrier rank c) = Decides-like (length own == 0) (λ none x some. none) (λ each. each (new_held 0 0 []) refl) (empty_decides own)
 starts_decides own _ = (λ e x some. absurd (cc some), λ e. refl)
 
-pub self_failed_decides : {P : Type 0} (view : View P) (old : Record) (asked : Call P) (reply : Reply P) → Decides (self_failed_test (has (failures view.history) old.number) view.own asked reply) (IsSelfFailed view old asked reply)
+pub self_failed_decides : {P : Type 0} (view : AtPoint P) (old : Record) (asked : Call P) (reply : Reply P) → Decides (self_failed_test (has (failures view.history) old.number) view.own asked reply) (IsSelfFailed view old asked reply)
 self_failed_decides view old asked reply =
     Decides-like _ (λ p. record { reply_is = p.0; declared = p.1.0; adds_nothing = p.1.1 }) (λ q. (q.reply_is, (q.declared, q.adds_nothing)))
     (Decides-and _ _ (refused_decides Refusal.SelfFailed reply) (Decides-and _ _ (true_decides (has (failures view.history) old.number)) (starts_decides view.own asked)))
 
 -- ---- barriers, revocations, and what only reads
 
-pub barrier_start_decides : {P : Type 0} (view : View P) (old : Record) (x : Held) (reply : Reply P)
+pub barrier_start_decides : {P : Type 0} (view : AtPoint P) (old : Record) (x : Held) (reply : Reply P)
     → Decides (barrier_start_test (has_arrived view.history x.comm x.next_barrier old.number) view.own old.number x reply) (BarrierStartReplies view old x reply)
 barrier_start_decides view old x Reply.Started =
     Decides-like _ (λ p. (p.0, inl (refl, p.1))) (λ q. (q.0, elim (q.1) [ inl a ↦ a.1 | inr b ↦ absurd (cc (b.0)) ]))
@@ -129,7 +129,7 @@ barrier_start_decides view old x (Reply.Refused refusal) =
     (Decides-and _ _ (refusal_decides refusal Refusal.Twice) (empty_decides view.own)))
 barrier_start_decides view old x _ = never_decides (λ q. elim (q.1) [ inl a ↦ cc (a.0) | inr b ↦ cc (b.0) ])
 
-pub revoke_decides : {P : Type 0} (view : View P) (c : ℕ) (reply : Reply P)
+pub revoke_decides : {P : Type 0} (view : AtPoint P) (c : ℕ) (reply : Reply P)
     → Decides (revoke_test (is_revoked view.history c) view.own c reply) (IsTrue (is_revoked view.history c) × DoneOrFound view (Event.Revoke c) Reply.Revoked Reply.AlreadyRevoked reply)
 revoke_decides view c Reply.Revoked =
     Decides-like _ (λ p. (p.0, inl (refl, p.1))) (λ q. (q.0, elim (q.1) [ inl a ↦ a.1 | inr b ↦ absurd (cc (b.0)) ]))
@@ -194,7 +194,7 @@ some_decides p (x ∷ xs) =
     (λ q. elim (or_cases (x == q.0) (has xs q.0) (q.1)) [ inl here ↦ inl (ap p (eqb-true x q.0 here) ∙ q.2) | inr later ↦ inr (q.0, later, q.2) ])
     (Decides-or _ _ (true_decides (p x)) (some_decides p xs))
 
-pub pending_decides : {P : Type 0} (ranks : ℕ) (view : View P) (x : Held) (k : ℕ) → Decides (pending_test view.look (seen_of ranks view.history) x k) (IsPending view x k)
+pub pending_decides : {P : Type 0} (ranks : ℕ) (view : AtPoint P) (x : Held) (k : ℕ) → Decides (pending_test view.look (seen_of ranks view.history) x k) (IsPending view x k)
 pending_decides ranks view x k =
     let unknown : ℕ → Bool = λ r. not (has view.look r) in
     let unset : ℕ → Bool = λ r. not (is_some (slot view.history x.comm k r)) in

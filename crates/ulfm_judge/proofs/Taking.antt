@@ -5,7 +5,7 @@ use Rattle.ulfm_model.specs.declared.{call.Call.{Call}, event.Caller.{Caller}, e
 use Rattle.ulfm_model.specs.{Answers.{traits_of}, History.{History, failures}, Records.{Record}}
 use Rattle.ulfm_record.specs.declared.record.RankRecord.{RankRecord}
 use Rattle.ulfm_trace_model.specs.declared.line.{Line.{Line}, Why.{Why}}
-use Rattle.ulfm_trace_model.specs.Traces.{Takes, Traced, Under, call_by, caller_of, change_by, found_by, is_owned, record_of, same_caller, with_event}
+use Rattle.ulfm_trace_model.specs.Traces.{Takes, Traced, Under, call_by, caller_of, change_by, found_by, is_owned, record_in, same_caller, with_event}
 use Rattle.ulfm_judge.specs.declared.calls.OpenCall.{OpenCall}
 use Rattle.ulfm_judge.specs.{Kept.{AreCalls, GoesWith, place_by, seat_of, traced_of, under_of}, Seen.{seen_of}, Tests.{due_test, follow_test, own_by_test, own_call_test, own_test}}
 use Rattle.ulfm_judge.proofs.Deciding.{due_decides, follow_decides, own_by_decides}
@@ -62,7 +62,7 @@ module _ {P A : Type 0} (meld : P → P → P) (limits : Limits) (h : History P)
   no_call r count at = (us, are, (inl (refl, λ is_open. absurd (cc (ap is_some (none_open (Caller.Rank r) at), is_open))), refl))
 
   -- a look that is due and exact
-  pub looks : (r count i : ℕ) (d y : OpenCall P A) → place_by calls (Caller.Rank r) ≡ Some i → due_test (record_of now r) (get_or calls i d).look ≡ true → count ≡ length (failures h)
+  pub looks : (r count i : ℕ) (d y : OpenCall P A) → place_by calls (Caller.Rank r) ≡ Some i → due_test (record_in now r) (get_or calls i d).look ≡ true → count ≡ length (failures h)
       → y.is_open ≡ true → under_of y ≡ record (under_of (get_or calls i d)) { look = Some count } → GoesWith (set calls i y) (λ next. Takes meld now group (Line.Looked r count) (with_calls next)) None
   looks r count i d y at due exact holds is =
       let by = Caller.Rank r in
@@ -73,7 +73,7 @@ module _ {P A : Type 0} (meld : P → P → P) (limits : Limits) (h : History P)
       )
 
   -- one that isn't due
-  pub undue : (r count i : ℕ) (d : OpenCall P A) → place_by calls (Caller.Rank r) ≡ Some i → due_test (record_of now r) (get_or calls i d).look ≡ false
+  pub undue : (r count i : ℕ) (d : OpenCall P A) → place_by calls (Caller.Rank r) ≡ Some i → due_test (record_in now r) (get_or calls i d).look ≡ false
       → GoesWith calls (λ next. Takes meld now group (Line.Looked r count) (with_calls next)) (Some Why.Look)
   undue r count i d at due =
       let there = open_here (Caller.Rank r) i d at in (
@@ -118,20 +118,20 @@ not_true true e = absurd (cc e)
 not_true false e = refl
 
 -- what a caller may add, by what is found of it
-pub own_by : {P : Type 0} (now : Traced P) (r : ℕ) (event : Event P) (call : Option (Under P)) (own : Option Record) → call_by now (Caller.Rank r) ≡ call → record_of now r ≡ own → own_call_test now call own event ≡ own_by_test now (Caller.Rank r) event
+pub own_by : {P : Type 0} (now : Traced P) (r : ℕ) (event : Event P) (call : Option (Under P)) (own : Option Record) → call_by now (Caller.Rank r) ≡ call → record_in now r ≡ own → own_call_test now call own event ≡ own_by_test now (Caller.Rank r) event
 own_by now r event call own is has_own = ap₂ (λ c o. own_call_test now c o event) (sym is) (sym has_own)
 
 pub nobody_adds : {P : Type 0} (now : Traced P) (r : ℕ) (event : Event P) → call_by now (Caller.Rank r) ≡ None → false ≡ own_by_test now (Caller.Rank r) event
-nobody_adds now r event is = ap (λ c. own_call_test now c (record_of now r) event) (sym is)
+nobody_adds now r event is = ap (λ c. own_call_test now c (record_in now r) event) (sym is)
 
-pub stranger_adds : {P : Type 0} (now : Traced P) (r : ℕ) (event : Event P) (u : Under P) → call_by now (Caller.Rank r) ≡ Some u → record_of now r ≡ None → false ≡ own_by_test now (Caller.Rank r) event
+pub stranger_adds : {P : Type 0} (now : Traced P) (r : ℕ) (event : Event P) (u : Under P) → call_by now (Caller.Rank r) ≡ Some u → record_in now r ≡ None → false ≡ own_by_test now (Caller.Rank r) event
 stranger_adds now r event u is none = own_by now r event (Some u) None is none
 
-pub unlooked : {P : Type 0} (now : Traced P) (r : ℕ) (event : Event P) (u : Under P) (own : Record) → call_by now (Caller.Rank r) ≡ Some u → record_of now r ≡ Some own → u.look ≡ None → false ≡ own_by_test now (Caller.Rank r) event
+pub unlooked : {P : Type 0} (now : Traced P) (r : ℕ) (event : Event P) (u : Under P) (own : Record) → call_by now (Caller.Rank r) ≡ Some u → record_in now r ≡ Some own → u.look ≡ None → false ≡ own_by_test now (Caller.Rank r) event
 unlooked now r event u own is has_own none =
     sym (ap (λ look. is_some look && own_test (found_by now u) own u.asked event) none) ∙ own_by now r event (Some u) (Some own) is has_own
 
-pub looked : {P : Type 0} (now : Traced P) (r : ℕ) (event : Event P) (u : Under P) (own : Record) (count : ℕ) (found : List ℕ) → call_by now (Caller.Rank r) ≡ Some u → record_of now r ≡ Some own → u.look ≡ Some count → found ≡ take count (failures now.history)
+pub looked : {P : Type 0} (now : Traced P) (r : ℕ) (event : Event P) (u : Under P) (own : Record) (count : ℕ) (found : List ℕ) → call_by now (Caller.Rank r) ≡ Some u → record_in now r ≡ Some own → u.look ≡ Some count → found ≡ take count (failures now.history)
     → own_test found own u.asked event ≡ own_by_test now (Caller.Rank r) event
 looked now r event u own count found is has_own look same =
     ap (λ xs. own_test xs own u.asked event) same

@@ -5,7 +5,7 @@ use Rattle.ulfm_model.specs.declared.{event.Caller.{Caller}, limits.Limits.{Limi
 use Rattle.ulfm_model.specs.{Answers.{comm_of, traits_of}, History.{History}, Records.{Held, Record, held_at}}
 use Rattle.ulfm_record.specs.{declared.record.RankRecord.{RankRecord}, Kept.{FitsNext, record_of}}
 use Rattle.ulfm_trace_model.specs.declared.line.Line.{Line}
-use Rattle.ulfm_trace_model.specs.Traces.{Traced, Under, caller_of, record_of as record_at, same_caller}
+use Rattle.ulfm_trace_model.specs.Traces.{Traced, Under, caller_of, record_in, same_caller}
 use Rattle.ulfm_judge.specs.declared.calls.OpenCall.{OpenCall}
 
 -- a call under way
@@ -49,5 +49,5 @@ GoesWith {P} calls Taken why = (us : List (Under P)) × AreCalls calls us × Tak
 -- a request that a rank's reply says has started has a round whose next number fits
 abbrev pub MayLeave : {P : Type 0} → Traced P → Caller → Under P → Reply P → Type 0
 MayLeave now by u reply =
-    (r : ℕ) (own : Record) (x : Held) → by ≡ Caller.Rank r → record_at now r ≡ Some own → reply ≡ Reply.Started
+    (r : ℕ) (own : Record) (x : Held) → by ≡ Caller.Rank r → record_in now r ≡ Some own → reply ≡ Reply.Started
     → held_at own (comm_of u.asked) ≡ Some x → FitsNext ((traits_of u.asked).starts x)

@@ -1,3 +1,4 @@
+pub mod CallsAt
 pub mod Failed
 pub mod Groups
 pub mod Kept

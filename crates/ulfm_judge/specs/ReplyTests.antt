@@ -10,7 +10,10 @@ use Rattle.ulfm_model.specs.Answers.{comm_of, printed, rank_of, refusal_of}
 use Rattle.ulfm_model.specs.Computed.{lowest_id}
 use Rattle.ulfm_model.specs.History.{Decision, has}
 use Rattle.ulfm_model.specs.Records.{Held, Record, free_ids, held_at}
-use Rattle.ulfm_trace_model.specs.Traces.{Traced, Under, found_by, record_of}
+use Rattle.ulfm_trace_model.specs.Traces.{Traced, Under, record_in, view_at}
+use Rattle.ulfm_trace_model.specs.declared.line.Line.{Line}
+use Rattle.ulfm_judge.specs.declared.{polls.Named.{Named}, replies.Due.{Due}}
+use Rattle.ulfm_judge.specs.CallsAt.{CallAt, call_of}
 use Rattle.ulfm_judge.specs.Seen.{Seen, decision_in, failed_in, is_decided_in, is_made_in, seen_of}
 use Rattle.ulfm_judge.specs.Tests.{arrives_test, ids_test, revokes_test}
 
@@ -69,32 +72,39 @@ same_offer pack (Offer.Flag x) (Offer.Flag y) = pack x == pack y
 same_offer pack (Offer.Ctx x) (Offer.Ctx y) = x.bits == y.bits
 same_offer pack _ _ = false
 
--- whether a contribution has this offer and these counts
-abbrev pub given_test : {P : Type 0} → (P → ℕ) → Offer P → ℕ → ℕ → Contribution P → Bool
-given_test pack offer known acked given = same_offer pack given.offer offer && ((given.known.count == known) && (given.acked.count == acked))
+-- whether a contribution is the one that is due
+abbrev pub given_test : {P : Type 0} → (P → ℕ) → Due P → Contribution P → Bool
+given_test pack due given = same_offer pack given.offer due.offer && ((given.known.count == due.known) && (given.acked.count == due.acked))
 
--- whether an event is such a contribution of a rank to a round
-abbrev pub gives_test : {P : Type 0} → (P → ℕ) → ℕ → ℕ → ℕ → Offer P → ℕ → ℕ → Event P → Bool
-gives_test pack c k r offer known acked (Event.Settle d l s given) = (d == c) && ((l == k) && ((s == r) && given_test pack offer known acked given))
-gives_test pack c k r offer known acked _ = false
+-- whether an event is the contribution that is due, of a rank to a round
+abbrev pub gives_test : {P : Type 0} → (P → ℕ) → ℕ → ℕ → ℕ → Due P → Event P → Bool
+gives_test pack c k r due (Event.Settle d l s given) = (d == c) && ((l == k) && ((s == r) && given_test pack due given))
+gives_test pack c k r due _ = false
 
--- whether such a contribution stands there
-abbrev pub stands_test : {P : Type 0} → (P → ℕ) → Offer P → ℕ → ℕ → Option (Slot P) → Bool
-stands_test pack offer known acked (Some (Slot.Given given)) = given_test pack offer known acked given
-stands_test pack offer known acked _ = false
+-- whether the contribution that is due stands there
+abbrev pub stands_test : {P : Type 0} → (P → ℕ) → Due P → Option (Slot P) → Bool
+stands_test pack due (Some (Slot.Given given)) = given_test pack due given
+stands_test pack due _ = false
 
 -- whether a contribution stands there
 abbrev pub is_given : {P : Type 0} → Option (Slot P) → Bool
 is_given (Some (Slot.Given given)) = true
 is_given _ = false
 
--- whether the start of an agree or of a shrink is answered so, by the rank's own events, by what stands at its place, and by how many
--- failures its look found on the communicator
-abbrev pub start_test : {P : Type 0} → (P → ℕ) → List (Event P) → Option (Slot P) → ℕ → ℕ → Held → Offer P → Reply P → Bool
-start_test pack own stood known r x offer Reply.Started =
-    only_test (gives_test pack x.comm x.next_agreement r offer known x.acked) own && stands_test pack offer known x.acked stood
-start_test pack own stood known r x offer (Reply.Refused refusal) = same_refusal refusal Refusal.Twice && ((length own == 0) && is_given stood)
-start_test pack own stood known r x offer _ = false
+-- whether the start of an agree or of a shrink is answered so, by the rank's own events, by what stands at its place, and by what is due
+abbrev pub start_test : {P : Type 0} → (P → ℕ) → List (Event P) → Option (Slot P) → ℕ → Held → Due P → Reply P → Bool
+start_test pack own stood r x due Reply.Started = only_test (gives_test pack x.comm x.next_agreement r due) own && stands_test pack due stood
+start_test pack own stood r x due (Reply.Refused refusal) = same_refusal refusal Refusal.Twice && ((length own == 0) && is_given stood)
+start_test pack own stood r x due _ = false
+
+-- the contribution that is due of a call which offers this: it knows the failures that the look found on the communicator
+abbrev pub due_of : {P : Type 0} → CallAt P → Held → Offer P → Due P
+due_of call x offer = record { offer = offer; known = length (filter (has x.group) call.look); acked = x.acked }
+
+-- whether a call that offers this is answered so
+abbrev pub offer_test : {P : Type 0} → (P → ℕ) → CallAt P → Held → Offer P → Reply P → Bool
+offer_test pack call x offer reply =
+    let r = call.caller.number in start_test pack call.own (call.seen.slots (x.comm, x.next_agreement, r)) r x (due_of call x offer) reply
 
 -- whether the start of a barrier is answered so, by whether the rank has arrived, and its own events
 abbrev pub barrier_start_test : {P : Type 0} → Bool → List (Event P) → ℕ → Held → Reply P → Bool
@@ -174,28 +184,32 @@ agree_test pack late decided made (Reply.Agreed value count raised) =
 agree_test pack late decided made (Reply.Refused refusal) = decided && (same_refusal refusal Refusal.Mismatch && clash_test made.body)
 agree_test pack late decided made _ = false
 
--- whether no room is left for what a shrink would make
-abbrev pub full_test : {P : Type 0} → Limits → Seen P → ℕ → ℕ → ℕ → Decision P → Bool
-full_test limits seen r c k made =
-    ids_test made.body && (not (has made.failed r) && ((length seen.spawns + 1 == limits.comms) && not (is_made_in seen c k)))
+-- whether no room is left for what a shrink would make of this round
+abbrev pub full_test : {P : Type 0} → CallAt P → ℕ → ℕ → Decision P → Bool
+full_test call c k made =
+    ids_test made.body
+    && (not (has made.failed call.caller.number) && ((length call.seen.spawns + 1 == call.limits.comms) && not (is_made_in call.seen c k)))
 
 -- whether a decided shrink is refused so
-abbrev pub unmade_test : {P : Type 0} → Limits → Seen P → ℕ → ℕ → ℕ → Decision P → Refusal → Bool
-unmade_test limits seen r c k made refusal =
+abbrev pub unmade_test : {P : Type 0} → CallAt P → ℕ → ℕ → Decision P → Refusal → Bool
+unmade_test call c k made refusal =
     (same_refusal refusal Refusal.NoContext && no_ids_test made.body)
-    || ((same_refusal refusal Refusal.NoRoom && full_test limits seen r c k made) || (same_refusal refusal Refusal.Mismatch && clash_test made.body))
+    || ((same_refusal refusal Refusal.NoRoom && full_test call c k made) || (same_refusal refusal Refusal.Mismatch && clash_test made.body))
 
--- whether a decided shrink made this communicator
-abbrev pub shrunk_test : {P : Type 0} → Seen P → ℕ → ℕ → ℕ → Decision P → ℕ → ℕ → ℕ → Bool
-shrunk_test seen r c k made j context size =
-    least_test made.body context && (not (has made.failed r) && (nat_lt 0 j && (made_test (slice_get seen.spawns (j - 1)) c k && (size == length (seen.members j)))))
+-- whether a decided shrink made the communicator that a reply names
+abbrev pub shrunk_test : {P : Type 0} → CallAt P → ℕ → ℕ → Decision P → Named → Bool
+shrunk_test call c k made named =
+    least_test made.body named.context
+    && (not (has made.failed call.caller.number) && (nat_lt 0 named.comm && (made_test (slice_get call.seen.spawns (named.comm - 1)) c k
+    && (named.size == length (call.seen.members named.comm)))))
 
--- whether a shrink's poll is answered so
-abbrev pub shrink_test : {P : Type 0} → Limits → Seen P → ℕ → ℕ → ℕ → Bool → Bool → Decision P → Reply P → Bool
-shrink_test limits seen r c k late decided made Reply.Pending = late
-shrink_test limits seen r c k late decided made (Reply.Shrunk j context size) = decided && shrunk_test seen r c k made j context size
-shrink_test limits seen r c k late decided made (Reply.Refused refusal) = decided && unmade_test limits seen r c k made refusal
-shrink_test limits seen r c k late decided made _ = false
+-- whether a shrink's poll is answered so, by whether the round is pending, whether it is decided, and its decision
+abbrev pub shrink_test : {P : Type 0} → CallAt P → ℕ → ℕ → Bool → Bool → Decision P → Reply P → Bool
+shrink_test call c k late decided made Reply.Pending = late
+shrink_test call c k late decided made (Reply.Shrunk j context size) =
+    decided && shrunk_test call c k made (record { comm = j; context = context; size = size })
+shrink_test call c k late decided made (Reply.Refused refusal) = decided && unmade_test call c k made refusal
+shrink_test call c k late decided made _ = false
 
 -- whether a barrier's poll is answered so: by whether its communicator is revoked, whether all have arrived, and whether all have whom the
 -- look found declared
@@ -206,59 +220,58 @@ barrier_test revoked all known (Reply.Refused refusal) =
     if revoked then same_refusal refusal Refusal.IsRevoked else (not all && (not known && same_refusal refusal Refusal.ProcFailed))
 barrier_test revoked all known _ = false
 
-module _ {P : Type 0} (meld : P → P → P) (pack : P → ℕ) (limits : Limits) (look : List ℕ) (seen : Seen P) where
+module _ {P : Type 0} (meld : P → P → P) (pack : P → ℕ) (call : CallAt P) where
   -- whether the poll of a request is answered so
-  abbrev pub polled_test : ℕ → Held → Option Request → Reply P → Bool
-  polled_test r x None reply = false
-  polled_test r x (Some (Request.Agree k)) reply =
-      agree_test pack (pending_test look seen x k) (is_decided_in seen x.comm k) (decision_in meld seen x.comm k) reply
-  polled_test r x (Some (Request.Shrink k)) reply =
-      shrink_test limits seen r x.comm k (pending_test look seen x k) (is_decided_in seen x.comm k) (decision_in meld seen x.comm k) reply
-  polled_test r x (Some (Request.Barrier k)) reply =
-      barrier_test (seen.revoked x.comm) (list_all (λ m. seen.arrived (x.comm, k, m)) x.group)
-      (list_all (λ m. seen.arrived (x.comm, k, m)) (filter (has x.group) look)) reply
+  abbrev pub polled_test : Held → Option Request → Reply P → Bool
+  polled_test x None reply = false
+  polled_test x (Some (Request.Agree k)) reply =
+      agree_test pack (pending_test call.look call.seen x k) (is_decided_in call.seen x.comm k) (decision_in meld call.seen x.comm k) reply
+  polled_test x (Some (Request.Shrink k)) reply =
+      shrink_test call x.comm k (pending_test call.look call.seen x k) (is_decided_in call.seen x.comm k) (decision_in meld call.seen x.comm k) reply
+  polled_test x (Some (Request.Barrier k)) reply =
+      barrier_test (call.seen.revoked x.comm) (list_all (λ m. call.seen.arrived (x.comm, k, m)) x.group)
+      (list_all (λ m. call.seen.arrived (x.comm, k, m)) (filter (has x.group) call.look)) reply
 
-module _ {P : Type 0} (meld : P → P → P) (pack : P → ℕ) (limits : Limits) (look : List ℕ) (seen : Seen P) (own : List (Event P)) where
-  -- whether a call that the record doesn't refuse is answered so, where the rank holds these
-  abbrev pub replied_test : ℕ → List Held → Held → Call P → Reply P → Bool
-  replied_test r held x (Call.Fail rank) reply = false
-  replied_test r held x (Call.GetFailed rank c) reply = same_ranks seen.failures look && group_test (length (failed_in seen c)) reply
-  replied_test r held x (Call.Ack rank c count) reply =
-      same_ranks seen.failures look && acked_test (max x.acked (min count (length (failed_in seen c)))) reply
-  replied_test r held x (Call.Agree rank c value) reply =
-      start_test pack own (seen.slots (x.comm, x.next_agreement, r)) (length (filter (has x.group) look)) r x (Offer.Flag value) reply
-  replied_test r held x (Call.Shrink rank c) reply =
-      start_test pack own (seen.slots (x.comm, x.next_agreement, r)) (length (filter (has x.group) look)) r x (Offer.Ctx (free_ids held)) reply
-  replied_test r held x (Call.Barrier rank c) reply = barrier_start_test (seen.arrived (x.comm, x.next_barrier, r)) own r x reply
-  replied_test r held x (Call.Poll rank c) reply = polled_test meld pack limits look seen r x x.request reply
-  replied_test r held x (Call.Revoke rank c) reply = revoke_test (seen.revoked c) own c reply
-  replied_test r held x (Call.IsRevoked rank c) reply = standing_test (seen.revoked c) reply
-  replied_test r held x (Call.Free rank c) reply = freed_test reply
+  -- whether a call that the record doesn't refuse is answered so
+  abbrev pub replied_test : Held → Call P → Reply P → Bool
+  replied_test x (Call.Fail rank) reply = false
+  replied_test x (Call.GetFailed rank c) reply = same_ranks call.seen.failures call.look && group_test (length (failed_in call.seen c)) reply
+  replied_test x (Call.Ack rank c count) reply =
+      same_ranks call.seen.failures call.look && acked_test (max x.acked (min count (length (failed_in call.seen c)))) reply
+  replied_test x (Call.Agree rank c value) reply = offer_test pack call x (Offer.Flag value) reply
+  replied_test x (Call.Shrink rank c) reply = offer_test pack call x (Offer.Ctx (free_ids call.caller.held)) reply
+  replied_test x (Call.Barrier rank c) reply =
+      barrier_start_test (call.seen.arrived (x.comm, x.next_barrier, call.caller.number)) call.own call.caller.number x reply
+  replied_test x (Call.Poll rank c) reply = polled_test x x.request reply
+  replied_test x (Call.Revoke rank c) reply = revoke_test (call.seen.revoked c) call.own c reply
+  replied_test x (Call.IsRevoked rank c) reply = standing_test (call.seen.revoked c) reply
+  replied_test x (Call.Free rank c) reply = freed_test reply
 
   -- the same, by what the rank holds and the refusal by its record
-  abbrev pub by_record_test : Record → Option Held → Call P → Reply P → Option Refusal → Bool
-  by_record_test old held asked reply (Some refusal) = refused_test refusal reply
-  by_record_test old (Some x) asked reply None = replied_test old.number old.held x asked reply
-  by_record_test old None asked reply None = false
+  abbrev pub by_record_test : Option Held → Call P → Reply P → Option Refusal → Bool
+  by_record_test held asked reply (Some refusal) = refused_test refusal reply
+  by_record_test (Some x) asked reply None = replied_test x asked reply
+  by_record_test None asked reply None = false
 
   -- whether a rank's call is answered so, after its look
-  abbrev pub looked_test : Record → Call P → Reply P → Bool
-  looked_test old asked reply =
-      self_failed_test (seen.declared old.number) own asked reply
-      || (not (has look old.number) && by_record_test old (held_at old (comm_of asked)) asked reply (refusal_of old asked))
+  abbrev pub looked_test : Call P → Reply P → Bool
+  looked_test asked reply =
+      self_failed_test (call.seen.declared call.caller.number) call.own asked reply
+      || (not (has call.look call.caller.number)
+      && by_record_test (held_at call.caller (comm_of asked)) asked reply (refusal_of call.caller asked))
 
 -- whether a rank's call is answered so, by its record
 abbrev pub rank_test : {P : Type 0} → (P → P → P) → (P → ℕ) → Traced P → Under P → ℕ → Reply P → Option Record → Bool
 rank_test meld pack now u point reply None = refused_test Refusal.NoSuchRank reply
 rank_test meld pack now u point reply (Some old) =
     if old.refused then refused_test Refusal.SelfFailed reply
-    else (is_some u.look && looked_test meld pack now.limits (found_by now u) (seen_of now.limits.ranks (take point now.history)) u.own old u.asked reply)
+    else (is_some u.look && looked_test meld pack (call_of now.limits (view_at now u point) old) u.asked reply)
 
 -- whether a caller's call is answered so
 abbrev pub call_test : {P : Type 0} → (P → P → P) → (P → ℕ) → Traced P → Caller → Under P → ℕ → Reply P → Bool
 call_test meld pack now Caller.Outside u point reply =
     fail_test now.limits ((seen_of now.limits.ranks (take point now.history)).declared (rank_of u.asked)) u.own (rank_of u.asked) reply
-call_test meld pack now (Caller.Rank r) u point reply = rank_test meld pack now u point reply (record_of now r)
+call_test meld pack now (Caller.Rank r) u point reply = rank_test meld pack now u point reply (record_in now r)
 
 -- the group that a reply lists, which is about communicator c
 abbrev pub listed_in : {P : Type 0} → Seen P → ℕ → Reply P → List ℕ
@@ -266,9 +279,9 @@ listed_in seen c (Reply.Shrunk j context size) = seen.members j
 listed_in seen c (Reply.FailedGroup count) = failed_in seen c
 listed_in seen c _ = []
 
--- whether a reply may come, by the call of its caller
-abbrev pub reply_test : {P : Type 0} → (P → P → P) → (P → ℕ) → Traced P → Caller → ℕ → List ℕ → Reply P → Option (Under P) → Bool
-reply_test meld pack now by point group reply None = false
-reply_test meld pack now by point group reply (Some u) =
+-- whether a line that tells of a reply, and lists this group, may come, by the call of its caller
+abbrev pub reply_test : {P : Type 0} → (P → P → P) → (P → ℕ) → Traced P → List ℕ → Line P → Option (Under P) → Bool
+reply_test meld pack now group (Line.Replied by point (Some reply)) (Some u) =
     nat_le u.begun point && (nat_le point (length now.history) && (call_test meld pack now by u point reply
     && same_ranks group (listed_in (seen_of now.limits.ranks (take point now.history)) (comm_of u.asked) reply)))
+reply_test meld pack now group line call = false

@@ -2,14 +2,15 @@
 use Rattle.std.specs.Prelude.{◌≡◌, ℕ, length}
 use Rattle.ulfm_trace_model.specs.Traces.{Traced}
 use Rattle.ulfm_judge.specs.declared.judge.Judge.{Judge}
-use Rattle.ulfm_judge.specs.{Kept.{AreCalls, traced_of}, Telling.{Tells}}
+use Rattle.ulfm_judge.specs.{Kept.{AreCalls, traced_of}, Telling.{TablesTell}}
 
 -- A judge stands for what lines said: its tables tell the history, the records are those that it keeps, and each caller has the call under way that
 -- it keeps at that caller's place.
-abbrev pub Stands : {P A : Type 0} {g : _} → Judge P A g → Traced P → Type 0
-Stands judge now =
-    Tells judge.limits.ranks judge.numbers now.history × AreCalls judge.calls.items now.calls × (now ≡ traced_of judge.limits now.history judge.records.items now.calls)
+abbrev pub JudgeStands : {P A : Type 0} {g : _} → Judge P A g → Traced P → Type 0
+JudgeStands judge now =
+    TablesTell judge.limits.ranks judge.numbers now.history × AreCalls judge.calls.items now.calls
+    × (now ≡ traced_of judge.limits now.history judge.records.items now.calls)
 
 -- how many places for calls a judge has
-abbrev pub places : {P A : Type 0} {g : _} → Judge P A g → ℕ
-places judge = length judge.calls.items
+abbrev pub call_places : {P A : Type 0} {g : _} → Judge P A g → ℕ
+call_places judge = length judge.calls.items

@@ -18,7 +18,7 @@ pub record TellsGroups {P : Type 0} (ranks : ℕ) (groups : List (List ℕ)) (h 
   pub each : (c : ℕ) → c ≤ length (spawns h) → group_at groups c ≡ members ranks h c
 
 -- the tables are those of a history in a world of so many ranks
-pub record Tells {P A : Type 0} {g : _} (ranks : ℕ) (numbers : Numbers P A g) (h : History P) : Type 0 where
+pub record TablesTell {P A : Type 0} {g : _} (ranks : ℕ) (numbers : Numbers P A g) (h : History P) : Type 0 where
   pub slots : TellsSlots numbers.slots h
   pub arrivals : TellsArrivals numbers.arrivals h
   pub revocations : TellsRevocations numbers.revocations h
@@ -37,18 +37,20 @@ seen_at numbers point = record {
   declared = λ r. before_then point (get nat_eq numbers.declared r);
   failures = take (count_by point numbers.failed_at.items) numbers.failures.items;
   spawns = take (count_by point numbers.spawned_at.items) numbers.spawns.items;
-  members = λ c. if nat_le c (length (take (count_by point numbers.spawned_at.items) numbers.spawns.items)) then group_at (map members_of numbers.groups.items) c else [];
+  members = λ c. if nat_le c (length (take (count_by point numbers.spawned_at.items) numbers.spawns.items)) then group_at (map members_of numbers.groups.items)
+      c else [];
 }
 
 -- what is kept goes on to a state that passes: there is a history that the tables tell, and what is said with it does
-abbrev pub Goes : {P A W : Type 0} {g : _} → Limits → Numbers P A g → List (RankRecord A) → List (OpenCall P A) → (Traced P → W → Type 0) → W → Type 0
-Goes {P} limits numbers records calls Taken why =
-    (h : History P) × (us : List (Under P)) × Tells limits.ranks numbers h × AreCalls calls us × Taken (traced_of limits h records us) why
+abbrev pub TellsSome : {P A W : Type 0} {g : _} → Limits → Numbers P A g → List (RankRecord A) → List (OpenCall P A) → (Traced P → W → Type 0) → W → Type 0
+TellsSome {P} limits numbers records calls Taken why =
+    (h : History P) × (us : List (Under P)) × TablesTell limits.ranks numbers h × AreCalls calls us × Taken (traced_of limits h records us) why
 
 -- an answer, if it comes, is what a test says of what lines said, for each history that the tables tell
 abbrev pub AnswersBy : {P A E : Type 0} {g : _} → Limits → Numbers P A g → List (RankRecord A) → Result Bool E → (Traced P → Bool) → Type 0
-AnswersBy {P} limits numbers records result test = (h : History P) → Tells limits.ranks numbers h → IfOk result (λ b. b ≡ test (traced_of limits h records []))
+AnswersBy {P} limits numbers records result test =
+    (h : History P) → TablesTell limits.ranks numbers h → IfOk result (λ b. b ≡ test (traced_of limits h records []))
 
 -- where the answer is yes, a request that the reply says has started has a round whose next number fits
-abbrev pub Leaves : {P A E : Type 0} → Limits → List (RankRecord A) → Caller → Under P → Reply P → Result Bool E → Type 0
-Leaves limits records by u reply result = MayOpen limits → IfOk result (λ b. IsTrue b → MayLeave (traced_of limits [] records []) by u reply)
+abbrev pub LeavesRound : {P A E : Type 0} → Limits → List (RankRecord A) → Caller → Under P → Reply P → Result Bool E → Type 0
+LeavesRound limits records by u reply result = MayOpen limits → IfOk result (λ b. IsTrue b → MayLeave (traced_of limits [] records []) by u reply)

@@ -7,7 +7,7 @@ use Rattle.ulfm_model.specs.declared.{call.Call.{Call}, call.Request.{Request}, 
 use Rattle.ulfm_model.specs.Answers.{comm_of, refusal_of}
 use Rattle.ulfm_model.specs.History.{has}
 use Rattle.ulfm_model.specs.Records.{Held, Record, held_at}
-use Rattle.ulfm_trace_model.specs.Traces.{Traced, Under, call_by, found_by, record_of}
+use Rattle.ulfm_trace_model.specs.Traces.{Traced, Under, call_by, found_by, record_in}
 use Rattle.ulfm_judge.specs.Seen.{Seen, decision_in, failed_in, is_decided_in, is_made_in}
 
 -- whether this number stands there
@@ -105,4 +105,4 @@ own_call_test now (Some u) (Some own) event = is_some u.look && own_test (found_
 -- whether an event is one that its caller may add
 abbrev pub own_by_test : {P : Type 0} → Traced P → Caller → Event P → Bool
 own_by_test now Caller.Outside event = true
-own_by_test now (Caller.Rank r) event = own_call_test now (call_by now (Caller.Rank r)) (record_of now r) event
+own_by_test now (Caller.Rank r) event = own_call_test now (call_by now (Caller.Rank r)) (record_in now r) event

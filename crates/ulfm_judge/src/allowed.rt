@@ -6,7 +6,7 @@ ghost use Rattle.ulfm_judge.specs.Telling.{seen_at};
 ghost use Rattle.ulfm_judge.specs.Tests.{at_test, follow_test, ids_test, place_test, spawn_test};
 
 use crate::groups::has_member;
-use crate::numbers::{Numbers, Place};
+use crate::numbers::{Numbers, RoundKey};
 use std::alloc::{AllocError, Allocator};
 use ulfm_history::decide::{Decided, decided_by};
 use ulfm_laws::meld::Meld;
@@ -30,7 +30,7 @@ fn is_place<P: Meld, A: Allocator + Copy + Drop>(
     limits: Limits,
     numbers: &Numbers<P, A>,
     point: u64,
-    place: Place,
+    place: RoundKey,
 ) -> bool
     ensures { result ≡ place_test limits (seen_at numbers.now point) (place.0) (place.1) (place.2) }
 {
@@ -44,7 +44,7 @@ fn may_settle<P: Meld, A: Allocator + Copy + Drop>(
     limits: Limits,
     numbers: &Numbers<P, A>,
     point: u64,
-    place: Place,
+    place: RoundKey,
     known: u16,
 ) -> bool
     ensures { let seen = seen_at numbers.now point in
@@ -73,7 +73,7 @@ fn may_mark<P: Meld, A: Allocator + Copy + Drop>(
     limits: Limits,
     numbers: &Numbers<P, A>,
     point: u64,
-    place: Place,
+    place: RoundKey,
     known: u16,
 ) -> bool
     requires { 0 < known }

@@ -3,9 +3,9 @@ ghost use Rattle.std.specs.Prelude.{◌≡◌, ◌&&◌, IfOk, filter, length, m
 ghost use Rattle.ulfm_model.specs.History.{has};
 ghost use Rattle.ulfm_model.specs.Answers.{comm_of, refusal_of};
 ghost use Rattle.ulfm_model.specs.Records.{held_at};
-ghost use Rattle.ulfm_record.specs.Kept.{record_of};
+ghost use Rattle.ulfm_judge.specs.CallsAt.{call_at};
 ghost use Rattle.ulfm_judge.specs.ReplyTests.{acked_test, barrier_start_test, by_record_test, group_test, listed_in, looked_test};
-ghost use Rattle.ulfm_judge.specs.ReplyTests.{replied_test, same_ranks, self_failed_test, start_test, starts_test};
+ghost use Rattle.ulfm_judge.specs.ReplyTests.{offer_test, replied_test, same_ranks, self_failed_test, starts_test};
 ghost use Rattle.ulfm_judge.specs.Seen.{failed_in};
 ghost use Rattle.ulfm_judge.specs.Telling.{seen_at};
 
@@ -21,12 +21,10 @@ use ulfm_laws::meld::{Meld, Packed};
 use ulfm_model::call::{Call, comm_of};
 use ulfm_model::contribution::Offer;
 use ulfm_model::event::Event;
-use ulfm_model::limits::Limits;
 use ulfm_model::refusal::Refusal;
 use ulfm_model::reply::Reply;
 use ulfm_record::held::{HeldComm, place_of, refusal_of};
 use ulfm_record::ids::free_ids;
-use ulfm_record::record::RankRecord;
 
 /// Whether a call starts a request.
 fn starts<P: Copy>(asked: &Call<P>) -> bool
@@ -119,70 +117,60 @@ fn is_ack_reply<P: Meld, A: Allocator + Copy + Drop>(
 /// Whether the start of an agree or of a shrink is answered so, by what the tables say of its round.
 fn is_offer_reply<P: Packed, A: Allocator + Copy + Drop>(
     view: &View<P, A>,
-    events: &[Event<P>],
-    rank: u16,
     x: &HeldComm<A>,
     offer: Offer<P>,
     reply: &Reply<P>,
 ) -> bool
-    ensures { let stood = (seen_at view.now.numbers.now view.now.point).slots (x.now.comm, x.now.next_agreement, rank) in
-        result ≡ start_test P.pack events.now stood (length (filter (has x.now.group) view.now.look.now)) rank x.now offer reply.now }
+    ensures { result ≡ offer_test P.pack (call_at view.now) x.now offer reply.now }
 {
+    let rank = view.caller.number;
     let stood = view
         .numbers
         .slot_at((x.comm, x.next_agreement, rank), view.point);
     let known = count_found(view.numbers, view.look, x.comm, &x.group);
-    is_start_reply(events, stood, known, rank, x, offer, reply)
+    is_start_reply(view.own, stood, known, rank, x, offer, reply)
 }
 
 /// Whether the start of a barrier is answered so, by what the tables say of its round.
 fn is_arrival_reply<P: Meld, A: Allocator + Copy + Drop>(
     view: &View<P, A>,
-    events: &[Event<P>],
-    rank: u16,
     x: &HeldComm<A>,
     reply: &Reply<P>,
 ) -> bool
-    ensures { let arrived = (seen_at view.now.numbers.now view.now.point).arrived (x.now.comm, x.now.next_barrier, rank) in
-        result ≡ barrier_start_test arrived events.now rank x.now reply.now }
+    ensures { let call = call_at view.now in let arrived = call.seen.arrived (x.now.comm, x.now.next_barrier, call.caller.number) in
+        result ≡ barrier_start_test arrived call.own call.caller.number x.now reply.now }
 {
+    let rank = view.caller.number;
     let arrived = view
         .numbers
         .has_arrived_at((x.comm, x.next_barrier, rank), view.point);
-    is_barrier_start_reply(arrived, events, rank, x, reply)
+    is_barrier_start_reply(arrived, view.own, rank, x, reply)
 }
 
 /// Whether a call that the record doesn't refuse is answered so.
 fn is_reply_on<P: Packed, A: Allocator + Copy + Drop>(
     alloc: A,
-    limits: Limits,
     view: &View<P, A>,
-    events: &[Event<P>],
-    rank: u16,
-    held: &[HeldComm<A>],
     x: &HeldComm<A>,
     asked: &Call<P>,
     reply: &Reply<P>,
 ) -> Result<bool, AllocError>
-    ensures { let seen = seen_at view.now.numbers.now view.now.point in
-        IfOk result (λ b. b ≡ replied_test P.meld P.pack limits view.now.look.now seen events.now rank held.now x.now asked.now reply.now) }
+    ensures { IfOk result (λ b. b ≡ replied_test P.meld P.pack (call_at view.now) x.now asked.now reply.now) }
 {
     match *asked {
         Call::Fail { .. } => Ok(false),
         Call::GetFailed { comm, .. } => Ok(is_failed_reply(view, comm, reply)),
         Call::Ack { comm, count, .. } => Ok(is_ack_reply(view, x, comm, count, reply)),
-        Call::Agree { value, .. } => {
-            Ok(is_offer_reply(view, events, rank, x, Offer::Flag(value), reply))
-        }
+        Call::Agree { value, .. } => Ok(is_offer_reply(view, x, Offer::Flag(value), reply)),
         Call::Shrink { .. } => {
-            let free = free_ids(held);
-            Ok(is_offer_reply(view, events, rank, x, Offer::Ctx(free), reply))
+            let free = free_ids(&view.caller.held);
+            Ok(is_offer_reply(view, x, Offer::Ctx(free), reply))
         }
-        Call::Barrier { .. } => Ok(is_arrival_reply(view, events, rank, x, reply)),
-        Call::Poll { .. } => { is_poll_reply(alloc, limits, view, rank, x, x.request, reply) },
+        Call::Barrier { .. } => Ok(is_arrival_reply(view, x, reply)),
+        Call::Poll { .. } => { is_poll_reply(alloc, view, x, x.request, reply) },
         Call::Revoke { comm, .. } => {
             let revoked = view.numbers.is_revoked_at(comm, view.point);
-            Ok(is_revoke_reply(revoked, events, comm, reply))
+            Ok(is_revoke_reply(revoked, view.own, comm, reply))
         }
         Call::IsRevoked { comm, .. } => {
             Ok(is_standing_reply(view.numbers.is_revoked_at(comm, view.point), reply))
@@ -194,47 +182,40 @@ fn is_reply_on<P: Packed, A: Allocator + Copy + Drop>(
 /// Whether a rank's call is answered so by what its record holds and refuses.
 fn is_reply_by_record<P: Packed, A: Allocator + Copy + Drop>(
     alloc: A,
-    limits: Limits,
     view: &View<P, A>,
-    events: &[Event<P>],
-    own: &RankRecord<A>,
     asked: &Call<P>,
     reply: &Reply<P>,
 ) -> Result<bool, AllocError>
-    ensures { let old = record_of limits own.now in let seen = seen_at view.now.numbers.now view.now.point in
-        let test = by_record_test P.meld P.pack limits view.now.look.now seen events.now old (held_at old (comm_of asked.now)) asked.now reply.now in
-        IfOk result (λ b. b ≡ test (refusal_of old asked.now)) }
+    ensures { let call = call_at view.now in
+        let test = by_record_test P.meld P.pack call (held_at call.caller (comm_of asked.now)) asked.now reply.now in
+        IfOk result (λ b. b ≡ test (refusal_of call.caller asked.now)) }
 {
-    if let Some(refusal) = refusal_of(limits, own, asked) {
+    let own = view.caller;
+    if let Some(refusal) = refusal_of(view.limits, own, asked) {
         return Ok(is_refused(reply, refusal));
     }
     let Some(i) = place_of(&own.held, comm_of(asked)) else {
         return Ok(false);
     };
     let x = &own.held[i];
-    is_reply_on(
-        alloc, limits, view, events, own.number, &own.held, x, asked, reply,
-    )
+    is_reply_on(alloc, view, x, asked, reply)
 }
 
 /// Whether a rank's call is answered so, after its look.
 pub(crate) fn is_answer<P: Packed, A: Allocator + Copy + Drop>(
     alloc: A,
-    limits: Limits,
     view: &View<P, A>,
-    events: &[Event<P>],
-    own: &RankRecord<A>,
     asked: &Call<P>,
     reply: &Reply<P>,
 ) -> Result<bool, AllocError>
-    ensures { let seen = seen_at view.now.numbers.now view.now.point in
-        IfOk result (λ b. b ≡ looked_test P.meld P.pack limits view.now.look.now seen events.now (record_of limits own.now) asked.now reply.now) }
+    ensures { IfOk result (λ b. b ≡ looked_test P.meld P.pack (call_at view.now) asked.now reply.now) }
 {
-    let by_record = is_reply_by_record(alloc, limits, view, events, own, asked, reply)?;
-    let declared = view.numbers.is_declared_at(own.number, view.point);
+    let by_record = is_reply_by_record(alloc, view, asked, reply)?;
+    let rank = view.caller.number;
+    let declared = view.numbers.is_declared_at(rank, view.point);
     Ok(
-        is_self_failed(declared, events, asked, reply)
-            || (!has_rank(view.look, own.number) && by_record),
+        is_self_failed(declared, view.own, asked, reply)
+            || (!has_rank(view.look, rank) && by_record),
     )
 }
 

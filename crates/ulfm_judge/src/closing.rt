@@ -2,7 +2,7 @@
 ghost use Rattle.std.specs.Prelude.{◌≡◌, ◌∷◌, ◌++◌, [], IfOk, List, OnOk, Some, filter, if◌then◌else◌, is_some, map, not, take, unwrap_or};
 ghost use Rattle.ulfm_judge.specs.Kept.{AreCalls, GoesWith, MayLeave, traced_of, under_of};
 ghost use Rattle.ulfm_judge.specs.ReplyTests.{call_test, rank_test, reply_test};
-ghost use Rattle.ulfm_judge.specs.Telling.{AnswersBy, Leaves, Tells};
+ghost use Rattle.ulfm_judge.specs.Telling.{AnswersBy, LeavesRound, TablesTell};
 ghost use Rattle.ulfm_model.specs.Answers.{closed, comm_of, left_by, traits_of};
 ghost use Rattle.ulfm_model.specs.History.{History, first_ranks};
 ghost use Rattle.ulfm_model.specs.Records.{Held, Record, held_at, new_held};
@@ -10,7 +10,7 @@ ghost use Rattle.ulfm_model.specs.Words.{MayOpen};
 ghost use Rattle.ulfm_model.specs.declared.event.Caller.{Caller};
 ghost use Rattle.ulfm_model.specs.declared.reply.Reply.{Reply};
 ghost use Rattle.ulfm_record.specs.Kept.{FitsNext, record_of};
-ghost use Rattle.ulfm_trace_model.specs.Traces.{Takes, Under, caller_of, record_of as record_at, records_after, same_caller};
+ghost use Rattle.ulfm_trace_model.specs.Traces.{Takes, Under, caller_of, record_in, records_after, same_caller};
 ghost use Rattle.ulfm_trace_model.specs.declared.line.Line.{Line};
 
 use crate::answers::{is_answer, lists};
@@ -43,8 +43,8 @@ fn answers_rank<P: Packed, A: Allocator + Copy + Drop>(
     reply: &Reply<P>,
 ) -> Result<bool, AllocError>
     requires { map (λ own. own.number) records.now ≡ first_ranks limits.ranks }
-    ensures told { AnswersBy limits numbers.now records.now result (λ now. rank_test P.meld P.pack now (under_of u.now) point reply.now (record_at now rank)) }
-    ensures fits { Leaves limits records.now (Caller.Rank rank) (under_of u.now) reply.now result }
+    ensures told { AnswersBy limits numbers.now records.now result (λ now. rank_test P.meld P.pack now (under_of u.now) point reply.now (record_in now rank)) }
+    ensures fits { LeavesRound limits records.now (Caller.Rank rank) (under_of u.now) reply.now result }
 {
     let Some(j) = place_of_rank(limits.ranks, records, rank) else {
         return Ok(is_refused(reply, Refusal::NoSuchRank));
@@ -58,11 +58,14 @@ fn answers_rank<P: Packed, A: Allocator + Copy + Drop>(
     };
     let look = first_of(&numbers.failures, count);
     let view = View {
+        limits,
+        caller: own,
         look,
         numbers,
         point,
+        own: &u.own,
     };
-    is_answer(alloc, limits, &view, &u.own, own, &u.asked, reply)
+    is_answer(alloc, &view, &u.asked, reply)
 }
 
 /// Whether a caller's call is answered so, at a point.
@@ -78,7 +81,7 @@ fn answers_call<P: Packed, A: Allocator + Copy + Drop>(
 ) -> Result<bool, AllocError>
     requires { map (λ own. own.number) records.now ≡ first_ranks limits.ranks }
     ensures told { AnswersBy limits numbers.now records.now result (λ now. call_test P.meld P.pack now by (under_of u.now) point reply.now) }
-    ensures fits { Leaves limits records.now by (under_of u.now) reply.now result }
+    ensures fits { LeavesRound limits records.now by (under_of u.now) reply.now result }
 {
     match by {
         Caller::Outside => {
@@ -105,8 +108,9 @@ fn may_reply<P: Packed, A: Allocator + Copy + Drop>(
     reply: &Reply<P>,
 ) -> Result<bool, AllocError>
     requires { map (λ own. own.number) records.now ≡ first_ranks limits.ranks }
-    ensures told { AnswersBy limits numbers.now records.now result (λ now. reply_test P.meld P.pack now by point group.now reply.now (Some (under_of u.now))) }
-    ensures fits { Leaves limits records.now by (under_of u.now) reply.now result }
+    ensures told { let line = Line.Replied by point (Some reply.now) in
+        AnswersBy limits numbers.now records.now result (λ now. reply_test P.meld P.pack now group.now line (Some (under_of u.now))) }
+    ensures fits { LeavesRound limits records.now by (under_of u.now) reply.now result }
 {
     if point < u.begun {
         return Ok(false);
@@ -176,7 +180,7 @@ fn leave<P: Meld, A: Allocator + Copy + Drop>(
 ) -> Result<(), AllocError>
     requires { (x : Held) → reply ≡ Reply.Started → held_at (record_of limits own.old) (comm_of asked.now) ≡ Some x → FitsNext ((traits_of asked.now).starts x) }
     ensures number { own.new.number ≡ own.old.number }
-    ensures left { (h : History P) → Tells limits.ranks numbers.now h → let now : Record = record (record_of limits own.old) { seen = seen.items } in
+    ensures left { (h : History P) → TablesTell limits.ranks numbers.now h → let now : Record = record (record_of limits own.old) { seen = seen.items } in
         OnOk result (record_of limits own.new ≡ left_by limits.ranks (take point h) now asked.now reply) }
 {
     match reply {
@@ -206,7 +210,7 @@ fn settle_call<P: Meld, A: Allocator + Copy + Drop>(
     requires numbers { map (λ own. own.number) records.old ≡ first_ranks limits.ranks }
     requires fits { MayLeave (traced_of limits [] records.old []) by (under_of u.now) reply }
     ensures numbers { map (λ own. own.number) records.new ≡ map (λ own. own.number) records.old }
-    ensures left { (h : History P) → Tells limits.ranks numbers.now h → let now = traced_of limits h records.old [] in
+    ensures left { (h : History P) → TablesTell limits.ranks numbers.now h → let now = traced_of limits h records.old [] in
         OnOk result (map (record_of limits) records.new ≡ records_after now by (under_of u.now) point reply) }
 {
     let Caller::Rank(rank) = by else {
@@ -245,7 +249,7 @@ pub(crate) fn take_reply<P: Packed, A: Allocator + Copy + Drop>(
     requires may { MayOpen limits }
     requires numbers { map (λ own. own.number) records.old ≡ first_ranks limits.ranks }
     ensures numbers { map (λ own. own.number) records.new ≡ map (λ own. own.number) records.old }
-    ensures taken { (h : History P) (us : List (Under P)) → Tells limits.ranks numbers.now h → AreCalls calls.old us
+    ensures taken { (h : History P) (us : List (Under P)) → TablesTell limits.ranks numbers.now h → AreCalls calls.old us
         → let old = traced_of limits h records.old us in let line = Line.Replied by point (Some reply) in
         IfOk result (GoesWith calls.new (λ next. Takes P.meld old group.now line (traced_of limits h records.new next))) }
 {

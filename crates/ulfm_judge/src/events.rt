@@ -3,7 +3,7 @@ ghost use Rattle.std.specs.Prelude.{◌≡◌, ◌==◌, false, IfOk, List, OnOk
 ghost use Rattle.std.specs.Option.{option_map_or};
 ghost use Rattle.ulfm_model.specs.History.{History, failures, first_ranks, says};
 ghost use Rattle.ulfm_judge.specs.Kept.{AreCalls, traced_of, under_of};
-ghost use Rattle.ulfm_judge.specs.Telling.{Goes, Tells};
+ghost use Rattle.ulfm_judge.specs.Telling.{TellsSome, TablesTell};
 ghost use Rattle.ulfm_judge.specs.Tests.{own_by_test};
 ghost use Rattle.ulfm_trace_model.specs.Traces.{Takes, Under, change_by, is_owned, with_event};
 ghost use Rattle.ulfm_trace_model.specs.declared.line.Line.{Line};
@@ -100,9 +100,9 @@ pub(crate) fn happen<P: Meld, A: Allocator + Copy + Drop>(
     event: Event<P>,
 ) -> Result<Option<Why>, AllocError>
     requires { map (λ own. own.number) records.now ≡ first_ranks limits.ranks }
-    ensures { (h : History P) (us : List (Under P)) (group : List ℕ) → Tells limits.ranks numbers.old h → AreCalls calls.old us
+    ensures { (h : History P) (us : List (Under P)) (group : List ℕ) → TablesTell limits.ranks numbers.old h → AreCalls calls.old us
         → let old = traced_of limits h records.now us in
-        IfOk result (Goes limits numbers.new records.now calls.new (Takes P.meld old group (Line.Happened by (Some event)))) }
+        IfOk result (TellsSome limits numbers.new records.now calls.new (Takes P.meld old group (Line.Happened by (Some event)))) }
 {
     if !may_follow(alloc, limits, numbers, numbers.count, &event)? {
         return Ok(Some(Why::Event));

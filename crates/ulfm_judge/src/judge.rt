@@ -1,7 +1,7 @@
 //! The judge of traces.
 ghost use Rattle.std.specs.Prelude.{◌≡◌, ◌≤◌, IfOk, List, ℕ, length, map, max};
 ghost use Rattle.ulfm_judge.specs.Kept.{AreCalls, GoesWith, needed_by, traced_of};
-ghost use Rattle.ulfm_judge.specs.Telling.{Goes, Tells};
+ghost use Rattle.ulfm_judge.specs.Telling.{TellsSome, TablesTell};
 ghost use Rattle.ulfm_model.specs.History.{History, first_ranks};
 ghost use Rattle.ulfm_model.specs.Words.{MayOpen};
 ghost use Rattle.ulfm_trace_model.specs.Traces.{Takes, Traced, Under, nothing};
@@ -45,9 +45,9 @@ fn happen_told<P: Packed, A: Allocator + Copy + Drop>(
     event: Option<Event<P>>,
 ) -> Result<Option<Why>, AllocError>
     requires { map (λ own. own.number) records.now ≡ first_ranks limits.ranks }
-    ensures { (h : History P) (us : List (Under P)) (group : List ℕ) → Tells limits.ranks numbers.old h → AreCalls calls.old us
+    ensures { (h : History P) (us : List (Under P)) (group : List ℕ) → TablesTell limits.ranks numbers.old h → AreCalls calls.old us
         → let old = traced_of limits h records.now us in
-        IfOk result (Goes limits numbers.new records.now calls.new (Takes P.meld old group (Line.Happened by event))) }
+        IfOk result (TellsSome limits numbers.new records.now calls.new (Takes P.meld old group (Line.Happened by event))) }
 {
     match event {
         Some(event) => happen(alloc, limits, numbers, records, calls, by, event),
@@ -70,7 +70,7 @@ fn reply_told<P: Packed, A: Allocator + Copy + Drop>(
     requires may { MayOpen limits }
     requires numbers { map (λ own. own.number) records.old ≡ first_ranks limits.ranks }
     ensures numbers { map (λ own. own.number) records.new ≡ map (λ own. own.number) records.old }
-    ensures taken { (h : History P) (us : List (Under P)) → Tells limits.ranks numbers.now h → AreCalls calls.old us
+    ensures taken { (h : History P) (us : List (Under P)) → TablesTell limits.ranks numbers.now h → AreCalls calls.old us
         → let old = traced_of limits h records.old us in
         IfOk result (GoesWith calls.new (λ next. Takes P.meld old group.now (Line.Replied by point reply) (traced_of limits h records.new next))) }
 {
@@ -101,9 +101,9 @@ fn take_line<P: Packed, A: Allocator + Copy + Drop>(
     requires numbers { map (λ own. own.number) records.old ≡ first_ranks limits.ranks }
     ensures numbers { map (λ own. own.number) records.new ≡ map (λ own. own.number) records.old }
     ensures few { length calls.new.items ≤ max (length calls.old.items) (needed_by line.now) }
-    ensures taken { (h : History P) (us : List (Under P)) → Tells limits.ranks numbers.old h → AreCalls calls.old.items us
+    ensures taken { (h : History P) (us : List (Under P)) → TablesTell limits.ranks numbers.old h → AreCalls calls.old.items us
         → let old = traced_of limits h records.old us in
-        IfOk result (Goes limits numbers.new records.new calls.new.items (Takes P.meld old group.now line.now)) }
+        IfOk result (TellsSome limits numbers.new records.new calls.new.items (Takes P.meld old group.now line.now)) }
 {
     match *line {
         Line::Called(asked) => begin(alloc, numbers.count, calls, asked),
@@ -122,13 +122,13 @@ fn take_line<P: Packed, A: Allocator + Copy + Drop>(
 }
 
 impl<P: Packed, A: Allocator + Copy + Drop> Judge<P, A> {
-    ghost use Rattle.ulfm_judge.specs.Standing.{Stands, places};
+    ghost use Rattle.ulfm_judge.specs.Standing.{JudgeStands, call_places};
 
     /// A judge of a trace behind a header with these limits: nothing was said yet.
     pub fn open(alloc: A, limits: Limits) -> Result<Judge<P, A>, AllocError>
         requires { MayOpen limits }
-        ensures stands { IfOk result (λ judge. Stands judge (nothing limits)) }
-        ensures none { IfOk result (λ judge. places judge ≡ 0) }
+        ensures stands { IfOk result (λ judge. JudgeStands judge (nothing limits)) }
+        ensures none { IfOk result (λ judge. call_places judge ≡ 0) }
     {
         let records = new_records(alloc, limits)?;
         let numbers = Numbers::new(alloc, limits.ranks)?;
@@ -145,9 +145,9 @@ impl<P: Packed, A: Allocator + Copy + Drop> Judge<P, A> {
     /// or nothing where it may. A line that may not come changes nothing. After an error, which is want of memory, part of the line
     /// may be taken in: such a judge is to be used no more.
     pub fn take(&mut self, line: &Line<P>, group: &[u16]) -> Result<Option<Why>, AllocError>
-        ensures few { places self.new ≤ max (places self.old) (needed_by line.now) }
-        ensures taken { (now : Traced P) → Stands self.old now
-            → IfOk result (λ why. (next : Traced P) × Takes P.meld now group.now line.now next why × Stands self.new next) }
+        ensures few { call_places self.new ≤ max (call_places self.old) (needed_by line.now) }
+        ensures taken { (now : Traced P) → JudgeStands self.old now
+            → IfOk result (λ why. (next : Traced P) × Takes P.meld now group.now line.now next why × JudgeStands self.new next) }
     {
         take_line(
             self.alloc,

@@ -27,7 +27,7 @@ use ulfm_model::contribution::Slot;
 use ulfm_model::event::{Entry, Event};
 
 /// A place in a round: a communicator, a round and a rank.
-pub type Place = (u16, u16, u16);
+pub type RoundKey = (u16, u16, u16);
 
 /// A hash table over an allocator.
 pub type Table<K, V, A> = HashMap<K, V, BuildHasherDefault<FoldHasher>, A>;
@@ -36,9 +36,9 @@ pub type Table<K, V, A> = HashMap<K, V, BuildHasherDefault<FoldHasher>, A>;
 #[derive(Drop)]
 pub struct Numbers<P: Meld, A: Allocator> {
     /// By place, the event that settled it, and what it is settled by.
-    pub slots: Table<Place, (u64, Slot<P>), A>,
+    pub slots: Table<RoundKey, (u64, Slot<P>), A>,
     /// By place, the arrival of its rank.
-    pub arrivals: Table<Place, u64, A>,
+    pub arrivals: Table<RoundKey, u64, A>,
     /// By communicator, its revocation.
     pub revocations: Table<u16, u64, A>,
     /// By rank, its declaration.
@@ -54,9 +54,9 @@ pub struct Numbers<P: Meld, A: Allocator> {
     /// The group of each communicator, the world's first.
     pub groups: Vec<Group<A>, A>,
     /// By communicator and round, with rank 0, what those rounds decided that have.
-    pub rounds: Table<Place, Done<P, A>, A>,
+    pub rounds: Table<RoundKey, Done<P, A>, A>,
     /// By communicator and round, with rank 0, where the search for a member that isn't settled begins, and who was settled last.
-    pub hints: Table<Place, (usize, u16), A>,
+    pub hints: Table<RoundKey, (usize, u16), A>,
     /// How many events there are.
     pub count: u64,
     ghost rounds_done: { AreDone P.meld rounds slots failures.items (map members_of groups.items) },
@@ -88,7 +88,7 @@ fn was_by(number: Option<u64>, point: u64) -> bool
 }
 
 /// What an event settles, and where.
-fn settled_by<P: Copy>(entry: &Entry<P>) -> Option<(Place, Slot<P>)>
+fn settled_by<P: Copy>(entry: &Entry<P>) -> Option<(RoundKey, Slot<P>)>
     ensures { result ≡ (says entry.now.event).settles }
 {
     match entry.event {
@@ -109,7 +109,7 @@ fn settled_by<P: Copy>(entry: &Entry<P>) -> Option<(Place, Slot<P>)>
 }
 
 /// Who arrives at an event, and where.
-fn arrival_by<P: Copy>(entry: &Entry<P>) -> Option<Place>
+fn arrival_by<P: Copy>(entry: &Entry<P>) -> Option<RoundKey>
     ensures { result ≡ (says entry.now.event).arrives }
 {
     match entry.event {
@@ -140,7 +140,7 @@ fn declared_by<P: Copy>(entry: &Entry<P>) -> Option<u16>
 
 /// Notes what one more event settles, with its number.
 fn note_slot<P: Copy, A: Allocator + Copy>(
-    slots: &mut Table<Place, (u64, Slot<P>), A>,
+    slots: &mut Table<RoundKey, (u64, Slot<P>), A>,
     number: u64,
     entry: &Entry<P>,
 ) -> Result<(), AllocError>
@@ -258,8 +258,8 @@ fn note_group<A: Allocator + Copy + Drop>(
 /// Notes one more event in each table, and the members of the communicator that it makes.
 fn note_all<P: Copy, A: Allocator + Copy + Drop>(
     alloc: A,
-    slots: &mut Table<Place, (u64, Slot<P>), A>,
-    arrivals: &mut Table<Place, u64, A>,
+    slots: &mut Table<RoundKey, (u64, Slot<P>), A>,
+    arrivals: &mut Table<RoundKey, u64, A>,
     revocations: &mut Table<u16, u64, A>,
     declared: &mut Table<u16, u64, A>,
     failures: &mut Vec<u16, A>,
@@ -362,11 +362,11 @@ pub(crate) fn among<A: Allocator + Copy>(
 }
 
 impl<P: Meld, A: Allocator + Copy + Drop> Numbers<P, A> {
-    ghost use Rattle.ulfm_judge.specs.Telling.{Tells, seen_at};
+    ghost use Rattle.ulfm_judge.specs.Telling.{TablesTell, seen_at};
 
     /// The tables of an empty history, in a world of so many ranks.
     pub(crate) fn new(alloc: A, ranks: u16) -> Result<Numbers<P, A>, AllocError>
-        ensures { IfOk result (λ numbers. Tells ranks numbers []) }
+        ensures { IfOk result (λ numbers. TablesTell ranks numbers []) }
     {
         let world = first_ranks(alloc, ranks)?;
         let mut groups = Vec::new(alloc);
@@ -389,7 +389,7 @@ impl<P: Meld, A: Allocator + Copy + Drop> Numbers<P, A> {
 
     /// Notes one more event. Memory may be refused; so it is behind 2^64 - 1 events, for which there would be no room anyway.
     pub(crate) fn note(&mut self, alloc: A, entry: &Entry<P>) -> Result<(), AllocError>
-        ensures { (ranks : ℕ) (h : History P) → Tells ranks self.old h → OnOk result (Tells ranks self.new (h ++ entry.now ∷ [])) }
+        ensures { (ranks : ℕ) (h : History P) → TablesTell ranks self.old h → OnOk result (TablesTell ranks self.new (h ++ entry.now ∷ [])) }
     {
         if self.count == u64::MAX {
             return Err(AllocError);
@@ -428,7 +428,7 @@ impl<P: Meld, A: Allocator + Copy + Drop> Numbers<P, A> {
 
     /// Notes who was settled last in a round, if an event settles somebody, and what the round decides, if it does now.
     fn note_settled(&mut self, alloc: A, entry: &Entry<P>) -> Result<(), AllocError>
-        ensures { (ranks : ℕ) (h : History P) → Tells ranks self.old h → Tells ranks self.new h }
+        ensures { (ranks : ℕ) (h : History P) → TablesTell ranks self.old h → TablesTell ranks self.new h }
     {
         let Some(((comm, round, rank), _)) = settled_by(entry) else {
             return Ok(());
@@ -459,7 +459,7 @@ impl<P: Meld, A: Allocator + Copy + Drop> Numbers<P, A> {
 
     /// Notes what a round decides, if it does now.
     fn note_decided(&mut self, alloc: A, comm: u16, round: u16) -> Result<(), AllocError>
-        ensures { (ranks : ℕ) (h : History P) → Tells ranks self.old h → Tells ranks self.new h }
+        ensures { (ranks : ℕ) (h : History P) → TablesTell ranks self.old h → TablesTell ranks self.new h }
     {
         if let Some(done) = self.done_now(alloc, comm, round)? {
             self.rounds.insert((comm, round, 0), done)?;
@@ -560,14 +560,14 @@ impl<P: Meld, A: Allocator + Copy + Drop> Numbers<P, A> {
     }
 
     /// What settled a place at a point.
-    pub(crate) fn slot_at(&self, place: Place, point: u64) -> Option<Slot<P>>
+    pub(crate) fn slot_at(&self, place: RoundKey, point: u64) -> Option<Slot<P>>
         ensures { result ≡ (seen_at self.now point).slots place }
     {
         given_by(self.slots.get(&place).copied(), point)
     }
 
     /// Whether a rank had arrived at a place of a barrier round at a point.
-    pub(crate) fn has_arrived_at(&self, place: Place, point: u64) -> bool
+    pub(crate) fn has_arrived_at(&self, place: RoundKey, point: u64) -> bool
         ensures { result ≡ (seen_at self.now point).arrived place }
     {
         was_by(self.arrivals.get(&place).copied(), point)

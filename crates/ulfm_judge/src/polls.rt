@@ -3,6 +3,7 @@ ghost use Rattle.std.specs.Prelude.{◌≡◌, ◌<◌, ◌+◌, ◌-◌, ◌==�
 ghost use Rattle.std.specs.{List.{list_all}, Option.{option_map_or}};
 ghost use Rattle.ulfm_history.specs.Walked.{decision_of};
 ghost use Rattle.ulfm_model.specs.History.{has};
+ghost use Rattle.ulfm_judge.specs.CallsAt.{call_at};
 ghost use Rattle.ulfm_judge.specs.ReplyTests.{agree_test, barrier_test, clash_test, flag_test, full_test, late_test, least_test, made_test, no_ids_test};
 ghost use Rattle.ulfm_judge.specs.ReplyTests.{pending_said, pending_test, polled_test, shrink_test, shrunk_test, unmade_test};
 ghost use Rattle.ulfm_judge.specs.Seen.{decision_in, is_decided_in};
@@ -10,7 +11,7 @@ ghost use Rattle.ulfm_judge.specs.Telling.{seen_at};
 
 use crate::allowed::{decision, has_ids, is_decided, is_made};
 use crate::groups::has_member;
-use crate::numbers::{Numbers, Place, among};
+use crate::numbers::{Numbers, among};
 use crate::replies::{same_answer, same_refusal};
 use std::alloc::{AllocError, Allocator};
 use ulfm_history::decide::Decided;
@@ -18,18 +19,24 @@ use ulfm_history::reads::has_rank;
 use ulfm_laws::meld::{Meld, Packed};
 use ulfm_laws::summary::Body;
 use ulfm_model::call::Request;
+use ulfm_model::event::Event;
 use ulfm_model::limits::Limits;
 use ulfm_model::refusal::Refusal;
 use ulfm_model::reply::Reply;
 use ulfm_record::held::HeldComm;
 use ulfm_record::ids::lowest_id;
+use ulfm_record::record::RankRecord;
 
-/// What a reply is judged by: whom its call's look found declared, and the tables at a point.
+/// What a reply to a rank's call is judged by: the limits of the world, the record of the rank, whom the call's look found
+/// declared, the tables at a point, and the call's own events.
 #[derive(Drop)]
 pub(crate) struct View<'a, P: Meld, A: Allocator> {
+    pub(crate) limits: Limits,
+    pub(crate) caller: &'a RankRecord<A>,
     pub(crate) look: &'a [u16],
     pub(crate) numbers: &'a Numbers<P, A>,
     pub(crate) point: u64,
+    pub(crate) own: &'a [Event<P>],
 }
 
 /// Whether a rank that the look didn't find declared is unsettled.
@@ -173,20 +180,19 @@ fn is_agree_reply<P: Packed, A: Allocator>(
     }
 }
 
-/// Whether no room is left for what a shrink would make.
+/// Whether no room is left for what a shrink would make of this round.
 fn is_full<P: Packed, A: Allocator + Copy + Drop>(
-    limits: Limits,
-    numbers: &Numbers<P, A>,
-    point: u64,
-    place: Place,
+    view: &View<P, A>,
+    comm: u16,
+    round: u16,
     made: &Decided<P, A>,
 ) -> bool
-    ensures { result ≡ full_test limits (seen_at numbers.now point) (place.2) (place.0) (place.1) (decision_of made.now) }
+    ensures { result ≡ full_test (call_at view.now) comm round (decision_of made.now) }
 {
-    let (comm, round, rank) = place;
     has_ids(&made.body)
-        && (!has_rank(&made.failed, rank)
-            && (is_last(limits, numbers, point) && !is_made(numbers, point, comm, round)))
+        && (!has_rank(&made.failed, view.caller.number)
+            && (is_last(view.limits, view.numbers, view.point)
+                && !is_made(view.numbers, view.point, comm, round)))
 }
 
 /// Whether as many communicators exist as there is room for.
@@ -202,51 +208,47 @@ fn is_last<P: Meld, A: Allocator + Copy + Drop>(
 
 /// Whether a decided shrink is refused so.
 fn is_unmade<P: Packed, A: Allocator + Copy + Drop>(
-    limits: Limits,
-    numbers: &Numbers<P, A>,
-    point: u64,
-    place: Place,
+    view: &View<P, A>,
+    comm: u16,
+    round: u16,
     made: &Decided<P, A>,
     refusal: Refusal,
 ) -> bool
-    ensures { result ≡ unmade_test limits (seen_at numbers.now point) (place.2) (place.0) (place.1) (decision_of made.now) refusal }
+    ensures { result ≡ unmade_test (call_at view.now) comm round (decision_of made.now) refusal }
 {
     (same_refusal(refusal, Refusal::NoContext) && has_no_ids(&made.body))
-        || ((same_refusal(refusal, Refusal::NoRoom) && is_full(limits, numbers, point, place, made))
+        || ((same_refusal(refusal, Refusal::NoRoom) && is_full(view, comm, round, made))
             || (same_refusal(refusal, Refusal::Mismatch) && is_clash(&made.body)))
 }
 
 /// A communicator that a reply names as made.
 #[derive(Clone, Copy)]
-struct Named {
-    comm: u16,
-    context: u8,
-    size: u16,
+pub(crate) struct Named {
+    pub comm: u16,
+    pub context: u8,
+    pub size: u16,
 }
 
-/// Whether a decided shrink made this communicator.
+/// Whether a decided shrink made the communicator that a reply names.
 fn is_shrunk<P: Packed, A: Allocator + Copy + Drop>(
-    numbers: &Numbers<P, A>,
-    point: u64,
-    place: Place,
+    view: &View<P, A>,
+    comm: u16,
+    round: u16,
     made: &Decided<P, A>,
     named: &Named,
 ) -> bool
-    ensures { let seen = seen_at numbers.now point in
-        result ≡ shrunk_test seen (place.2) (place.0) (place.1) (decision_of made.now) named.now.comm named.now.context named.now.size }
+    ensures { result ≡ shrunk_test (call_at view.now) comm round (decision_of made.now) named.now }
 {
-    let (comm, round, rank) = place;
-    let was_made = was_made(numbers, point, named.comm, comm, round);
-    let group = numbers.members_at(named.comm, point);
+    let rank = view.caller.number;
+    let was_made = was_made(view.numbers, view.point, named.comm, comm, round);
+    let group = view.numbers.members_at(named.comm, view.point);
     has_least(&made.body, named.context)
         && (!has_rank(&made.failed, rank) && (was_made && usize::from(named.size) == group.len()))
 }
 
 /// Whether a shrink's poll is answered so.
 fn is_shrink_reply<P: Packed, A: Allocator + Copy + Drop>(
-    limits: Limits,
     view: &View<P, A>,
-    rank: u16,
     x: &HeldComm<A>,
     round: u16,
     late: bool,
@@ -254,7 +256,7 @@ fn is_shrink_reply<P: Packed, A: Allocator + Copy + Drop>(
     made: &Decided<P, A>,
     reply: &Reply<P>,
 ) -> bool
-    ensures { result ≡ shrink_test limits (seen_at view.now.numbers.now view.now.point) rank x.now.comm round late decided (decision_of made.now) reply.now }
+    ensures { result ≡ shrink_test (call_at view.now) x.now.comm round late decided (decision_of made.now) reply.now }
 {
     match *reply {
         Reply::Pending => late,
@@ -268,26 +270,9 @@ fn is_shrink_reply<P: Packed, A: Allocator + Copy + Drop>(
                 context,
                 size,
             };
-            decided
-                && is_shrunk(
-                    view.numbers,
-                    view.point,
-                    (x.comm, round, rank),
-                    made,
-                    &named,
-                )
+            decided && is_shrunk(view, x.comm, round, made, &named)
         }
-        Reply::Refused(refusal) => {
-            decided
-                && is_unmade(
-                    limits,
-                    view.numbers,
-                    view.point,
-                    (x.comm, round, rank),
-                    made,
-                    refusal,
-                )
-        }
+        Reply::Refused(refusal) => decided && is_unmade(view, x.comm, round, made, refusal),
         _ => false,
     }
 }
@@ -362,26 +347,24 @@ fn is_agree_poll<P: Packed, A: Allocator + Copy + Drop>(
 /// Whether the poll of a shrink is answered so; what the round decides is looked up only where the reply says that it did.
 fn is_shrink_poll<P: Packed, A: Allocator + Copy + Drop>(
     alloc: A,
-    limits: Limits,
     view: &View<P, A>,
-    rank: u16,
     x: &HeldComm<A>,
     round: u16,
     reply: &Reply<P>,
 ) -> Result<bool, AllocError>
-    ensures { let seen = seen_at view.now.numbers.now view.now.point in
-        let late = pending_test view.now.look.now seen x.now round in let decided = is_decided_in seen x.now.comm round in
-        IfOk result (λ b. b ≡ shrink_test limits seen rank x.now.comm round late decided (decision_in P.meld seen x.now.comm round) reply.now) }
+    ensures { let call = call_at view.now in
+        let late = pending_test call.look call.seen x.now round in let decided = is_decided_in call.seen x.now.comm round in
+        IfOk result (λ b. b ≡ shrink_test call x.now.comm round late decided (decision_in P.meld call.seen x.now.comm round) reply.now) }
 {
     if says_pending(reply) {
         return Ok(is_pending(view, x, round));
     }
     if let Some(made) = view.numbers.decided_at(x.comm, round, view.point) {
-        return Ok(is_shrink_reply(limits, view, rank, x, round, false, true, made, reply));
+        return Ok(is_shrink_reply(view, x, round, false, true, made, reply));
     }
     let decided = is_decided(view.numbers, view.point, x.comm, round);
     let made = decision(alloc, view.numbers, view.point, x.comm, round)?;
-    Ok(is_shrink_reply(limits, view, rank, x, round, false, decided, &made, reply))
+    Ok(is_shrink_reply(view, x, round, false, decided, &made, reply))
 }
 
 /// Whom of a communicator's members a look found declared, where these are the members that a rank knows.
@@ -422,22 +405,17 @@ fn is_barrier_poll<P: Packed, A: Allocator + Copy + Drop>(
 /// Whether the poll of an open request is answered so.
 pub(crate) fn is_poll_reply<P: Packed, A: Allocator + Copy + Drop>(
     alloc: A,
-    limits: Limits,
     view: &View<P, A>,
-    rank: u16,
     x: &HeldComm<A>,
     request: Option<Request>,
     reply: &Reply<P>,
 ) -> Result<bool, AllocError>
-    ensures { let seen = seen_at view.now.numbers.now view.now.point in
-        IfOk result (λ b. b ≡ polled_test P.meld P.pack limits view.now.look.now seen rank x.now request reply.now) }
+    ensures { IfOk result (λ b. b ≡ polled_test P.meld P.pack (call_at view.now) x.now request reply.now) }
 {
     match request {
         None => Ok(false),
         Some(Request::Agree { round }) => { is_agree_poll(alloc, view, x, round, reply) }
-        Some(Request::Shrink { round }) => {
-            is_shrink_poll(alloc, limits, view, rank, x, round, reply)
-        }
+        Some(Request::Shrink { round }) => { is_shrink_poll(alloc, view, x, round, reply) }
         Some(Request::Barrier { round }) => { is_barrier_poll(alloc, view, x, round, reply) }
     }
 }

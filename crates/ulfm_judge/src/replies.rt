@@ -144,7 +144,7 @@ fn same_offer<P: Packed>(x: &Offer<P>, y: &Offer<P>) -> bool
 
 /// Whether a contribution is the one that is due.
 fn is_due<P: Packed>(due: &Due<P>, given: &Contribution<P>) -> bool
-    ensures { result ≡ given_test P.pack due.now.offer due.now.known due.now.acked given.now }
+    ensures { result ≡ given_test P.pack due.now given.now }
 {
     same_offer(&given.offer, &due.offer)
         && (usize::from(given.known.count) == due.known && given.acked.count == due.acked)
@@ -152,7 +152,7 @@ fn is_due<P: Packed>(due: &Due<P>, given: &Contribution<P>) -> bool
 
 /// Whether an event is the contribution that is due, of a rank to a round.
 fn gives<P: Packed>(comm: u16, round: u16, rank: u16, due: &Due<P>, event: &Event<P>) -> bool
-    ensures { result ≡ gives_test P.pack comm round rank due.now.offer due.now.known due.now.acked event.now }
+    ensures { result ≡ gives_test P.pack comm round rank due.now event.now }
 {
     match *event {
         Event::Settle {
@@ -167,7 +167,7 @@ fn gives<P: Packed>(comm: u16, round: u16, rank: u16, due: &Due<P>, event: &Even
 
 /// Whether a rank's own events are the contribution that is due.
 fn only_gives<P: Packed>(comm: u16, round: u16, rank: u16, due: &Due<P>, own: &[Event<P>]) -> bool
-    ensures { result ≡ only_test (gives_test P.pack comm round rank due.now.offer due.now.known due.now.acked) own.now }
+    ensures { result ≡ only_test (gives_test P.pack comm round rank due.now) own.now }
 {
     match only_of(own) {
         Some(event) => gives(comm, round, rank, due, &event),
@@ -177,7 +177,7 @@ fn only_gives<P: Packed>(comm: u16, round: u16, rank: u16, due: &Due<P>, own: &[
 
 /// Whether the contribution that is due stands there.
 fn stands<P: Packed>(due: &Due<P>, stood: &Option<Slot<P>>) -> bool
-    ensures { result ≡ stands_test P.pack due.now.offer due.now.known due.now.acked stood.now }
+    ensures { result ≡ stands_test P.pack due.now stood.now }
 {
     match *stood {
         Some(Slot::Given(given)) => is_due(due, &given),
@@ -212,7 +212,7 @@ pub(crate) fn is_start_reply<P: Packed, A: Allocator>(
     offer: Offer<P>,
     reply: &Reply<P>,
 ) -> bool
-    ensures { result ≡ start_test P.pack own.now stood known rank x.now offer reply.now }
+    ensures { result ≡ start_test P.pack own.now stood rank x.now (record { offer = offer; known = known; acked = x.now.acked }) reply.now }
 {
     let due = Due {
         offer,

@@ -10,7 +10,7 @@ use Rattle.ulfm_script.specs.declared.line_kind.LineKind.{LineKind}
 use Rattle.ulfm_script.specs.declared.line_kind.LineKind.TheVariants.{Words}
 use Rattle.ulfm_script.specs.{Steps.{◌>>=◌}, Words.{next_word}}
 use Rattle.ulfm_script.proofs.{Spelled.{verb_found}, WordLemmas.{IsWord, done, joined, next_before, next_found, same_done, step_found}}
-use Rattle.ulfm_lines.specs.{EventReading.{ReadEvent, arrive_event, event_from, event_of, fail_event, mark_event, marked, revoke_event, settle_event, settled, spawn_event}, Fields.{Field, both, comm_field, labelled, number_field, offer_field, place_field, rank_field, whole}, LineTexts.{TraceEvent, event_text, mark_text, offer_text, place_text, settle_text}, Telling.{EventFits, IsForgedMark, IsForgedSettlement, PlaceFits, TellsEvent}}
+use Rattle.ulfm_lines.specs.{EventReading.{ReadEvent, arrive_event, event_from, event_of, read_fail, mark_event, marked, revoke_event, settle_event, settled, spawn_event}, Fields.{Field, both, comm_field, labelled, number_field, offer_field, place_field, rank_field, whole}, LineTexts.{TraceEvent, event_text, mark_text, offer_text, place_text, settle_text}, Telling.{EventFits, IsForgedMark, IsForgedSettlement, PlaceFits, TellsEvent}}
 use Rattle.ulfm_lines.proofs.FieldLemmas.{IsField, both_fields, is_comm, is_labelled, is_number, is_offer, is_place, is_rank, whole_again, whole_found}
 use Rattle.ulfm_lines.proofs.Literals.{literal}
 
@@ -174,8 +174,8 @@ fields_found verb fields_at text_of Fits make is tells fields event e =
     let told : TellsEvent (joined verb fields) (make x.0) = subst (λ (t : Option (List ℕ)). TellsEvent (joined verb t) (make x.0)) (sym f.1) (tells x.0 f.0) in
     subst (TellsEvent (joined verb fields)) (same_done (make x.0) event x.2) told
 
-fail_found : Reads (codes "fail") fail_event
-unfolding fail_event
+fail_found : Reads (codes "fail") read_fail
+unfolding read_fail
 fail_found = fields_found (codes "fail") rank_field decimal (λ r. r < 1024) (λ r. Some (Fail r)) is_rank (λ r h. (h, refl))
 
 settle_found : Reads (codes "settle") settle_event
@@ -204,7 +204,7 @@ no_verb : (text : List ℕ) (event : Option TraceEvent) → (let r : ReadEvent =
 no_verb text event e = absurd cc
 
 read_from : (word : List ℕ) (fields : Option (List ℕ)) (event : Option TraceEvent) → event_from (word, fields) ≡ Ok event → TellsEvent (joined word fields) event
-read_from word fields event e = verb_found TellsEvent word (codes "fail") fields fail_event _ event fail_found
+read_from word fields event e = verb_found TellsEvent word (codes "fail") fields read_fail _ event fail_found
     (verb_found TellsEvent word (codes "settle") fields settle_event _ event settle_found
     (verb_found TellsEvent word (codes "mark") fields mark_event _ event mark_found
     (verb_found TellsEvent word (codes "arrive") fields arrive_event _ event arrive_found
@@ -232,7 +232,7 @@ fields_again {X} verb fields_at text_of Fits make word is at x fits =
     ∙ ap (λ (r : Result X LineKind). r >>= λ x. Ok (make x)) (whole_again fields_at text_of Fits is x fits)
 
 fail_again : (r : ℕ) → r < 1024 → starts (Some (codes "fail " ++ decimal r)) ≡ Ok (Some (Fail r))
-unfolding fail_event
+unfolding read_fail
 fail_again = fields_again (codes "fail") rank_field decimal (λ r. r < 1024) (λ r. Some (Fail r)) (literal _ refl) is_rank (λ fields. refl)
 
 settle_again : (x : Place × (Offer FlagAnd × (ℕ × ℕ))) → settle_fits x → starts (Some (codes "settle " ++ settle_behind x)) ≡ Ok (settled x.0 x.1.0 x.1.1.0 x.1.1.1)

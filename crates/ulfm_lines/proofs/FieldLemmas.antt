@@ -6,9 +6,9 @@ use Rattle.ulfm_laws.specs.declared.{ctx_mask.CtxMask.{CtxMask}, flag_and.FlagAn
 use Rattle.ulfm_model.specs.declared.{contribution.Offer.{Offer}, contribution.Offer.TheVariants.{Flag, Ctx}, event.Caller.{Caller}, event.Caller.TheVariants.{Outside, Rank}}
 use Rattle.ulfm_script.specs.declared.line_kind.LineKind.{LineKind}
 use Rattle.ulfm_script.specs.declared.line_kind.LineKind.TheVariants.{Number, Words}
-use Rattle.ulfm_script.specs.{Digits.{comm_of, flag_of, flag_text, number_in, number_of, number_to, point_of, rank_of}, Steps.{◌>>=◌}, Words.{next_word}}
+use Rattle.ulfm_script.specs.{Digits.{read_comm, read_flag, flag_text, number_in, read_number, number_to, read_point, read_rank}, Steps.{◌>>=◌}, Words.{next_word}}
 use Rattle.ulfm_script.proofs.{Hexadecimal.{flag_again, flag_found}, Numerals.{number_again, number_found, number_to_found, point_again, point_found}, Spelled.{chosen, comm_again, number_is_word, rank_again}, WordLemmas.{IsWord, decimal_is_word, done, flag_is_word, joined, next_alone, next_before, next_found, same_done, step_found}}
-use Rattle.ulfm_lines.specs.{Fields.{Field, both, caller_field, caller_of, comm_field, error_field, error_of, field_by, flag_field, flag_mask, is_word, label_field, labelled, number_field, offer_field, offer_of, over, place_field, point_field, rank_field, whole}, LineTexts.{caller_text, mask_flag, offer_text, place_text}, Telling.{CallerFits, PlaceFits}}
+use Rattle.ulfm_lines.specs.{Fields.{Field, both, caller_field, read_caller, comm_field, error_field, error_of, field_by, flag_field, flag_mask, is_word, label_field, labelled, number_field, offer_field, offer_of, over, place_field, point_field, rank_field, whole}, LineTexts.{caller_text, mask_flag, offer_text, place_text}, Telling.{CallerFits, PlaceFits}}
 use Rattle.ulfm_lines.proofs.Literals.{literal}
 
 -- a field is read just where it stands
@@ -92,31 +92,31 @@ whole_found {A} one text_of Fits h text x e =
 
 pub is_rank : IsField rank_field decimal (λ r. r < 1024)
 unfolding rank_field
-is_rank = field_of_word rank_of decimal (λ r. r < 1024) (λ r h. number_is_word r (omega (arith, h))) rank_again
+is_rank = field_of_word read_rank decimal (λ r. r < 1024) (λ r h. number_is_word r (omega (arith, h))) rank_again
     (λ w r e. let f = number_to_found 1023 r w e in (omega (arith, f.0), f.1))
 
 pub is_comm : IsField comm_field decimal (λ c. c < 256)
 unfolding comm_field
-is_comm = field_of_word comm_of decimal (λ c. c < 256) (λ c h. number_is_word c (omega (arith, h))) comm_again
+is_comm = field_of_word read_comm decimal (λ c. c < 256) (λ c h. number_is_word c (omega (arith, h))) comm_again
     (λ w c e. let f = number_to_found 255 c w e in (omega (arith, f.0), f.1))
 
 pub is_number : IsField number_field decimal (λ n. n < 10000)
 unfolding number_field
-is_number = field_of_word number_of decimal (λ n. n < 10000) number_is_word number_again number_found
+is_number = field_of_word read_number decimal (λ n. n < 10000) number_is_word number_again number_found
 
 pub is_point : IsField point_field decimal (λ n. n < 10000000)
 unfolding point_field
-is_point = field_of_word point_of decimal (λ n. n < 10000000) (λ n h. decimal_is_word n (omega (arith, h))) point_again point_found
+is_point = field_of_word read_point decimal (λ n. n < 10000000) (λ n h. decimal_is_word n (omega (arith, h))) point_again point_found
 
 pub is_flag : IsField flag_field flag_text (λ flag. ⊤)
 unfolding flag_field
-is_flag = field_of_word flag_of flag_text (λ flag. ⊤) (λ flag h. flag_is_word flag) (λ flag h. flag_again flag) (λ w flag e. (tt, flag_found w flag e))
+is_flag = field_of_word read_flag flag_text (λ flag. ⊤) (λ flag h. flag_is_word flag) (λ flag h. flag_again flag) (λ w flag e. (tt, flag_found w flag e))
 
 caller_is_word : (by : Caller) → CallerFits by → IsWord (caller_text by)
 caller_is_word Outside h = literal _ refl
 caller_is_word (Rank r) h = number_is_word r (omega (arith, h))
 
-dash_is_none : (r : ℕ) → rank_of (codes "-") ≡ Ok r → ⊥
+dash_is_none : (r : ℕ) → read_rank (codes "-") ≡ Ok r → ⊥
 unfolding number_to number_in
 dash_is_none r e = let k : (let x : Result ℕ LineKind = Err Number in x) ≡ Ok r = e in cc
 
@@ -130,25 +130,25 @@ no_dash : (r : ℕ) → r < 1024 → bytes_eq (decimal r) (codes "-") ≡ false
 no_dash r h = elim (two_ways (bytes_eq (decimal r) (codes "-"))) [
   | inl same ↦ absurd (
       let is : decimal r ≡ codes "-" = (bytes_eq-Decides (decimal r) (codes "-")).0 same in
-      dash_is_none r (sym (ap rank_of is) ∙ rank_again r h)
+      dash_is_none r (sym (ap read_rank is) ∙ rank_again r h)
       )
   | inr other ↦ other
 ]
 
-caller_again : (by : Caller) → CallerFits by → caller_of (caller_text by) ≡ Ok by
-unfolding caller_of
+caller_again : (by : Caller) → CallerFits by → read_caller (caller_text by) ≡ Ok by
+unfolding read_caller
 caller_again Outside h = refl
 caller_again (Rank r) h = rw (no_dash r h, rank_again r h) refl
 
-caller_found : (w : List ℕ) (by : Caller) → caller_of w ≡ Ok by → CallerFits by × (w ≡ caller_text by)
-unfolding caller_of
-caller_found w by e = elim (chosen (bytes_eq w (codes "-")) (Ok Outside) (rank_of w >>= λ r. Ok (Rank r)) (Ok by) e) [
+caller_found : (w : List ℕ) (by : Caller) → read_caller w ≡ Ok by → CallerFits by × (w ≡ caller_text by)
+unfolding read_caller
+caller_found w by e = elim (chosen (bytes_eq w (codes "-")) (Ok Outside) (read_rank w >>= λ r. Ok (Rank r)) (Ok by) e) [
   | inl this ↦ (
       let is = (bytes_eq-Decides w (codes "-")).0 this.0 in
       subst (λ (x : Caller). CallerFits x × (w ≡ caller_text x)) (same_done Outside by this.1) (tt, is)
       )
   | inr that ↦ (
-      let r = step_found (rank_of w) (λ r. Ok (Rank r)) by that.1 in
+      let r = step_found (read_rank w) (λ r. Ok (Rank r)) by that.1 in
       let f = number_to_found 1023 r.0 w r.1 in
       subst (λ (x : Caller). CallerFits x × (w ≡ caller_text x)) (same_done (Rank r.0) by r.2) (omega (arith, f.0), f.1)
       )
@@ -156,7 +156,7 @@ caller_found w by e = elim (chosen (bytes_eq w (codes "-")) (Ok Outside) (rank_o
 
 pub is_caller : IsField caller_field caller_text CallerFits
 unfolding caller_field
-is_caller = field_of_word caller_of caller_text CallerFits caller_is_word caller_again caller_found
+is_caller = field_of_word read_caller caller_text CallerFits caller_is_word caller_again caller_found
 
 word_again : (label : List ℕ) (fin : Unit {0}) → is_word label label ≡ Ok fin
 word_again label tt = rw ((bytes_eq-Decides label label).1 refl) refl

@@ -5,7 +5,7 @@ use Rattle.std.proofs.lemmas.Slice.Eq.{bytes_eq-Decides}
 use Rattle.ulfm_model.specs.declared.event.Caller.{Caller}
 use Rattle.ulfm_script.specs.declared.line_kind.LineKind.{LineKind}
 use Rattle.ulfm_script.specs.declared.line_kind.LineKind.TheVariants.{Words}
-use Rattle.ulfm_script.specs.{Calls.{ScriptCall, call_of}, Steps.{◌>>=◌}, Words.{word_of}}
+use Rattle.ulfm_script.specs.{Calls.{ScriptCall, call_of}, Steps.{◌>>=◌}, Words.{first_word}}
 use Rattle.ulfm_script.proofs.{Spelled.{read_is_spelled, spelled_again, verb_found}, WordLemmas.{done, joined, joined_word, same_done, step_found}}
 use Rattle.ulfm_lines.specs.{EventReading.{ReadEvent, event_of}, Fields.{Field, both, caller_field, number_field, point_field, rank_field, whole}, LineReading.{SomeReply, called_line, happened_line, line_from, line_head, line_listing, looked_line, replied_line, some_reply_of, told_listing}, LineTexts.{TraceLine, caller_text, two_text}, Telling.{AreRanks, CallerFits, TellsLine, behind_ranks}}
 use Rattle.ulfm_trace_model.specs.declared.line.Line.TheVariants.{Called, Looked, Happened, Replied}
@@ -90,7 +90,7 @@ read_from word fields line rest e = verb_listed word (codes "call") fields calle
 -- what was read is told by the line
 pub line_found : (text : List ℕ) (line : TraceLine) (rest : Option (List ℕ)) → line_head text ≡ Ok (line, rest) → LineListed text line rest
 unfolding line_head
-line_found text line rest e = subst (λ (t : List ℕ). LineListed t line rest) (joined_word text) (read_from (word_of text).0 (word_of text).1 line rest e)
+line_found text line rest e = subst (λ (t : List ℕ). LineListed t line rest) (joined_word text) (read_from (first_word text).0 (first_word text).1 line rest e)
 
 -- a line that tells something is read so
 pub record IsLineRead (text group : List ℕ) (told : TraceLine) : Type 0 where

@@ -5,17 +5,17 @@ use Rattle.ulfm_model.specs.declared.call.Call.TheVariants.{Fail, GetFailed, Ack
 use Rattle.ulfm_model.specs.declared.reply.Reply.TheVariants as reply
 use Rattle.ulfm_script.specs.declared.line_kind.LineKind.{LineKind}
 use Rattle.ulfm_script.specs.{Calls.{ScriptCall}, Printed.{ranks_text, reply_text, shrunk_text}, Spelling.{Spells, call_text}}
-use Rattle.ulfm_lines.specs.{Fields.{Field}, LineReading.{SomeReply, line_head, line_listing}, LineTexts.{TraceLine, caller_text, event_text, line_text}, Telling.{AreRanks, LineFits, ListsRanks, Tells, TellsLine, TellsReply, behind_ranks}}
+use Rattle.ulfm_lines.specs.{Fields.{Field}, LineReading.{SomeReply, line_head, line_listing}, LineTexts.{TraceLine, caller_text, event_text, line_text}, Telling.{AreRanks, LineFits, ListsRanks, TextTells, TellsLine, TellsReply, behind_ranks}}
 use Rattle.ulfm_trace_model.specs.declared.line.Line.TheVariants.{Called, Looked, Happened, Replied}
 use Rattle.ulfm_lines.proofs.{FieldLemmas.{same_field}, LineLemmas.{line_again, line_found}, RankLemmas.{ranks_few, ranks_once}}
 
 -- what was read is told
 pub found_line : (text group : List ℕ) (head : TraceLine) (rest : Option (List ℕ)) → line_head text ≡ Ok (head, rest) → ListsRanks rest group true → length text ≤ 8192
-    → Tells text group (line_listing (length group) head)
+    → TextTells text group (line_listing (length group) head)
 found_line text group head rest read lists short = (short, line_found text head rest read group lists.0 lists.1)
 
 -- a line that is told is read, with its ranks
-pub only_line : (text group : List ℕ) (head : TraceLine) (rest : Option (List ℕ)) (told : TraceLine) (ranks : List ℕ) → line_head text ≡ Ok (head, rest) → ListsRanks rest group true → Tells text ranks told
+pub only_line : (text group : List ℕ) (head : TraceLine) (rest : Option (List ℕ)) (told : TraceLine) (ranks : List ℕ) → line_head text ≡ Ok (head, rest) → ListsRanks rest group true → TextTells text ranks told
     → (line_listing (length group) head ≡ told) × (group ≡ ranks)
 only_line text group head rest told ranks read lists tells =
     let r = line_again text ranks told tells.1 in
@@ -24,20 +24,20 @@ only_line text group head rest told ranks read lists tells =
     (ap (λ (n : ℕ). line_listing n head) (ap length one) ∙ ap (line_listing (length ranks)) same.0 ∙ r.listed, one)
 
 -- a line that couldn't be read tells nothing
-pub no_head : (text : List ℕ) (kind : LineKind) (told : TraceLine) (ranks : List ℕ) → line_head text ≡ Err kind → Tells text ranks told → ⊥
+pub no_head : (text : List ℕ) (kind : LineKind) (told : TraceLine) (ranks : List ℕ) → line_head text ≡ Err kind → TextTells text ranks told → ⊥
 no_head text kind told ranks read tells =
     let r = line_again text ranks told tells.1 in
     let k : (let x : Field TraceLine = Err kind in x) ≡ Ok (r.head, r.rest) = sym read ∙ r.read in cc
 
 -- nor does one with something else behind it
-pub no_ranks : (text group : List ℕ) (head : TraceLine) (rest : Option (List ℕ)) (told : TraceLine) (ranks : List ℕ) → line_head text ≡ Ok (head, rest) → ListsRanks rest group false → Tells text ranks told → ⊥
+pub no_ranks : (text group : List ℕ) (head : TraceLine) (rest : Option (List ℕ)) (told : TraceLine) (ranks : List ℕ) → line_head text ≡ Ok (head, rest) → ListsRanks rest group false → TextTells text ranks told → ⊥
 no_ranks text group head rest told ranks read lists tells =
     let r = line_again text ranks told tells.1 in
     let same = same_field head r.head rest r.rest (sym read ∙ r.read) in
     lists ranks r.ranks (r.behind ∙ sym same.1)
 
 -- one text tells one line
-pub one_line : (text g h : List ℕ) (a b : TraceLine) → Tells text g a → Tells text h b → (a ≡ b) × (g ≡ h)
+pub one_line : (text g h : List ℕ) (a b : TraceLine) → TextTells text g a → TextTells text h b → (a ≡ b) × (g ≡ h)
 one_line text g h a b x y =
     let r = line_again text g a x.1 in
     let o = only_line text g r.head r.rest b h r.read (r.ranks, r.behind) y in
@@ -105,20 +105,20 @@ printed_line group (Replied by point None) h = absurd h
 printed_line group (Replied by point (Some told)) h = (reply_text group told, h.0, h.1, refl, (h.2, refl))
 
 -- what is printed is told
-pub printed_told : (group : List ℕ) (line : TraceLine) → LineFits group line → length (line_text group line) ≤ 8192 → Tells (line_text group line) group line
+pub printed_told : (group : List ℕ) (line : TraceLine) → LineFits group line → length (line_text group line) ≤ 8192 → TextTells (line_text group line) group line
 printed_told group line h short = (short, printed_line group line h)
 
 -- the same, by whether the ranks were read
-pub only_read : (text group : List ℕ) (head : TraceLine) (rest : Option (List ℕ)) (read : Bool) → read ≡ true → line_head text ≡ Ok (head, rest) → ListsRanks rest group read → (told : TraceLine) (ranks : List ℕ) → Tells text ranks told
+pub only_read : (text group : List ℕ) (head : TraceLine) (rest : Option (List ℕ)) (read : Bool) → read ≡ true → line_head text ≡ Ok (head, rest) → ListsRanks rest group read → (told : TraceLine) (ranks : List ℕ) → TextTells text ranks told
     → (line_listing (length group) head ≡ told) × (group ≡ ranks)
 only_read text group head rest read is is_head lists told ranks tells = only_line text group head rest told ranks is_head (subst (ListsRanks rest group) is lists) tells
 
 pub found_read : (text group : List ℕ) (head : TraceLine) (rest : Option (List ℕ)) (read : Bool) → read ≡ true → line_head text ≡ Ok (head, rest) → ListsRanks rest group read → length text ≤ 8192
-    → Tells text group (line_listing (length group) head)
+    → TextTells text group (line_listing (length group) head)
 found_read text group head rest read is is_head lists short = found_line text group head rest is_head (subst (ListsRanks rest group) is lists) short
 
 pub few_read : (text group : List ℕ) (head : TraceLine) (rest : Option (List ℕ)) (read : Bool) → read ≡ true → line_head text ≡ Ok (head, rest) → ListsRanks rest group read → length text ≤ 8192 → length group ≤ 8192
 few_read text group head rest read is is_head lists short = few_ranks text group head rest is_head (subst (ListsRanks rest group) is lists) short
 
-pub none_read : (text group : List ℕ) (head : TraceLine) (rest : Option (List ℕ)) (read : Bool) → read ≡ false → line_head text ≡ Ok (head, rest) → ListsRanks rest group read → (told : TraceLine) (ranks : List ℕ) → Tells text ranks told → ⊥
+pub none_read : (text group : List ℕ) (head : TraceLine) (rest : Option (List ℕ)) (read : Bool) → read ≡ false → line_head text ≡ Ok (head, rest) → ListsRanks rest group read → (told : TraceLine) (ranks : List ℕ) → TextTells text ranks told → ⊥
 none_read text group head rest read is is_head lists told ranks tells = no_ranks text group head rest told ranks is_head (subst (ListsRanks rest group) is lists) tells

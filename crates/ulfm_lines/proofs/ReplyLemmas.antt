@@ -11,7 +11,7 @@ use Rattle.ulfm_script.specs.declared.line_kind.LineKind.{LineKind}
 use Rattle.ulfm_script.specs.declared.line_kind.LineKind.TheVariants.{Number, Words}
 use Rattle.ulfm_script.specs.{Digits.{flag_text, number_in, number_to}, Printed.{ranks_text, reply_text, shrunk_text}, Steps.{◌>>=◌}, Words.{next_word}}
 use Rattle.ulfm_script.proofs.{Spelled.{chosen, verb_found}, WordLemmas.{IsWord, done, joined, next_found, same_done, step_found}}
-use Rattle.ulfm_lines.specs.{Fields.{Field, both, comm_field, error_field, flag_field, label_field, labelled, number_field, over, rank_field, whole}, LineReading.{SomeReply, acked_reply, agreed_reply, alone, failed_reply, listing, made, or_refusal, or_reply, plain_of, refusal_field, refusal_of, refused_reply, reply_from, shrunk_reply, some_reply_of, told_listing}, Telling.{AreRanks, IsForgedReply, ReplyFits, TellsReply, behind_ranks}}
+use Rattle.ulfm_lines.specs.{Fields.{Field, both, comm_field, error_field, flag_field, label_field, labelled, number_field, over, rank_field, whole}, LineReading.{SomeReply, acked_reply, read_agreed, alone, failed_reply, listing, made, or_refusal, or_reply, read_plain, refusal_field, read_refusal, refused_reply, reply_from, read_shrunk, some_reply_of, told_listing}, Telling.{AreRanks, IsForgedReply, ReplyFits, TellsReply, behind_ranks}}
 use Rattle.ulfm_lines.proofs.FieldLemmas.{IsField, both_fields, error_word, two_ways, is_comm, is_error, is_flag, is_label, is_labelled, is_number, joined_more, next_joined, over_found, same_field, whole_again, whole_found}
 use Rattle.ulfm_lines.proofs.RankLemmas.{nobody, rank_again, somebody}
 use Rattle.ulfm_lines.proofs.Literals.{and_true, literal}
@@ -44,8 +44,8 @@ one_reply word one found other same fits rest e = elim (chosen (bytes_eq word (r
 no_reply : (word : List ℕ) (found : Reply FlagAnd) → (let r : Result (Reply FlagAnd) LineKind = Err Words in r) ≡ Ok found → IsPlain word found
 no_reply word found e = absurd cc
 
-plain_found : (word : List ℕ) (found : Reply FlagAnd) → plain_of word ≡ Ok found → IsPlain word found
-unfolding plain_of
+plain_found : (word : List ℕ) (found : Reply FlagAnd) → read_plain word ≡ Ok found → IsPlain word found
+unfolding read_plain
 plain_found word found e = one_reply word reply.Started found _ (λ n. refl) refl (one_reply word reply.Pending found _ (λ n. refl) refl
     (one_reply word reply.Done found _ (λ n. refl) refl (one_reply word reply.Declared found _ (λ n. refl) refl
     (one_reply word reply.AlreadyFailed found _ (λ n. refl) refl (one_reply word reply.Revoked found _ (λ n. refl) refl
@@ -79,8 +79,8 @@ one_refusal number name one found other told rest e = elim (chosen ((number == (
 no_refusal : (number : ℕ) (name : List ℕ) (found : Refusal) → (let r : Result Refusal LineKind = Err Words in r) ≡ Ok found → IsNamed number name found
 no_refusal number name found e = absurd cc
 
-refusal_found : (number : ℕ) (name : List ℕ) (found : Refusal) → refusal_of number name ≡ Ok found → IsNamed number name found
-unfolding refusal_of
+refusal_found : (number : ℕ) (name : List ℕ) (found : Refusal) → read_refusal number name ≡ Ok found → IsNamed number name found
+unfolding read_refusal
 refusal_found number name found e =
     one_refusal number name refusal.SelfFailed found _ (λ e. cc) (one_refusal number name refusal.NoSuchComm found _ (λ e. cc)
     (one_refusal number name refusal.Busy found _ (λ e. cc) (one_refusal number name refusal.ShrinkOpen found _ (λ e. cc)
@@ -92,8 +92,8 @@ refusal_found number name found e =
     (no_refusal number name found)))))))))))))) e
 
 -- the name of a refusal can be a word, and both are read
-refusal_again : (one : Refusal) → IsTold one → ((printed one).0 < 10000) × IsWord (printed one).1 × (refusal_of (printed one).0 (printed one).1 ≡ Ok one)
-unfolding refusal_of
+refusal_again : (one : Refusal) → IsTold one → ((printed one).0 < 10000) × IsWord (printed one).1 × (read_refusal (printed one).0 (printed one).1 ≡ Ok one)
+unfolding read_refusal
 refusal_again refusal.SelfFailed h = (omega arith, literal _ refl, refl)
 refusal_again refusal.NoSuchComm h = (omega arith, literal _ refl, refl)
 refusal_again refusal.Busy h = (omega arith, literal _ refl, refl)
@@ -120,9 +120,9 @@ is_refusal = record {
       let r = refusal_again one told in
       rw (joined_more (decimal (printed one).0) (printed one).1 rest, is_number.again (printed one).0 (Some (joined (printed one).1 rest)) r.0, next_joined (printed one).1 rest r.1, r.2) refl;
   found = λ text one rest e.
-      let n = step_found (number_field text) (λ number. next_word number.1 >>= λ name. refusal_of number.0 name.0 >>= λ one. with_rest one name.1) (one, rest) e in
-      let w = step_found (next_word n.0.1) (λ name. refusal_of n.0.0 name.0 >>= λ one. with_rest one name.1) (one, rest) n.2 in
-      let r = step_found (refusal_of n.0.0 w.0.0) (λ one. with_rest one w.0.1) (one, rest) w.2 in
+      let n = step_found (number_field text) (λ number. next_word number.1 >>= λ name. read_refusal number.0 name.0 >>= λ one. with_rest one name.1) (one, rest) e in
+      let w = step_found (next_word n.0.1) (λ name. read_refusal n.0.0 name.0 >>= λ one. with_rest one name.1) (one, rest) n.2 in
+      let r = step_found (read_refusal n.0.0 w.0.0) (λ one. with_rest one w.0.1) (one, rest) w.2 in
       let same = same_field r.0 one w.0.1 rest r.2 in
       let f = refusal_found n.0.0 w.0.0 one (r.1 ∙ ap done same.0) in
       let number = is_number.found text n.0.0 n.0.1 n.1 in (
@@ -174,8 +174,8 @@ fields_found verb fields_at text_of Fits make is same tells fields told rest e g
     let listed : told_listing (length g) told ≡ Some (make x.0) = ap (told_listing (length g)) (sym is_told.0) ∙ same x.0 (length g) in
     subst (TellsReply (joined verb fields) g) (sym listed) (subst (λ (h : List ℕ). TellsReply (joined verb fields) h (Some (make x.0))) (sym none) says)
 
-agreed_found : Reads (codes "agreed") agreed_reply
-unfolding agreed_reply
+agreed_found : Reads (codes "agreed") read_agreed
+unfolding read_agreed
 agreed_found = fields_found (codes "agreed") agreed_fields agreed_behind agreed_fits (λ x. reply.Agreed x.0 x.1.0 x.1.1) is_agreed (λ x n. refl) (λ x h. ((h.1.0, refl), agreed_line x.0 x.1.0 x.1.1))
 
 acked_found : Reads (codes "acked") acked_reply
@@ -239,8 +239,8 @@ made_tells text g comm context h k some ranks e = elim (cases_lt 255 context) [
   | inr fits ↦ rw (le-ltb 255 context fits) ((h, omega (arith, fits), some, refl, ranks), e)
 ]
 
-shrunk_found : Reads (codes "shrunk") shrunk_reply
-unfolding shrunk_reply
+shrunk_found : Reads (codes "shrunk") read_shrunk
+unfolding read_shrunk
 shrunk_found fields told rest e g ranks behind =
     let x = step_found (shrunk_fields fields) (λ x. listing (made x.0.0 x.0.1.0) x.1) (told, rest) e in
     let l = listed (made x.0.0.0 x.0.0.1.0) x.0.1 x.2 in
@@ -260,10 +260,10 @@ verb_listed : (word verb : List ℕ) (fields : Option (List ℕ)) (reply_at : Op
     → (other ≡ Ok (told, rest) → Listed (joined word fields) told rest) → cond (bytes_eq word verb) (reply_at fields) other ≡ Ok (told, rest) → Listed (joined word fields) told rest
 verb_listed word verb fields reply_at other told rest reads = verb_found (λ text x. Listed text x.0 x.1) word verb fields reply_at other (told, rest) (λ behind x. reads behind x.0 x.1)
 
-last_found : (word : List ℕ) (fields : Option (List ℕ)) (told : SomeReply) (rest : Option (List ℕ)) → (over fields >>= λ fin. alone (λ one. one) (plain_of word)) ≡ Ok (told, rest) → Listed (joined word fields) told rest
+last_found : (word : List ℕ) (fields : Option (List ℕ)) (told : SomeReply) (rest : Option (List ℕ)) → (over fields >>= λ fin. alone (λ one. one) (read_plain word)) ≡ Ok (told, rest) → Listed (joined word fields) told rest
 last_found word fields told rest e g ranks behind =
-    let o = step_found (over fields) (λ fin. alone (λ one. one) (plain_of word)) (told, rest) e in
-    let x = step_found (plain_of word) (λ one. with_rest (Some one) None) (told, rest) o.2 in
+    let o = step_found (over fields) (λ fin. alone (λ one. one) (read_plain word)) (told, rest) e in
+    let x = step_found (read_plain word) (λ one. with_rest (Some one) None) (told, rest) o.2 in
     let p = plain_found word x.0 x.1 in
     let same = same_field (Some x.0) told None rest x.2 in
     let none : g ≡ [] = nobody g (behind ∙ sym same.1) in
@@ -272,8 +272,8 @@ last_found word fields told rest e g ranks behind =
     subst (TellsReply (joined word fields) g) (sym listed) (subst (λ (h : List ℕ). TellsReply (joined word fields) h (Some x.0)) (sym none) says)
 
 read_from : (word : List ℕ) (fields : Option (List ℕ)) (told : SomeReply) (rest : Option (List ℕ)) → reply_from (word, fields) ≡ Ok (told, rest) → Listed (joined word fields) told rest
-read_from word fields told rest e = verb_listed word (codes "agreed") fields agreed_reply _ told rest agreed_found
-    (verb_listed word (codes "shrunk") fields shrunk_reply _ told rest shrunk_found
+read_from word fields told rest e = verb_listed word (codes "agreed") fields read_agreed _ told rest agreed_found
+    (verb_listed word (codes "shrunk") fields read_shrunk _ told rest shrunk_found
     (verb_listed word (codes "failed") fields failed_reply _ told rest failed_found
     (verb_listed word (codes "acked") fields acked_reply _ told rest acked_found
     (verb_listed word (codes "refused") fields refused_reply _ told rest refused_found (last_found word fields told rest))))) e
@@ -298,7 +298,7 @@ fields_again {X} verb fields_at text_of Fits make word is at x fits =
     ∙ ap (alone make) (whole_again fields_at text_of Fits is x fits)
 
 agreed_again : (x : FlagAnd × (ℕ × Bool)) → agreed_fits x → starts (codes "agreed " ++ agreed_behind x) ≡ with_rest (Some (reply.Agreed x.0 x.1.0 x.1.1)) None
-unfolding agreed_reply
+unfolding read_agreed
 agreed_again = fields_again (codes "agreed") agreed_fields agreed_behind agreed_fits (λ x. reply.Agreed x.0 x.1.0 x.1.1) (literal _ refl) is_agreed (λ fields. refl)
 
 acked_again : (n : ℕ) → n < 10000 → starts (codes "acked " ++ decimal n) ≡ with_rest (Some (reply.Acked n)) None
@@ -338,7 +338,7 @@ shrunk_word : IsWord (codes "shrunk")
 shrunk_word = literal _ refl
 
 shrunk_again : (comm context r : ℕ) (g : List ℕ) → comm < 256 → context < 10000 → starts (shrunk_text comm context (r ∷ g)) ≡ with_rest (made comm context) (behind_ranks (r ∷ g))
-unfolding shrunk_reply
+unfolding read_shrunk
 shrunk_again comm context r g h k =
     let x : ℕ × (ℕ × Unit {0}) = (comm, (context, tt)) in
     let ranks : List ℕ = decimal r ++ ranks_text g in
@@ -400,7 +400,7 @@ members_again text (r ∷ g) comm context told h k some ranks is listed =
 
 -- a reply that is told is read
 pub reply_again : (text group : List ℕ) (told : SomeReply) → TellsReply text group told → IsReadBack text group told
-unfolding plain_of over
+unfolding read_plain over
 reply_again text group None h = members_again text group h.comm h.context None h.comm_fits h.context_fits h.some h.ranks h.text_is (none_made h.comm h.context (length group) h.forged)
 reply_again text group (Some reply.Started) h = started_again reply.Started refl (literal _ refl) text group (λ n. refl) h.0 h.1
 reply_again text group (Some reply.Pending) h = started_again reply.Pending refl (literal _ refl) text group (λ n. refl) h.0 h.1

@@ -8,9 +8,9 @@ use Rattle.ulfm_model.specs.declared.step_name.StepName.TheVariants as name
 use Rattle.ulfm_trace_model.specs.declared.step_line.StepLine.TheVariants.{Called, Stepped, Before, Finished, Failed}
 use Rattle.ulfm_script.specs.declared.line_kind.LineKind.{LineKind}
 use Rattle.ulfm_script.specs.declared.line_kind.LineKind.TheVariants.{Number, Step, Verb, Words}
-use Rattle.ulfm_script.specs.{Calls.{ScriptCall, call_of}, Digits.{number_of, rank_of}, Spelling.{Spells}, Steps.{◌>>=◌}, Words.{one_of, two_of, word_of}}
+use Rattle.ulfm_script.specs.{Calls.{ScriptCall, call_of}, Digits.{read_number, read_rank}, Spelling.{Spells}, Steps.{◌>>=◌}, Words.{one_of, two_of, first_word}}
 use Rattle.ulfm_script.proofs.{Numerals.{number_again, number_found, number_to_found}, Spelled.{chosen, number_is_word, rank_again, read_is_spelled, spelled_again, verb_found}, WordLemmas.{IsWord, joined, joined_word, one_again, one_found, same_done, step_found, two_again, two_found}}
-use Rattle.ulfm_lines.specs.{StepLines.{IsByRank, ScriptStep, SpellsStep, asked_in, asked_of, before_of, failed_of, finished_of, step_from, step_line_of, stepped_of}, StepNames.{name_of, or_name, step_text}}
+use Rattle.ulfm_lines.specs.{StepLines.{IsByRank, ScriptStep, SpellsStep, read_asked_in, read_asked, before_of, read_failed, finished_of, step_from, step_line_of, stepped_of}, StepNames.{read_step_name, or_name, step_text}}
 use Rattle.ulfm_lines.proofs.Literals.{literal}
 
 -- names
@@ -26,20 +26,20 @@ no_name : (word : List ℕ) (found : StepName) → (let r : Result StepName Line
 no_name word found e = absurd cc
 
 -- a name that was read stands there
-pub name_found : (word : List ℕ) (found : StepName) → name_of word ≡ Ok found → word ≡ step_text found
-unfolding name_of
+pub name_found : (word : List ℕ) (found : StepName) → read_step_name word ≡ Ok found → word ≡ step_text found
+unfolding read_step_name
 name_found word found e = tested word name.List found _ (tested word name.Settle found _ (tested word name.Block found _ (tested word name.Mark found _ (tested word name.Slot found _
     (tested word name.Cache found _ (tested word name.Comm found _ (tested word name.Spawn found _ (tested word name.Arrive found _ (tested word name.Arrival found _
     (tested word name.Revoke found _ (tested word name.Revocation found _ (no_name word found)))))))))))) e
 
 -- the same at a result
-pub names_found : (word : List ℕ) (r : Result StepName LineKind) → r ≡ name_of word → IfOk r (λ name. word ≡ step_text name)
+pub names_found : (word : List ℕ) (r : Result StepName LineKind) → r ≡ read_step_name word → IfOk r (λ name. word ≡ step_text name)
 names_found word (Ok found) e = name_found word found (sym e)
 names_found word (Err kind) e = tt
 
 -- a name that stands there is read
-pub name_again : (found : StepName) → name_of (step_text found) ≡ Ok found
-unfolding name_of
+pub name_again : (found : StepName) → read_step_name (step_text found) ≡ Ok found
+unfolding read_step_name
 name_again name.List = refl
 name_again name.Settle = refl
 name_again name.Block = refl
@@ -71,7 +71,7 @@ name_is_word name.Revocation = literal _ refl
 
 -- the first word of a call's line is there, and is not the outside's verb
 by_rank : (line : List ℕ) (asked : ScriptCall) → Spells line asked → IsByRank asked
-    → ((length (word_of line).0 == 0) ≡ false) × (bytes_eq (word_of line).0 (codes "fail") ≡ false)
+    → ((length (first_word line).0 == 0) ≡ false) × (bytes_eq (first_word line).0 (codes "fail") ≡ false)
 by_rank line (Fail rank) h k = absurd (k rank refl)
 by_rank line (GetFailed rank comm) h k = rw h.line_is (refl, refl)
 by_rank line (Ack rank comm count) h k = rw h.1.line_is (refl, refl)
@@ -83,8 +83,8 @@ by_rank line (Revoke rank comm) h k = rw h.line_is (refl, refl)
 by_rank line (IsRevoked rank comm) h k = rw h.line_is (refl, refl)
 by_rank line (Free rank comm) h k = rw h.line_is (refl, refl)
 
-asked_again : (line : List ℕ) (asked : ScriptCall) → Spells line asked → IsByRank asked → asked_of (Some line) ≡ Ok (Called asked)
-unfolding asked_of
+asked_again : (line : List ℕ) (asked : ScriptCall) → Spells line asked → IsByRank asked → read_asked (Some line) ≡ Ok (Called asked)
+unfolding read_asked
 asked_again line asked h k =
     let w = by_rank line asked h k in
     rw (w.0, w.1, spelled_again line asked h) refl
@@ -106,8 +106,8 @@ finished_again : (rank : ℕ) → rank < 1024 → finished_of (Some (decimal ran
 unfolding finished_of
 finished_again rank h = rw (one_again (decimal rank) (number_is_word rank (omega (arith, h))), rank_again rank h) refl
 
-failed_again : (rank : ℕ) → rank < 1024 → failed_of (Some (decimal rank)) ≡ Ok (Failed rank)
-unfolding failed_of
+failed_again : (rank : ℕ) → rank < 1024 → read_failed (Some (decimal rank)) ≡ Ok (Failed rank)
+unfolding read_failed
 failed_again rank h = rw (one_again (decimal rank) (number_is_word rank (omega (arith, h))), rank_again rank h) refl
 
 -- what is spelled so is read
@@ -123,20 +123,20 @@ step_again line (Failed rank) h = ap step_line_of h.1 ∙ failed_again rank h.0
 abbrev Reads : (verb : List ℕ) → (Option (List ℕ) → Result ScriptStep LineKind) → Type 0
 Reads verb fields_of = (fields : Option (List ℕ)) (step : ScriptStep) → fields_of fields ≡ Ok step → SpellsStep (joined verb fields) step
 
-not_fail : (text : List ℕ) (asked : ScriptCall) → bytes_eq (word_of text).0 (codes "fail") ≡ false → Spells text asked → IsByRank asked
+not_fail : (text : List ℕ) (asked : ScriptCall) → bytes_eq (first_word text).0 (codes "fail") ≡ false → Spells text asked → IsByRank asked
 not_fail text asked e h rank is =
     let spelled = subst (λ (x : ScriptCall). Spells text x) is h in
-    let first : bytes_eq (word_of text).0 (codes "fail") ≡ true = rw spelled.1 refl in
+    let first : bytes_eq (first_word text).0 (codes "fail") ≡ true = rw spelled.1 refl in
     let wrong : true ≡ false = sym first ∙ e in
     cc
 
-asked_found : Reads (codes "call") asked_of
-unfolding asked_of
+asked_found : Reads (codes "call") read_asked
+unfolding read_asked
 asked_found None step e = absurd cc
 asked_found (Some text) step e =
-    elim (chosen (length (word_of text).0 == 0) (Err Words) (cond (bytes_eq (word_of text).0 (codes "fail")) (Err Verb) (call_of text >>= λ asked. Ok (Called asked))) (Ok step) e) [
+    elim (chosen (length (first_word text).0 == 0) (Err Words) (cond (bytes_eq (first_word text).0 (codes "fail")) (Err Verb) (call_of text >>= λ asked. Ok (Called asked))) (Ok step) e) [
       | inl none ↦ absurd (let k : (let r : Result ScriptStep LineKind = Err Words in r) ≡ Ok step = none.1 in cc)
-      | inr some ↦ elim (chosen (bytes_eq (word_of text).0 (codes "fail")) (Err Verb) (call_of text >>= λ asked. Ok (Called asked)) (Ok step) some.1) [
+      | inr some ↦ elim (chosen (bytes_eq (first_word text).0 (codes "fail")) (Err Verb) (call_of text >>= λ asked. Ok (Called asked)) (Ok step) some.1) [
         | inl fail ↦ absurd (let k : (let r : Result ScriptStep LineKind = Err Verb in r) ≡ Ok step = fail.1 in cc)
         | inr rank ↦ (
             let x = step_found (call_of text) (λ asked. Ok (Called asked)) step rank.1 in
@@ -155,9 +155,9 @@ count_found count made step e = elim (chosen (count == 0) (Err Number) (Ok made)
 stepped_found : Reads (codes "step") stepped_of
 unfolding stepped_of
 stepped_found fields step e =
-    let w = step_found (two_of fields) (λ w. rank_of w.0 >>= λ rank. number_of w.1 >>= λ count. if count == 0 then Err Number else Ok (Stepped rank count)) step e in
-    let r = step_found (rank_of w.0.0) (λ rank. number_of w.0.1 >>= λ count. if count == 0 then Err Number else Ok (Stepped rank count)) step w.2 in
-    let n = step_found (number_of w.0.1) (λ count. if count == 0 then Err Number else Ok (Stepped r.0 count)) step r.2 in
+    let w = step_found (two_of fields) (λ w. read_rank w.0 >>= λ rank. read_number w.1 >>= λ count. if count == 0 then Err Number else Ok (Stepped rank count)) step e in
+    let r = step_found (read_rank w.0.0) (λ rank. read_number w.0.1 >>= λ count. if count == 0 then Err Number else Ok (Stepped rank count)) step w.2 in
+    let n = step_found (read_number w.0.1) (λ count. if count == 0 then Err Number else Ok (Stepped r.0 count)) step r.2 in
     let some = count_found n.0 (Stepped r.0 n.0) step n.2 in
     let rank = number_to_found 1023 r.0 w.0.0 r.1 in
     let count = number_found w.0.1 n.0 n.1 in
@@ -172,9 +172,9 @@ stepped_found fields step e =
 before_found : Reads (codes "before") before_of
 unfolding before_of
 before_found fields step e =
-    let w = step_found (two_of fields) (λ w. rank_of w.0 >>= λ rank. name_of w.1 >>= λ name. Ok (Before rank name)) step e in
-    let r = step_found (rank_of w.0.0) (λ rank. name_of w.0.1 >>= λ name. Ok (Before rank name)) step w.2 in
-    let n = step_found (name_of w.0.1) (λ name. Ok (Before r.0 name)) step r.2 in
+    let w = step_found (two_of fields) (λ w. read_rank w.0 >>= λ rank. read_step_name w.1 >>= λ name. Ok (Before rank name)) step e in
+    let r = step_found (read_rank w.0.0) (λ rank. read_step_name w.0.1 >>= λ name. Ok (Before rank name)) step w.2 in
+    let n = step_found (read_step_name w.0.1) (λ name. Ok (Before r.0 name)) step r.2 in
     let rank = number_to_found 1023 r.0 w.0.0 r.1 in
     subst (SpellsStep (joined (codes "before") fields)) (same_done (Before r.0 n.0) step n.2) (
       omega (arith, rank.0),
@@ -185,17 +185,17 @@ before_found fields step e =
 finished_found : Reads (codes "finish") finished_of
 unfolding finished_of
 finished_found fields step e =
-    let w = step_found (one_of fields) (λ w. rank_of w >>= λ rank. Ok (Finished rank)) step e in
-    let r = step_found (rank_of w.0) (λ rank. Ok (Finished rank)) step w.2 in
+    let w = step_found (one_of fields) (λ w. read_rank w >>= λ rank. Ok (Finished rank)) step e in
+    let r = step_found (read_rank w.0) (λ rank. Ok (Finished rank)) step w.2 in
     let rank = number_to_found 1023 r.0 w.0 r.1 in
     subst (SpellsStep (joined (codes "finish") fields)) (same_done (Finished r.0) step r.2)
     (omega (arith, rank.0), ap (joined (codes "finish")) (one_found fields w.0 w.1) ∙ ap (λ (t : List ℕ). codes "finish" ++ 32 ∷ t) rank.1)
 
-failed_found : Reads (codes "fail") failed_of
-unfolding failed_of
+failed_found : Reads (codes "fail") read_failed
+unfolding read_failed
 failed_found fields step e =
-    let w = step_found (one_of fields) (λ w. rank_of w >>= λ rank. Ok (Failed rank)) step e in
-    let r = step_found (rank_of w.0) (λ rank. Ok (Failed rank)) step w.2 in
+    let w = step_found (one_of fields) (λ w. read_rank w >>= λ rank. Ok (Failed rank)) step e in
+    let r = step_found (read_rank w.0) (λ rank. Ok (Failed rank)) step w.2 in
     let rank = number_to_found 1023 r.0 w.0 r.1 in
     subst (SpellsStep (joined (codes "fail") fields)) (same_done (Failed r.0) step r.2)
     (omega (arith, rank.0), ap (joined (codes "fail")) (one_found fields w.0 w.1) ∙ ap (λ (t : List ℕ). codes "fail" ++ 32 ∷ t) rank.1)
@@ -204,15 +204,15 @@ no_verb : (line : List ℕ) (step : ScriptStep) → (let r : Result ScriptStep L
 no_verb line step e = absurd cc
 
 read_from : (word : List ℕ) (fields : Option (List ℕ)) (step : ScriptStep) → step_from (word, fields) ≡ Ok step → SpellsStep (joined word fields) step
-read_from word fields step e = verb_found SpellsStep word (codes "call") fields asked_of _ step asked_found
+read_from word fields step e = verb_found SpellsStep word (codes "call") fields read_asked _ step asked_found
     (verb_found SpellsStep word (codes "step") fields stepped_of _ step stepped_found
     (verb_found SpellsStep word (codes "before") fields before_of _ step before_found
     (verb_found SpellsStep word (codes "finish") fields finished_of _ step finished_found
-    (verb_found SpellsStep word (codes "fail") fields failed_of _ step failed_found (no_verb (joined word fields) step))))) e
+    (verb_found SpellsStep word (codes "fail") fields read_failed _ step failed_found (no_verb (joined word fields) step))))) e
 
 read_is_step : (line : List ℕ) (step : ScriptStep) → step_line_of line ≡ Ok step → SpellsStep line step
 unfolding step_line_of
-read_is_step line step e = subst (λ (t : List ℕ). SpellsStep t step) (joined_word line) (read_from (word_of line).0 (word_of line).1 step e)
+read_is_step line step e = subst (λ (t : List ℕ). SpellsStep t step) (joined_word line) (read_from (first_word line).0 (first_word line).1 step e)
 
 -- what is read is spelled so
 pub steps_found : (line : List ℕ) (r : Result ScriptStep LineKind) → r ≡ step_line_of line → IfOk r (λ step. SpellsStep line step)

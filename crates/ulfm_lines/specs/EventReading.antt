@@ -23,8 +23,8 @@ abbrev pub marked : ℕ × (ℕ × ℕ) → ℕ → Option TraceEvent
 marked place known = if nat_lt 0 known && nat_le known 1024 then Some (Mark place.0 place.1.0 place.1.1 (mark_at known)) else None
 
 -- the text behind each verb
-unfoldable pub fail_event : Option (List ℕ) → ReadEvent
-fail_event text = whole rank_field text >>= λ r. Ok (Some (Fail r))
+unfoldable pub read_fail : Option (List ℕ) → ReadEvent
+read_fail text = whole rank_field text >>= λ r. Ok (Some (Fail r))
 
 unfoldable pub settle_event : Option (List ℕ) → ReadEvent
 settle_event text =
@@ -46,7 +46,7 @@ spawn_event text = whole (both comm_field (both comm_field number_field)) text >
 -- a verb, and the text behind it
 abbrev pub event_from : List ℕ × Option (List ℕ) → ReadEvent
 event_from first =
-    if bytes_eq first.0 (codes "fail") then fail_event first.1
+    if bytes_eq first.0 (codes "fail") then read_fail first.1
     else (if bytes_eq first.0 (codes "settle") then settle_event first.1
     else (if bytes_eq first.0 (codes "mark") then mark_event first.1
     else (if bytes_eq first.0 (codes "arrive") then arrive_event first.1

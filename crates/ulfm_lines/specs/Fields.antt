@@ -3,10 +3,11 @@ use denote.Ref.{Bor}
 use Rattle.std.specs.Prelude.{ℕ, List, codes, Bool, true, false, Option, Some, None, Result, Ok, Err, if◌then◌else◌}
 use Rattle.std.specs.Str.{bytes_eq}
 use Rattle.ulfm_laws.specs.declared.{ctx_mask.CtxMask.{CtxMask}, flag_and.FlagAnd.{FlagAnd}}
-use Rattle.ulfm_model.specs.declared.{contribution.Offer.{Offer}, contribution.Offer.TheVariants.{Flag, Ctx}, event.Caller.{Caller}, event.Caller.TheVariants.{Outside, Rank}}
+use Rattle.ulfm_model.specs.declared.{contribution.Offer.{Offer}, contribution.Offer.TheVariants.{Flag, Ctx}, event.Caller.{Caller}}
+use Rattle.ulfm_model.specs.declared.event.Caller.TheVariants.{Outside, Rank}
 use Rattle.ulfm_script.specs.declared.line_kind.LineKind.{LineKind}
 use Rattle.ulfm_script.specs.declared.line_kind.LineKind.TheVariants.{Words}
-use Rattle.ulfm_script.specs.{Digits.{comm_of, flag_of, number_of, point_of, rank_of}, Steps.{◌>>=◌}, Words.{next_word, rest_at}}
+use Rattle.ulfm_script.specs.{Digits.{read_comm, read_flag, read_number, read_point, read_rank}, Steps.{◌>>=◌}, Words.{next_word, rest_at}}
 
 -- what is read of a field, and the text behind it
 abbrev pub Field : Type 0 → Type 0
@@ -35,26 +36,26 @@ whole one text = one text >>= λ a. over a.1 >>= λ last. Ok a.0
 
 -- fields of one word
 unfoldable pub rank_field : Option (List ℕ) → Field ℕ
-rank_field text = field_by rank_of text
+rank_field text = field_by read_rank text
 
 unfoldable pub comm_field : Option (List ℕ) → Field ℕ
-comm_field text = field_by comm_of text
+comm_field text = field_by read_comm text
 
 unfoldable pub number_field : Option (List ℕ) → Field ℕ
-number_field text = field_by number_of text
+number_field text = field_by read_number text
 
 unfoldable pub point_field : Option (List ℕ) → Field ℕ
-point_field text = field_by point_of text
+point_field text = field_by read_point text
 
 unfoldable pub flag_field : Option (List ℕ) → Field FlagAnd
-flag_field text = field_by flag_of text
+flag_field text = field_by read_flag text
 
 -- a caller, as a line names it
-unfoldable pub caller_of : List ℕ → Result Caller LineKind
-caller_of word = if bytes_eq word (codes "-") then Ok Outside else (rank_of word >>= λ r. Ok (Rank r))
+unfoldable pub read_caller : List ℕ → Result Caller LineKind
+read_caller word = if bytes_eq word (codes "-") then Ok Outside else (read_rank word >>= λ r. Ok (Rank r))
 
 unfoldable pub caller_field : Option (List ℕ) → Field Caller
-caller_field text = field_by caller_of text
+caller_field text = field_by read_caller text
 
 -- this word
 abbrev pub is_word : List ℕ → List ℕ → Result (Unit {0}) LineKind

@@ -8,8 +8,10 @@ use Rattle.ulfm_model.specs.declared.reply.Reply.TheVariants as reply
 use Rattle.ulfm_model.specs.Answers.{printed}
 use Rattle.ulfm_script.specs.declared.line_kind.LineKind.{LineKind}
 use Rattle.ulfm_script.specs.declared.line_kind.LineKind.TheVariants.{Words}
-use Rattle.ulfm_script.specs.{Calls.{call_of}, Printed.{reply_text}, Steps.{◌>>=◌}, Words.{next_word, word_of}}
-use Rattle.ulfm_lines.specs.{EventReading.{event_of}, Fields.{Field, both, caller_field, comm_field, error_field, flag_field, label_field, labelled, number_field, over, point_field, rank_field, whole}, LineTexts.{TraceLine}}
+use Rattle.ulfm_script.specs.{Calls.{call_of}, Printed.{reply_text}, Steps.{◌>>=◌}, Words.{next_word, first_word}}
+use Rattle.ulfm_lines.specs.EventReading.{event_of}
+use Rattle.ulfm_lines.specs.Fields.{Field, both, caller_field, comm_field, error_field, flag_field, label_field, labelled, number_field, over, point_field, rank_field, whole}
+use Rattle.ulfm_lines.specs.LineTexts.{TraceLine}
 use Rattle.ulfm_trace_model.specs.declared.line.Line.TheVariants.{Called, Looked, Happened, Replied}
 
 -- a reply, or none where it tells a context id that no communicator has
@@ -25,8 +27,8 @@ abbrev pub or_refusal : ℕ → List ℕ → Refusal → Result Refusal LineKind
 or_refusal number name one other = if (number == (printed one).0) && bytes_eq name (printed one).1 then Ok one else other
 
 -- the refusal of a number and a name; want of memory is never told
-unfoldable pub refusal_of : ℕ → List ℕ → Result Refusal LineKind
-refusal_of number name =
+unfoldable pub read_refusal : ℕ → List ℕ → Result Refusal LineKind
+read_refusal number name =
     or_refusal number name refusal.SelfFailed (or_refusal number name refusal.NoSuchComm (or_refusal number name refusal.Busy
     (or_refusal number name refusal.ShrinkOpen (or_refusal number name refusal.RoundsUsedUp (or_refusal number name refusal.Idle
     (or_refusal number name refusal.Mismatch (or_refusal number name refusal.NoContext (or_refusal number name refusal.NoRoom
@@ -35,22 +37,22 @@ refusal_of number name =
 
 -- a number and a name
 unfoldable pub refusal_field : Option (List ℕ) → Field Refusal
-refusal_field text = number_field text >>= λ number. next_word number.1 >>= λ name. refusal_of number.0 name.0 >>= λ one. Ok (one, name.1)
+refusal_field text = number_field text >>= λ number. next_word number.1 >>= λ name. read_refusal number.0 name.0 >>= λ one. Ok (one, name.1)
 
 -- this reply, where the word is its text
 abbrev pub or_reply : List ℕ → Reply FlagAnd → Result (Reply FlagAnd) LineKind → Result (Reply FlagAnd) LineKind
 or_reply word one other = if bytes_eq word (reply_text [] one) then Ok one else other
 
 -- the replies of one word
-unfoldable pub plain_of : List ℕ → Result (Reply FlagAnd) LineKind
-plain_of word =
+unfoldable pub read_plain : List ℕ → Result (Reply FlagAnd) LineKind
+read_plain word =
     or_reply word reply.Started (or_reply word reply.Pending (or_reply word reply.Done (or_reply word reply.Declared
     (or_reply word reply.AlreadyFailed (or_reply word reply.Revoked (or_reply word reply.AlreadyRevoked
     (or_reply word (reply.Standing true) (or_reply word (reply.Standing false) (or_reply word reply.Freed (Err Words))))))))))
 
 -- what was agreed on
-unfoldable pub agreed_reply : Option (List ℕ) → Field SomeReply
-agreed_reply text =
+unfoldable pub read_agreed : Option (List ℕ) → Field SomeReply
+read_agreed text =
     alone (λ x. reply.Agreed x.0 x.1.0 x.1.1) (whole (both flag_field (both (labelled (codes "failed")) error_field)) text)
 
 -- how many failures are acknowledged
@@ -76,19 +78,19 @@ abbrev pub made : ℕ → ℕ → SomeReply
 made comm context = if nat_lt 255 context then None else Some (reply.Shrunk comm context 0)
 
 -- a new communicator, whose members are to be read
-unfoldable pub shrunk_reply : Option (List ℕ) → Field SomeReply
-shrunk_reply text =
+unfoldable pub read_shrunk : Option (List ℕ) → Field SomeReply
+read_shrunk text =
     both comm_field (both (labelled (codes "context")) (label_field (codes "members"))) text >>= λ x. listing (made x.0.0 x.0.1.0) x.1
 
 -- a reply of one word, and nothing behind it
 abbrev pub word_reply : List ℕ → Option (List ℕ) → Field SomeReply
-word_reply word fields = over fields >>= λ last. alone (λ one. one) (plain_of word)
+word_reply word fields = over fields >>= λ last. alone (λ one. one) (read_plain word)
 
 -- a reply's first word, and the text behind it
 abbrev pub reply_from : List ℕ × Option (List ℕ) → Field SomeReply
 reply_from first =
-    if bytes_eq first.0 (codes "agreed") then agreed_reply first.1
-    else (if bytes_eq first.0 (codes "shrunk") then shrunk_reply first.1
+    if bytes_eq first.0 (codes "agreed") then read_agreed first.1
+    else (if bytes_eq first.0 (codes "shrunk") then read_shrunk first.1
     else (if bytes_eq first.0 (codes "failed") then failed_reply first.1
     else (if bytes_eq first.0 (codes "acked") then acked_reply first.1
     else (if bytes_eq first.0 (codes "refused") then refused_reply first.1
@@ -126,7 +128,7 @@ line_from first =
 
 -- a line, but for the ranks that it lists
 unfoldable pub line_head : List ℕ → Field TraceLine
-line_head text = line_from (word_of text)
+line_head text = line_from (first_word text)
 
 -- a reply with the number of ranks that it lists
 abbrev pub reply_listing : ℕ → Reply FlagAnd → Reply FlagAnd

@@ -7,66 +7,67 @@ use Rattle.ulfm_trace_model.specs.declared.step_line.StepLine.{StepLine}
 use Rattle.ulfm_trace_model.specs.declared.step_line.StepLine.TheVariants.{Called, Stepped, Before, Finished, Failed}
 use Rattle.ulfm_script.specs.declared.line_kind.LineKind.{LineKind}
 use Rattle.ulfm_script.specs.declared.line_kind.LineKind.TheVariants.{Number, Verb, Words}
-use Rattle.ulfm_script.specs.{Calls.{ScriptCall, call_of}, Digits.{number_of, rank_of}, Spelling.{Spells}, Steps.{◌>>=◌}, Words.{one_of, two_of, word_of}}
-use Rattle.ulfm_lines.specs.StepNames.{name_of, step_text}
+use Rattle.ulfm_script.specs.{Calls.{ScriptCall, call_of}, Digits.{read_number, read_rank}, Spelling.{Spells}, Steps.{◌>>=◌}}
+use Rattle.ulfm_script.specs.Words.{one_of, two_of, first_word}
+use Rattle.ulfm_lines.specs.StepNames.{read_step_name, step_text}
 
 -- a line of a step script
 abbrev pub ScriptStep : Type 0
 ScriptStep = StepLine FlagAnd
 
 -- a call behind its line's verb; the outside's declarations are no calls of ranks
-abbrev pub asked_in : List ℕ → Result ScriptStep LineKind
-asked_in text =
-    if length (word_of text).0 == 0 then Err Words
-    else (if bytes_eq (word_of text).0 (codes "fail") then Err Verb else (call_of text >>= λ asked. Ok (Called asked)))
+abbrev pub read_asked_in : List ℕ → Result ScriptStep LineKind
+read_asked_in text =
+    if length (first_word text).0 == 0 then Err Words
+    else (if bytes_eq (first_word text).0 (codes "fail") then Err Verb else (call_of text >>= λ asked. Ok (Called asked)))
 
 -- the same, where there is one
-unfoldable pub asked_of : Option (List ℕ) → Result ScriptStep LineKind
-asked_of None = Err Words
-asked_of (Some text) = asked_in text
+unfoldable pub read_asked : Option (List ℕ) → Result ScriptStep LineKind
+read_asked None = Err Words
+read_asked (Some text) = read_asked_in text
 
 -- a rank, and how many steps it makes at most
 unfoldable pub stepped_of : Option (List ℕ) → Result ScriptStep LineKind
 stepped_of fields = do
   words ← two_of fields
-  rank ← rank_of words.0
-  count ← number_of words.1
+  rank ← read_rank words.0
+  count ← read_number words.1
   if count == 0 then Err Number else Ok (Stepped rank count)
 
 -- a rank, and the step before which it stops
 unfoldable pub before_of : Option (List ℕ) → Result ScriptStep LineKind
 before_of fields = do
   words ← two_of fields
-  rank ← rank_of words.0
-  name ← name_of words.1
+  rank ← read_rank words.0
+  name ← read_step_name words.1
   Ok (Before rank name)
 
 -- a rank alone
 unfoldable pub finished_of : Option (List ℕ) → Result ScriptStep LineKind
 finished_of fields = do
   word ← one_of fields
-  rank ← rank_of word
+  rank ← read_rank word
   Ok (Finished rank)
 
-unfoldable pub failed_of : Option (List ℕ) → Result ScriptStep LineKind
-failed_of fields = do
+unfoldable pub read_failed : Option (List ℕ) → Result ScriptStep LineKind
+read_failed fields = do
   word ← one_of fields
-  rank ← rank_of word
+  rank ← read_rank word
   Ok (Failed rank)
 
 -- a verb, and the text behind it
 abbrev pub step_from : List ℕ × Option (List ℕ) → Result ScriptStep LineKind
 step_from first =
-    if bytes_eq first.0 (codes "call") then asked_of first.1
+    if bytes_eq first.0 (codes "call") then read_asked first.1
     else (if bytes_eq first.0 (codes "step") then stepped_of first.1
     else (if bytes_eq first.0 (codes "before") then before_of first.1
     else (if bytes_eq first.0 (codes "finish") then finished_of first.1
-    else (if bytes_eq first.0 (codes "fail") then failed_of first.1
+    else (if bytes_eq first.0 (codes "fail") then read_failed first.1
     else Err Verb))))
 
 -- what a line asks for
 unfoldable pub step_line_of : List ℕ → Result ScriptStep LineKind
-step_line_of line = step_from (word_of line)
+step_line_of line = step_from (first_word line)
 
 -- a call of a rank, and not of the outside
 abbrev pub IsByRank : ScriptCall → Type 0

@@ -26,8 +26,8 @@ abbrev pub or_name : List ℕ → StepName → Result StepName LineKind → Resu
 or_name word name other = if bytes_eq word (step_text name) then Ok name else other
 
 -- the step whose name a word is
-unfoldable pub name_of : List ℕ → Result StepName LineKind
-name_of word =
+unfoldable pub read_step_name : List ℕ → Result StepName LineKind
+read_step_name word =
     or_name word name.List (or_name word name.Settle (or_name word name.Block (or_name word name.Mark (or_name word name.Slot
     (or_name word name.Cache (or_name word name.Comm (or_name word name.Spawn (or_name word name.Arrive (or_name word name.Arrival
     (or_name word name.Revoke (or_name word name.Revocation (Err Step))))))))))))

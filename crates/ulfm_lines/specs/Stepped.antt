@@ -14,8 +14,8 @@ abbrev pub TraceState : Type 0
 TraceState = Traced FlagAnd
 
 -- a line of a step script that some text spells
-abbrev pub IsStep : ScriptStep → Type 0
-IsStep step = (line : List ℕ) × SpellsStep line step
+abbrev pub IsSpelledStep : ScriptStep → Type 0
+IsSpelledStep step = (line : List ℕ) × SpellsStep line step
 
 -- the script's line begins a call of a rank that has one under way
 abbrev pub IsOpenCall : TraceState → ScriptStep → Type 0

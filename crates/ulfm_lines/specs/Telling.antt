@@ -3,7 +3,8 @@ use Rattle.std.specs.Prelude.{◌≡◌, ◌≢◌, ◌⊎◌, ℕ, ◌<◌, ◌
 use Rattle.std.specs.List.{AllByRecursion}
 use Rattle.std.specs.Fmt.{decimal}
 use Rattle.ulfm_laws.specs.declared.flag_and.FlagAnd.{FlagAnd}
-use Rattle.ulfm_model.specs.declared.{contribution.Offer.{Offer}, event.Caller.{Caller}, event.Caller.TheVariants.{Outside, Rank}, event.Event.TheVariants.{Fail, Settle, Mark, Arrive, Revoke, Spawn}}
+use Rattle.ulfm_model.specs.declared.{contribution.Offer.{Offer}, event.Caller.{Caller}, event.Caller.TheVariants.{Outside, Rank}}
+use Rattle.ulfm_model.specs.declared.event.Event.TheVariants.{Fail, Settle, Mark, Arrive, Revoke, Spawn}
 use Rattle.ulfm_model.specs.declared.{refusal.Refusal.TheVariants.{OutOfMemory}, reply.Reply.{Reply}}
 use Rattle.ulfm_model.specs.declared.reply.Reply.TheVariants as reply
 use Rattle.ulfm_script.specs.{Printed.{ranks_text, reply_text, shrunk_text}, Spelling.{IsSpelled, Spells}}
@@ -108,8 +109,8 @@ TellsLine text group (Replied by point told) =
     × TellsReply rest group told
 
 -- the line of text tells this typed line, which lists these ranks
-abbrev pub Tells : List ℕ → List ℕ → TraceLine → Type 0
-Tells text group line = (length text ≤ 8192) × TellsLine text group line
+abbrev pub TextTells : List ℕ → List ℕ → TraceLine → Type 0
+TextTells text group line = (length text ≤ 8192) × TellsLine text group line
 
 -- a line that can be told, with the ranks that it lists
 abbrev pub LineFits : List ℕ → TraceLine → Type 0

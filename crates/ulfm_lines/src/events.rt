@@ -1,7 +1,7 @@
 //! Events, read of a trace's line.
 ghost use Rattle.std.specs.Prelude.{◌≡◌};
 ghost use Rattle.ulfm_script.specs.Words.{rest_at};
-ghost use Rattle.ulfm_lines.specs.EventReading.{arrive_event, event_of, fail_event, mark_event, marked, revoke_event, settle_event, settled, spawn_event};
+ghost use Rattle.ulfm_lines.specs.EventReading.{arrive_event, event_of, read_fail, mark_event, marked, revoke_event, settle_event, settled, spawn_event};
 
 use crate::fields::{
     comm_field, is_word, labelled, number_field, offer_field, over, place_field, rank_field,
@@ -35,9 +35,9 @@ pub(crate) fn read_event(text: Option<&[u8]>) -> Result<Option<Event<FlagAnd>>, 
     }
 }
 
-#[tactic(auto, unfolding(crate::specs::EventReading::fail_event))]
+#[tactic(auto, unfolding(crate::specs::EventReading::read_fail))]
 fn read_fail(text: Option<&[u8]>) -> Result<Option<Event<FlagAnd>>, LineKind>
-    ensures { result ≡ fail_event (rest_at text.entry) }
+    ensures { result ≡ read_fail (rest_at text.entry) }
 {
     let (rank, rest) = rank_field(text)?;
     over(rest)?;

@@ -2,7 +2,8 @@
 ghost use Rattle.std.specs.Prelude.{◌≡◌};
 ghost use Rattle.std.specs.Str.{bytes_eq};
 ghost use Rattle.ulfm_script.specs.Words.{Gives, rest_at};
-ghost use Rattle.ulfm_lines.specs.Fields.{at_field, caller_field, caller_of, comm_field, error_field, error_of, flag_field, flag_mask, label_field, labelled, number_field, offer_field, offer_of, over, place_field, point_field, rank_field};
+ghost use Rattle.ulfm_lines.specs.Fields.{at_field, caller_field, read_caller, comm_field, error_field, error_of, flag_field, flag_mask, label_field};
+ghost use Rattle.ulfm_lines.specs.Fields.{labelled, number_field, offer_field, offer_of, over, place_field, point_field, rank_field};
 
 use ulfm_laws::{CtxMask, FlagAnd};
 use ulfm_model::contribution::Offer;
@@ -64,9 +65,9 @@ pub(crate) fn flag_field(text: Option<&[u8]>) -> Result<(FlagAnd, Option<&[u8]>)
     Ok((flag, rest))
 }
 
-#[tactic(auto, unfolding(crate::specs::Fields::caller_of))]
+#[tactic(auto, unfolding(crate::specs::Fields::read_caller))]
 fn read_caller(word: &[u8]) -> Result<Caller, LineKind>
-    ensures { result ≡ caller_of word.now }
+    ensures { result ≡ read_caller word.now }
 {
     if is_word(word, b"-") {
         return Ok(Caller::Outside);

@@ -4,7 +4,8 @@ ghost use Rattle.std.specs.Str.{bytes_eq};
 ghost use Rattle.ulfm_model.specs.Answers.{printed};
 ghost use Rattle.ulfm_script.specs.Words.{Gives, rest_at};
 ghost use Rattle.ulfm_lines.specs.Fields.{at_field};
-ghost use Rattle.ulfm_lines.specs.LineReading.{acked_reply, agreed_reply, failed_reply, made, plain_of, refusal_field, refusal_of, refused_reply, shrunk_reply, some_reply_of, word_reply};
+ghost use Rattle.ulfm_lines.specs.LineReading.{acked_reply, read_agreed, failed_reply, made, read_plain, refusal_field, read_refusal, refused_reply};
+ghost use Rattle.ulfm_lines.specs.LineReading.{read_shrunk, some_reply_of, word_reply};
 
 use crate::fields::{
     comm_field, error_field, flag_field, is_word, label_field, labelled, number_field, over,
@@ -49,9 +50,9 @@ fn read_alone<'a>(
     Ok((Some(reply), None))
 }
 
-#[tactic(auto, unfolding(crate::specs::LineReading::agreed_reply))]
+#[tactic(auto, unfolding(crate::specs::LineReading::read_agreed))]
 fn read_agreed(text: Option<&[u8]>) -> Result<(Option<Reply<FlagAnd>>, Option<&[u8]>), LineKind>
-    ensures { Gives at_field result (agreed_reply (rest_at text.entry)) }
+    ensures { Gives at_field result (read_agreed (rest_at text.entry)) }
 {
     let (value, rest) = flag_field(text)?;
     let (failed, rest) = labelled(b"failed", rest)?;
@@ -66,9 +67,9 @@ fn read_agreed(text: Option<&[u8]>) -> Result<(Option<Reply<FlagAnd>>, Option<&[
 }
 
 /// A new communicator, whose members follow.
-#[tactic(auto, unfolding(crate::specs::LineReading::shrunk_reply))]
+#[tactic(auto, unfolding(crate::specs::LineReading::read_shrunk))]
 fn read_shrunk(text: Option<&[u8]>) -> Result<(Option<Reply<FlagAnd>>, Option<&[u8]>), LineKind>
-    ensures { Gives at_field result (shrunk_reply (rest_at text.entry)) }
+    ensures { Gives at_field result (read_shrunk (rest_at text.entry)) }
 {
     let (comm, rest) = comm_field(text)?;
     let (context, rest) = labelled(b"context", rest)?;
@@ -144,9 +145,9 @@ fn is_named(refusal: Refusal, number: u16, name: &[u8]) -> bool
 }
 
 /// The refusal of a number and a name; want of memory is never told.
-#[tactic(auto, unfolding(crate::specs::LineReading::refusal_of))]
+#[tactic(auto, unfolding(crate::specs::LineReading::read_refusal))]
 fn read_refusal(number: u16, name: &[u8]) -> Result<Refusal, LineKind>
-    ensures { result ≡ refusal_of number name.now }
+    ensures { result ≡ read_refusal number name.now }
 {
     let refusals = [
         Refusal::SelfFailed,
@@ -173,9 +174,9 @@ fn read_refusal(number: u16, name: &[u8]) -> Result<Refusal, LineKind>
 }
 
 /// The replies of one word.
-#[tactic(auto, unfolding(crate::specs::LineReading::plain_of))]
+#[tactic(auto, unfolding(crate::specs::LineReading::read_plain))]
 fn read_plain(word: &[u8]) -> Result<Reply<FlagAnd>, LineKind>
-    ensures { result ≡ plain_of word.now }
+    ensures { result ≡ read_plain word.now }
 {
     if is_word(word, b"started") {
         Ok(Reply::Started)

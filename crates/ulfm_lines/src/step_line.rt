@@ -1,7 +1,7 @@
 //! The lines of a step script.
 ghost use Rattle.std.specs.Prelude.{◌≡◌, Ok, IfOk};
 ghost use Rattle.ulfm_script.specs.Words.{rest_at};
-ghost use Rattle.ulfm_lines.specs.StepLines.{ScriptStep, SpellsStep, asked_of, before_of, failed_of, finished_of, step_line_of, stepped_of};
+ghost use Rattle.ulfm_lines.specs.StepLines.{ScriptStep, SpellsStep, read_asked, before_of, read_failed, finished_of, step_line_of, stepped_of};
 
 use crate::fields::is_word;
 use crate::step_name::read_step_name;
@@ -45,9 +45,9 @@ fn parse_step_line(line: &[u8]) -> Result<StepLine<FlagAnd>, LineKind>
 }
 
 /// A call that a rank begins.
-#[tactic(auto, unfolding(crate::specs::StepLines::asked_of))]
+#[tactic(auto, unfolding(crate::specs::StepLines::read_asked))]
 fn read_asked(fields: Option<&[u8]>) -> Result<StepLine<FlagAnd>, LineKind>
-    ensures { result ≡ asked_of (rest_at fields.entry) }
+    ensures { result ≡ read_asked (rest_at fields.entry) }
 {
     let Some(text) = fields else {
         return Err(LineKind::Words);
@@ -95,9 +95,9 @@ fn read_finished(fields: Option<&[u8]>) -> Result<StepLine<FlagAnd>, LineKind>
     Ok(StepLine::Finished { rank })
 }
 
-#[tactic(auto, unfolding(crate::specs::StepLines::failed_of))]
+#[tactic(auto, unfolding(crate::specs::StepLines::read_failed))]
 fn read_failed(fields: Option<&[u8]>) -> Result<StepLine<FlagAnd>, LineKind>
-    ensures { result ≡ failed_of (rest_at fields.entry) }
+    ensures { result ≡ read_failed (rest_at fields.entry) }
 {
     let word = one_word(fields)?;
     let rank = read_number_to(LAST_RANK, word)?;

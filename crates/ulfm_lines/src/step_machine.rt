@@ -4,7 +4,7 @@ ghost use Rattle.ulfm_laws.specs.declared.flag_and.FlagAnd.{FlagAnd};
 ghost use Rattle.ulfm_model.specs.Words.{MayOpen};
 ghost use Rattle.ulfm_trace_model.specs.Traces.{Traced, nothing};
 ghost use Rattle.ulfm_lines.specs.Progress.{GoesAsSaid, GoesFar, Progress};
-ghost use Rattle.ulfm_lines.specs.Stepped.{IsStep, TellsStep};
+ghost use Rattle.ulfm_lines.specs.Stepped.{IsSpelledStep, TellsStep};
 ghost use Rattle.ulfm_lines.specs.Walked.{IsCountOf, TellsSteps};
 ghost use Rattle.std.specs.Prelude.{◌+◌};
 
@@ -58,7 +58,7 @@ pub trait StepMachine<A: Allocator>: Drop {
 
     /// Runs one line and tells what happens, line by line of the trace. Steps of a call are made as far as the line says. Only memory can be refused; the machine isn't used again then.
     fn run(&mut self, step: &StepLine<FlagAnd>, teller: &mut Teller<A>) -> Result<Taken, AllocError>
-        requires { IsStep step.now }
+        requires { IsSpelledStep step.now }
         ensures tells { (now : Traced FlagAnd) → Stands self.old now
             → IfOk result (λ taken. TellsStep (Stands self.new) now step.now taken teller.old.text.items teller.new.text.items) }
         ensures goes { OnOk result (GoesAsSaid (Has self.old) (Has self.new) step.now) };

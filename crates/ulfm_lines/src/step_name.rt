@@ -1,7 +1,7 @@
 //! The names of atomic steps, as scripts write them.
 ghost use Rattle.std.specs.Prelude.{◌≡◌, Ok, IfOk};
 ghost use Rattle.ulfm_model.specs.declared.step_name.StepName.{StepName};
-ghost use Rattle.ulfm_lines.specs.StepNames.{name_of, step_text};
+ghost use Rattle.ulfm_lines.specs.StepNames.{read_step_name, step_text};
 
 use ulfm_model::step_name::StepName;
 use ulfm_script::LineKind;
@@ -30,14 +30,14 @@ pub fn step_word(name: StepName) -> &'static [u8]
 pub fn read_step_name(word: &[u8]) -> Result<StepName, LineKind>
     ensures found { IfOk result (λ name. word.now ≡ step_text name) }
     ensures only { (name : StepName) → word.now ≡ step_text name → result ≡ Ok name }
-    ensures exact { result ≡ name_of word.now }
+    ensures exact { result ≡ read_step_name word.now }
 {
     parse_name(word)
 }
 
-#[tactic(auto, unfolding(crate::specs::StepNames::name_of))]
+#[tactic(auto, unfolding(crate::specs::StepNames::read_step_name))]
 fn parse_name(word: &[u8]) -> Result<StepName, LineKind>
-    ensures { result ≡ name_of word.now }
+    ensures { result ≡ read_step_name word.now }
 {
     let names = [
         StepName::List,

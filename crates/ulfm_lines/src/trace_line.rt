@@ -4,7 +4,7 @@ ghost use Rattle.ulfm_script.specs.Words.{Gives, rest_at};
 ghost use Rattle.ulfm_lines.specs.Fields.{at_field};
 ghost use Rattle.ulfm_lines.specs.LineReading.{called_line, happened_line, line_head, line_listing, looked_line, replied_line, reply_listing};
 ghost use Rattle.ulfm_lines.specs.LineTexts.{TraceLine};
-ghost use Rattle.ulfm_lines.specs.Telling.{ListsRanks, Tells};
+ghost use Rattle.ulfm_lines.specs.Telling.{ListsRanks, TextTells};
 
 use crate::events::read_event;
 use crate::fields::{caller_field, is_word, number_field, over, point_field, rank_field};
@@ -30,8 +30,8 @@ pub fn read_line<A: Allocator>(
     group: &mut Vec<u16, A>,
 ) -> Result<Option<Line<FlagAnd>>, AllocError>
     // What is read is told so, and what is told so is read.
-    ensures found { IfOk result (λ read. IfSome read (λ told. Tells line.now group.new.items told)) }
-    ensures only { (told : TraceLine) (ranks : List ℕ) → Tells line.now ranks told
+    ensures found { IfOk result (λ read. IfSome read (λ told. TextTells line.now group.new.items told)) }
+    ensures only { (told : TraceLine) (ranks : List ℕ) → TextTells line.now ranks told
         → IfOk result (λ read. (read ≡ Some told) × (group.new.items ≡ ranks)) }
 {
     if line.len() > LONGEST {

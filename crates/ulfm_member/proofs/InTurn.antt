@@ -6,7 +6,7 @@ use Rattle.ulfm_model.specs.declared.call.Call.TheVariants as call
 use Rattle.ulfm_model.specs.declared.{block.Block.{Block}, call.Call.{Call}, call.Request.{Request}, call.Request.TheVariants.{Agree}, limits.Limits.{Limits}, refusal.Refusal.{Refusal}}
 use Rattle.ulfm_model.specs.{Answers.{refusal_of}, History.{members}, Records.{Held, Record, held_at}, Terms.{request_of}}
 use Rattle.ulfm_model.proofs.{Histories.{members_stay}, Lists.{prefix_trans}}
-use Rattle.ulfm_words.specs.Steps.{Heard, Tells}
+use Rattle.ulfm_words.specs.Steps.{view_of, Heard, Tells}
 use Rattle.ulfm_steps.specs.Blocks.{AllSet}
 use Rattle.ulfm_steps.proofs.KnownBlocks.{all_later}
 use Rattle.ulfm_comm.specs.{Bound.{also_bound, also_call_bound}, Calls.{reply_of}, Polls.{polled}, Requests.{BlocksStand, agreement, is_of_round}, StepsLeft.{group_of}}
@@ -24,40 +24,40 @@ bound_is P limits own rank c k f x held open_is = go own.refused (is_some (refus
     go false false request is = rw is (omega arith)
 
 module _ {P : Type 0} (meld : P → P → P) (alone tells : Bool) (c : ℕ) (first by : Membership P) (result : Result (Polled P) Refusal) (second mid new : Membership P) (answer : Result (Polled P) Refusal) (told : Heard P)
-    (fit : IsMember meld first) (polls : MemberPolls meld alone c first result by) (telling : Tells tells by.name by.pass told) (learns : MemberLearns meld alone told second mid) (still : IsMember meld mid)
-    (second_polls : MemberPolls meld alone c mid answer new) (names : first.name ≡ second.name) where
+    (fit : IsMember meld first) (polls : MemberPolls meld alone c first result by) (telling : Tells tells (view_of by.view.words by.view.pass) told) (learns : MemberLearns meld alone told second mid) (still : IsMember meld mid)
+    (second_polls : MemberPolls meld alone c mid answer new) (names : first.view.words ≡ second.view.words) where
   -- what the first had seen the second has seen
-  begins : IsTrue tells → IsPrefix first.pass.seen mid.pass.seen
+  begins : IsTrue tells → IsPrefix first.view.pass.seen mid.view.pass.seen
   begins all =
       let look = polls.steps.made.look in
-      let whole = prefix_trans first.pass.seen polls.steps.made.looked.seen by.pass.seen look.begins.0 look.goes_on.0 in
-      prefix_trans first.pass.seen by.pass.seen mid.pass.seen whole (subst (λ h. IsPrefix h mid.pass.seen) (telling.all all).0 learns.learns.hears)
+      let whole = prefix_trans first.view.pass.seen polls.steps.made.looked.seen by.view.pass.seen look.begins.0 look.goes_on.0 in
+      prefix_trans first.view.pass.seen by.view.pass.seen mid.view.pass.seen whole (subst (λ h. IsPrefix h mid.view.pass.seen) (telling.all all).0 learns.learns.hears)
 
-  knows : IsTrue tells → IsPrefix by.pass.cached mid.pass.cached
-  knows all = subst (λ bs. IsPrefix bs mid.pass.cached) (telling.all all).1 learns.learns.hears_cached
+  knows : IsTrue tells → IsPrefix by.view.pass.cached mid.view.pass.cached
+  knows all = subst (λ bs. IsPrefix bs mid.view.pass.cached) (telling.all all).1 learns.learns.hears_cached
 
   pub is_short : IsTrue tells → IsShort c first result second new
   is_short all k opens also_opens answered =
-      let limits = mid.name.limits in
-      let same_name : first.name ≡ mid.name = names ∙ sym learns.words in
+      let limits = mid.view.words.limits in
+      let same_name : first.view.words ≡ mid.view.words = names ∙ sym learns.words in
       let own : mid.own ≡ second.own = learns.own in
       let x = opens.x in
       let y = also_opens.x in
       let held : held_at mid.own c ≡ Some y = ap (λ (w : Record). held_at w c) own ∙ also_opens.held in
       let ranks = ap (λ n. n.limits.ranks) same_name in
-      let exists = exists_is meld first.name.limits first.pass.seen first.own c x fit.fits opens.held in
-      let stay = members_stay limits.ranks first.pass.seen mid.pass.seen c (begins all) exists in
+      let exists = exists_is meld first.view.words.limits first.view.pass.seen first.own c x fit.fits opens.held in
+      let stay = members_stay limits.ranks first.view.pass.seen mid.view.pass.seen c (begins all) exists in
       let made = second_polls.steps.made in
-      let set : AllSet by.pass.cached c k x.group = polls.polls.knows answered x false k opens.held opens.open_is in
-      let first_group = group_is meld first.name.limits first.pass.seen first.own c x fit.fits opens.held in
-      let group_now = group_is meld limits mid.pass.seen mid.own c y still.fits held in
-      let group : x.group ≡ y.group = first_group ∙ (ap (λ n. members n first.pass.seen c) ranks ∙ (sym stay.1 ∙ sym group_now)) in
+      let set : AllSet by.view.pass.cached c k x.group = polls.polls.blocks.knows answered x false k opens.held opens.open_is in
+      let first_group = group_is meld first.view.words.limits first.view.pass.seen first.own c x fit.fits opens.held in
+      let group_now = group_is meld limits mid.view.pass.seen mid.own c y still.fits held in
+      let group : x.group ≡ y.group = first_group ∙ (ap (λ n. members n first.view.pass.seen c) ranks ∙ (sym stay.1 ∙ sym group_now)) in
       let looked = made.looked.cached in
-      let longer = prefix_trans by.pass.cached mid.pass.cached looked (knows all) made.look.begins.1 in
+      let longer = prefix_trans by.view.pass.cached mid.view.pass.cached looked (knows all) made.look.begins.1 in
       let asked : Call P = call.Poll mid.own.number c in
       let is : asked ≡ call.Poll mid.own.number c = refl in
       let here : c ≡ c = refl in
-      let stand : BlocksStand mid.own asked looked = round_known {P = P} mid.own asked mid.own.number is y held false k also_opens.open_is c here x.group group looked (all_later by.pass.cached looked c k x.group longer set) in
+      let stand : BlocksStand mid.own asked looked = round_known {P = P} mid.own asked mid.own.number is y held false k also_opens.open_is c here x.group group looked (all_later by.view.pass.cached looked c k x.group longer set) in
       let also = made.also stand in
       let last = second_polls.steps.last in
       let bound = bound_is P limits mid.own mid.own.number c k (length new.own.seen - length mid.own.seen) y held also_opens.open_is in

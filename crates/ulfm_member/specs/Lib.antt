@@ -1,2 +1,3 @@
+pub mod Outsides
 pub mod Members
 pub mod InTurn

@@ -1,61 +1,69 @@
--- A rank of a world with the pass that it calls with, and what its calls promise.
+-- A `Member`, that is a rank of a world with the pass that it calls with, and what its calls promise.
 use Rattle.std.specs.Prelude.{◌≡◌, ℕ, ◌+◌, ◌≤◌, Bool, Result, IfOk}
 use Rattle.ulfm_model.specs.declared.{call.Call.{Call}, call.Call.TheVariants.{Poll}, refusal.Refusal.{Refusal}, reply.Reply.{Reply}}
 use Rattle.ulfm_model.specs.Records.{Fits, Record}
-use Rattle.ulfm_words.specs.Steps.{Heard, IsNew, IsOf, Learns, Name, Sight}
+use Rattle.ulfm_words.specs.Steps.{Heard, IsNew, IsView, Learns, Name, View, view_of}
 use Rattle.ulfm_comm.specs.{Calls.{Calls, Gets}, Counts.{TakesSteps}, Fails.{Fails}, Polls.{EndsIn, Polls}}
 use Rattle.ulfm_comm.specs.declared.calls.polled.Polled.{Polled}
+use Rattle.ulfm_comm.specs.Local.{Local, local}
 
--- which words it calls over, the rank's record, how many steps its last call made, and its pass
+-- what contracts see of a `Member`: its rank's record, how many steps the rank's last call made, and the view that it calls with
 pub record Membership (P : Type 0) : Type 0 where
-  pub name : Name
   pub own : Record
   pub last : ℕ
-  pub pass : Sight P
+  pub view : View P
 
--- the pass is of these words, and the record fits what it has seen
+-- the local state of a member's rank
+abbrev pub local_of : {P : Type 0} → Membership P → Local P
+local_of m = local m.own m.view
+
+-- the local state of a member's rank after a call, over the words that the member had before it
+abbrev pub after_call : {P : Type 0} → Membership P → Membership P → Local P
+after_call old new = local new.own (view_of old.view.words new.view.pass)
+
+-- a member's pass is of its words, and its record fits what that pass has seen
 pub record IsMember {P : Type 0} (meld : P → P → P) (m : Membership P) : Type 0 where
-  pub of : IsOf meld m.name m.pass
-  pub fits : Fits meld m.name.limits m.pass.seen m.own
+  pub of : IsView meld m.view
+  pub fits : Fits meld m.view.words.limits m.view.pass.seen m.own
 
 -- a member of these words, which has made no call, and whose pass has seen nothing
 pub record IsNewMember {P : Type 0} (meld : P → P → P) (name : Name) (m : Membership P) : Type 0 where
-  pub name_is : m.name ≡ name
-  pub new : IsNew meld name m.pass
+  pub name_is : m.view.words ≡ name
+  pub new : IsNew meld m.view
   pub last : m.last ≡ 0
 
--- a call of its rank, over the same words, in no more atomic steps than it may make
+-- a call of a member: a whole call of its rank, over the same words, in no more atomic steps than the call's bound
 pub record MemberCalls {P : Type 0} (meld : P → P → P) (alone : Bool) (asked : Call P) (old : Membership P) (reply : Reply P) (new : Membership P)
     : Type 0 where
-  pub words : new.name ≡ old.name
-  pub calls : Calls meld alone old.name asked old.own old.pass reply new.own new.pass
-  pub steps : TakesSteps old.name.limits asked old.own old.pass new.own new.last new.pass
+  pub words : new.view.words ≡ old.view.words
+  pub calls : Calls meld alone asked (local_of old) reply (after_call old new)
+  pub steps : TakesSteps asked (local_of old) new.last (after_call old new)
 
--- a query of the failed group, which puts so many ranks into a vector, in no more steps
+-- a member's query of the failed group, which puts `count` ranks into a vector or is refused, within its bound of steps
 pub record MemberGets {P : Type 0} (meld : P → P → P) (alone : Bool) (asked : Call P) (old : Membership P) (count : ℕ) (result : Result (Unit {0}) Refusal)
     (new : Membership P) : Type 0 where
-  pub words : new.name ≡ old.name
-  pub gets : Gets meld alone old.name asked old.own old.pass count result new.own new.pass
-  pub steps : TakesSteps old.name.limits asked old.own old.pass new.own new.last new.pass
+  pub words : new.view.words ≡ old.view.words
+  pub gets : Gets meld alone asked (local_of old) count result (after_call old new)
+  pub steps : TakesSteps asked (local_of old) new.last (after_call old new)
 
--- a poll on communicator c, in no more steps
+-- a member's poll on communicator c, within its bound of steps
 pub record MemberPolls {P : Type 0} (meld : P → P → P) (alone : Bool) (c : ℕ) (old : Membership P) (result : Result (Polled P) Refusal) (new : Membership P)
     : Type 0 where
-  pub words : new.name ≡ old.name
-  pub polls : Polls meld alone old.name (Poll old.own.number c) old.own old.pass result new.own new.pass
-  pub pending : IfOk result (EndsIn meld alone old.name c old.own old.pass new.own new.pass)
-  pub steps : TakesSteps {P = P} old.name.limits (Poll old.own.number c) old.own old.pass new.own new.last new.pass
+  pub words : new.view.words ≡ old.view.words
+  pub polls : Polls meld alone (Poll old.own.number c) (local_of old) result (after_call old new)
+  pub pending : IfOk result (EndsIn meld alone c (local_of old) (after_call old new))
+  pub steps : TakesSteps {P = P} (Poll old.own.number c) (local_of old) new.last (after_call old new)
 
--- a declaration in the name of the outside, which the member has seen from then on
+-- a declaration through a member, which counts as the outside's and not as a call of the member's rank, and which its pass has seen from then on
 pub record MemberFails {P : Type 0} (meld : P → P → P) (alone : Bool) (rank : ℕ) (old : Membership P) (reply : Reply P) (new : Membership P) : Type 0 where
-  pub words : new.name ≡ old.name
+  pub words : new.view.words ≡ old.view.words
   pub own : new.own ≡ old.own
   pub last : new.last ≡ old.last
-  pub fails : Fails meld alone old.name rank old.pass reply new.pass
+  pub fails : Fails meld alone rank old.view reply (view_of old.view.words new.view.pass)
 
--- what was told is seen from now on
+-- a member learns a told value: its pass has seen what was told from then on, and its record is as it was
 pub record MemberLearns {P : Type 0} (meld : P → P → P) (alone : Bool) (told : Heard P) (old new : Membership P) : Type 0 where
-  pub words : new.name ≡ old.name
+  pub words : new.view.words ≡ old.view.words
   pub own : new.own ≡ old.own
   pub last : new.last ≡ old.last
-  pub learns : Learns meld alone old.name told old.pass new.pass
+  pub learns : Learns meld alone told old.view (view_of old.view.words new.view.pass)

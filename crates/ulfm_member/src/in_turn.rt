@@ -1,5 +1,6 @@
 // Polls of two members, one after the other.
 ghost use Rattle.std.specs.Prelude.{◌≡◌, IsTrue};
+ghost use Rattle.ulfm_words.specs.Steps.{Tells};
 ghost use Rattle.ulfm_member.specs.InTurn.{IsShort, PollsTold};
 ghost use Rattle.ulfm_member.specs.Members.{MemberPolls};
 
@@ -10,12 +11,12 @@ use ulfm_laws::meld::Packed;
 use ulfm_model::refusal::Refusal;
 use ulfm_words::OpenWords;
 
-/// Asks for the reply to the open request on a communicator by one member, and then by another of the same world, which before that
-/// learns what the first tells. Each poll is as `Rank::poll`.
+/// Polls the open request on a communicator through one member, and then through another of the same world. Before its poll the second
+/// learns what the first has seen (`Member::told`, `learn`). Each poll is as `Rank::poll`.
 ///
-/// Where both have an agree open in one round, and the first is answered, all blocks of the round are set. So the second makes 3 steps at
-/// most, and one more for each failure that its look finds: a load that finds none, and one of each block. That needs words that tell all
-/// that a pass has seen, as `ulfm_book` has them; plain words tell nothing.
+/// Where both have an agree open in one round, and the first is answered, all blocks of the round are set: one or two words that say what all
+/// its members contributed. So the second makes 3 steps at most, a load that finds no failure and one of each block, and one more for each
+/// failure that its look finds. That needs words whose passes tell all that they have seen, as those of `ulfm_book`; plain words tell nothing.
 ///
 /// ```
 /// let value = FlagAnd { bits: 0b0110 };
@@ -38,9 +39,9 @@ pub fn poll_in_turn<W, P: Packed, A: Allocator + Copy>(
 ) -> (Result<Polled<P>, Refusal>, Result<Polled<P>, Refusal>)
 where
     W: OpenWords<P, A>,
-    requires { first.old.name ≡ second.old.name }
+    requires { first.old.view.words ≡ second.old.view.words }
     ensures first { MemberPolls P.meld W.alone comm first.old result.0 first.new }
-    ensures second { PollsTold P.meld W.alone W.tells_all comm first.new second.old result.1 second.new }
+    ensures second { PollsTold P.meld W.alone (Tells W.tells_all first.new.view) comm second.old result.1 second.new }
     ensures short { IsTrue W.tells_all → IsShort comm first.old result.0 second.old second.new }
 {
     first.known_fit();

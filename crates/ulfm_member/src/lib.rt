@@ -1,4 +1,5 @@
-//! What a user of a world holds: its members, each a rank with a pass of its own, and its outside.
+//! What a user of a world holds: for each rank a `Member`, which is the rank with a pass of its own, and the world's `Outside`, by which a
+//! failure detector declares ranks failed. A pass is one caller's local view of the words that all share.
 #![tactic(auto)]
 
 pub mod in_turn;

@@ -7,7 +7,7 @@ ghost use Rattle.ulfm_model.specs.declared.call.Call.TheVariants.{Ack as AckAske
 ghost use Rattle.ulfm_model.specs.declared.call.Call.TheVariants.{GetFailed as GetAsked, IsRevoked as StandingAsked, Revoke as RevokeAsked};
 ghost use Rattle.ulfm_model.specs.declared.call.Call.TheVariants.{Shrink as ShrinkAsked};
 ghost use Rattle.ulfm_model.specs.declared.{refusal.Refusal.TheVariants.{OutOfMemory as NoMemory}, reply.Reply.TheVariants.{Acked, Freed, Standing, Started}};
-ghost use Rattle.ulfm_words.specs.Steps.{Tells};
+ghost use Rattle.ulfm_words.specs.Steps.{view_of, Tells};
 ghost use Rattle.ulfm_comm.specs.Calls.{reply_of};
 ghost use Rattle.ulfm_comm.specs.Excludes.{Excludes};
 ghost use Rattle.ulfm_comm.specs.Fails.{declared};
@@ -22,11 +22,13 @@ use ulfm_laws::meld::Packed;
 use ulfm_model::refusal::Refusal;
 use ulfm_words::{OpenWords, Words};
 
-/// A rank of a world, with the pass that it calls with: all that a rank's thread needs. It may go to another thread.
+/// A rank of a world, with the pass that it calls with: all that a rank's thread needs. It may go to another thread. A pass is one caller's
+/// local view of the words: what it has seen of the history, which only grows.
 ///
-/// Its calls are those of `Rank`, which tells what each does, how many steps it makes, what it refuses and what a refusal
-/// leaves. Members see one another where their words are shared, as `ulfm_book` has them.
-/// Examples are of rank 0 in a world of two, whose words are plain; `ulfm_member::open` gives the members.
+/// Its calls are those of `Rank`, which tells what each does, how many atomic steps it makes, what it refuses and what a refusal
+/// leaves. Members of one world see what the others did where threads share the words, as those of `ulfm_book`; over plain words each has
+/// a history of its own. (The members of a communicator are something else: its ranks, as in MPI.)
+/// Examples are of rank 0 in a world of two, whose words are plain, for one thread; `ulfm_member::open` gives the members.
 #[derive(Drop)]
 pub struct Member<W, P: Packed, A: Allocator>
 where
@@ -43,21 +45,22 @@ where
     W: Words<P, A>,
 {
     ghost use Rattle.std.specs.Arc.{arc_value};
+    ghost use Rattle.ulfm_words.specs.Steps.{view_of};
     ghost use Rattle.ulfm_member.specs.Members.{IsMember, Membership};
 
     ghost Value = { Membership P };
 
-    ghost view = { λ m. record { name = W.name (arc_value m.world).words; own = m.rank.own; last = m.rank.last; pass = W.sight m.pass } };
+    ghost view = { λ m. record { own = m.rank.own; last = m.rank.last; view = view_of (W.name (arc_value m.world).words) (W.sight m.pass) } };
 
     ghost invariant = { λ m. IsMember P.meld
-        (record { name = W.name (arc_value m.world).words; own = m.rank.own; last = m.rank.last; pass = W.sight m.pass }) };
+        (record { own = m.rank.own; last = m.rank.last; view = view_of (W.name (arc_value m.world).words) (W.sight m.pass) }) };
 }
 
 impl<W, P: Packed, A: Allocator> Member<W, P, A>
 where
     W: Words<P, A>,
 {
-    /// A rank of this world and a pass of its words, which has seen what the rank has.
+    /// A member of these parts: a rank of this world, and a pass of the world's words that has seen all that the rank has seen.
     ///
     /// ```
     /// let (world, rank, pass) = member.into_parts();
@@ -65,13 +68,13 @@ where
     /// member.iagree(0, FlagAnd { bits: 0b0110 })?;
     /// ```
     pub fn new(world: Arc<World<W, P, A>, A>, rank: Rank<P, A>, pass: W::Pass) -> Member<W, P, A>
-        requires { IsMember P.meld (record { name = W.name (arc_value world).words; own = rank.own; last = rank.last; pass = W.sight pass }) }
-        ensures { result ≡ record { name = W.name (arc_value world).words; own = rank.own; last = rank.last; pass = W.sight pass } }
+        requires { IsMember P.meld (record { own = rank.own; last = rank.last; view = view_of (W.name (arc_value world).words) (W.sight pass) }) }
+        ensures { result ≡ record { own = rank.own; last = rank.last; view = view_of (W.name (arc_value world).words) (W.sight pass) } }
     {
         Member { world, rank, pass }
     }
 
-    /// The world, the rank and the pass, each by itself, to drive steps by hand.
+    /// The world, the rank and the pass, each by itself, for calls that are taken step by step.
     ///
     /// ```
     /// let (world, mut rank, mut pass) = member.into_parts();
@@ -79,12 +82,13 @@ where
     /// ```
     pub fn into_parts(self) -> (Arc<World<W, P, A>, A>, Rank<P, A>, W::Pass)
         ensures of { IsMember P.meld self }
-        ensures parts { self ≡ record { name = W.name (arc_value result.0).words; own = result.1.own; last = result.1.last; pass = W.sight result.2 } }
+        ensures parts { self ≡ record { own = result.1.own; last = result.1.last; view = view_of (W.name (arc_value result.0).words) (W.sight result.2) } }
     {
         (self.world, self.rank, self.pass)
     }
 
-    /// Its pass is of the words of its world, and its rank's record fits what that has seen. It does nothing: what it ensures is a law.
+    /// For proofs: its contract says that the member's pass is of its world's words, and that its rank's record agrees with what the pass has
+    /// seen. When it runs it does nothing.
     ///
     /// ```
     /// member.known_fit();
@@ -96,7 +100,7 @@ where
         let _pass = &self.pass;
     }
 
-    /// The pass that it calls with, to be read. It is no step.
+    /// The pass that it calls with, for reading. It makes no atomic step.
     ///
     /// ```
     /// // A pass of plain words tells which steps were set.
@@ -105,12 +109,12 @@ where
     /// assert!(rt; member.pass().nth(0).is_some());
     /// ```
     pub fn pass(&self) -> &W::Pass
-        ensures { W.sight result.now ≡ self.now.pass }
+        ensures { W.sight result.now ≡ self.now.view.pass }
     {
         &self.pass
     }
 
-    /// Its number, 0 to 1023. It is no step.
+    /// Its rank's number, 0 to 1023. It makes no atomic step.
     ///
     /// ```
     /// assert!(rt; member.number() == 0);
@@ -121,7 +125,7 @@ where
         self.rank.number()
     }
 
-    /// All failures that it has seen, in order. It is no step.
+    /// All ranks that it has seen to be declared failed, in the order of the declarations. It makes no atomic step.
     ///
     /// ```
     /// member.fail(1)?;
@@ -135,7 +139,7 @@ where
         self.rank.failures()
     }
 
-    /// The members of a communicator that it holds, in order; none where it doesn't hold it. It is no step.
+    /// The ranks that are members of a communicator, in order; `None` where this rank doesn't hold the communicator. It makes no atomic step.
     ///
     /// ```
     /// assert!(rt; member.members(0) == Some([0, 1].as_slice()));
@@ -148,8 +152,8 @@ where
         self.rank.members(comm)
     }
 
-    /// The context id of a communicator that it holds, 0 to 31; none where it doesn't hold it. No two that it holds have the same.
-    /// It is no step.
+    /// The context id of a communicator, 0 to 31; `None` where the rank doesn't hold the communicator. No two communicators that it holds
+    /// have the same id. It makes no atomic step.
     ///
     /// ```
     /// assert!(rt; member.context(0) == Some(0));
@@ -162,8 +166,8 @@ where
         self.rank.context(comm)
     }
 
-    /// How many atomic steps its last call made, 0 before any, as `Rank::last_steps`. A declaration isn't one of its calls.
-    /// It is no step.
+    /// How many atomic steps the rank's last call made, 0 before any, as `Rank::last_steps`. `fail` isn't a call of the rank, and isn't counted.
+    /// It makes no atomic step.
     ///
     /// ```
     /// assert!(rt; member.last_steps() == 0);
@@ -210,7 +214,7 @@ where
     /// ```
     pub fn ishrink(&mut self, comm: u16) -> Result<(), Refusal>
         ensures calls { MemberCalls P.meld W.alone (ShrinkAsked self.old.own.number comm) self.old (reply_of (λ _. Started) result) self.new }
-        ensures excludes { IfOk result (λ _. Excludes P.meld self.old.name.limits self.old.pass.seen self.new.pass.seen self.old.own comm) }
+        ensures excludes { IfOk result (λ _. Excludes P.meld self.old.view.words.limits self.old.view.pass.seen self.new.view.pass.seen self.old.own comm) }
     {
         self.rank.ishrink(&self.world, &mut self.pass, comm)
     }
@@ -265,9 +269,9 @@ where
         found: &mut Vec<u16, B>,
     ) -> Result<(), Refusal>
         ensures gets { MemberGets P.meld W.alone (GetAsked self.old.own.number comm) self.old (length found.new.items) result self.new }
-        ensures group { IfOk result (λ _. found.new.items ≡ failed self.old.name.limits.ranks self.new.pass.seen comm) }
+        ensures group { IfOk result (λ _. found.new.items ≡ failed self.old.view.words.limits.ranks self.new.view.pass.seen comm) }
         ensures kept { OnErr result (found.new.items ≡ found.old.items) }
-        ensures memory { result ≡ Err NoMemory → vec_capacity found.old < length (failed self.old.name.limits.ranks self.new.pass.seen comm) }
+        ensures memory { result ≡ Err NoMemory → vec_capacity found.old < length (failed self.old.view.words.limits.ranks self.new.view.pass.seen comm) }
     {
         self.rank
             .get_failed(&self.world, &mut self.pass, comm, found)
@@ -328,7 +332,8 @@ where
         self.rank.free(&self.world, &mut self.pass, comm)
     }
 
-    /// Declares a rank failed, as `World::fail`: in the name of the outside, but seen by this member from then on.
+    /// Declares a rank failed, as `World::fail`. It counts as a declaration by the outside, the world's failure detector; this member's pass
+    /// has seen it from then on.
     ///
     /// ```
     /// assert!(rt; member.fail(1) == Ok(true));
@@ -346,26 +351,26 @@ impl<W, P: Packed, A: Allocator> Member<W, P, A>
 where
     W: OpenWords<P, A>,
 {
-    /// What it has seen, to be handed to another member or to the outside. It is no step.
+    /// What its pass has seen, as a value that another member or the outside may `learn`. It makes no atomic step.
     ///
     /// ```
     /// member.revoke(0)?;
     /// outside.learn(&member.told());
     /// ```
     pub fn told(&self) -> W::Told
-        ensures { Tells W.tells_all self.now.name self.now.pass (W.heard result) }
+        ensures { Tells W.tells_all self.now.view (W.heard result) }
     {
         self.world.told(&self.pass)
     }
 
-    /// From now on it has seen what was told, too. It is no step.
+    /// Takes in what another told: from now on its pass has seen that too. It makes no atomic step.
     ///
     /// ```
     /// outside.fail(1)?;
     /// member.learn(&outside.told());
     /// ```
     pub fn learn(&mut self, told: &W::Told)
-        requires { (W.heard told.now).name ≡ self.old.name }
+        requires { (W.heard told.now).name ≡ self.old.view.words }
         ensures { MemberLearns P.meld W.alone (W.heard told.now) self.old self.new }
     {
         self.world.learn(&mut self.pass, told)

@@ -5,9 +5,8 @@ ghost use Rattle.std.specs.List.{AllByRecursion};
 ghost use Rattle.ulfm_model.specs.History.{first_ranks};
 ghost use Rattle.ulfm_model.specs.Records.{Fits, new_record};
 ghost use Rattle.ulfm_model.specs.declared.limits.OpenFault.TheVariants.{OutOfMemory};
-ghost use Rattle.ulfm_words.specs.Steps.{IsNew};
 ghost use Rattle.ulfm_comm.specs.Counts.{records_of};
-ghost use Rattle.ulfm_member.specs.Members.{IsNewMember};
+ghost use Rattle.ulfm_member.specs.{Members.{IsNewMember}, Outsides.{IsNewOutside}};
 
 use crate::member::Member;
 use crate::outside::Outside;
@@ -18,8 +17,8 @@ use ulfm_laws::meld::Packed;
 use ulfm_model::limits::OpenFault;
 use ulfm_words::OpenWords;
 
-/// Opens a world over new words: its outside, and the members of all its ranks, in order, each with a pass of its own that has
-/// seen nothing. Memory is the only thing that it may lack.
+/// Opens a world over new words. It gives the world's outside, by which a failure detector declares ranks, and a member for each rank, in
+/// order. Each has a pass (a local view) of its own, which has seen nothing. It fails only where memory is refused.
 ///
 /// ```
 /// let words: PlainWords<FlagAnd> = PlainWords::open(limits)?;
@@ -35,7 +34,7 @@ pub fn open<W, P: Packed, A: Allocator + Copy>(
 ) -> Result<(Outside<W, P, A>, Vec<Member<W, P, A>, A>), OpenFault>
 where
     W: OpenWords<P, A> + Drop,
-    ensures outside { IfOk result (λ o. IsNew P.meld (W.name words) o.0) }
+    ensures outside { IfOk result (λ o. IsNewOutside P.meld (W.name words) o.0) }
     ensures members { IfOk result (λ o. AllByRecursion (IsNewMember P.meld (W.name words)) o.1.items) }
     ensures ranks { MatchResult result (λ o. map (λ m. m.own) o.1.items ≡ map (new_record (W.name words).limits) (first_ranks (W.name words).limits.ranks))
         (λ fault. fault ≡ OutOfMemory) }
@@ -57,7 +56,7 @@ where
     W: OpenWords<P, A> + Drop,
     requires fits { AllByRecursion (Fits P.meld (W.name world.words).limits []) (records_of ranks.items) }
     requires last { AllByRecursion (λ r. r.last ≡ 0) ranks.items }
-    ensures outside { IfOk result (λ o. IsNew P.meld (W.name world.words) o.0) }
+    ensures outside { IfOk result (λ o. IsNewOutside P.meld (W.name world.words) o.0) }
     ensures members { IfOk result (λ o. AllByRecursion (IsNewMember P.meld (W.name world.words)) o.1.items) }
     ensures ranks { IfOk result (λ o. map (λ m. m.own) o.1.items ≡ records_of ranks.items) }
 {

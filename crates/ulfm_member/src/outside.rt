@@ -1,7 +1,8 @@
 // The outside of a world, which declares ranks failed.
 ghost use Rattle.std.specs.Prelude.{◌≡◌, IfOk};
 ghost use Rattle.std.specs.Arc.{arc_value};
-ghost use Rattle.ulfm_words.specs.Steps.{IsNew, Learns, Tells};
+ghost use Rattle.ulfm_words.specs.Steps.{Learns, Tells};
+ghost use Rattle.ulfm_member.specs.Outsides.{IsNewOutside};
 ghost use Rattle.ulfm_comm.specs.Calls.{reply_of};
 ghost use Rattle.ulfm_comm.specs.Fails.{Fails, declared};
 
@@ -14,8 +15,8 @@ use ulfm_model::limits::Limits;
 use ulfm_model::refusal::Refusal;
 use ulfm_words::{OpenWords, Words};
 
-/// The outside of a world, with a pass of its own: a failure detector, as one may run in a thread beside those of the members.
-/// Contracts see it as its pass.
+/// The outside of a world: the handle by which a failure detector declares ranks failed. It has a pass (a local view) of its own, and may run
+/// in a thread beside those of the members. In contracts it stands for its view: that pass, and the words that it is over.
 #[derive(Drop)]
 pub struct Outside<W, P: Packed, A: Allocator>
 where
@@ -30,20 +31,20 @@ where
     W: Words<P, A>,
 {
     ghost use Rattle.std.specs.Arc.{arc_value};
-    ghost use Rattle.ulfm_words.specs.Steps.{IsOf, Sight};
+    ghost use Rattle.ulfm_words.specs.Steps.{IsView, View, view_of};
 
-    ghost Value = { Sight P };
+    ghost Value = { View P };
 
-    ghost view = { λ o. W.sight o.pass };
+    ghost view = { λ o. view_of (W.name (arc_value o.world).words) (W.sight o.pass) };
 
-    ghost invariant = { λ o. IsOf P.meld (W.name (arc_value o.world).words) (W.sight o.pass) };
+    ghost invariant = { λ o. IsView P.meld (view_of (W.name (arc_value o.world).words) (W.sight o.pass)) };
 }
 
 impl<W, P: Packed, A: Allocator> Outside<W, P, A>
 where
     W: OpenWords<P, A>,
 {
-    /// The outside of this world, which has seen nothing. Memory is the only thing that it may lack.
+    /// An outside of this world, whose pass has seen nothing. It fails only where memory is refused.
     ///
     /// ```
     /// let (world, _, _) = member.into_parts();
@@ -53,33 +54,34 @@ where
     pub fn new(alloc: A, world: Arc<World<W, P, A>, A>) -> Result<Outside<W, P, A>, AllocError>
     where
         W: Drop,
-        ensures { IfOk result (λ o. IsNew P.meld (W.name (arc_value world).words) o) }
+        ensures { IfOk result (IsNewOutside P.meld (W.name (arc_value world).words)) }
     {
         let pass = world.pass(alloc)?;
         Ok(Outside { world, pass })
     }
 
-    /// What it has seen, to be handed to a member. It is no step.
+    /// What its pass has seen, as a value that a member may `learn`. It makes no atomic step.
     ///
     /// ```
     /// outside.fail(1)?;
     /// member.learn(&outside.told());
     /// ```
     pub fn told(&self) -> W::Told
-        ensures { Tells W.tells_all self.now.name self.now (W.heard result) }
+        ensures { Tells W.tells_all self.now (W.heard result) }
     {
         self.world.told(&self.pass)
     }
 
-    /// From now on it has seen what was told, too. It is no step.
+    /// Takes in what a member told: from now on its pass has seen that too. It makes no atomic step.
     ///
     /// ```
     /// member.revoke(0)?;
     /// outside.learn(&member.told());
     /// ```
     pub fn learn(&mut self, told: &W::Told)
-        requires { (W.heard told.now).name ≡ self.old.name }
-        ensures { Learns P.meld W.alone self.old.name (W.heard told.now) self.old self.new }
+        requires { (W.heard told.now).name ≡ self.old.words }
+        ensures words { self.new.words ≡ self.old.words }
+        ensures learns { Learns P.meld W.alone (W.heard told.now) self.old self.new }
     {
         self.world.learn(&mut self.pass, told)
     }
@@ -89,13 +91,13 @@ impl<W, P: Packed, A: Allocator + Copy> Outside<W, P, A>
 where
     W: Words<P, A>,
 {
-    /// The limits that the world was opened with. It is no step.
+    /// The limits that the world was opened with. It makes no atomic step.
     ///
     /// ```
     /// assert!(rt; outside.limits().ranks == 2);
     /// ```
     pub fn limits(&self) -> Limits
-        ensures { result ≡ self.now.name.limits }
+        ensures { result ≡ self.now.words.limits }
     {
         self.world.limits()
     }
@@ -108,7 +110,7 @@ where
     /// assert!(rt; outside.fail(2) == Err(Refusal::NoSuchRank));
     /// ```
     pub fn fail(&mut self, rank: u16) -> Result<bool, Refusal>
-        ensures { Fails P.meld W.alone self.old.name rank self.old (reply_of declared result) self.new }
+        ensures { Fails P.meld W.alone rank self.old (reply_of declared result) self.new }
     {
         self.world.fail(&mut self.pass, rank)
     }

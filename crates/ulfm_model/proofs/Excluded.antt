@@ -8,7 +8,8 @@ use mathlib.Core.List.{IsPrefix}
 use Rattle.ulfm_model.specs.declared.{call.Call.TheVariants.{Shrink}, contribution.Offer.{Offer}, contribution.Offer.TheVariants.{Ctx}, contribution.Slot.{Slot}, contribution.Slot.TheVariants.{Given}, event.Caller.TheVariants.{Rank}, limits.Limits.{Limits}, refusal.Refusal.{Refusal}, reply.Reply.TheVariants.{Started}}
 use Rattle.ulfm_model.specs.{Answers.{Contributes, IsReply, IsSelfFailed, RepliesBy, StartReplies, refusal_of}, History.{History, IsLegal, decision, failed, failures, has, known_of, members, round, slot}, Laws.{IsLeftOut, ShrinksExcludeFailures}, Records.{Fits, Held, Record, free_ids, held_at}, Runs.{IsSpan}}
 use Rattle.ulfm_model.proofs.{Histories.{legal_parts, members_stay, slot_stays}, LeftFits.{held_fits}, LeftRuns.{look_begins, look_ends}, Lists.{has_kept, has_passes, has_prefix, prefix_trans}, Spawned.{members_of_spawned}, Stable.{failed_begins}}
-use Rattle.ulfm_model.specs.Terms.{view_of}
+use Rattle.ulfm_model.specs.Terms.{rests_on}
+use Rattle.ulfm_model.specs.Answers.{Replies}
 
 -- a test that holds of what g gives for a rank of a list holds of some that g gives
 any_given : {Y : Type 0} (p : Y → Bool) (g : ℕ → Option Y) (xs : List ℕ) (x : ℕ) (y : Y) → has xs x ≡ true → g x ≡ Some y → p y ≡ true → list_any p (filter_map g xs) ≡ true
@@ -41,7 +42,7 @@ module _ {P : Type 0} (meld : P → P → P) (limits : Limits) (h : History P) (
 
 module _ {P : Type 0} (meld : P → P → P) (limits : Limits) (alone : Bool) (before after longer : History P) (own : Record) (c : ℕ) (x : Held) (fits : Fits meld limits before own) (at : held_at own c ≡ Some x) (begins : IsPrefix after longer) (legal : IsLegal meld limits longer) where
   -- a start, of an agree or of a shrink, names all whom its caller had seen failed before
-  pub start_excludes : (span : IsSpan meld limits alone before after (Rank own.number)) (offer : Offer P) → Contributes (view_of span) own x offer → (r : ℕ) → has (failed limits.ranks before c) r ≡ true → IsLeftOut meld limits.ranks longer c x.next_agreement r
+  pub start_excludes : (span : IsSpan meld limits alone before after (Rank own.number)) (offer : Offer P) → Contributes (rests_on span) own x offer → (r : ℕ) → has (failed limits.ranks before c) r ≡ true → IsLeftOut meld limits.ranks longer c x.next_agreement r
   start_excludes span offer gives r was =
       let both = held_fits meld limits before own c x fits at in
       let d : ℕ = x.comm in
@@ -68,16 +69,16 @@ module _ {P : Type 0} (meld : P → P → P) (limits : Limits) (alone : Bool) (b
     abbrev IsOut : Type 0
     IsOut = IsLeftOut meld limits.ranks longer c x.next_agreement r
 
-    by_start : StartReplies (view_of span) own x (Ctx (free_ids own.held)) Started → IsOut
+    by_start : StartReplies (rests_on span) own x (Ctx (free_ids own.held)) Started → IsOut
     by_start (inl (is, gives)) = start_excludes span (Ctx (free_ids own.held)) gives r was
     by_start (inr twice) = absurd (cc (twice.0))
 
-    by_record : (held : Option Held) (refusal : Option Refusal) → held ≡ Some x → RepliesBy meld limits (view_of span) own held (Shrink rank c) Started refusal → IsOut
+    by_record : (held : Option Held) (refusal : Option Refusal) → held ≡ Some x → RepliesBy {P = P} (λ x. Replies meld limits (rests_on span) own x (Shrink rank c) Started) Started held refusal → IsOut
     by_record held (Some refusal) same is = absurd (cc is)
-    by_record (Some y) None same replies = let one : y ≡ x = cc same in by_start (subst (λ y. StartReplies (view_of span) own y (Ctx (free_ids own.held)) Started) one replies)
+    by_record (Some y) None same replies = let one : y ≡ x = cc same in by_start (subst (λ y. StartReplies (rests_on span) own y (Ctx (free_ids own.held)) Started) one replies)
     by_record None None same replies = absurd replies
 
-    by_answer : IsSelfFailed (view_of span) own (Shrink rank c) Started ⊎ IsReply meld limits (view_of span) own (Shrink rank c) Started → IsOut
+    by_answer : IsSelfFailed (rests_on span) own (Shrink rank c) Started ⊎ IsReply meld limits (rests_on span) own (Shrink rank c) Started → IsOut
     by_answer (inl failed) = absurd (cc (failed.reply_is))
     by_answer (inr answer) = by_record (held_at own c) (refusal_of own (Shrink rank c)) at answer.replies
 

@@ -21,6 +21,7 @@ use Rattle.ulfm_model.specs.Terms.{new_held}
 use Rattle.ulfm_model.specs.History.{History}
 use Rattle.ulfm_model.specs.Records.{Record, all_but, new_record, with_held}
 use Rattle.ulfm_model.specs.Runs.{IsRun, IsSpan}
+use Rattle.ulfm_model.specs.Records.{moment}
 
 -- an event in the name of its caller
 abbrev by : Caller → Event ℕ → Entry ℕ
@@ -56,7 +57,7 @@ abbrev late : History ℕ
 late = by Outside (Fail 2) ∷ by (Rank 2) (Settle 0 0 2 (given_at (Flag 0x5) 0 0)) ∷ []
 
 -- its agree is answered started all the same, since its contribution came before any mark
-contribution_in_flight : IsRun bit_and three false [] late (new_record three 2) (Ask 2 0 0x5) Started (with_held (new_record three 2) 0 (λ x. record x { next_agreement = 1; request = Some (Agree 0) }))
+contribution_in_flight : IsRun bit_and three false (moment (new_record three 2) []) (Ask 2 0 0x5) Started (moment (with_held (new_record three 2) 0 (λ x. record x { next_agreement = 1; request = Some (Agree 0) })) late)
 contribution_in_flight = record {
   in_use = refl;
   span = record {
@@ -84,7 +85,7 @@ abbrev marked : History ℕ
 marked = by Outside (Fail 2) ∷ by (Rank 0) (Mark 0 0 2 (mark_at 1)) ∷ []
 
 -- its agree is refused for good, without an event
-mark_comes_first : IsRun bit_and three false [] marked (new_record three 2) (Ask 2 0 0x5) (Refused SelfFailed) (record (new_record three 2) { refused = true })
+mark_comes_first : IsRun bit_and three false (moment (new_record three 2) []) (Ask 2 0 0x5) (Refused SelfFailed) (moment (record (new_record three 2) { refused = true }) marked)
 mark_comes_first = record {
   in_use = refl;
   span = span_of three 2 [] marked marked (marked, refl) ([], refl) (search arith);
@@ -104,7 +105,7 @@ abbrev arrived : History ℕ
 arrived = by (Rank 0) (Arrive 0 0 0) ∷ by (Rank 1) (Arrive 0 0 1) ∷ []
 
 -- a revocation between the loads of a poll decides its answer
-revoked_between_loads : IsRun bit_and two false arrived (arrived ++ by (Rank 1) (Revoke 0) ∷ []) waiting (Poll 0 0) (Refused IsRevoked) (closed waiting 0)
+revoked_between_loads : IsRun bit_and two false (moment waiting arrived) (Poll 0 0) (Refused IsRevoked) (moment (closed waiting 0) (arrived ++ by (Rank 1) (Revoke 0) ∷ []))
 revoked_between_loads = record {
   in_use = refl;
   span = span_of two 0 arrived (by (Rank 1) (Revoke 0) ∷ []) (arrived ++ by (Rank 1) (Revoke 0) ∷ []) (by (Rank 1) (Revoke 0) ∷ [], refl) ([], refl) (search arith);
@@ -120,7 +121,7 @@ abbrev declared : History ℕ
 declared = by Outside (Fail 1) ∷ by (Rank 0) (Arrive 0 0 0) ∷ []
 
 -- a poll may have its point before the arrival
-late_arrival : IsRun bit_and two false declared (declared ++ by (Rank 1) (Arrive 0 0 1) ∷ []) (record waiting { seen = 1 ∷ [] }) (Poll 0 0) (Refused ProcFailed) (closed (record waiting { seen = 1 ∷ [] }) 0)
+late_arrival : IsRun bit_and two false (moment (record waiting { seen = 1 ∷ [] }) declared) (Poll 0 0) (Refused ProcFailed) (moment (closed (record waiting { seen = 1 ∷ [] }) 0) (declared ++ by (Rank 1) (Arrive 0 0 1) ∷ []))
 late_arrival = record {
   in_use = refl;
   span = span_of two 0 declared (by (Rank 1) (Arrive 0 0 1) ∷ []) declared ([], refl) (by (Rank 1) (Arrive 0 0 1) ∷ [], refl) (search arith);
@@ -142,8 +143,7 @@ abbrev shrinking : Record
 shrinking = with_held (new_record three 0) 0 (λ x. record x { next_agreement = 1; request = Some (Shrink 0) })
 
 -- rank 2 is declared before the look of a poll, and the poll may have its point before that
-shrunk_before_the_look : IsRun bit_and three false spawned (spawned ++ by Outside (Fail 2) ∷ []) shrinking (Poll 0 0) (Shrunk 1 1 3)
-    (let left = closed (record shrinking { seen = 2 ∷ [] }) 0 in record left { held = left.held ++ new_held 1 1 (0 ∷ 1 ∷ 2 ∷ []) ∷ [] })
+shrunk_before_the_look : IsRun bit_and three false (moment shrinking spawned) (Poll 0 0) (Shrunk 1 1 3) (moment (let left = closed (record shrinking { seen = 2 ∷ [] }) 0 in record left { held = left.held ++ new_held 1 1 (0 ∷ 1 ∷ 2 ∷ []) ∷ [] }) (spawned ++ by Outside (Fail 2) ∷ []))
 shrunk_before_the_look = record {
   in_use = refl;
   span = record {

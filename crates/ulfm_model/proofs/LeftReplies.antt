@@ -4,7 +4,7 @@ use Rattle.std.specs.List.{list_any, list_all, AllByRecursion}
 use mathlib.Core.List.{IsPrefix}
 use Rattle.ulfm_model.specs.declared.{call.Call.{Call}, call.Request.{Request}, call.Request.TheVariants.{Agree, Shrink, Barrier}, contribution.Offer.TheVariants.{Flag, Ctx}, event.Event.{Event}, event.Event.TheVariants.{Arrive, Settle}, limits.Limits.{Limits}, refusal.Refusal.{Refusal}, refusal.Refusal.TheVariants.{Busy, IsRevoked, Mismatch, NoContext, NoRoom, NoSuchComm, ProcFailed, RoundsUsedUp, SelfFailed, ShrinkOpen, Twice}, reply.Reply.{Reply}, reply.Reply.TheVariants.{Started, Pending, Agreed, Shrunk, Done, FailedGroup, Acked, Revoked, AlreadyRevoked, Standing, Freed, Refused}}
 use Rattle.ulfm_model.specs.declared.call.Call.TheVariants as call
-use Rattle.ulfm_model.specs.{Answers.{BarrierStartReplies, IsReply, IsSelfFailed, PollReplies, Replies, RepliesBy, StartReplies, View, barrier_reply, closed, first_refusal, left_by, opened, printed, refusal_of, refusal_on, left_with}, Answers.Effect.{Keeps}, History.{Exists, History, IsLegal, decision, failed, failures, has, has_arrived, is_revoked, members}, Records.{Fits, FitsHeld, Held, Record, free_ids, held_at, is_shrink}}
+use Rattle.ulfm_model.specs.{Answers.{BarrierStartReplies, IsReply, IsSelfFailed, PollReplies, Replies, RepliesBy, StartReplies, AtPoint, barrier_reply, closed, first_refusal, left_by, opened, printed, refusal_of, refusal_on, left_with}, Answers.Effect.{Keeps}, History.{Exists, History, IsLegal, decision, failed, failures, has, has_arrived, is_revoked, members}, Records.{Fits, FitsHeld, Held, Record, free_ids, held_at, is_shrink}}
 use Rattle.ulfm_model.specs.Terms.{IsOwn, comm_of, contexts_of, new_held, tests_of}
 use Rattle.ulfm_model.proofs.Lists.{each_from, has_prefix, length_prefix}
 use Rattle.ulfm_model.proofs.Histories.{failures_begin}
@@ -48,7 +48,7 @@ module _ {P : Type 0} where
   refusal_keeps old (Some x) asked refusal e = first_keeps (tests_of old x asked) refusal (tests_keep old x asked) e
 
 -- a call's view of what happened up to its point, and how the record fits at the call's end
-module _ {P : Type 0} (meld : P → P → P) (limits : Limits) (view : View P) (after : History P) (point_ends : IsPrefix view.history after) (legal : IsLegal meld limits after) where
+module _ {P : Type 0} (meld : P → P → P) (limits : Limits) (view : AtPoint P) (after : History P) (point_ends : IsPrefix view.history after) (legal : IsLegal meld limits after) where
   abbrev FitsAfter : Record → Type 0
   FitsAfter own = Fits meld limits after own
 
@@ -164,7 +164,7 @@ module _ {P : Type 0} (meld : P → P → P) (limits : Limits) (view : View P) (
 
     -- a call that the record refuses, or not
     by_record : (asked : Call P) (reply : Reply P) (held : Option Held) (refusal : Option Refusal) → held_at now (comm_of asked) ≡ held → ((x : Held) → held ≡ Some x → Exists view.history x.comm) → refusal_on old held asked ≡ refusal
-        → RepliesBy meld limits view old held asked reply refusal → Leaves asked reply
+        → RepliesBy (λ x. Replies meld limits view old x asked reply) reply held refusal → Leaves asked reply
     by_record asked reply held (Some refusal) at here is replies =
         by_reply asked reply (Refused refusal) replies (subst (λ effect. FitsAfter (left_with now (comm_of asked) effect)) (sym (refusal_keeps old held asked refusal is)) fits)
     by_record asked reply (Some x) None at here is replies = held_left asked x reply at (here x refl) is replies

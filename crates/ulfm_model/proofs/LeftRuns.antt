@@ -5,7 +5,8 @@ use Rattle.std.proofs.lemmas.List.Elements.{Contains-append_right}
 use mathlib.Core.List.{IsPrefix}
 use Rattle.ulfm_model.specs.declared.{call.Call.{Call}, event.Caller.{Caller}, event.Caller.TheVariants.{Outside, Rank}, event.Event.{Event}, limits.Limits.{Limits}, reply.Reply.{Reply}, reply.Reply.TheVariants.{Started, Pending, Agreed, Shrunk, Done, FailedGroup, Acked, Declared, AlreadyFailed, Revoked, AlreadyRevoked, Standing, Freed, Refused}}
 use Rattle.ulfm_model.specs.{Answers.{Effect, Sees, left_by, polled_by, printed, left_with}, Answers.Effect.{Ends, ForGood, Keeps}, History.{Exists, History, IsLegal, entries_by, failures}, Records.{Fits, Held, Record, held_at, is_shrink}, Runs.{IsCall, IsFailRun, IsRun, IsSpan, StandsIn}}
-use Rattle.ulfm_model.specs.Terms.{IsOwn, comm_of, view_of}
+use Rattle.ulfm_model.specs.Terms.{IsOwn, comm_of, rests_on}
+use Rattle.ulfm_model.specs.Records.{moment}
 use Rattle.ulfm_model.proofs.Lists.{prefix_trans}
 use Rattle.ulfm_model.proofs.Histories.{failures_begin, members_stay}
 use Rattle.ulfm_model.proofs.Stable.{fits_stays}
@@ -68,7 +69,7 @@ module _ {P : Type 0} (meld : P → P → P) (limits : Limits) (alone : Bool) (b
   sees_begins r span true seen parts = parts.1
 
   -- the record that a call leaves fits, if it fitted before
-  pub run_fits : (own : Record) (asked : Call P) (reply : Reply P) (new : Record) → Fits meld limits before own → IsRun meld limits alone before after own asked reply new → Fits meld limits after new
+  pub run_fits : (own : Record) (asked : Call P) (reply : Reply P) (new : Record) → Fits meld limits before own → IsRun meld limits alone (moment own before) asked reply (moment new after) → Fits meld limits after new
   run_fits own asked reply new fits run =
       let span = run.span in
       let still = fits_stays meld limits before after own (span_begins (Rank own.number) span) span.legal fits in
@@ -76,25 +77,25 @@ module _ {P : Type 0} (meld : P → P → P) (limits : Limits) (alone : Bool) (b
       let here : (x : Held) → held_at own (comm_of asked) ≡ Some x → Exists span.point x.comm =
       λ x at. (members_stay limits.ranks before span.point x.comm span.point_begins (held_fits meld limits before own (comm_of asked) x fits at).0.exists).0 in
       subst (Fits meld limits after) (sym run.answer.leaves.record_is)
-      (answer_fits meld limits (view_of span) after span.point_ends span.legal own new.seen sees (own_event own.number span) asked reply here run.answer.replies)
+      (answer_fits meld limits (rests_on span) after span.point_ends span.legal own new.seen sees (own_event own.number span) asked reply here run.answer.replies)
 
   -- a call keeps its rank's number
-  pub run_number : (own : Record) (asked : Call P) (reply : Reply P) (new : Record) → IsRun meld limits alone before after own asked reply new → new.number ≡ own.number
+  pub run_number : (own : Record) (asked : Call P) (reply : Reply P) (new : Record) → IsRun meld limits alone (moment own before) asked reply (moment new after) → new.number ≡ own.number
   run_number own asked reply new run =
       ap (λ (w : Record). w.number) run.answer.leaves.record_is ∙ (left_keeps limits.ranks run.span.point (record own { seen = new.seen }) asked reply).0
 
   -- so it is with every call of a rank
-  pub call_fits : (own : Record) (asked : Call P) (reply : Reply P) (new : Record) → Fits meld limits before own → IsCall meld limits alone before after own asked reply new → Fits meld limits after new
+  pub call_fits : (own : Record) (asked : Call P) (reply : Reply P) (new : Record) → Fits meld limits before own → IsCall meld limits alone (moment own before) asked reply (moment new after) → Fits meld limits after new
   call_fits own asked reply new fits (inl (refused, same, is, kept)) = subst (Fits meld limits after) (sym kept) (subst (λ w. Fits meld limits w own) (sym same) fits)
   call_fits own asked reply new fits (inr run) = run_fits own asked reply new fits run
 
   -- and its number stays
-  pub call_number : (own : Record) (asked : Call P) (reply : Reply P) (new : Record) → IsCall meld limits alone before after own asked reply new → new.number ≡ own.number
+  pub call_number : (own : Record) (asked : Call P) (reply : Reply P) (new : Record) → IsCall meld limits alone (moment own before) asked reply (moment new after) → new.number ≡ own.number
   call_number own asked reply new (inl (refused, same, is, kept)) = ap (λ (w : Record). w.number) kept
   call_number own asked reply new (inr run) = run_number own asked reply new run
 
   -- a call leaves a legal history, which goes on from the one before it
-  pub call_legal : (own : Record) (asked : Call P) (reply : Reply P) (new : Record) → IsLegal meld limits before → IsCall meld limits alone before after own asked reply new → IsPrefix before after × IsLegal meld limits after
+  pub call_legal : (own : Record) (asked : Call P) (reply : Reply P) (new : Record) → IsLegal meld limits before → IsCall meld limits alone (moment own before) asked reply (moment new after) → IsPrefix before after × IsLegal meld limits after
   call_legal own asked reply new legal (inl (refused, same, is, kept)) = subst (λ w. IsPrefix before w × IsLegal meld limits w) (sym same) (([], append-nil before), legal)
   call_legal own asked reply new legal (inr run) = (span_begins (Rank own.number) run.span, run.span.legal)
 
@@ -107,6 +108,6 @@ module _ {P : Type 0} (meld : P → P → P) (limits : Limits) (alone : Bool) (b
   fail_fits own rank reply run fits = let more = fail_legal rank reply run in fits_stays meld limits before after own more.0 more.1 fits
 
   -- what another rank holds fits after a call as before it
-  pub others_fit : (own other : Record) (asked : Call P) (reply : Reply P) (new : Record) → IsLegal meld limits before → IsCall meld limits alone before after own asked reply new → Fits meld limits before other → Fits meld limits after other
+  pub others_fit : (own other : Record) (asked : Call P) (reply : Reply P) (new : Record) → IsLegal meld limits before → IsCall meld limits alone (moment own before) asked reply (moment new after) → Fits meld limits before other → Fits meld limits after other
   others_fit own other asked reply new legal called fits =
       let more = call_legal own asked reply new legal called in fits_stays meld limits before after other more.0 more.1 fits

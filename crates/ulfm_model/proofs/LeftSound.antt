@@ -6,6 +6,7 @@ use Rattle.ulfm_model.specs.declared.{call.Call.{Call}, event.Caller.{Caller}, e
 use Rattle.ulfm_model.specs.Terms.{after_call}
 use Rattle.ulfm_model.specs.{History.{History, first_ranks, has}, Records.{Fits, Record, new_record}, Runs.{IsRankStep, IsRun, IsSound, IsStep, State, new_state}}
 use Rattle.ulfm_model.specs.Terms.{record_at}
+use Rattle.ulfm_model.specs.Records.{moment}
 use Rattle.ulfm_model.proofs.Lists.{all_has, each_from, find_holds}
 use Rattle.ulfm_model.proofs.Stable.{fits_stays}
 use Rattle.ulfm_model.proofs.LeftRuns.{fail_fits, fail_legal, run_fits, run_number, span_begins}
@@ -31,7 +32,7 @@ each_replaced r new Q is (x ∷ records) all =
 module _ {P : Type 0} (meld : P → P → P) where
   -- a call of a rank whose record this is
   run_sound : (state : State P) (r : ℕ) (own : Record) (asked : Call P) (reply : Reply P) (after : History P) (left : Record) → IsSound meld state → record_at state r ≡ Some own
-      → IsRun meld state.limits true state.history after own asked reply left → IsSound meld (after_call state r after left)
+      → IsRun meld state.limits true (moment own state.history) asked reply (moment left after) → IsSound meld (after_call state r after left)
   run_sound state r own asked reply after left sound at run =
       let begins = span_begins meld state.limits true state.history after (Rank own.number) run.span in
       let found = find_holds (λ x. x.number == r) (Fits meld state.limits state.history) state.records own sound.fits at in

@@ -27,7 +27,7 @@ use Rattle.ulfm_model.specs.{History.{IsLegal, MayFollow, members}, Runs.{unsett
 use Rattle.ulfm_model.specs.Computed.{added, added_by_poll, given_at, marks_of, replied, settle_of, start_reply}
 use Rattle.ulfm_model.specs.Terms.{settled_by}
 use Rattle.ulfm_model.specs.Records.{FitsHeld, Held, Record, free_ids}
-use Rattle.ulfm_model.specs.Answers.{BarrierStartReplies, CallAdds, PollAdds, PollReplies, Replies, StartReplies, View, traits_of}
+use Rattle.ulfm_model.specs.Answers.{BarrierStartReplies, CallAdds, PollAdds, PollReplies, Replies, StartReplies, AtPoint, traits_of}
 use Rattle.ulfm_model.proofs.Says.{declared_by}
 use Rattle.ulfm_model.proofs.Histories.{failures_begin, legal_parts, members_stay}
 use Rattle.ulfm_model.proofs.Lists.{each_from, has_prefix}
@@ -92,7 +92,7 @@ module _ {P : Type 0} (meld : P → P → P) (limits : Limits) (h : History P) (
   after = h ++ entries_by (Rank n) events
 
   -- what the reply rests on
-  abbrev pub view : View P
+  abbrev pub view : AtPoint P
   view = record { look = failures h; history = after; own = events }
 
   -- what the call adds and replies is what is computed

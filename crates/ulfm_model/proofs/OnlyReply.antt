@@ -14,7 +14,7 @@ use Rattle.ulfm_model.specs.History.{History, has, slot, spawns}
 use Rattle.ulfm_model.specs.History.{Decision, IsLegal, decision, is_decided, is_made, members}
 use Rattle.ulfm_model.specs.Computed.{agree_reply, poll_reply, shrink_reply, shrunk_reply}
 use Rattle.ulfm_model.specs.Records.{Held}
-use Rattle.ulfm_model.specs.Answers.{AgreeReplies, IsPending, PollReplies, ShrinkReplies, SpawnReplies, View}
+use Rattle.ulfm_model.specs.Answers.{AgreeReplies, IsPending, PollReplies, ShrinkReplies, SpawnReplies, AtPoint}
 use Rattle.ulfm_model.proofs.OnlySpawned.{is_of, lowest_is, position_none, position_of, spawns_once}
 
 -- what all members pass, each passes
@@ -41,7 +41,7 @@ agree_is : {P : Type 0} (made : Decision P) (reply : Reply P) → AgreeReplies m
 agree_is made reply (inl (value, body, is)) = is ∙ ap (agree_reply made) (sym body)
 agree_is made reply (inr (body, is)) = is ∙ ap (agree_reply made) (sym body)
 
-module _ {P : Type 0} (meld : P → P → P) (limits : Limits) (view : View P) (legal : IsLegal meld limits view.history) (r : ℕ) (x : Held) (group : x.group ≡ members limits.ranks view.history x.comm) where
+module _ {P : Type 0} (meld : P → P → P) (limits : Limits) (view : AtPoint P) (legal : IsLegal meld limits view.history) (r : ℕ) (x : Held) (group : x.group ≡ members limits.ranks view.history x.comm) where
   abbrev v : History P
   v = view.history
 

@@ -11,9 +11,11 @@ use Rattle.ulfm_model.specs.declared.limits.Limits.{Limits}
 use Rattle.ulfm_model.specs.declared.refusal.Refusal.{Refusal}
 use Rattle.ulfm_model.specs.declared.reply.Reply.{Reply}
 use Rattle.ulfm_model.specs.History.{History, entries_by, failures, has}
-use Rattle.ulfm_model.specs.{Answers.{Answers, CallAdds, IsReply, IsSelfFailed, MayOwn, RepliesBy, Sees, View, left_by, polled_by, refusal_of, traits_of}, History.{IsLegal}, Records.{Fits, FitsHeld, Held, Record, held_at, is_shrink}, Runs.{IsAloneRun, IsSpan, unsettled_of}}
-use Rattle.ulfm_model.specs.Computed.{Outcome, outcome_of, rank_outcome, replied, used_outcome}
-use Rattle.ulfm_model.specs.Terms.{comm_of, contexts_of, request_of, settled_by, view_of}
+use Rattle.ulfm_model.specs.{Answers.{Answers, CallAdds, IsReply, IsSelfFailed, MayOwn, RepliesBy, Sees, AtPoint, left_by, polled_by, refusal_of, traits_of}, History.{IsLegal}, Records.{Fits, FitsHeld, Held, Record, held_at, is_shrink}, Runs.{IsAloneRun, IsSpan, unsettled_of}}
+use Rattle.ulfm_model.specs.Computed.{CallOutcome, outcome_of, rank_outcome, replied, used_outcome}
+use Rattle.ulfm_model.specs.Terms.{comm_of, contexts_of, request_of, settled_by, rests_on}
+use Rattle.ulfm_model.specs.Records.{moment}
+use Rattle.ulfm_model.specs.Answers.{Replies}
 use Rattle.ulfm_model.proofs.Says.{declared_by}
 use Rattle.ulfm_model.proofs.Lists.{each_from, find_holds}
 use Rattle.ulfm_model.proofs.OnlyCalls.{adds_nothing, call_is, declares_none, same_failures}
@@ -41,13 +43,13 @@ seen_is false look after seen same sees = sees
 seen_is true look after seen same sees = same_between look seen (failures after) same sees.0 sees.1
 
 -- the call has the outcome that is computed
-abbrev pub HasOutcome : {P : Type 0} → List (Event P) → Reply P → Outcome P → Type 0
+abbrev pub HasOutcome : {P : Type 0} → List (Event P) → Reply P → CallOutcome P → Type 0
 HasOutcome events reply out = (events ≡ out.own) × (reply ≡ out.reply)
 
 module _ {P : Type 0} (meld : P → P → P) (limits : Limits) (h : History P) (own : Record) (events : List (Event P)) (legal : IsLegal meld limits (h ++ entries_by (Rank own.number) events)) (asked : Call P) (reply : Reply P)
     (owns : AllByRecursion (MayOwn (failures h) own asked) events) where
   -- what the reply rests on
-  abbrev pub alone_view : View P
+  abbrev pub alone_view : AtPoint P
   alone_view = record { look = failures h; history = h ++ entries_by (Rank own.number) events; own = events }
 
   -- a rank's own events declare nobody
@@ -61,7 +63,7 @@ module _ {P : Type 0} (meld : P → P → P) (limits : Limits) (h : History P) (
   MarksAll = IsTrue (traits_of asked).polls → IsFalse (has (failures h) own.number) → settled_by events ≡ unsettled_of limits.ranks h (comm_of asked) (polled_by own asked)
 
   on_held : Fits meld limits h own → MarksAll → has (failures h) own.number ≡ false → (held : Option Held) → held_at own (comm_of asked) ≡ held → (refusal : Option Refusal) → refusal_of own asked ≡ refusal
-      → RepliesBy meld limits alone_view own held asked reply refusal → HasOutcome events reply (used_outcome meld limits h own held refusal asked)
+      → RepliesBy (λ x. Replies meld limits alone_view own x asked reply) reply held refusal → HasOutcome events reply (used_outcome meld limits h own held refusal asked)
   on_held fits marks alive held at (Some refusal) refused replies = (adds_nothing (MayOwn (failures h) own asked) events (λ e may. let none = may.not_refused in cc (none, refused)) owns, replies)
   on_held fits marks alive None at None refused replies = absurd replies
   on_held fits marks alive (Some x) at None refused replies =
@@ -103,14 +105,14 @@ pub record IsOnlyRun {P : Type 0} (meld : P → P → P) (limits : Limits) (h af
 
 -- each run of a rank's call where nobody else steps is so
 pub run_is : {P : Type 0} (meld : P → P → P) (limits : Limits) (h after : History P) (own : Record) (asked : Call P) (reply : Reply P) (left : Record) → Fits meld limits h own
-    → (alone : IsAloneRun meld limits h after own asked reply left) → IsOnlyRun meld limits h after own asked alone.run.span.own reply left
+    → (alone : IsAloneRun meld limits (moment own h) asked reply (moment left after)) → IsOnlyRun meld limits h after own asked alone.run.span.own reply left
 run_is {P = P} meld limits h after own asked reply left fits alone =
     let span = alone.run.span in
     let events = span.own in
     let parts = span_is h after span in
-    let view : View P = record { look = failures h; history = h ++ entries_by (Rank own.number) events; own = events } in
-    let views : view_of span ≡ view = ap₂ (λ l w. record { look = failures l; history = w; own = events }) parts.0 (alone.at_end ∙ parts.1) in
-    let answer : Answers meld limits view after own asked reply left = subst (λ v. Answers meld limits v after own asked reply left) views alone.run.answer in
+    let view : AtPoint P = record { look = failures h; history = h ++ entries_by (Rank own.number) events; own = events } in
+    let views : rests_on span ≡ view = ap₂ (λ l w. record { look = failures l; history = w; own = events }) parts.0 (alone.at_end ∙ parts.1) in
+    let answer : Answers meld limits view own asked reply (moment left after) = subst (λ v. Answers meld limits v own asked reply (moment left after)) views alone.run.answer in
     let legal = subst (IsLegal meld limits) parts.1 span.legal in
     let out = answer_is meld limits h own events legal asked reply answer.own fits alone.marks answer.replies in
     let same = failures_same meld limits h own events legal asked reply answer.own in

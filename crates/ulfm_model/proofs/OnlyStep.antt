@@ -13,10 +13,10 @@ use Rattle.ulfm_model.specs.declared.reply.Reply.TheVariants.{AlreadyFailed, Dec
 use Rattle.ulfm_model.specs.History.{History, entries_by, failures, has}
 use Rattle.ulfm_model.specs.Terms.{after_call}
 use Rattle.ulfm_model.specs.{History.{IsLegal, MayFollow}, Runs.{IsRankStep, IsSound, IsStep, State}}
-use Rattle.ulfm_model.specs.Computed.{Next, Outcome, fail_outcome, next, next_by, next_of_rank}
+use Rattle.ulfm_model.specs.Computed.{Next, CallOutcome, fail_outcome, next, next_by, next_of_rank}
 use Rattle.ulfm_model.specs.Terms.{record_at}
 use Rattle.ulfm_model.specs.Records.{Fits, Record}
-use Rattle.ulfm_model.specs.Answers.{AnswersFail, View, left_by, traits_of}
+use Rattle.ulfm_model.specs.Answers.{AnswersFail, AtPoint, left_by, traits_of}
 use Rattle.ulfm_model.specs.Runs.{IsFailRun}
 use Rattle.ulfm_model.proofs.Histories.{legal_parts}
 use Rattle.ulfm_model.proofs.Lists.{at_member, find_holds}
@@ -24,7 +24,7 @@ use Rattle.ulfm_model.proofs.Marking.{failures_below}
 use Rattle.ulfm_model.proofs.OnlyRuns.{HasOutcome, run_is, span_is}
 
 module _ {P : Type 0} (meld : P → P → P) (limits : Limits) (h : History P) (rank : ℕ) (events : List (Event P)) (legal : IsLegal meld limits (h ++ entries_by Outside events)) (reply : Reply P) where
-  abbrev by_tests : Bool → Bool → Outcome P
+  abbrev by_tests : Bool → Bool → CallOutcome P
   by_tests known declared =
       if known then (if declared then (record { own = []; reply = AlreadyFailed }) else (record { own = Fail rank ∷ []; reply = Declared })) else (record { own = []; reply = Refused NoSuchRank })
 
@@ -49,7 +49,7 @@ fail_run_is {P = P} meld limits h after rank reply run ends =
     let events = run.span.own in
     let parts = span_is h after run.span in
     let views : record { look = failures run.span.look; history = run.span.point; own = events } ≡ record { look = failures h; history = h ++ entries_by Outside events; own = events } =
-    ap₂ (λ l w. let v : View P = record { look = failures l; history = w; own = events } in v) parts.0 (ends ∙ parts.1) in
+    ap₂ (λ l w. let v : AtPoint P = record { look = failures l; history = w; own = events } in v) parts.0 (ends ∙ parts.1) in
     let out = fail_is meld limits h rank events (subst (IsLegal meld limits) parts.1 run.span.legal) reply (subst (λ v. AnswersFail limits v rank reply) views run.answer) in
     (parts.1 ∙ ap (λ es. h ++ entries_by Outside es) out.0, out.1)
 

@@ -11,11 +11,12 @@ use Rattle.ulfm_model.specs.declared.event.Caller.{Caller}
 use Rattle.ulfm_model.specs.declared.event.Caller.TheVariants.{Rank}
 use Rattle.ulfm_model.specs.declared.event.Event.{Event}
 use Rattle.ulfm_model.specs.History.{History, entries_by, failures, has}
-use Rattle.ulfm_model.specs.{Answers.{CallAdds, Effect, IsReply, IsSelfFailed, MayOwn, Replies, RepliesBy, Sees, View, left_by, polled_by, printed, refusal_of, left_with, traits_of}, Answers.Effect.{Ends, ForGood, Keeps}, History.{IsLegal, IsLegalAfter}, Runs.{IsAloneRun, unsettled_of}}
-use Rattle.ulfm_model.specs.Computed.{Outcome}
+use Rattle.ulfm_model.specs.{Answers.{CallAdds, Effect, IsReply, IsSelfFailed, MayOwn, Replies, RepliesBy, Sees, AtPoint, left_by, polled_by, printed, refusal_of, left_with, traits_of}, Answers.Effect.{Ends, ForGood, Keeps}, History.{IsLegal, IsLegalAfter}, Runs.{IsAloneRun, unsettled_of}}
+use Rattle.ulfm_model.specs.Computed.{CallOutcome}
 use Rattle.ulfm_model.specs.Terms.{comm_of, settled_by}
 use Rattle.ulfm_model.specs.Records.{Held, Record, held_at, is_shrink}
 use Rattle.ulfm_model.specs.Runs.{IsSpan, StandsIn}
+use Rattle.ulfm_model.specs.Records.{moment}
 use Rattle.ulfm_model.proofs.Lists.{each_from}
 use Rattle.ulfm_model.proofs.Histories.{failures_begin, legal_append}
 
@@ -56,24 +57,24 @@ sees_look true look after begins = (([], append-nil look), begins)
 
 module _ {P : Type 0} (meld : P → P → P) (limits : Limits) (h : History P) (own : Record) where
   -- the view of a call that adds these events
-  abbrev pub view_with : List (Event P) → View P
+  abbrev pub view_with : List (Event P) → AtPoint P
   view_with events = record { look = failures h; history = h ++ entries_by (Rank own.number) events; own = events }
 
   -- the events may follow, and may be the call's own; the reply is an answer; a poll marks whom it has to
-  pub record IsGood (asked : Call P) (out : Outcome P) : Type 0 where
+  pub record IsGood (asked : Call P) (out : CallOutcome P) : Type 0 where
     pub legal_after : IsLegalAfter meld limits h (entries_by (Rank own.number) out.own)
     pub owns : AllByRecursion (MayOwn (failures h) own asked) out.own
     pub replies : IsSelfFailed (view_with out.own) own asked out.reply ⊎ IsReply meld limits (view_with out.own) own asked out.reply
     pub marks : IsTrue (traits_of asked).polls → IsFalse (has (failures h) own.number) → settled_by out.own ≡ unsettled_of limits.ranks h (comm_of asked) (polled_by own asked)
 
   -- the outcome's run, from this history and record to those that it leaves
-  abbrev pub IsRunOf : Call P → Outcome P → Type 0
+  abbrev pub IsRunOf : Call P → CallOutcome P → Type 0
   IsRunOf asked out =
       let after = h ++ entries_by (Rank own.number) out.own in
-      IsAloneRun meld limits h after own asked out.reply (left_by limits.ranks after (record own { seen = failures h }) asked out.reply)
+      IsAloneRun meld limits (moment own h) asked out.reply (moment (left_by limits.ranks after (record own { seen = failures h }) asked out.reply) after)
 
   -- such an outcome makes a run where nobody else steps
-  pub good_run : (asked : Call P) (out : Outcome P) → IsLegal meld limits h → IsFalse own.refused → IsGood asked out → IsRunOf asked out
+  pub good_run : (asked : Call P) (out : CallOutcome P) → IsLegal meld limits h → IsFalse own.refused → IsGood asked out → IsRunOf asked out
   good_run asked out legal in_use good =
       let after : History P = h ++ entries_by (Rank own.number) out.own in
       let now : Record = record own { seen = failures h } in
@@ -97,7 +98,7 @@ module _ {P : Type 0} (meld : P → P → P) (limits : Limits) (h : History P) (
       }
 
   -- so it is where the record doesn't refuse the call and the rank isn't declared
-  pub call_good : (asked : Call P) (x : Held) (out : Outcome P) → held_at own (comm_of asked) ≡ Some x → refusal_of own asked ≡ None → has (failures h) own.number ≡ false
+  pub call_good : (asked : Call P) (x : Held) (out : CallOutcome P) → held_at own (comm_of asked) ≡ Some x → refusal_of own asked ≡ None → has (failures h) own.number ≡ false
       → IsLegalAfter meld limits h (entries_by (Rank own.number) out.own) → AllByRecursion (CallAdds (failures h) own.number x asked) out.own
       → Replies meld limits (view_with out.own) own x asked out.reply
       → (IsTrue (traits_of asked).polls → settled_by out.own ≡ unsettled_of limits.ranks h (comm_of asked) (polled_by own asked)) → IsGood asked out
@@ -109,8 +110,8 @@ module _ {P : Type 0} (meld : P → P → P) (limits : Limits) (h : History P) (
     replies = inr (record {
       not_declared = alive;
       replies =
-          subst (RepliesBy meld limits (view_with out.own) own (held_at own (comm_of asked)) asked out.reply) (sym passed)
-          (subst (λ held. RepliesBy meld limits (view_with out.own) own held asked out.reply None) (sym at) replies);
+          subst (RepliesBy (λ x. Replies meld limits (view_with out.own) own x asked out.reply) out.reply (held_at own (comm_of asked))) (sym passed)
+          (subst (λ held. RepliesBy (λ x. Replies meld limits (view_with out.own) own x asked out.reply) out.reply held None) (sym at) replies);
     });
     marks = λ polls not_declared. marks polls;
   }

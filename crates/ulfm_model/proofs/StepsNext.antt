@@ -11,10 +11,11 @@ use Rattle.ulfm_model.specs.declared.event.Caller.TheVariants.{Outside, Rank}
 use Rattle.ulfm_model.specs.declared.event.Event.TheVariants.{Fail}
 use Rattle.ulfm_model.specs.History.{History, entries_by, failures, has}
 use Rattle.ulfm_model.specs.{History.{IsLegal, IsLegalAfter}, Runs.{IsAloneRun, IsFailRun, IsRankStep, IsSound, IsStep, State}}
-use Rattle.ulfm_model.specs.Computed.{Outcome, fail_outcome, next, next_by, next_of_rank, outcome_of}
-use Rattle.ulfm_model.specs.Terms.{record_at, view_of}
+use Rattle.ulfm_model.specs.Computed.{CallOutcome, fail_outcome, next, next_by, next_of_rank, outcome_of}
+use Rattle.ulfm_model.specs.Terms.{record_at, rests_on}
 use Rattle.ulfm_model.specs.Records.{Fits, Record}
 use Rattle.ulfm_model.specs.Answers.{AnswersFail, left_by, traits_of}
+use Rattle.ulfm_model.specs.Records.{moment}
 use Rattle.ulfm_model.proofs.Lists.{find_holds}
 use Rattle.ulfm_model.proofs.Says.{declared_by}
 use Rattle.ulfm_model.proofs.StepsAlone.{good_run, span_alone}
@@ -27,12 +28,12 @@ module _ {P : Type 0} (meld : P → P → P) (limits : Limits) (h : History P) (
   pub outcome_is_run : (own : Record) (asked : Call P) (rank : ℕ) → limits.ranks ≤ 1024 → 0 < limits.comms → Fits meld limits h own → own.refused ≡ false → (traits_of asked).by ≡ Rank rank
       → (let out = outcome_of meld limits h own asked in
       let after = h ++ entries_by (Rank own.number) out.own in
-      IsAloneRun meld limits h after own asked out.reply (left_by limits.ranks after (record own { seen = failures h }) asked out.reply))
+      IsAloneRun meld limits (moment own h) asked out.reply (moment (left_by limits.ranks after (record own { seen = failures h }) asked out.reply) after))
   outcome_is_run own asked rank small some fits in_use by_rank =
       good_run meld limits h own asked (outcome_of meld limits h own asked) legal in_use (outcome_good meld limits h legal small some own fits asked rank by_rank)
 
   -- the run of a declaration's outcome where nobody else steps, whose point is its end
-  abbrev pub IsFailRunOf : ℕ → Outcome P → Type 0
+  abbrev pub IsFailRunOf : ℕ → CallOutcome P → Type 0
   IsFailRunOf r out =
       let after = h ++ entries_by Outside out.own in (run : IsFailRun meld limits true h after r out.reply) × (run.span.point ≡ after)
 
@@ -43,7 +44,7 @@ module _ {P : Type 0} (meld : P → P → P) (limits : Limits) (h : History P) (
   pub fail_is_run : (r : ℕ) → IsFailRunOf r (fail_outcome limits h r)
   fail_is_run r = by_tests (nat_lt r limits.ranks) refl (has (failures h) r) refl
     where
-      run_of : (out : Outcome P) (after : IsLegalAfter meld limits h (entries_by Outside out.own)) → AnswersFail limits (view_of (span_alone meld limits h Outside out.own legal after)) r out.reply → IsFailRunOf r out
+      run_of : (out : CallOutcome P) (after : IsLegalAfter meld limits h (entries_by Outside out.own)) → AnswersFail limits (rests_on (span_alone meld limits h Outside out.own legal after)) r out.reply → IsFailRunOf r out
       run_of out after answer = (record { span = span_alone meld limits h Outside out.own legal after; no_look = refl; answer = answer }, refl)
 
       by_tests : (below : Bool) → nat_lt r limits.ranks ≡ below → (was : Bool) → has (failures h) r ≡ was

@@ -15,6 +15,7 @@ use Rattle.ulfm_model.specs.History.{History, failures, has}
 use Rattle.ulfm_model.specs.{Answers.{RepliesBy, first_refusal, polled_by, refusal_of, refusal_on, traits_of}, History.{IsLegal}, Records.{Fits, Held, Record, held_at, is_shrink}, Runs.{unsettled_of}}
 use Rattle.ulfm_model.specs.Computed.{held_outcome, outcome_of, rank_outcome, used_outcome}
 use Rattle.ulfm_model.specs.Terms.{comm_of, contexts_of, request_of, tests_of}
+use Rattle.ulfm_model.specs.Answers.{Replies}
 use Rattle.ulfm_model.proofs.StepsAlone.{IsGood, view_with}
 use Rattle.ulfm_model.proofs.StepsPlain.{ack_good, free_good, get_good, holds, revoke_good, standing_good}
 use Rattle.ulfm_model.proofs.StepsPolls.{poll_good}
@@ -84,7 +85,7 @@ module _ {P : Type 0} (meld : P → P → P) (limits : Limits) (h : History P) (
       by_record alive held at (Some refusal) is = record {
         legal_after = tt;
         owns = tt;
-        replies = inr (record { not_declared = alive; replies = subst (RepliesBy meld limits (view_with meld limits h own []) own (held_at own (comm_of asked)) asked (Refused refusal)) (sym is) refl });
+        replies = inr (record { not_declared = alive; replies = subst (RepliesBy (λ x. Replies meld limits (view_with meld limits h own []) own x asked (Refused refusal)) (Refused refusal) (held_at own (comm_of asked))) (sym is) refl });
         marks = λ polls not_declared. refused_marks asked refusal is;
       }
       by_record alive (Some x) at None is = held_good alive asked rank by_rank x at is (sym (ap (λ held. refusal_on own held asked) at) ∙ is)

@@ -15,7 +15,7 @@ use Rattle.ulfm_model.specs.declared.limits.Limits.{Limits}
 use Rattle.ulfm_model.specs.declared.place.Place.{Place}
 use Rattle.ulfm_model.specs.declared.place.Place.TheVariants.{List as ListAt, Comm as CommAt, Revoked as RevokedAt, Slot as SlotAt, Arrival as ArrivalAt}
 use Rattle.ulfm_model.specs.History.{History, failures, has, has_arrived, is_revoked, same_place, says, spawns}
-use Rattle.ulfm_model.specs.Laws.{Sets, SetsOneWord, HasWords}
+use Rattle.ulfm_model.specs.Laws.{SetsWord, SetsOneWord, HasWords}
 use Rattle.ulfm_model.specs.{History.{IsLegal, IsLegalAfter, MayFollow}, Words.{offer_word, place_of, slot_word, word_at, word_of}}
 use Rattle.ulfm_model.specs.Terms.{word_or_zero}
 use Rattle.ulfm_model.proofs.Histories.{along, by_events, legal_parts, legal_push, slot_kept as slot_same, slot_push}
@@ -217,9 +217,9 @@ module _ {P : Type 0} (pack : P → ℕ) (meld : P → P → P) (limits : Limits
       ]) h rest legal is more
 
   -- each word is 0, or some event has set it
-  zero_or_set : (h : History P) → IsLegal meld limits h → (place : Place) → (word_at pack h place ≡ 0) ⊎ ((e : Entry P) × Sets h place e)
+  zero_or_set : (h : History P) → IsLegal meld limits h → (place : Place) → (word_at pack h place ≡ 0) ⊎ ((e : Entry P) × SetsWord h place e)
   zero_or_set h legal =
-      by_events meld limits (λ w. (place : Place) → (word_at pack w place ≡ 0) ⊎ ((e : Entry P) × Sets w place e)) empty
+      by_events meld limits (λ w. (place : Place) → (word_at pack w place ≡ 0) ⊎ ((e : Entry P) × SetsWord w place e)) empty
       (λ w e lw q may place. elim (place_or_not (place_of w e.event) place) [
         | inl same ↦ inr (e, record { before = w; rest = []; stands = refl; place_is = same })
         | inr other ↦ elim (q place) [
@@ -236,7 +236,7 @@ module _ {P : Type 0} (pack : P → ℕ) (meld : P → P → P) (limits : Limits
         ]
       ]) h legal
     where
-      empty : (place : Place) → (word_at pack [] place ≡ 0) ⊎ ((e : Entry P) × Sets [] place e)
+      empty : (place : Place) → (word_at pack [] place ≡ 0) ⊎ ((e : Entry P) × SetsWord [] place e)
       empty (CommAt zero) = inl refl
       empty (CommAt (suc j)) = inl refl
       empty place = inl refl
@@ -245,7 +245,7 @@ module _ {P : Type 0} (pack : P → ℕ) (meld : P → P → P) (limits : Limits
   pub has_words : (h : History P) → IsLegal meld limits h → HasWords pack h
   has_words h legal = record { set = set; unset = λ place. (none_sets place, is_zero place) }
     where
-      set : (place : Place) (e : Entry P) → Sets h place e → word_at pack h place ≡ word_of pack e.event
+      set : (place : Place) (e : Entry P) → SetsWord h place e → word_at pack h place ≡ word_of pack e.event
       set place e sets =
           let parts = legal_parts meld limits sets.before (e ∷ sets.rest) (subst (IsLegal meld limits) (sym sets.stands) legal) in
           let one = sets_one_word sets.before e parts.1.0 in
@@ -253,8 +253,8 @@ module _ {P : Type 0} (pack : P → ℕ) (meld : P → P → P) (limits : Limits
           ap (λ w. word_at pack w place) (sym sets.stands ∙ sym (append_assoc sets.before (e ∷ []) sets.rest))
           ∙ word_stays place e.event (sets.before ++ e ∷ []) sets.rest (legal_push meld limits sets.before e parts.0 parts.1.0) parts.1.1 here
 
-      none_sets : (place : Place) → word_at pack h place ≡ 0 → (e : Entry P) → Sets h place e → ⊥
+      none_sets : (place : Place) → word_at pack h place ≡ 0 → (e : Entry P) → SetsWord h place e → ⊥
       none_sets place is e sets = absurd (omega (arith, is, set place e sets, word_some pack e.event))
 
-      is_zero : (place : Place) → ((e : Entry P) → Sets h place e → ⊥) → word_at pack h place ≡ 0
+      is_zero : (place : Place) → ((e : Entry P) → SetsWord h place e → ⊥) → word_at pack h place ≡ 0
       is_zero place out = elim (zero_or_set h legal place) [ inl is ↦ is | inr some ↦ absurd (out some.0 some.1) ]

@@ -9,7 +9,7 @@ use Rattle.ulfm_model.specs.declared.{contribution.Contribution.{Contribution}, 
 use Rattle.ulfm_model.specs.declared.{contribution.Slot.{Slot}, refusal.Refusal.{Refusal}, reply.Reply.{Reply}}
 use Rattle.ulfm_model.specs.History.{Decision, History, decision, failed, failures, has, has_arrived, is_decided, is_made, is_revoked}
 use Rattle.ulfm_model.specs.History.{made_of, members, slot, spawns}
-use Rattle.ulfm_model.specs.Records.{Held, IsLowestId, Record, free_ids, held_at, is_shrink, new_held, with_held}
+use Rattle.ulfm_model.specs.Records.{Held, IsLowestId, Moment, Record, free_ids, held_at, is_shrink, new_held, with_held}
 
 -- what a reply leaves: the record as it is; the request ended; the rank refused for good
 pub data Effect : Type 0 where
@@ -34,7 +34,7 @@ printed Refusal.OutOfMemory = (14, codes "out-of-memory", Effect.Keeps)
 printed Refusal.Twice = (15, codes "twice", Effect.Keeps)
 
 -- what a reply rests on: the failures that the call's look found, the history at the reply's point, and the call's own events
-pub record View (P : Type 0) : Type 0 where
+pub record AtPoint (P : Type 0) : Type 0 where
   pub look : List ℕ
   pub history : History P
   pub own : List (Event P)
@@ -127,7 +127,7 @@ pub record MayOwn {P : Type 0} (look : List ℕ) (old : Record) (asked : Call P)
   pub adds : (x : Held) × (held_at old (comm_of asked) ≡ Some x) × CallAdds look old.number x asked event
 
 -- a start has contributed this offer, with the failures that the look found and those that the record has acknowledged
-pub record Contributes {P : Type 0} (view : View P) (old : Record) (x : Held) (offer : Offer P) : Type 0 where
+pub record Contributes {P : Type 0} (view : AtPoint P) (old : Record) (x : Held) (offer : Offer P) : Type 0 where
   pub given : Contribution P
   pub own : view.own ≡ Event.Settle x.comm x.next_agreement old.number given ∷ []
   pub stands : slot view.history x.comm x.next_agreement old.number ≡ Some (Slot.Given given)
@@ -136,24 +136,24 @@ pub record Contributes {P : Type 0} (view : View P) (old : Record) (x : Held) (o
   pub acked : given.acked.count ≡ x.acked
 
 -- the start of an agree or of a shrink: it has contributed, or the rank's place has a contribution that isn't this call's
-abbrev pub StartReplies : {P : Type 0} → View P → Record → Held → Offer P → Reply P → Type 0
+abbrev pub StartReplies : {P : Type 0} → AtPoint P → Record → Held → Offer P → Reply P → Type 0
 StartReplies {P} view old x offer reply =
     ((reply ≡ Reply.Started) × Contributes view old x offer)
     ⊎ ((reply ≡ Reply.Refused Refusal.Twice) × (view.own ≡ [])
     × ((given : Contribution P) × (slot view.history x.comm x.next_agreement old.number ≡ Some (Slot.Given given))))
 
 -- this call's event has made it so, which one reply says, or it was so before, which the other says
-abbrev pub DoneOrFound : {P : Type 0} → View P → Event P → Reply P → Reply P → Reply P → Type 0
+abbrev pub DoneOrFound : {P : Type 0} → AtPoint P → Event P → Reply P → Reply P → Reply P → Type 0
 DoneOrFound view event done found reply = ((reply ≡ done) × (view.own ≡ event ∷ [])) ⊎ ((reply ≡ found) × (view.own ≡ []))
 
 -- the start of a barrier; either way the rank has arrived
-abbrev pub BarrierStartReplies : {P : Type 0} → View P → Record → Held → Reply P → Type 0
+abbrev pub BarrierStartReplies : {P : Type 0} → AtPoint P → Record → Held → Reply P → Type 0
 BarrierStartReplies view old x reply =
     IsTrue (has_arrived view.history x.comm x.next_barrier old.number)
     × DoneOrFound view (Event.Arrive x.comm x.next_barrier old.number) Reply.Started (Reply.Refused Refusal.Twice) reply
 
 -- an agreement is pending where some member that the look didn't find declared is unsettled
-pub record IsPending {P : Type 0} (view : View P) (x : Held) (k : ℕ) : Type 0 where
+pub record IsPending {P : Type 0} (view : AtPoint P) (x : Held) (k : ℕ) : Type 0 where
   pub member : ℕ
   pub in_group : IsTrue (has x.group member)
   pub not_declared : IsFalse (has view.look member)
@@ -181,7 +181,7 @@ ShrinkReplies limits h r c k made reply =
     ⊎ ((made.body ≡ Body.Clash) × (reply ≡ Reply.Refused Refusal.Mismatch))
 
 -- a barrier's poll: the first of these that holds
-abbrev pub barrier_reply : {P : Type 0} → View P → Held → ℕ → Reply P
+abbrev pub barrier_reply : {P : Type 0} → AtPoint P → Held → ℕ → Reply P
 barrier_reply view x k =
     if is_revoked view.history x.comm then Reply.Refused Refusal.IsRevoked
     else (if list_all (has_arrived view.history x.comm k) x.group then Reply.Done
@@ -189,13 +189,13 @@ barrier_reply view x k =
     else Reply.Refused Refusal.ProcFailed))
 
 -- the poll of an agreement: it is pending, or decided with a reply by its decision
-abbrev pub AgreementReplies : {P : Type 0} → (P → P → P) → Limits → View P → Held → ℕ → (Decision P → Type 0) → Reply P → Type 0
+abbrev pub AgreementReplies : {P : Type 0} → (P → P → P) → Limits → AtPoint P → Held → ℕ → (Decision P → Type 0) → Reply P → Type 0
 AgreementReplies meld limits view x k decides reply =
     (IsPending view x k × (reply ≡ Reply.Pending))
     ⊎ (IsTrue (is_decided limits.ranks view.history x.comm k) × decides (decision meld limits.ranks view.history x.comm k))
 
 -- the poll of a request
-abbrev pub PollReplies : {P : Type 0} → (P → P → P) → Limits → View P → ℕ → Held → Option Request → Reply P → Type 0
+abbrev pub PollReplies : {P : Type 0} → (P → P → P) → Limits → AtPoint P → ℕ → Held → Option Request → Reply P → Type 0
 PollReplies meld limits view r x None reply = ⊥
 PollReplies meld limits view r x (Some (Request.Agree k)) reply = AgreementReplies meld limits view x k (λ made. AgreeReplies made reply) reply
 PollReplies meld limits view r x (Some (Request.Shrink k)) reply =
@@ -203,7 +203,7 @@ PollReplies meld limits view r x (Some (Request.Shrink k)) reply =
 PollReplies meld limits view r x (Some (Request.Barrier k)) reply = reply ≡ barrier_reply view x k
 
 -- a call that the record doesn't refuse. Where a count of failures is answered, the point is at the look
-abbrev pub Replies : {P : Type 0} → (P → P → P) → Limits → View P → Record → Held → Call P → Reply P → Type 0
+abbrev pub Replies : {P : Type 0} → (P → P → P) → Limits → AtPoint P → Record → Held → Call P → Reply P → Type 0
 Replies meld limits view old x (Call.Fail rank) reply = ⊥
 Replies meld limits view old x (Call.GetFailed rank c) reply =
     (failures view.history ≡ view.look) × (reply ≡ Reply.FailedGroup (length (failed limits.ranks view.history c)))
@@ -218,11 +218,11 @@ Replies meld limits view old x (Call.Revoke rank c) reply =
 Replies meld limits view old x (Call.IsRevoked rank c) reply = reply ≡ Reply.Standing (is_revoked view.history c)
 Replies meld limits view old x (Call.Free rank c) reply = reply ≡ Reply.Freed
 
--- where the record refuses the call, that refusal is the only reply
-abbrev pub RepliesBy : {P : Type 0} → (P → P → P) → Limits → View P → Record → Option Held → Call P → Reply P → Option Refusal → Type 0
-RepliesBy meld limits view old held asked reply (Some refusal) = reply ≡ Reply.Refused refusal
-RepliesBy meld limits view old (Some x) asked reply None = Replies meld limits view old x asked reply
-RepliesBy meld limits view old None asked reply None = ⊥
+-- where the record refuses the call, that refusal is the only reply; else the reply is one to a call on the communicator that is held
+abbrev pub RepliesBy : {P : Type 0} → (Held → Type 0) → Reply P → Option Held → Option Refusal → Type 0
+RepliesBy replies reply held (Some refusal) = reply ≡ Reply.Refused refusal
+RepliesBy replies reply (Some x) None = replies x
+RepliesBy replies reply None None = ⊥
 
 -- a communicator with a request that was started on it; its round is used up
 abbrev pub opened : Held → Option Request → Held
@@ -264,30 +264,31 @@ Sees false look after seen = seen ≡ look
 Sees true look after seen = IsPrefix look seen × IsPrefix seen (failures after)
 
 -- the new record is what the reply leaves of the old one at the call's end
-pub record Leaves {P : Type 0} (ranks : ℕ) (view : View P) (after : History P) (old : Record) (asked : Call P) (reply : Reply P) (new : Record) : Type 0 where
+pub record Leaves {P : Type 0} (ranks : ℕ) (view : AtPoint P) (after : History P) (old : Record) (asked : Call P) (reply : Reply P) (new : Record)
+    : Type 0 where
   pub seen : Sees (is_shrink (polled_by old asked)) view.look after new.seen
   pub record_is : new ≡ left_by ranks view.history (record old { seen = new.seen }) asked reply
 
 -- the rank is declared at the point, and refused for good from now on; a start that is refused so has added nothing
-pub record IsSelfFailed {P : Type 0} (view : View P) (old : Record) (asked : Call P) (reply : Reply P) : Type 0 where
+pub record IsSelfFailed {P : Type 0} (view : AtPoint P) (old : Record) (asked : Call P) (reply : Reply P) : Type 0 where
   pub reply_is : reply ≡ Reply.Refused Refusal.SelfFailed
   pub declared : IsTrue (has (failures view.history) old.number)
   pub adds_nothing : (x : Held) → IsTrue (is_some ((traits_of asked).starts x)) → view.own ≡ []
 
 -- any other reply, to a rank that the look didn't find declared
-pub record IsReply {P : Type 0} (meld : P → P → P) (limits : Limits) (view : View P) (old : Record) (asked : Call P) (reply : Reply P) : Type 0 where
+pub record IsReply {P : Type 0} (meld : P → P → P) (limits : Limits) (view : AtPoint P) (old : Record) (asked : Call P) (reply : Reply P) : Type 0 where
   pub not_declared : IsFalse (has view.look old.number)
-  pub replies : RepliesBy meld limits view old (held_at old (comm_of asked)) asked reply (refusal_of old asked)
+  pub replies : RepliesBy (λ x. Replies meld limits view old x asked reply) reply (held_at old (comm_of asked)) (refusal_of old asked)
 
--- the reply is an answer to a rank's call, and leaves this record at the call's end
-pub record Answers {P : Type 0} (meld : P → P → P) (limits : Limits) (view : View P) (after : History P) (old : Record)
-    (asked : Call P) (reply : Reply P) (new : Record) : Type 0 where
+-- the reply is an answer to a rank's call, and leaves the record that the rank has at the call's end
+pub record Answers {P : Type 0} (meld : P → P → P) (limits : Limits) (view : AtPoint P) (old : Record) (asked : Call P) (reply : Reply P) (end : Moment P)
+    : Type 0 where
   pub own : AllByRecursion (MayOwn view.look old asked) view.own
   pub replies : IsSelfFailed view old asked reply ⊎ IsReply meld limits view old asked reply
-  pub leaves : Leaves limits.ranks view after old asked reply new
+  pub leaves : Leaves limits.ranks view end.seen old asked reply end.own
 
 -- the outside's declaration of rank r: by this call, or before, or the world doesn't have the rank
-abbrev pub AnswersFail : {P : Type 0} → Limits → View P → ℕ → Reply P → Type 0
+abbrev pub AnswersFail : {P : Type 0} → Limits → AtPoint P → ℕ → Reply P → Type 0
 AnswersFail limits view r reply =
     ((reply ≡ Reply.Declared) × (view.own ≡ Event.Fail r ∷ []) × IsTrue (has (failures view.history) r))
     ⊎ ((reply ≡ Reply.AlreadyFailed) × (view.own ≡ []) × IsTrue (has (failures view.history) r))

@@ -8,7 +8,7 @@ use Rattle.ulfm_laws.specs.{Within.{acked_known, known_from_one, some_known}, de
 use Rattle.ulfm_model.specs.declared.{call.Call.{Call}, call.Request.{Request}, event.Caller.{Caller}, event.Event.{Event}, limits.Limits.{Limits}}
 use Rattle.ulfm_model.specs.declared.{contribution.Contribution.{Contribution}, contribution.MarkCount.{MarkCount}, contribution.Offer.{Offer}}
 use Rattle.ulfm_model.specs.declared.{contribution.Slot.{Slot}, refusal.Refusal.{Refusal}, reply.Reply.{Reply}}
-use Rattle.ulfm_model.specs.{Answers.{View, barrier_reply, left_by, rank_of, refusal_of}, Records.{Held, Record, free_ids, held_at}, Runs.{State}}
+use Rattle.ulfm_model.specs.{Answers.{AtPoint, barrier_reply, left_by, rank_of, refusal_of}, Records.{Held, Record, free_ids, held_at}, Runs.{State}}
 use Rattle.ulfm_model.specs.History.{Decision, History, decision, entries_by, failed, failures, first_ranks, has, has_arrived, is_decided}
 use Rattle.ulfm_model.specs.{History.{is_made, is_revoked, members, slot, spawns}, Terms.{after_call, comm_of, record_at}}
 
@@ -104,7 +104,7 @@ shrink_reply ranks h r c k made (Body.Ctx mask) =
 shrink_reply ranks h r c k made Body.Clash = Reply.Refused Refusal.Mismatch
 
 -- the reply of a poll
-abbrev pub poll_reply : {P : Type 0} → (P → P → P) → Limits → View P → ℕ → Held → Option Request → Reply P
+abbrev pub poll_reply : {P : Type 0} → (P → P → P) → Limits → AtPoint P → ℕ → Held → Option Request → Reply P
 poll_reply meld limits view r x None = Reply.Pending
 poll_reply meld limits view r x (Some (Request.Agree k)) =
     let made = decision meld limits.ranks view.history x.comm k in
@@ -115,7 +115,7 @@ poll_reply meld limits view r x (Some (Request.Shrink k)) =
 poll_reply meld limits view r x (Some (Request.Barrier k)) = barrier_reply view x k
 
 -- the reply of a call that the record doesn't refuse, by the history before it and by its view at the end
-abbrev pub replied : {P : Type 0} → (P → P → P) → Limits → History P → View P → Record → Held → Call P → Reply P
+abbrev pub replied : {P : Type 0} → (P → P → P) → Limits → History P → AtPoint P → Record → Held → Call P → Reply P
 replied meld limits h view own x (Call.Fail rank) = Reply.Refused Refusal.NoSuchRank
 replied meld limits h view own x (Call.GetFailed rank c) = Reply.FailedGroup (length (failed limits.ranks view.history c))
 replied meld limits h view own x (Call.Ack rank c count) = Reply.Acked (max x.acked (min count (length (failed limits.ranks view.history c))))
@@ -128,34 +128,34 @@ replied meld limits h view own x (Call.IsRevoked rank c) = Reply.Standing (is_re
 replied meld limits h view own x (Call.Free rank c) = Reply.Freed
 
 -- what a call adds and what it replies
-pub record Outcome (P : Type 0) : Type 0 where
+pub record CallOutcome (P : Type 0) : Type 0 where
   pub own : List (Event P)
   pub reply : Reply P
 
 -- a call that its record doesn't refuse, of a rank that isn't declared
-abbrev pub held_outcome : {P : Type 0} → (P → P → P) → Limits → History P → Record → Held → Call P → Outcome P
+abbrev pub held_outcome : {P : Type 0} → (P → P → P) → Limits → History P → Record → Held → Call P → CallOutcome P
 held_outcome {P} meld limits h own x asked =
     let events = added meld limits h own x asked in
-    let view : View P = record { look = failures h; history = h ++ entries_by (Caller.Rank own.number) events; own = events } in
+    let view : AtPoint P = record { look = failures h; history = h ++ entries_by (Caller.Rank own.number) events; own = events } in
     record { own = events; reply = replied meld limits h view own x asked }
 
 -- the same by what the record says first
-abbrev pub used_outcome : {P : Type 0} → (P → P → P) → Limits → History P → Record → Option Held → Option Refusal → Call P → Outcome P
+abbrev pub used_outcome : {P : Type 0} → (P → P → P) → Limits → History P → Record → Option Held → Option Refusal → Call P → CallOutcome P
 used_outcome meld limits h own held (Some refusal) asked = record { own = []; reply = Reply.Refused refusal }
 used_outcome meld limits h own (Some x) None asked = held_outcome meld limits h own x asked
 used_outcome meld limits h own None None asked = record { own = []; reply = Reply.Refused Refusal.SelfFailed }
 
 -- a call of a rank that wasn't refused for good before, by whether it is declared
-abbrev pub rank_outcome : {P : Type 0} → (P → P → P) → Limits → History P → Record → Call P → Bool → Outcome P
+abbrev pub rank_outcome : {P : Type 0} → (P → P → P) → Limits → History P → Record → Call P → Bool → CallOutcome P
 rank_outcome meld limits h own asked true = record { own = []; reply = Reply.Refused Refusal.SelfFailed }
 rank_outcome meld limits h own asked false = used_outcome meld limits h own (held_at own (comm_of asked)) (refusal_of own asked) asked
 
 -- a call of a rank that wasn't refused for good before
-abbrev pub outcome_of : {P : Type 0} → (P → P → P) → Limits → History P → Record → Call P → Outcome P
+abbrev pub outcome_of : {P : Type 0} → (P → P → P) → Limits → History P → Record → Call P → CallOutcome P
 outcome_of meld limits h own asked = rank_outcome meld limits h own asked (has (failures h) own.number)
 
 -- the outside's declaration of a rank
-abbrev pub fail_outcome : {P : Type 0} → Limits → History P → ℕ → Outcome P
+abbrev pub fail_outcome : {P : Type 0} → Limits → History P → ℕ → CallOutcome P
 fail_outcome limits h r =
     if nat_lt r limits.ranks then (if has (failures h) r then (record { own = []; reply = Reply.AlreadyFailed })
     else (record { own = Event.Fail r ∷ []; reply = Reply.Declared }))

@@ -11,6 +11,7 @@ use Rattle.ulfm_model.specs.History.{Decision, Exists, History, IsLegal, MayFoll
 use Rattle.ulfm_model.specs.History.{round, same_place, says, spawns, without}
 use Rattle.ulfm_model.specs.{Records.{Fits, Held, IsContext, Record, free_ids, held_at}, Runs.{IsCall, IsSound, IsStep, State, new_state}}
 use Rattle.ulfm_model.specs.Words.{MayOpen, place_of, word_at, word_of}
+use Rattle.ulfm_model.specs.Records.{moment}
 
 -- a record that fits a history fits every longer legal one
 abbrev pub RecordsStay : {P : Type 0} → (P → P → P) → Type 0
@@ -92,7 +93,7 @@ UnheldIdsAreOffered {P} meld =
     → (bit_at (free_ids own.held).bits id ≡ 1) ↔ IsFalse (has (map (λ x. x.context) own.held) id)
 
 -- an event of a history that sets the word at a place
-pub record Sets {P : Type 0} (h : History P) (place : Place) (e : Entry P) : Type 0 where
+pub record SetsWord {P : Type 0} (h : History P) (place : Place) (e : Entry P) : Type 0 where
   pub before : History P
   pub rest : History P
   pub stands : before ++ e ∷ rest ≡ h
@@ -107,8 +108,8 @@ pub record SetsOneWord {P : Type 0} (pack : P → ℕ) (h : History P) (e : Entr
 
 -- after a history a word is that of the event that sets it, and 0 exactly where no event does
 pub record HasWords {P : Type 0} (pack : P → ℕ) (h : History P) : Type 0 where
-  pub set : (place : Place) (e : Entry P) → Sets h place e → word_at pack h place ≡ word_of pack e.event
-  pub unset : (place : Place) → (word_at pack h place ≡ 0) ↔ ((e : Entry P) → ¬ Sets h place e)
+  pub set : (place : Place) (e : Entry P) → SetsWord h place e → word_at pack h place ≡ word_of pack e.event
+  pub unset : (place : Place) → (word_at pack h place ≡ 0) ↔ ((e : Entry P) → ¬ SetsWord h place e)
 
 -- both hold of every legal history, however contributions are packed
 abbrev pub WordsTellEvents : {P : Type 0} → (P → P → P) → Type 0
@@ -138,7 +139,7 @@ CallsHaveOneStep {P} meld = (state : State P) → IsSound meld state → MayOpen
 abbrev pub CallsKeepRecords : {P : Type 0} → (P → P → P) → Type 0
 CallsKeepRecords {P} meld =
     (limits : Limits) (alone : Bool) (before after : History P) (own new : Record) (asked : Call P) (reply : Reply P)
-    → Fits meld limits before own → IsCall meld limits alone before after own asked reply new → Fits meld limits after new
+    → Fits meld limits before own → IsCall meld limits alone (moment own before) asked reply (moment new after) → Fits meld limits after new
 
 -- whoever holds a communicator is a member of it, and all who hold it have one group and one context id
 abbrev pub HoldersAgree : {P : Type 0} → (P → P → P) → Type 0
@@ -157,6 +158,6 @@ pub record IsLeftOut {P : Type 0} (meld : P → P → P) (ranks : ℕ) (h : Hist
 abbrev pub ShrinksExcludeFailures : {P : Type 0} → (P → P → P) → Type 0
 ShrinksExcludeFailures {P} meld =
     (limits : Limits) (alone : Bool) (before after longer : History P) (own new : Record) (rank c : ℕ) (x : Held)
-    → Fits meld limits before own → IsCall meld limits alone before after own (Call.Shrink rank c) Reply.Started new → held_at own c ≡ Some x
+    → Fits meld limits before own → IsCall meld limits alone (moment own before) (Call.Shrink rank c) Reply.Started (moment new after) → held_at own c ≡ Some x
     → IsPrefix after longer → IsLegal meld limits longer
     → (r : ℕ) → IsTrue (has (failed limits.ranks before c) r) → IsLeftOut meld limits.ranks longer c x.next_agreement r

@@ -27,6 +27,14 @@ pub record Record : Type 0 where
   pub seen : List ℕ
   pub refused : Bool
 
+-- a moment of a rank: its record, and what has happened by then
+pub record Moment (P : Type 0) : Type 0 where
+  pub own : Record
+  pub seen : History P
+
+abbrev pub moment : {P : Type 0} → Record → History P → Moment P
+moment own seen = record { own = own; seen = seen }
+
 -- what a record holds of communicator c, if it holds it
 abbrev pub held_at : Record → ℕ → Option Held
 held_at own c = find (λ x. x.comm == c) own.held

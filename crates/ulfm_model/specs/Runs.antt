@@ -5,9 +5,9 @@ use Rattle.std.specs.{List.{AllByRecursion}, Option.{option_map_or}}
 use mathlib.Core.List.{IsPrefix}
 use Rattle.ulfm_model.specs.declared.{call.Call.{Call}, call.Request.{Request}, event.Caller.{Caller}, event.Event.{Event}, limits.Limits.{Limits}}
 use Rattle.ulfm_model.specs.declared.{refusal.Refusal.{Refusal}, reply.Reply.{Reply}}
-use Rattle.ulfm_model.specs.Answers.{Answers, AnswersFail, View, comm_of, polled_by, traits_of}
+use Rattle.ulfm_model.specs.Answers.{Answers, AnswersFail, AtPoint, comm_of, polled_by, traits_of}
 use Rattle.ulfm_model.specs.History.{History, IsLegal, entries_by, failed, failures, first_ranks, has, says, slot}
-use Rattle.ulfm_model.specs.Records.{Fits, Record, agreement_of, new_record}
+use Rattle.ulfm_model.specs.Records.{Fits, Moment, Record, agreement_of, moment, new_record}
 
 -- the first list stands in the second, in order, with others in between
 abbrev pub StandsIn : {E : Type 0} → List E → List E → Type 0
@@ -34,28 +34,28 @@ pub record IsSpan {P : Type 0} (meld : P → P → P) (limits : Limits) (alone :
   pub legal : IsLegal meld limits after
 
 -- what the reply of a call rests on
-abbrev pub view_of : {P : Type 0} {meld : P → P → P} {limits : Limits} {alone : Bool} {before after : History P} {caller : Caller}
-    → IsSpan meld limits alone before after caller → View P
-view_of span = record { look = failures span.look; history = span.point; own = span.own }
+abbrev pub rests_on : {P : Type 0} {meld : P → P → P} {limits : Limits} {alone : Bool} {before after : History P} {caller : Caller}
+    → IsSpan meld limits alone before after caller → AtPoint P
+rests_on span = record { look = failures span.look; history = span.point; own = span.own }
 
--- a call of a rank that wasn't refused for good before: its reply is an answer at its point
-pub record IsRun {P : Type 0} (meld : P → P → P) (limits : Limits) (alone : Bool) (before after : History P) (old : Record)
-    (asked : Call P) (reply : Reply P) (new : Record) : Type 0 where
-  pub in_use : IsFalse old.refused
-  pub span : IsSpan meld limits alone before after (Caller.Rank old.number)
-  pub answer : Answers meld limits (view_of span) after old asked reply new
+-- a call of a rank that wasn't refused for good before, from one moment to another: its reply is an answer at its point
+pub record IsRun {P : Type 0} (meld : P → P → P) (limits : Limits) (alone : Bool) (start : Moment P) (asked : Call P) (reply : Reply P) (end : Moment P)
+    : Type 0 where
+  pub in_use : IsFalse start.own.refused
+  pub span : IsSpan meld limits alone start.seen end.seen (Caller.Rank start.own.number)
+  pub answer : Answers meld limits (rests_on span) start.own asked reply end
 
 -- a call of a rank: one that was refused for good before is refused again, without a step
-abbrev pub IsCall : {P : Type 0} → (P → P → P) → Limits → Bool → History P → History P → Record → Call P → Reply P → Record → Type 0
-IsCall meld limits alone before after old asked reply new =
-    (IsTrue old.refused × (after ≡ before) × (reply ≡ Reply.Refused Refusal.SelfFailed) × (new ≡ old))
-    ⊎ IsRun meld limits alone before after old asked reply new
+abbrev pub IsCall : {P : Type 0} → (P → P → P) → Limits → Bool → Moment P → Call P → Reply P → Moment P → Type 0
+IsCall meld limits alone start asked reply end =
+    (IsTrue start.own.refused × (end.seen ≡ start.seen) × (reply ≡ Reply.Refused Refusal.SelfFailed) × (end.own ≡ start.own))
+    ⊎ IsRun meld limits alone start asked reply end
 
 -- the outside's declaration of a rank; it makes no look
 pub record IsFailRun {P : Type 0} (meld : P → P → P) (limits : Limits) (alone : Bool) (before after : History P) (rank : ℕ) (reply : Reply P) : Type 0 where
   pub span : IsSpan meld limits alone before after Caller.Outside
   pub no_look : span.look ≡ before
-  pub answer : AnswersFail limits (view_of span) rank reply
+  pub answer : AnswersFail limits (rests_on span) rank reply
 
 -- whom a poll marks where nobody else steps: in an agreement's round, the unsettled declared members, in the order of their failures
 abbrev pub unsettled_of : {P : Type 0} → ℕ → History P → ℕ → Option Request → List ℕ
@@ -66,12 +66,11 @@ abbrev pub settled_by : {P : Type 0} → List (Event P) → List ℕ
 settled_by events = map (λ put. put.0.2) (filter_map (λ e. (says e).settles) events)
 
 -- a run where nobody else steps: its point is its end, and the poll of a rank that isn't declared has marked them all
-pub record IsAloneRun {P : Type 0} (meld : P → P → P) (limits : Limits) (before after : History P) (old : Record)
-    (asked : Call P) (reply : Reply P) (new : Record) : Type 0 where
-  pub run : IsRun meld limits true before after old asked reply new
-  pub at_end : run.span.point ≡ after
-  pub marks : IsTrue (traits_of asked).polls → IsFalse (has (failures before) old.number)
-      → settled_by run.span.own ≡ unsettled_of limits.ranks before (comm_of asked) (polled_by old asked)
+pub record IsAloneRun {P : Type 0} (meld : P → P → P) (limits : Limits) (start : Moment P) (asked : Call P) (reply : Reply P) (end : Moment P) : Type 0 where
+  pub run : IsRun meld limits true start asked reply end
+  pub at_end : run.span.point ≡ end.seen
+  pub marks : IsTrue (traits_of asked).polls → IsFalse (has (failures start.seen) start.own.number)
+      → settled_by run.span.own ≡ unsettled_of limits.ranks start.seen (comm_of asked) (polled_by start.own asked)
 
 -- the object's state: its limits, what has happened, and what each rank holds
 pub record State (P : Type 0) : Type 0 where
@@ -94,7 +93,7 @@ abbrev pub IsRankStep : {P : Type 0} → (P → P → P) → State P → ℕ →
 IsRankStep meld old r None asked reply new = (reply ≡ Reply.Refused Refusal.NoSuchRank) × (new ≡ old)
 IsRankStep {P} meld old r (Some own) asked reply new =
     (IsTrue own.refused × (reply ≡ Reply.Refused Refusal.SelfFailed) × (new ≡ old))
-    ⊎ ((after : History P) × (left : Record) × IsAloneRun meld old.limits old.history after own asked reply left
+    ⊎ ((after : History P) × (left : Record) × IsAloneRun meld old.limits (moment own old.history) asked reply (moment left after)
     × (new ≡ record old { history = after; records = map (λ x. if x.number == r then left else x) old.records }))
 
 -- one call where nobody else steps: its reply, and the next state

@@ -2,7 +2,7 @@
 use Rattle.std.specs.{Prelude.{◌≡◌, ◌<◌, ◌≤◌, List, length, map}}
 use Rattle.ulfm_model.specs.declared.{call.Call.{Call}, event.Event.{Event}, limits.Limits.{Limits}, reply.Reply.{Reply}}
 use Rattle.ulfm_record.specs.declared.record.RankRecord.{RankRecord}
-use Rattle.ulfm_model.specs.{Answers.{View, traits_of}, History.{History, failures, spawns}, Runs.{IsStep, State}}
+use Rattle.ulfm_model.specs.{Answers.{AtPoint, traits_of}, History.{History, failures, spawns}, Runs.{IsStep, State}}
 use Rattle.ulfm_record.specs.Kept.{record_of}
 
 -- the object's state, by its limits, its log and its ranks' records
@@ -10,7 +10,7 @@ abbrev pub state_of : {P A : Type 0} → Limits → History P → List (RankReco
 state_of limits log records = record { limits = limits; history = log; records = map (record_of limits) records }
 
 -- what a reply rests on that is found by walks: the failures at the look, which is at the history before, and the history after
-abbrev pub view_after : {P : Type 0} → History P → History P → List (Event P) → View P
+abbrev pub view_after : {P : Type 0} → History P → History P → List (Event P) → AtPoint P
 view_after before after events = record { look = failures before; history = after; own = events }
 
 -- so few failures and communicators that their numbers fit

@@ -3,7 +3,7 @@ use Rattle.std.specs.Prelude.{◌≡◌, ℕ, List, [], ◌∷◌, codes}
 use Rattle.std.specs.Io.KnownBytes.{Keeps}
 use Rattle.ulfm_filters.specs.declared.filter.Filter.{Filter}
 use Rattle.ulfm_filters.specs.declared.filter.Filter.TheVariants.{Calls, Steps, Check}
-use Rattle.ulfm_script.specs.Ends.{Known}
+use Rattle.ulfm_script.specs.Ends.{KnownText}
 
 -- the words behind the program's name that ask for a filter
 abbrev pub words_of : Filter → List (List ℕ)
@@ -12,5 +12,5 @@ words_of Steps = codes "run" ∷ codes "--steps" ∷ []
 words_of Check = codes "check" ∷ []
 
 -- nothing was read or printed, and the status is that of a bad command line
-abbrev pub IsRefused : Known → Known → Known → Known → ℕ → Type 0
-IsRefused known left old new status = (status ≡ 2) × Keeps known left × Keeps old new
+abbrev pub IsBadCommand : KnownText → KnownText → KnownText → KnownText → ℕ → Type 0
+IsBadCommand known left old new status = (status ≡ 2) × Keeps known left × Keeps old new

@@ -2,7 +2,7 @@
 ghost use Rattle.std.specs.Prelude.{◌≡◌, IfSome, Some, drop, map};
 ghost use Rattle.ulfm_filters.specs.declared.filter.Filter.{Filter as FilterOf};
 ghost use Rattle.ulfm_filters.specs.Statuses.{Filtered};
-ghost use Rattle.ulfm_quick.specs.Names.{IsRefused, words_of};
+ghost use Rattle.ulfm_quick.specs.Names.{IsBadCommand, words_of};
 
 use std::alloc::Allocator;
 use std::io::{Read, Write};
@@ -20,7 +20,7 @@ pub fn answer<A: Allocator + Copy + Drop, R: Read, W: Write, E: Write>(
     ensures filtered { (filter : FilterOf) → drop 1 (map (λ word. word.now) words.now) ≡ words_of filter
         → Filtered filter (R.remaining input.old) (R.remaining input.new) (W.contents output.old) (W.contents output.new) result }
     ensures other { ((filter : FilterOf) → ¬ (drop 1 (map (λ word. word.now) words.now) ≡ words_of filter))
-        → IsRefused (R.remaining input.old) (R.remaining input.new) (W.contents output.old) (W.contents output.new) result }
+        → IsBadCommand (R.remaining input.old) (R.remaining input.new) (W.contents output.old) (W.contents output.new) result }
 {
     match named_filter(words) {
         Some(filter) => run_filter(alloc, filter, input, output, errors),

@@ -7,8 +7,8 @@ use Rattle.ulfm_words.specs.Steps.{Name, Sight}
 use Rattle.ulfm_comm.specs.declared.calls.polled.{Polled.{Polled}, Polled.TheVariants.{Pending as StillPending}}
 use Rattle.ulfm_member.specs.Members.{MemberCalls, MemberPolls, Membership}
 use Rattle.ulfm_wait.specs.{Turns.{MemberPends}, Waits.{MemberAwaits, MemberPollsOn}}
-use Rattle.ulfm_race.specs.Races.{IsKept, flag_of, is_stopped}
-use Rattle.ulfm_race.specs.Worked.{BreaksIn, BreaksOff, Declares, HasPended, HasTurned, HasTurnedBy, TakesPart, TakesTurns, TurnIs, steps_of, turn_of}
+use Rattle.ulfm_race.specs.Races.{IsKeptReply, flag_of, is_stopped}
+use Rattle.ulfm_race.specs.Worked.{BreaksIn, TurnsBreakOff, Declares, HasPended, HasTurned, HasTurnedBy, TakesPart, TakesTurns, TurnIs, steps_of, turn_of}
 use Rattle.ulfm_race.specs.declared.{plan.Plan.{Plan}, plan.RaceFault.{RaceFault}, plan.RaceFault.TheVariants.{Held as HeldBack, Memory}}
 
 -- one rank more that was to be started
@@ -33,7 +33,7 @@ pended_more old mid new pended last = (suc pended.0, pends_last pended.0 old mid
 
 -- a turn that started, and was polled until a poll was answered
 pub turn_answered : (asked : Call FlagAnd) (old mid new : Membership FlagAnd) (answer : Result (Polled FlagAnd) Refusal) (result : Result (Reply FlagAnd) RaceFault) → MemberCalls flag_meld false asked old Started mid
-    → MemberPollsOn flag_meld false 0 mid answer new → IfOk result (IsKept answer) → IfErr result (λ fault. (fault ≡ Memory) × (answer ≡ Err OutOfMemory)) → TurnIs asked old result new
+    → MemberPollsOn flag_meld false 0 mid answer new → IfOk result (IsKeptReply answer) → IfErr result (λ fault. (fault ≡ Memory) × (answer ≡ Err OutOfMemory)) → TurnIs asked old result new
 turn_answered asked old mid new answer (Ok reply) starts polls kept stops = inr (answer, kept, record { mid = mid; starts = starts; polls = polls })
 turn_answered asked old mid new answer (Err fault) starts polls kept stops =
     subst (λ f. BreaksIn asked old f new) (sym stops.0) (subst (λ a. MemberAwaits flag_meld false 0 asked old a new) stops.1 (record { mid = mid; starts = starts; polls = polls }))
@@ -68,7 +68,7 @@ turns_push plan r k (first ∷ said) reply old mid new m is (next, part, rest) l
 
 -- the next turn, answered, or broken off
 pub next_turn : (plan : Plan) (r k : ℕ) (said : List (Reply FlagAnd)) (start mid new : Membership FlagAnd) (asked : Call FlagAnd) (result : Result (Reply FlagAnd) RaceFault) → asked ≡ turn_of plan r k → length said ≡ k
-    → TakesTurns plan r 0 said start mid → TurnIs asked mid result new → MatchResult result (λ reply. TakesTurns plan r 0 (said ++ reply ∷ []) start new) (λ fault. BreaksOff plan r fault said start new)
+    → TakesTurns plan r 0 said start mid → TurnIs asked mid result new → MatchResult result (λ reply. TakesTurns plan r 0 (said ++ reply ∷ []) start new) (λ fault. TurnsBreakOff plan r fault said start new)
 next_turn plan r k said start mid new asked (Ok reply) is count turns turn =
     turns_push plan r 0 said reply start mid new k (omega (arith, count)) turns (subst (λ a. TakesPart a mid reply new) is turn)
 next_turn plan r k said start mid new asked (Err fault) is count turns turn =
@@ -76,9 +76,9 @@ next_turn plan r k said start mid new asked (Err fault) is count turns turn =
 
 -- one that was answered, which couldn't be kept
 pub lost_turn : (plan : Plan) (r k : ℕ) (said kept : List (Reply FlagAnd)) (start mid new : Membership FlagAnd) (asked : Call FlagAnd) (reply : Reply FlagAnd) (fault : RaceFault) → asked ≡ turn_of plan r k → length said ≡ k
-    → TakesTurns plan r 0 said start mid → TakesPart asked mid reply new → fault ≡ Memory → kept ≡ said → BreaksOff plan r fault kept start new
+    → TakesTurns plan r 0 said start mid → TakesPart asked mid reply new → fault ≡ Memory → kept ≡ said → TurnsBreakOff plan r fault kept start new
 lost_turn plan r k said kept start mid new asked reply fault is count turns turn refused same =
-    subst (λ xs. BreaksOff plan r fault xs start new) (sym same)
+    subst (λ xs. TurnsBreakOff plan r fault xs start new) (sym same)
     (mid, turns, inr (refused, reply, subst (λ n. TakesPart (turn_of plan r n) mid reply new) (sym count) (subst (λ a. TakesPart a mid reply new) is turn)))
 
 -- the turns by the fault that was met, if one was

@@ -3,17 +3,17 @@ use Rattle.std.specs.Prelude.{◌≡◌, ◌⊎◌, ℕ, ◌+◌, ◌==◌, fals
 use Rattle.std.specs.List.{list_any}
 use Rattle.ulfm_laws.specs.{declared.flag_and.FlagAnd.{FlagAnd}, Flags.{flag_meld}}
 use Rattle.ulfm_model.specs.declared.{call.Call.{Call}, call.Call.TheVariants.{Agree, Shrink}, refusal.Refusal.{Refusal}, reply.Reply.{Reply}}
-use Rattle.ulfm_words.specs.Steps.{Name, Sight}
+use Rattle.ulfm_words.specs.Steps.{view_of, Name, Sight}
 use Rattle.ulfm_comm.specs.Fails.{Fails}
 use Rattle.ulfm_comm.specs.declared.calls.polled.Polled.{Polled}
 use Rattle.ulfm_member.specs.Members.{MemberCalls, Membership}
 use Rattle.ulfm_wait.specs.{Turns.{MemberPends}, Waits.{MemberAwaits}}
-use Rattle.ulfm_race.specs.Races.{IsKept, flag_of, is_refused}
+use Rattle.ulfm_race.specs.Races.{IsKeptReply, flag_of, is_refused}
 use Rattle.ulfm_race.specs.declared.{plan.Plan.{Plan}, plan.RaceFault.{RaceFault}, worker.Report.{Report}}
 
 -- rank r was declared by one call, and nothing else was done over the pass
 abbrev pub Declares : Name → ℕ → Sight FlagAnd → Sight FlagAnd → Type 0
-Declares name r before after = (reply : Reply FlagAnd) × Fails flag_meld false name r before reply after
+Declares name r before after = (reply : Reply FlagAnd) × Fails flag_meld false r (view_of name before) reply (view_of name after)
 
 -- the most steps of one declaration of each rank whose worker couldn't be started, where one makes so many
 abbrev pub steps_of : {X : Type 0} → ℕ → List (Result X RaceFault) → ℕ
@@ -30,7 +30,7 @@ HasPended old new = (times : ℕ) × MemberPends flag_meld false 0 times old new
 abbrev pub TakesPart : Call FlagAnd → Membership FlagAnd → Reply FlagAnd → Membership FlagAnd → Type 0
 TakesPart asked old reply new =
     ((refusal : Refusal) × (reply ≡ Reply.Refused refusal) × MemberCalls flag_meld false asked old (Reply.Refused refusal) new)
-    ⊎ ((answer : Result (Polled FlagAnd) Refusal) × IsKept answer reply × MemberAwaits flag_meld false 0 asked old answer new)
+    ⊎ ((answer : Result (Polled FlagAnd) Refusal) × IsKeptReply answer reply × MemberAwaits flag_meld false 0 asked old answer new)
 
 -- A turn that met a fault: its last poll wanted memory; or the gate said no, before the start, or behind it and so many pending polls.
 abbrev pub BreaksIn : Call FlagAnd → Membership FlagAnd → RaceFault → Membership FlagAnd → Type 0
@@ -55,20 +55,20 @@ TakesTurns plan r k (reply ∷ replies) old new =
 
 -- Turns of rank r that broke off by this fault, behind those that were answered so: the next one met it; or it was answered, and memory was refused
 -- to keep that.
-abbrev pub BreaksOff : Plan → ℕ → RaceFault → List (Reply FlagAnd) → Membership FlagAnd → Membership FlagAnd → Type 0
-BreaksOff plan r fault said old new =
+abbrev pub TurnsBreakOff : Plan → ℕ → RaceFault → List (Reply FlagAnd) → Membership FlagAnd → Membership FlagAnd → Type 0
+TurnsBreakOff plan r fault said old new =
     (mid : Membership FlagAnd) × TakesTurns plan r 0 said old mid × (BreaksIn (turn_of plan r (length said)) mid fault new
     ⊎ ((fault ≡ RaceFault.Memory) × (reply : Reply FlagAnd) × TakesPart (turn_of plan r (length said)) mid reply new))
 
 -- turns of rank r, answered so, or broken off where a fault was met
 abbrev pub HasTurned : {X : Type 0} → Plan → ℕ → Result X RaceFault → List (Reply FlagAnd) → Membership FlagAnd → Membership FlagAnd → Type 0
 HasTurned plan r (Ok x) said old new = TakesTurns plan r 0 said old new
-HasTurned plan r (Err fault) said old new = BreaksOff plan r fault said old new
+HasTurned plan r (Err fault) said old new = TurnsBreakOff plan r fault said old new
 
 -- the same by the fault, if one was met
 abbrev pub HasTurnedBy : Plan → ℕ → Option RaceFault → List (Reply FlagAnd) → Membership FlagAnd → Membership FlagAnd → Type 0
 HasTurnedBy plan r None said old new = TakesTurns plan r 0 said old new
-HasTurnedBy plan r (Some fault) said old new = BreaksOff plan r fault said old new
+HasTurnedBy plan r (Some fault) said old new = TurnsBreakOff plan r fault said old new
 
 -- What a worker has done from its start on, and nothing else: its turns; and behind them the declaration of its rank where it met a fault or was
 -- refused, and none where it was told all.
@@ -77,7 +77,7 @@ pub record HasWorked (name : Name) (plan : Plan) (start : Membership FlagAnd) (r
   pub turns : HasTurnedBy plan start.own.number report.fault (map (λ t. t.value) report.tokens.items) start ended
   pub own_is : report.rank.own ≡ ended.own
   pub after : Sight FlagAnd
-  pub refused : IsTrue (list_any is_refused (map (λ t. t.value) report.tokens.items)) → Declares name start.own.number ended.pass after
-  pub faulted : (fault : RaceFault) → report.fault ≡ Some fault → Declares name start.own.number ended.pass after
-  pub alone : report.fault ≡ None → IsFalse (list_any is_refused (map (λ t. t.value) report.tokens.items)) → after ≡ ended.pass
+  pub refused : IsTrue (list_any is_refused (map (λ t. t.value) report.tokens.items)) → Declares name start.own.number ended.view.pass after
+  pub faulted : (fault : RaceFault) → report.fault ≡ Some fault → Declares name start.own.number ended.view.pass after
+  pub alone : report.fault ≡ None → IsFalse (list_any is_refused (map (λ t. t.value) report.tokens.items)) → after ≡ ended.view.pass
   pub told_is : report.told.seen ≡ after.seen

@@ -1,4 +1,4 @@
-//! A race of ranks, each in a thread of its own: all agree round after round, and then shrink.
+//! A race of ranks, each in a thread of its own (its worker): all agree round after round, and then shrink.
 #![tactic(auto)]
 
 mod gather;

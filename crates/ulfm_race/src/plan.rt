@@ -17,11 +17,12 @@ pub struct Plan {
     pub ranks: u16,
     /// How often each agrees before it shrinks, 1 to 1000.
     pub rounds: u16,
-    /// Which rank is declared from outside once all workers are started, if one is. It is below `ranks`.
+    /// Which rank is declared failed, if one is: as by a failure detector, once all workers (the ranks' threads) are started. It is below
+    /// `ranks`.
     pub fail: Option<u16>,
 }
 
-/// What a worker is about to do.
+/// A turn: what a worker, the thread of one rank, is about to do.
 #[derive(Clone, Copy, Debug, PartialEq, Eq)]
 pub enum Turn {
     /// It starts an agree or a shrink.
@@ -30,21 +31,20 @@ pub enum Turn {
     Poll,
 }
 
-/// Lets workers take their turns, and is told of their answers, each on the worker's own thread. A gate that always says true lets all run
-/// as they like.
+/// The scheduler of a race: it lets workers take their turns. A worker calls `go` before each start and each poll, and `answered` once for
+/// each answer, both on its own thread. A gate whose `go` always says true lets all run as they like.
 ///
-/// A worker asks before each start and each poll. It tells once of each answer: of a start that has started, of a start that is refused, and
-/// of a poll that has a reply or is refused; of a poll that is pending it doesn't tell. So in a round a rank asks for its start, tells of it,
-/// asks for each of its polls, and tells of the last.
+/// An answer is a start that has started or is refused, or a poll that has a reply or is refused; a pending poll is none. So in a round a
+/// rank calls `go` for its start, `answered` for that, `go` for each of its polls, and `answered` for the last of them.
 ///
 /// ```text
 /// go(r, Contribute)  answered(r)  go(r, Poll) .. go(r, Poll)  answered(r)
 /// ```
 ///
-/// A gate that says what it may say lets contracts know it. One that always says true has
-/// `ghost may_say = { λ _ _ _ said. said ≡ true };`, and a race with it isn't held.
+/// A gate may state in `may_say` what its `go` can answer, so that contracts know it. One that always says true has
+/// `ghost may_say = { λ _ _ _ said. said ≡ true };`, and a race with it never answers `Held`.
 pub trait Gate {
-    /// What the gate may say, true or false, to which rank, at which turn: either, unless the gate says more. Only contracts see it.
+    /// What `go` may answer, true or false, to which rank, at which turn: either, unless the gate states more. Only contracts see it.
     ghost may_say: { Self → ℕ → TurnOf → Bool → Type 0 } = { λ _ _ _ _. Unit {0} };
 
     /// Whether the rank may take this turn. It may wait. Where it says false, the worker stops, its rank is declared, and the race
@@ -52,18 +52,18 @@ pub trait Gate {
     fn go(&self, rank: u16, turn: Turn) -> bool
         ensures { may_say self.now rank turn result };
 
-    /// The rank was answered: its start has started or was refused, or its poll has a reply that isn't pending, or was refused.
+    /// Called when the rank was answered: its start has started or was refused, or its poll has a reply that isn't pending, or was refused.
     fn answered(&self, rank: u16);
 }
 
-/// Why a race has no outcome. Each worker has ended, and the rank of each that stopped was declared. Where several ranks met a fault,
-/// it is one of theirs.
+/// Why a race has no outcome. Each worker has ended, and the rank of each that stopped was declared failed. Where several ranks met a
+/// fault, this is the fault of one of them.
 #[derive(Clone, Copy, Debug, PartialEq, Eq, Error)]
 pub enum RaceFault {
     /// Memory was refused, or a thread.
     #[error("out of memory")]
     Memory,
-    /// The gate said false.
+    /// Held back: the gate's `go` said false to some rank.
     #[error("held by the gate")]
     Held,
 }
@@ -79,10 +79,11 @@ impl From<AllocError> for RaceFault {
 /// What the ranks were answered.
 #[derive(Drop)]
 pub struct Outcome {
-    /// For each rank, in order, its replies in order: the agreed ones, and then what its shrink made, or a refusal.
+    /// For each rank, in order, its replies in order: those of its agrees, and then what its shrink made, or a refusal.
     pub replies: Vec<Vec<Reply<FlagAnd>>>,
     /// The members of communicator 1, in order, where some rank was answered that it was made; else none.
     pub group: Vec<u16>,
-    /// All that any rank had seen, as a value of no bytes. It ties the replies to the history of a real book.
+    /// All that any rank had seen, as a value of no bytes, for contracts. It ties the replies to the history of words that threads really
+    /// shared (a book of `ulfm_book`), and not of made-up ones.
     pub seen: BookTold<FlagAnd>,
 }

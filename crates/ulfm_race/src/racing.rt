@@ -1,7 +1,7 @@
 ghost use Rattle.std.specs.Prelude.{◌≡◌, ◌+◌, ◌*◌, ◌≤◌, [], None, IfErr, IfOk, IfSome, MatchResult, map, length, vec_capacity};
 ghost use mathlib.Core.List.{IsPrefix};
 ghost use Rattle.ulfm_laws.specs.Flags.{flag_meld};
-ghost use Rattle.ulfm_words.specs.Steps.{IsOf};
+ghost use Rattle.ulfm_words.specs.Steps.{view_of, IsView};
 ghost use Rattle.ulfm_comm.specs.Counts.{records_of};
 ghost use Rattle.ulfm_race.specs.Races.{EndsFor, IsDeclared, IsNewRank, IsOutcome, IsPlan, IsReported, IsStarted, Numbered, StartIs, WasLet, limits_of};
 ghost use Rattle.ulfm_race.specs.Worked.{Declares, steps_of};
@@ -37,17 +37,17 @@ pub(crate) type Handle<'a, G> = PromisedHandle<Report, Promised<'a, G>>;
 /// A worker's thread, or why none was made.
 pub(crate) type Started<'a, G> = Result<Handle<'a, G>, RaceFault>;
 
-/// Races the ranks of a new world, whose words threads share: each agrees round after round, and then shrinks, on a thread of its own.
-/// In round k rank r contributes all ones but bit (r + k) mod 32.
+/// Races the ranks of a new world, whose words threads share: each agrees round after round, and then shrinks, on a thread of its own (its
+/// worker). In round k rank r contributes a flag of all ones but bit (r + k) mod 32.
 ///
-/// The plan has 1 to 64 ranks and 1 to 1000 rounds, and the rank that it declares, if any, is below its ranks. Each turn is taken once the
-/// gate lets it, and the gate is told of each answer. A worker that stops, by a fault or a refusal, has its rank declared, and so has one
-/// whose thread can't be made; so the others don't wait for it.
+/// The plan has 1 to 64 ranks and 1 to 1000 rounds, and the rank that it declares, if any, is below its ranks. A worker takes each turn, a
+/// start or a poll, once the gate lets it, and tells the gate of each answer. The rank of a worker that stops, by a fault or a refusal, is
+/// declared failed, and so is one whose thread can't be made; so the others don't wait for it.
 ///
-/// `Ok` says for each rank what it was answered, all in one history; in that the plan's rank is declared, and each rank that was refused.
-/// `Memory` where memory or a thread was refused, `Held` where the gate said false, which no gate does whose `may_say` rules it out; where
-/// several ranks met a fault, it is one of theirs, and nothing is left of what the others were answered. Whatever it answers, all its threads
-/// have ended. It answers only if they end: each polls until it is answered, and yields in between.
+/// `Ok` says for each rank what it was answered, all in one history. In that history the plan's rank is declared, and each rank that was
+/// refused. `Memory` comes where memory or a thread was refused. `Held` comes where the gate said false, which no gate does whose `may_say`
+/// rules it out. Where several ranks met a fault, the answer is the fault of one of them, and what the others were answered is dropped.
+/// Whatever it answers, all its threads have ended. It answers only if they end: each polls until it is answered, and yields in between.
 ///
 /// With a gate that always says true:
 ///
@@ -170,8 +170,8 @@ fn race_in<'s, E, R: Threads + Wait + Sync, G: Gate + Sync>(
 fn declare(world: &Shared, plan: Plan, outside: &mut BookPass<FlagAnd>)
     requires plan { IsPlan plan }
     requires limits { world.now.words.limits ≡ limits_of plan }
-    requires of { IsOf flag_meld world.now.words outside.old }
-    ensures of { IsOf flag_meld world.now.words outside.new }
+    requires of { IsView flag_meld (view_of world.now.words outside.old) }
+    ensures of { IsView flag_meld (view_of world.now.words outside.new) }
     ensures seen { IsPrefix outside.old.seen outside.new.seen }
     ensures declared { IfSome plan.fail (IsDeclared outside.new.seen) }
     ensures once { IfSome plan.fail (λ rank. Declares world.now.words rank outside.old outside.new) }
@@ -197,11 +197,11 @@ fn start_all<'s, E, G: Gate + Sync, R: Wait + Sync>(
 )
     requires plan { IsPlan plan }
     requires limits { world.now.words.limits ≡ limits_of plan }
-    requires of { IsOf flag_meld world.now.words outside.old }
+    requires of { IsView flag_meld (view_of world.now.words outside.old) }
     requires ranks { Numbered (IsNewRank plan) 0 (records_of ranks.items) }
     requires nobody { started.old.items ≡ [] }
     requires room { length ranks.items ≤ vec_capacity started.old }
-    ensures of { IsOf flag_meld world.now.words outside.new }
+    ensures of { IsView flag_meld (view_of world.now.words outside.new) }
     ensures started { Numbered (λ r one. StartIs (λ h. IsStarted world.now.words said.now gate.now plan r h.promise) outside.new.seen r one)
         0 started.new.items }
     ensures all { length started.new.items ≡ length ranks.items }
@@ -228,8 +228,8 @@ fn start<'s, E, G: Gate + Sync, R: Wait + Sync>(
     requires plan { IsPlan plan }
     requires limits { world.now.words.limits ≡ limits_of plan }
     requires new { IsNewRank plan rank.own.number rank.own }
-    requires of { IsOf flag_meld world.now.words outside.old }
-    ensures of { IsOf flag_meld world.now.words outside.new }
+    requires of { IsView flag_meld (view_of world.now.words outside.old) }
+    ensures of { IsView flag_meld (view_of world.now.words outside.new) }
     ensures seen { IsPrefix outside.old.seen outside.new.seen }
     ensures started { StartIs (λ h. IsStarted world.now.words said.now gate.now plan rank.own.number h.promise) outside.new.seen rank.own.number result }
     ensures once { MatchResult result (λ _. outside.new ≡ outside.old) (λ _. Declares world.now.words rank.own.number outside.old outside.new) }

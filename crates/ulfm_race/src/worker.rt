@@ -9,9 +9,11 @@ ghost use Rattle.ulfm_laws.specs.Flags.{flag_meld};
 ghost use Rattle.ulfm_model.specs.declared.{call.Call.TheVariants.{Agree, Shrink}, reply.Reply.{Reply as ReplyOf}};
 ghost use Rattle.ulfm_wait.specs.{Turns.{member_of}, Waits.{IsAwaited, IsPolledOn, MemberPollsOn}};
 ghost use Rattle.ulfm_race.specs.declared.plan.Plan.{Plan as PlanOf};
-ghost use Rattle.ulfm_race.specs.Races.{AreOf, IsAnswered, IsKept, IsPlan, IsReady, IsReported, SaysAgree, Starts, StopsFor, WasLet, Works};
+ghost use Rattle.ulfm_race.specs.Races.{IsRankOf, IsAnswered, IsKeptReply, IsPlan, IsReady, IsReported, SaysAgree, Starts, StopsFor, WasLet, Works};
 ghost use Rattle.ulfm_race.specs.Races.{flag_of, is_refused, is_stopped, limits_of};
 ghost use Rattle.ulfm_race.specs.Worked.{Declares, HasPended, HasTurned, HasWorked, TurnIs};
+ghost use Rattle.ulfm_comm.specs.Local.{local};
+ghost use Rattle.ulfm_words.specs.Steps.{view_of};
 
 use crate::plan::{Gate, Plan, RaceFault, Turn};
 use std::alloc::Global;
@@ -31,7 +33,8 @@ pub(crate) type Token = boxcar::Pushed<Reply<FlagAnd>>;
 
 pub(crate) type Own = Rank<FlagAnd, Global>;
 
-/// What a worker works with: its rank, its pass, and a token of each reply that it was given.
+/// What a worker (the code of one rank's thread) works with: its rank, its pass, and a token of each reply that it was given, by which the reply
+/// is found among those that all workers kept.
 #[derive(Drop)]
 pub(crate) struct Worker {
     pub rank: Own,
@@ -48,7 +51,7 @@ pub(crate) struct Report {
     pub fault: Option<RaceFault>,
 }
 
-/// Agrees round after round, and then shrinks. Where it stops before it is answered all, its rank is declared.
+/// Agrees round after round, and then shrinks. Where the worker stops before all its calls are answered, its rank is declared failed.
 pub(crate) fn work<G: Gate, R: Wait>(
     rt: &R,
     gate: &G,
@@ -62,7 +65,7 @@ pub(crate) fn work<G: Gate, R: Wait>(
     requires plan { IsPlan plan }
     requires limits { world.now.words.limits ≡ limits_of plan }
     requires new { rank.own ≡ new_record (limits_of plan) rank.own.number }
-    requires own { AreOf world.now.words rank.own pass }
+    requires own { IsRankOf world.now.words rank.own pass }
     ensures reports { IsReported world.now.words said.now (G.may_say gate.now) plan rank.own.number result }
     ensures works { HasWorked world.now.words plan (member_of world.now.words rank pass) result }
 {
@@ -110,8 +113,8 @@ fn fault_in(ended: &Result<bool, RaceFault>) -> Option<RaceFault>
 
 // The rank of a worker that stopped, of this number, is declared.
 fn declare(world: &Shared, rank: &Own, number: u16, pass: &mut BookPass<FlagAnd>, stopped: bool)
-    requires own { AreOf world.now.words rank.now.own pass.old }
-    ensures own { AreOf world.now.words rank.now.own pass.new }
+    requires own { IsRankOf world.now.words rank.now.own pass.old }
+    ensures own { IsRankOf world.now.words rank.now.own pass.new }
     ensures seen { IsPrefix pass.old.seen pass.new.seen }
     ensures declared { IsTrue stopped → number < world.now.words.limits.ranks → IsTrue (has (failures pass.new.seen) number) }
     ensures once { IsTrue stopped → Declares world.now.words number pass.old pass.new }
@@ -194,9 +197,10 @@ fn polled<G: Gate, R: Wait>(
     rank: &mut Own,
     pass: &mut BookPass<FlagAnd>,
 ) -> Result<Result<Polled<FlagAnd>, Refusal>, RaceFault>
-    requires own { AreOf world.now.words rank.old.own pass.old }
-    ensures own { AreOf world.now.words rank.new.own pass.new }
-    ensures polls { IfOk result (λ answer. IsPolledOn flag_meld false world.now.words 0 rank.old.own pass.old answer rank.new.own pass.new) }
+    requires own { IsRankOf world.now.words rank.old.own pass.old }
+    ensures own { IsRankOf world.now.words rank.new.own pass.new }
+    ensures polls { IfOk result (λ answer. IsPolledOn flag_meld false 0 (local rank.old.own (view_of world.now.words pass.old)) answer
+        (local rank.new.own (view_of world.now.words pass.new))) }
     ensures asks { IfOk result (λ _. G.may_say gate.now rank.old.own.number Turn.Poll true) }
     ensures stops { IfErr result (λ fault. (fault ≡ RaceFault.Held) × G.may_say gate.now rank.old.own.number Turn.Poll false) }
     ensures counted { IfOk result (λ answer. MemberPollsOn flag_meld false 0 (member_of world.now.words rank.old pass.old) answer
@@ -227,7 +231,7 @@ fn polled<G: Gate, R: Wait>(
 
 // An answer as a reply, unless it wants memory.
 fn reply_from(answer: Result<Polled<FlagAnd>, Refusal>) -> Result<Reply<FlagAnd>, RaceFault>
-    ensures kept { IfOk result (IsKept answer) }
+    ensures kept { IfOk result (IsKeptReply answer) }
     ensures stops { IfErr result (λ fault. (fault ≡ RaceFault.Memory) × (answer ≡ Err Refusal.OutOfMemory)) }
 {
     match answer {
@@ -269,15 +273,15 @@ fn agree<G: Gate, R: Wait>(
     pass: &mut BookPass<FlagAnd>,
     round: u16,
 ) -> Result<Reply<FlagAnd>, RaceFault>
-    requires own { AreOf world.now.words rank.old.own pass.old }
-    ensures own { AreOf world.now.words rank.new.own pass.new }
+    requires own { IsRankOf world.now.words rank.old.own pass.old }
+    ensures own { IsRankOf world.now.words rank.new.own pass.new }
     ensures says { IfOk result (λ reply. (plan : PlanOf) → (said : List (ReplyOf _))
         → world.now.words.limits ≡ limits_of plan → round < plan.rounds → IsReady plan rank.old.own.number round rank.old.own pass.old.seen said
         → SaysAgree plan rank.old.own.number round said rank.new.own pass.new.seen reply) }
     ensures asks { IfOk result (λ reply. WasLet (G.may_say gate.now rank.old.own.number) (reply ∷ [])) }
     ensures stops { IfErr result (StopsFor
-        (IsAwaited flag_meld false world.now.words 0 (Agree rank.old.own.number 0 (flag_of rank.old.own.number round)) rank.old.own pass.old
-        (Err Refusal.OutOfMemory) rank.new.own pass.new)
+        (IsAwaited flag_meld false 0 (Agree rank.old.own.number 0 (flag_of rank.old.own.number round)) (local rank.old.own (view_of world.now.words pass.old))
+        (Err Refusal.OutOfMemory) (local rank.new.own (view_of world.now.words pass.new)))
         (G.may_say gate.now rank.old.own.number)) }
     ensures turn { TurnIs (Agree rank.old.own.number 0 (flag_of rank.old.own.number round)) (member_of world.now.words rank.old pass.old) result
         (member_of world.now.words rank.new pass.new) }
@@ -305,14 +309,15 @@ fn shrink<G: Gate, R: Wait>(
     rank: &mut Own,
     pass: &mut BookPass<FlagAnd>,
 ) -> Result<Reply<FlagAnd>, RaceFault>
-    requires own { AreOf world.now.words rank.old.own pass.old }
-    ensures own { AreOf world.now.words rank.new.own pass.new }
+    requires own { IsRankOf world.now.words rank.old.own pass.old }
+    ensures own { IsRankOf world.now.words rank.new.own pass.new }
     ensures says { IfOk result (λ reply. (plan : PlanOf) → (said : List (ReplyOf _)) → world.now.words.limits ≡ limits_of plan
         → IsReady plan rank.old.own.number plan.rounds rank.old.own pass.old.seen said
         → IsAnswered plan pass.new.seen rank.old.own.number rank.new.own (said ++ reply ∷ [])) }
     ensures asks { IfOk result (λ reply. WasLet (G.may_say gate.now rank.old.own.number) (reply ∷ [])) }
     ensures stops { IfErr result (StopsFor
-        (IsAwaited flag_meld false world.now.words 0 (Shrink rank.old.own.number 0) rank.old.own pass.old (Err Refusal.OutOfMemory) rank.new.own pass.new)
+        (IsAwaited flag_meld false 0 (Shrink rank.old.own.number 0) (local rank.old.own (view_of world.now.words pass.old)) (Err Refusal.OutOfMemory)
+        (local rank.new.own (view_of world.now.words pass.new)))
         (G.may_say gate.now rank.old.own.number)) }
     ensures turn { TurnIs (Shrink rank.old.own.number 0) (member_of world.now.words rank.old pass.old) result
         (member_of world.now.words rank.new pass.new) }

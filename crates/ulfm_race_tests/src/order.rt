@@ -18,7 +18,7 @@ enum Stage {
 
 /// What the gate was asked and told of one rank.
 #[derive(Clone, Copy, Drop)]
-struct Seat {
+struct GateState {
     stage: Stage,
     asks: u32,
     starts: u32,
@@ -29,7 +29,7 @@ struct Seat {
     said_no: bool,
 }
 
-const NEW: Seat = Seat {
+const NEW: GateState = GateState {
     stage: Stage::Between,
     asks: 0,
     starts: 0,
@@ -38,7 +38,7 @@ const NEW: Seat = Seat {
     said_no: false,
 };
 
-impl Seat {
+impl GateState {
     // A start or a poll is asked for.
     fn ask(&mut self, turn: Turn) {
         self.asks = self.asks.saturating_add(1);
@@ -80,7 +80,7 @@ impl Seat {
 struct Order<'a, R: Wait> {
     rt: &'a R,
     no: (u16, u32),
-    seats: Mutex<[Seat; 3]>,
+    seats: Mutex<[GateState; 3]>,
 }
 
 impl<'a, R: Wait> Order<'a, R> {
@@ -93,7 +93,7 @@ impl<'a, R: Wait> Order<'a, R> {
     }
 
     // What it was asked and told of a rank.
-    fn seat(&self, rank: usize) -> Option<Seat> {
+    fn seat(&self, rank: usize) -> Option<GateState> {
         self.seats.lock(self.rt).get(rank).copied()
     }
 

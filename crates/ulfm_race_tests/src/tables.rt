@@ -8,13 +8,13 @@ use ulfm_race::{Gate, Plan, Turn, race};
 
 /// What one rank has come to.
 #[derive(Clone, Copy, Drop)]
-struct Seat {
+struct Progress {
     polls: u32,
     starts: u16,
     answers: u32,
 }
 
-const NEW: Seat = Seat {
+const NEW: Progress = Progress {
     polls: 0,
     starts: 0,
     answers: 0,
@@ -23,13 +23,13 @@ const NEW: Seat = Seat {
 /// What both have come to.
 #[derive(Clone, Copy, Drop)]
 struct Table {
-    first: Seat,
-    second: Seat,
+    first: Progress,
+    second: Progress,
 }
 
 impl Table {
     // The seat of a rank.
-    fn seat(&mut self, rank: u16) -> &mut Seat {
+    fn seat(&mut self, rank: u16) -> &mut Progress {
         if rank == 0 {
             &mut self.first
         } else {

@@ -3,9 +3,10 @@ use Rattle.std.proofs.Common.{◌≡◌, ◌⊎◌, ℕ, Bool, Some, None, inl, 
 use Rattle.ulfm_laws.specs.declared.{summary.Body.TheVariants.{Clash}}
 use Rattle.ulfm_model.specs.declared.{call.Call.{Call}, call.Request.{Request}, call.Request.TheVariants.{Agree, Shrink}, contribution.Offer.{Offer}, contribution.Offer.TheVariants.{Ctx, Flag}, contribution.Slot.TheVariants.{Given}, limits.Limits.{Limits}, refusal.Refusal.{Refusal}, refusal.Refusal.TheVariants.{Idle, Mismatch, NoContext, NoRoom, SelfFailed, Twice}, reply.Reply.{Reply}, reply.Reply.TheVariants.{Refused}}
 use Rattle.ulfm_model.specs.declared.call.Call.TheVariants as call
-use Rattle.ulfm_model.specs.{Answers.{AgreeReplies, IsReply, IsSelfFailed, PollReplies, Replies, RepliesBy, ShrinkReplies, StartReplies, View, first_refusal, refusal_of, refusal_on}, History.{Decision, Exists, History, decision, failures, is_decided, slot, spawns}, Records.{Fits, Held, Record, free_ids, held_at}, Runs.{IsRun}}
+use Rattle.ulfm_model.specs.{Answers.{AgreeReplies, IsReply, IsSelfFailed, PollReplies, Replies, RepliesBy, ShrinkReplies, StartReplies, AtPoint, first_refusal, refusal_of, refusal_on}, History.{Decision, Exists, History, decision, failures, is_decided, slot, spawns}, Records.{Fits, Held, Record, free_ids, held_at}, Runs.{IsRun}}
 use Rattle.ulfm_model.proofs.{Decisions.{decision_stays}, Histories.{failures_begin, members_stay, slot_stays}, LeftFits.{held_fits}, Lists.{has_prefix, length_prefix}, Stable.{spawns_begin}, StepsShrinks.{spawns_fit}}
-use Rattle.ulfm_model.specs.Terms.{comm_of, view_of}
+use Rattle.ulfm_model.specs.Terms.{comm_of, rests_on}
+use Rattle.ulfm_model.specs.Records.{moment}
 use Rattle.ulfm_rounds.specs.{Rounds.{IsReason}, Told.{PollsRefuse, StartsRefuse}}
 use Rattle.ulfm_rounds.proofs.Telling.{self_failed}
 
@@ -25,9 +26,9 @@ module _ {P : Type 0} (meld : P → P → P) (limits : Limits) (alone : Bool) (b
   known : (k : ℕ) (f : Refusal) → refused_by P refusal ≡ Refused f → Means k f → Means k refusal
   known k f is means = subst (Means k) (same_refusal P refusal f is) means
 
-  module _ (asked : Call P) (run : IsRun meld limits alone before after own asked (Refused refusal) new) where
-    abbrev view : View P
-    view = view_of run.span
+  module _ (asked : Call P) (run : IsRun meld limits alone (moment own before) asked (Refused refusal) (moment new after)) where
+    abbrev view : AtPoint P
+    view = rests_on run.span
 
     by_failed : (k : ℕ) → IsSelfFailed view own asked (Refused refusal) → Means k refusal
     by_failed k failed = known k SelfFailed failed.reply_is (has_prefix (failures run.span.point) (failures after) own.number (failures_begin run.span.point after run.span.point_ends) failed.declared)
@@ -78,15 +79,15 @@ module _ {P : Type 0} (meld : P → P → P) (limits : Limits) (alone : Bool) (b
     by_replies : (k : ℕ) → comm_of asked ≡ c → refusal_of own asked ≡ None → (Replies meld limits view own x asked (Refused refusal) → Means k refusal) → IsSelfFailed view own asked (Refused refusal) ⊎ IsReply meld limits view own asked (Refused refusal) → Means k refusal
     by_replies k at none means (inl failed) = by_failed k failed
     by_replies k at none means (inr replied) =
-        means (subst (λ o. RepliesBy meld limits view own o asked (Refused refusal) None) (ap (held_at own) at ∙ held) (subst (RepliesBy meld limits view own (held_at own (comm_of asked)) asked (Refused refusal)) none replied.replies))
+        means (subst (λ o. RepliesBy {P = P} (λ x. Replies meld limits view own x asked (Refused refusal)) (Refused refusal) o None) (ap (held_at own) at ∙ held) (subst (RepliesBy {P = P} (λ x. Replies meld limits view own x asked (Refused refusal)) (Refused refusal) (held_at own (comm_of asked))) none replied.replies))
 
   idle_not : (request : Request) → x.request ≡ Some request → refusal_of {P = P} own (call.Poll own.number c) ≡ None
   idle_not request is = subst (λ o. refusal_on {P = P} own o (call.Poll own.number c) ≡ None) (sym held) (ap (λ q. first_refusal ((not (is_some q), Idle) ∷ [])) is)
 
-  poll_refused : (request : Request) (k : ℕ) → x.request ≡ Some request → (run : IsRun meld limits alone before after own (call.Poll own.number c) (Refused refusal) new)
-      → (PollReplies meld limits (view_of run.span) own.number x (Some request) (Refused refusal) → Means k refusal) → Means k refusal
+  poll_refused : (request : Request) (k : ℕ) → x.request ≡ Some request → (run : IsRun meld limits alone (moment own before) (call.Poll own.number c) (Refused refusal) (moment new after))
+      → (PollReplies meld limits (rests_on run.span) own.number x (Some request) (Refused refusal) → Means k refusal) → Means k refusal
   poll_refused request k is run means =
-      by_replies (call.Poll own.number c) run k refl (idle_not request is) (λ replies. means (subst (λ q. PollReplies meld limits (view_of run.span) own.number x q (Refused refusal)) is replies)) run.answer.replies
+      by_replies (call.Poll own.number c) run k refl (idle_not request is) (λ replies. means (subst (λ q. PollReplies meld limits (rests_on run.span) own.number x q (Refused refusal)) is replies)) run.answer.replies
 
 module _ {P : Type 0} (meld : P → P → P) where
   pub starts_refused : StartsRefuse meld
@@ -95,13 +96,13 @@ module _ {P : Type 0} (meld : P → P → P) where
       (self_failed meld limits alone before after own new asked fits (inl (refused.0, refused.1, refl, refused.3)))
   starts_refused limits alone before after own new c x asked refusal fits held (inl (value, is)) none (inr run) = go asked is none run
     where
-      go : (asked : Call P) → asked ≡ call.Agree own.number c value → refusal_of own asked ≡ None → IsRun meld limits alone before after own asked (Refused refusal) new → IsReason meld limits after c x.next_agreement own.number refusal
+      go : (asked : Call P) → asked ≡ call.Agree own.number c value → refusal_of own asked ≡ None → IsRun meld limits alone (moment own before) asked (Refused refusal) (moment new after) → IsReason meld limits after c x.next_agreement own.number refusal
       go asked is none run =
-          let run' = subst (λ a. IsRun meld limits alone before after own a (Refused refusal) new) is run in
+          let run' = subst (λ a. IsRun meld limits alone (moment own before) a (Refused refusal) (moment new after)) is run in
           by_replies meld limits alone before after own new c x fits held refusal (call.Agree own.number c value) run' x.next_agreement refl (subst (λ a. refusal_of own a ≡ None) is none)
           (by_start meld limits alone before after own new c x fits held refusal (call.Agree own.number c value) run' (Flag value)) run'.answer.replies
   starts_refused limits alone before after own new c x asked refusal fits held (inr is) none (inr run) =
-      let run' = subst (λ a. IsRun meld limits alone before after own a (Refused refusal) new) is run in
+      let run' = subst (λ a. IsRun meld limits alone (moment own before) a (Refused refusal) (moment new after)) is run in
       by_replies meld limits alone before after own new c x fits held refusal (call.Shrink own.number c) run' x.next_agreement refl (subst (λ a. refusal_of own a ≡ None) is none)
       (by_start meld limits alone before after own new c x fits held refusal (call.Shrink own.number c) run' (Ctx (free_ids own.held))) run'.answer.replies
 

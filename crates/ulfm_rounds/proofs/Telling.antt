@@ -9,8 +9,9 @@ use Rattle.ulfm_model.specs.declared.{call.Request.{Request}, call.Request.TheVa
 use Rattle.ulfm_model.specs.declared.call.Call.TheVariants as call
 use Rattle.ulfm_model.specs.{Answers.{AgreeReplies, Contributes, PollReplies, ShrinkReplies, SpawnReplies, StartReplies, left_by, opened}, History.{Decision, Exists, History, decision, failures, has, is_decided, members, slot}, Records.{Fits, Held, Record, change_at, held_at}, Runs.{IsCall, IsRun, IsSpan}}
 use Rattle.ulfm_model.proofs.{Decisions.{decision_stays}, Histories.{members_stay, slot_stays}, LeftFits.{held_fits}, LeftRuns.{call_fits, call_number, span_begins}, LeftShrunk.{found_stays}, Lists.{each_always, find_holds, has_kept}, Spawned.{members_of_spawned}}
-use Rattle.ulfm_model.specs.Terms.{view_of}
-use Rattle.ulfm_rounds.specs.{Rounds.{Gave, IsDecision, IsMadeOf}, Told.{AgreesOpen, AgreesTell, IsEnded, PendingKeeps, SelfFailedIsDeclared, ShrinksOpen, ShrinksTell}}
+use Rattle.ulfm_model.specs.Terms.{rests_on}
+use Rattle.ulfm_model.specs.Records.{moment}
+use Rattle.ulfm_rounds.specs.{Rounds.{Gave, IsDecision, IsMadeOf}, Told.{AgreesOpen, AgreesTell, IsFinalReply, PendingKeeps, SelfFailedIsDeclared, ShrinksOpen, ShrinksTell}}
 use Rattle.ulfm_rounds.proofs.Answered.{answered_on}
 
 -- a communicator that is changed is found as it is changed
@@ -34,19 +35,19 @@ found_comm held c x at = eqb-true x.comm c (find_holds (λ y. y.comm == c) (λ _
 
 module _ {P : Type 0} (meld : P → P → P) (limits : Limits) (alone : Bool) (before after : History P) (own new : Record) (c : ℕ) (x : Held) (held : held_at own c ≡ Some x) where
   -- the contribution of a start stands at its end
-  gave_stays : (span : IsSpan meld limits alone before after (Rank own.number)) (offer : Offer P) (gives : Contributes (view_of span) own x offer) → slot after c x.next_agreement own.number ≡ Some (Given gives.given)
+  gave_stays : (span : IsSpan meld limits alone before after (Rank own.number)) (offer : Offer P) (gives : Contributes (rests_on span) own x offer) → slot after c x.next_agreement own.number ≡ Some (Given gives.given)
   gave_stays span offer gives =
       slot_stays span.point after c x.next_agreement own.number (Given gives.given) span.point_ends
       (subst (λ n. slot span.point n x.next_agreement own.number ≡ Some (Given gives.given)) (found_comm own.held c x held) gives.stands)
 
-  agree_run : (value : P) (run : IsRun meld limits alone before after own (call.Agree own.number c value) Started new)
+  agree_run : (value : P) (run : IsRun meld limits alone (moment own before) (call.Agree own.number c value) Started (moment new after))
       → (new.held ≡ change_at c (λ y. opened y (Some (Agree y.next_agreement))) own.held) × Gave after c x.next_agreement own.number value
   agree_run value run =
       let on = answered_on meld limits alone before after own (call.Agree own.number c value) Started new run (λ refusal is. absurd (cc is)) in
       let one = same_found (held_at own c) on.x x on.held held in
-      go (subst (λ y. StartReplies (view_of run.span) own y (Flag value) Started) one on.replies)
+      go (subst (λ y. StartReplies (rests_on run.span) own y (Flag value) Started) one on.replies)
     where
-      go : StartReplies (view_of run.span) own x (Flag value) Started → (new.held ≡ change_at c (λ y. opened y (Some (Agree y.next_agreement))) own.held) × Gave after c x.next_agreement own.number value
+      go : StartReplies (rests_on run.span) own x (Flag value) Started → (new.held ≡ change_at c (λ y. opened y (Some (Agree y.next_agreement))) own.held) × Gave after c x.next_agreement own.number value
       go (inl (is, gives)) = (
         ap (λ (w : Record). w.held) run.answer.leaves.record_is,
         record { given = gives.given; stands = gave_stays run.span (Flag value) gives; flag_is = gives.offer_is },
@@ -54,12 +55,12 @@ module _ {P : Type 0} (meld : P → P → P) (limits : Limits) (alone : Bool) (b
       go (inr twice) = absurd (cc (twice.0))
 
 module _ {P : Type 0} (meld : P → P → P) (limits : Limits) (alone : Bool) (before after : History P) (own new : Record) (c : ℕ) (x : Held) (fits : Fits meld limits before own) (held : held_at own c ≡ Some x) where
-  module _ (k : ℕ) (reply : Reply P) (ended : IsEnded reply) where
+  module _ (k : ℕ) (reply : Reply P) (ended : IsFinalReply reply) where
     -- an ended reply is no refusal, and not pending
     no_refusal : (refusal : Refusal) → reply ≡ Refused refusal → ⊥
     no_refusal refusal is = go ended
       where
-        go : IsEnded reply → ⊥
+        go : IsFinalReply reply → ⊥
         go (inl agreed) = cc (agreed.3, is)
         go (inr (inl shrunk)) = cc (shrunk.3, is)
         go (inr (inr done)) = cc (done, is)
@@ -67,19 +68,19 @@ module _ {P : Type 0} (meld : P → P → P) (limits : Limits) (alone : Bool) (b
     not_pending : reply ≡ Pending → ⊥
     not_pending is = go ended
       where
-        go : IsEnded reply → ⊥
+        go : IsFinalReply reply → ⊥
         go (inl agreed) = cc (agreed.3, is)
         go (inr (inl shrunk)) = cc (shrunk.3, is)
         go (inr (inr done)) = cc (done, is)
 
     -- what the poll of the request says at its point
-    at_point : (request : Request) → x.request ≡ Some request → (run : IsRun meld limits alone before after own (call.Poll own.number c) reply new) → PollReplies meld limits (view_of run.span) own.number x (Some request) reply
+    at_point : (request : Request) → x.request ≡ Some request → (run : IsRun meld limits alone (moment own before) (call.Poll own.number c) reply (moment new after)) → PollReplies meld limits (rests_on run.span) own.number x (Some request) reply
     at_point request open_is run =
         let on = answered_on meld limits alone before after own (call.Poll own.number c) reply new run no_refusal in
         let one = same_found (held_at own c) on.x x on.held held in
-        subst (λ q. PollReplies meld limits (view_of run.span) own.number x q reply) open_is (subst (λ y. PollReplies meld limits (view_of run.span) own.number y y.request reply) one on.replies)
+        subst (λ q. PollReplies meld limits (rests_on run.span) own.number x q reply) open_is (subst (λ y. PollReplies meld limits (rests_on run.span) own.number y y.request reply) one on.replies)
 
-    module _ (run : IsRun meld limits alone before after own (call.Poll own.number c) reply new) where
+    module _ (run : IsRun meld limits alone (moment own before) (call.Poll own.number c) reply (moment new after)) where
       abbrev point : History P
       point = run.span.point
 
@@ -100,7 +101,7 @@ module _ {P : Type 0} (meld : P → P → P) (limits : Limits) (alone : Bool) (b
           }
       agree_told decided (inr clash) = absurd (no_refusal Mismatch clash.1)
 
-      agree_answer : PollReplies meld limits (view_of run.span) own.number x (Some (Agree k)) reply → IsDecision meld limits after c k reply
+      agree_answer : PollReplies meld limits (rests_on run.span) own.number x (Some (Agree k)) reply → IsDecision meld limits after c k reply
       agree_answer (inl pending) = absurd (not_pending pending.1)
       agree_answer (inr decided) =
           agree_told (subst (λ n. IsTrue (is_decided limits.ranks point n k)) comm_is decided.0) (subst (λ n. AgreeReplies (decision meld limits.ranks point n k) reply) comm_is decided.1)
@@ -139,7 +140,7 @@ module _ {P : Type 0} (meld : P → P → P) (limits : Limits) (alone : Bool) (b
       shrink_told decided (inl (mask, body, inl none)) = absurd (no_refusal NoContext none.1)
       shrink_told decided (inl (mask, body, inr (some, stays, spawned))) = spawn_told mask decided body stays spawned
 
-      shrink_answer : PollReplies meld limits (view_of run.span) own.number x (Some (Shrink k)) reply → IsMadeOf meld limits after c k own.number reply
+      shrink_answer : PollReplies meld limits (rests_on run.span) own.number x (Some (Shrink k)) reply → IsMadeOf meld limits after c k own.number reply
       shrink_answer (inl pending) = absurd (not_pending pending.1)
       shrink_answer (inr decided) =
           shrink_told (subst (λ n. IsTrue (is_decided limits.ranks point n k)) comm_is decided.0) (subst (λ n. ShrinkReplies limits point own.number n k (decision meld limits.ranks point n k) reply) comm_is decided.1)
@@ -147,7 +148,7 @@ module _ {P : Type 0} (meld : P → P → P) (limits : Limits) (alone : Bool) (b
 module _ {P : Type 0} (meld : P → P → P) where
   -- an agree that started is open, and the rank has given its flag, whether its record fitted before or not
   pub agree_opened : (limits : Limits) (alone : Bool) (before after : History P) (own new : Record) (c : ℕ) (value : P) (x : Held) → held_at own c ≡ Some x
-      → IsCall meld limits alone before after own (call.Agree own.number c value) Started new
+      → IsCall meld limits alone (moment own before) (call.Agree own.number c value) Started (moment new after)
       → (new.held ≡ change_at c (λ y. opened y (Some (Agree y.next_agreement))) own.held) × Gave after c x.next_agreement own.number value
   agree_opened limits alone before after own new c value x held (inl refused) = absurd (cc (refused.2))
   agree_opened limits alone before after own new c value x held (inr run) = agree_run meld limits alone before after own new c x held value run
@@ -156,7 +157,7 @@ module _ {P : Type 0} (meld : P → P → P) where
   agree_opens limits alone before after own new c value x fits held called = agree_opened limits alone before after own new c value x held called
 
   -- so is a shrink
-  pub shrink_opened : (limits : Limits) (alone : Bool) (before after : History P) (own new : Record) (c : ℕ) → IsCall meld limits alone before after own (call.Shrink own.number c) Started new
+  pub shrink_opened : (limits : Limits) (alone : Bool) (before after : History P) (own new : Record) (c : ℕ) → IsCall meld limits alone (moment own before) (call.Shrink own.number c) Started (moment new after)
       → new.held ≡ change_at c (λ y. opened y (Some (Shrink y.next_agreement))) own.held
   shrink_opened limits alone before after own new c (inl refused) = absurd (cc (refused.2))
   shrink_opened limits alone before after own new c (inr run) = ap (λ (w : Record). w.held) run.answer.leaves.record_is
@@ -186,6 +187,6 @@ module _ {P : Type 0} (meld : P → P → P) where
       let number = call_number meld limits alone before after own asked (Refused SelfFailed) new called in
       subst (λ n. IsTrue (has (failures after) n)) number (still.refused (go called))
     where
-      go : IsCall meld limits alone before after own asked (Refused SelfFailed) new → IsTrue new.refused
+      go : IsCall meld limits alone (moment own before) asked (Refused SelfFailed) (moment new after) → IsTrue new.refused
       go (inl refused) = ap (λ (w : Record). w.refused) refused.3 ∙ refused.0
       go (inr run) = ap (λ (w : Record). w.refused) run.answer.leaves.record_is

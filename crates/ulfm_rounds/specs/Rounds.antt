@@ -61,13 +61,21 @@ abbrev pub AreAgreed : {P : Type 0} → (P → P → P) → Limits → History P
 AreAgreed {P} meld limits h c flag r agreed =
     (k : ℕ) (reply : Reply P) → slice_get agreed k ≡ Some reply → IsDecision meld limits h c k reply × Gave h c k r (flag k)
 
--- What rank r was answered in so many agrees and then a shrink: the replies to the agrees, and last the shrink's; or a beginning of
--- these, and last a refusal.
-pub record AreReplies {P : Type 0} (meld : P → P → P) (limits : Limits) (h : History P) (c rounds : ℕ) (flag : ℕ → P) (r : ℕ) (replies : List (Reply P))
-    : Type 0 where
+-- what a rank does on a communicator: so many agrees, with this flag in each round, and then a shrink
+pub record Series (P : Type 0) : Type 0 where
+  pub comm : ℕ
+  pub rounds : ℕ
+  pub flag : ℕ → P
+
+abbrev pub series : {P : Type 0} → ℕ → ℕ → (ℕ → P) → Series P
+series c rounds flag = record { comm = c; rounds = rounds; flag = flag }
+
+-- What rank r was answered in that: the replies to the agrees, and last the shrink's; or a beginning of these, and last a refusal.
+pub record AreRoundReplies {P : Type 0} (meld : P → P → P) (limits : Limits) (h : History P) (does : Series P) (r : ℕ) (replies : List (Reply P)) : Type 0 where
   pub agreed : List (Reply P)
   pub last : Reply P
   pub all : replies ≡ agreed ++ last ∷ []
-  pub few : length agreed ≤ rounds
-  pub each : AreAgreed meld limits h c flag r agreed
-  pub ends : IsRefusal meld limits h c (length agreed) r last ⊎ ((length agreed ≡ rounds) × IsMadeOf meld limits h c rounds r last)
+  pub few : length agreed ≤ does.rounds
+  pub each : AreAgreed meld limits h does.comm does.flag r agreed
+  pub ends : IsRefusal meld limits h does.comm (length agreed) r last
+      ⊎ ((length agreed ≡ does.rounds) × IsMadeOf meld limits h does.comm does.rounds r last)

@@ -1,5 +1,5 @@
 use std::alloc::{AllocError, Allocator};
-use ulfm_comm::Job;
+use ulfm_job::Job;
 use ulfm_laws::FlagAnd;
 use ulfm_model::{Call, Limits, Reply};
 use ulfm_script::Machine;

@@ -1,5 +1,5 @@
 ghost use Rattle.std.specs.Prelude.{◌<◌, IfOk};
-ghost use Rattle.ulfm_script.specs.{Ends.{EndsAlone, ended}, Runs.{Runs}};
+ghost use Rattle.ulfm_script.specs.{Ends.{EndsAlone, ended}, Runs.{RunsBuffered}};
 ghost use Rattle.ulfm_step_script.specs.{FailingScripts.{RunsFailing, failing_scripts}, StepScripts.{RunsSteps}};
 
 use crate::over_words::WordsMachine;
@@ -34,7 +34,7 @@ pub fn run_calls<A: Allocator + Copy + Drop, R: Read, W: Write>(
     reader: &mut R,
     writer: &mut W,
 ) -> Result<(), RunFault>
-    ensures { Runs (R.remaining reader.old) (R.remaining reader.new) (W.contents writer.old) (W.contents writer.new) result }
+    ensures { RunsBuffered (R.remaining reader.old) (R.remaining reader.new) (W.contents writer.old) (W.contents writer.new) result }
 {
     run_script::<WordsMachine<A>, A, R, W>(alloc, reader, writer)
 }

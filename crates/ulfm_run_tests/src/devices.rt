@@ -2,7 +2,7 @@
 use std::alloc::Global;
 use std::process::Abort;
 use std::test::Fail;
-use ulfm_devices::{Failing, Pieces, Taken};
+use ulfm_devices::{FailureMode, LimitedWriter, Pieces};
 use ulfm_run::{run_calls, run_steps, run_steps_failing};
 use ulfm_script::RunFault;
 
@@ -43,7 +43,7 @@ impl Engine {
         self,
         alloc: Global,
         input: &mut Pieces<'_>,
-        output: &mut Taken,
+        output: &mut LimitedWriter,
     ) -> Result<(), RunFault> {
         match self {
             Engine::Calls => run_calls(alloc, input, output),
@@ -58,7 +58,7 @@ impl Engine {
     /// What a text gives whose devices never fail.
     fn written(self, alloc: Global, text: &[u8]) -> Result<Vec<u8>, Fail> {
         let mut input = Pieces::new(text, 10_000, 0);
-        let mut output = Taken::new(alloc, 10_000, 0, Failing::ByError);
+        let mut output = LimitedWriter::new(alloc, 10_000, 0, FailureMode::ByError);
         match self.run(alloc, &mut input, &mut output) {
             Ok(()) => Ok(output.bytes),
             Err(_) => Err(Fail::from("the script has a fault")),
@@ -82,7 +82,7 @@ fn fail_reads(rt: &impl Abort, alloc: Global, engine: Engine, most: usize) -> Re
     let whole = engine.written(alloc, script)?;
     for failing in 1..1000u32 {
         let mut input = Pieces::new(script, most, failing);
-        let mut output = Taken::new(alloc, 10_000, 0, Failing::ByError);
+        let mut output = LimitedWriter::new(alloc, 10_000, 0, FailureMode::ByError);
         let end = engine.run(alloc, &mut input, &mut output);
         if input.calls < failing {
             assert_eq!(rt; end, Ok(()));
@@ -118,13 +118,13 @@ fn fail_writes(
     alloc: Global,
     engine: Engine,
     most: usize,
-    how: Failing,
+    how: FailureMode,
 ) -> Result<(), Fail> {
     let script = engine.script();
     let whole = engine.written(alloc, script)?;
     for failing in 1..1000u32 {
         let mut input = Pieces::new(script, 10_000, 0);
-        let mut output = Taken::new(alloc, most, failing, how);
+        let mut output = LimitedWriter::new(alloc, most, failing, how);
         let end = engine.run(alloc, &mut input, &mut output);
         if output.calls < failing {
             assert_eq!(rt; end, Ok(()));
@@ -142,9 +142,9 @@ fn fail_writes(
 #[test]
 fn each_write_fails(rt: HostRuntime) -> Result<(), Fail> {
     let ways = [
-        Failing::ByError,
-        Failing::ByInterruption,
-        Failing::ByNothing,
+        FailureMode::ByError,
+        FailureMode::ByInterruption,
+        FailureMode::ByNothing,
     ];
     for engine in ENGINES {
         for how in ways {
@@ -162,7 +162,7 @@ fn each_flush_fails(rt: HostRuntime) -> Result<(), Fail> {
     for engine in ENGINES {
         let whole = engine.written(rt.alloc(), engine.script())?;
         let mut input = Pieces::new(engine.script(), 7, 0);
-        let mut output = Taken::new(rt.alloc(), 7, 0, Failing::AtFlush);
+        let mut output = LimitedWriter::new(rt.alloc(), 7, 0, FailureMode::AtFlush);
         let end = engine.run(rt.alloc(), &mut input, &mut output);
         assert_eq!(rt; end, Err(RunFault::Write));
         assert_eq!(rt; output.bytes.as_slice(), whole.as_slice());
@@ -177,7 +177,7 @@ fn flushes_once(rt: HostRuntime) -> Result<(), Fail> {
         let script = engine.script();
         for text in [script, &script[..script.len().saturating_sub(1)]] {
             let mut input = Pieces::new(text, 7, 0);
-            let mut output = Taken::new(rt.alloc(), 7, 0, Failing::ByError);
+            let mut output = LimitedWriter::new(rt.alloc(), 7, 0, FailureMode::ByError);
             let end = engine.run(rt.alloc(), &mut input, &mut output);
             assert_eq!(rt; end.is_ok(), text.len() == script.len());
             assert_eq!(rt; output.flushes, 1);

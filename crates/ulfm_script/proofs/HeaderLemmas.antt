@@ -8,7 +8,7 @@ use Rattle.ulfm_script.specs.declared.header_kind.HeaderKind.{HeaderKind}
 use Rattle.ulfm_script.specs.declared.header_kind.HeaderKind.TheVariants.{Calls, Steps, Trace}
 use Rattle.ulfm_script.specs.declared.line_kind.LineKind.{LineKind}
 use Rattle.ulfm_script.specs.declared.line_kind.LineKind.TheVariants.{Header, Limits as BadLimits}
-use Rattle.ulfm_script.specs.{Digits.{number_of}, Headers.{form_from, header_of, header_text, kind_text, limits_of, may_open, numbers_of}, Steps.{◌>>=◌, with_fault}, Words.{word_of, four_of}}
+use Rattle.ulfm_script.specs.{Digits.{read_number}, Headers.{form_from, header_of, header_text, kind_text, read_limits, may_open, numbers_of}, Steps.{◌>>=◌, with_fault}, Words.{first_word, four_of}}
 use Rattle.ulfm_script.proofs.{Numerals.{number_again, number_found}, Spelled.{chosen, number_is_word}, WordLemmas.{IsWord, done, four_again, four_found, joined, joined_word, same_done, step_found}}
 
 -- the version's word and those of the limits
@@ -19,17 +19,17 @@ numbers_found : (a b c : List ℕ) (limits : Limits) → numbers_of (a, b, c) �
     → (a ≡ decimal limits.ranks) × (b ≡ decimal limits.comms) × (c ≡ decimal limits.rounds)
 numbers_found a b c limits e =
     let put : ℕ → ℕ → ℕ → Result Limits LineKind = λ x y z. Ok (record { ranks = x; comms = y; rounds = z }) in
-    let x = step_found (number_of a) (λ x. number_of b >>= λ y. number_of c >>= λ z. put x y z) limits e in
-    let y = step_found (number_of b) (λ y. number_of c >>= λ z. put x.0 y z) limits x.2 in
-    let z = step_found (number_of c) (λ z. put x.0 y.0 z) limits y.2 in
+    let x = step_found (read_number a) (λ x. read_number b >>= λ y. read_number c >>= λ z. put x y z) limits e in
+    let y = step_found (read_number b) (λ y. read_number c >>= λ z. put x.0 y z) limits x.2 in
+    let z = step_found (read_number c) (λ z. put x.0 y.0 z) limits y.2 in
     let is : record { ranks = x.0; comms = y.0; rounds = z.0 } ≡ limits = same_done (record { ranks = x.0; comms = y.0; rounds = z.0 }) limits z.2 in (
       (number_found a x.0 x.1).1 ∙ ap (λ (l : Limits). decimal l.ranks) is,
       (number_found b y.0 y.1).1 ∙ ap (λ (l : Limits). decimal l.comms) is,
       (number_found c z.0 z.1).1 ∙ ap (λ (l : Limits). decimal l.rounds) is,
     )
 
-limits_found : (fields : Option (List ℕ)) (limits : Limits) → limits_of fields ≡ Ok limits → fields ≡ Some (limits_text limits)
-unfolding limits_of
+limits_found : (fields : Option (List ℕ)) (limits : Limits) → read_limits fields ≡ Ok limits → fields ≡ Some (limits_text limits)
+unfolding read_limits
 limits_found fields limits e =
     let w = step_found (four_of fields) (λ w. if_version w) limits e in
     let stands = four_found fields w.0 w.1 in
@@ -53,14 +53,14 @@ kept_found : (r : Result Limits LineKind) (limits : Limits) → with_fault Heade
 kept_found (Ok x) limits e = e
 kept_found (Err kind) limits e = absurd cc
 
-form_found : (kind : HeaderKind) (line : List ℕ) (limits : Limits) → form_from kind (word_of line) ≡ Ok limits → line ≡ header_text kind limits
+form_found : (kind : HeaderKind) (line : List ℕ) (limits : Limits) → form_from kind (first_word line) ≡ Ok limits → line ≡ header_text kind limits
 form_found kind line limits e =
-    let name = (word_of line).0 in
-    let fields = (word_of line).1 in
-    elim (chosen (bytes_eq name (kind_text kind)) (with_fault Header (limits_of fields)) (Err Header) (Ok limits) e) [
+    let name = (first_word line).0 in
+    let fields = (first_word line).1 in
+    elim (chosen (bytes_eq name (kind_text kind)) (with_fault Header (read_limits fields)) (Err Header) (Ok limits) e) [
       | inl this ↦ (
           let is = (bytes_eq-Decides name (kind_text kind)).0 this.0 in
-          let behind = limits_found fields limits (kept_found (limits_of fields) limits this.1) in
+          let behind = limits_found fields limits (kept_found (read_limits fields) limits this.1) in
           sym (joined_word line) ∙ ap (λ (w : List ℕ). joined w fields) is ∙ ap (joined (kind_text kind)) behind
           )
       | inr that ↦ absurd (let k : (let r : Result Limits LineKind = Err Header in r) ≡ Ok limits = that.1 in cc)
@@ -70,7 +70,7 @@ form_found kind line limits e =
 pub header_found : (kind : HeaderKind) (line : List ℕ) (limits : Limits) → header_of kind line ≡ Ok limits → line ≡ header_text kind limits
 unfolding header_of
 header_found kind line limits e =
-    let a = step_found (form_from kind (word_of line)) (λ l. cond (may_open l) (Ok l) (Err BadLimits)) limits e in
+    let a = step_found (form_from kind (first_word line)) (λ l. cond (may_open l) (Ok l) (Err BadLimits)) limits e in
     form_found kind line a.0 a.1 ∙ ap (header_text kind) (opened (may_open a.0) a.0 limits a.2)
 
 -- the same at a result
@@ -81,8 +81,8 @@ headers_found kind line (Err fault) e = tt
 version_is_word : IsWord (codes "1")
 version_is_word = record { free = ((λ e. cc), tt); some = omega arith }
 
-limits_again : (limits : Limits) → MayOpen limits → limits_of (Some (limits_text limits)) ≡ Ok limits
-unfolding limits_of
+limits_again : (limits : Limits) → MayOpen limits → read_limits (Some (limits_text limits)) ≡ Ok limits
+unfolding read_limits
 limits_again limits h =
     let a : limits.ranks < 10000 = (let k = h.in_range in omega arith) in
     let b : limits.comms < 10000 = (let k = h.in_range in omega arith) in
@@ -97,7 +97,7 @@ limits_again limits h =
 may_open_again : (limits : Limits) → MayOpen limits → may_open limits ≡ true
 may_open_again limits h = let k = h.in_range in let s = h.small in grind (arith, nat_tests)
 
-form_again : (kind : HeaderKind) (limits : Limits) → MayOpen limits → form_from kind (word_of (header_text kind limits)) ≡ Ok limits
+form_again : (kind : HeaderKind) (limits : Limits) → MayOpen limits → form_from kind (first_word (header_text kind limits)) ≡ Ok limits
 form_again Calls limits h = rw (limits_again limits h) refl
 form_again Steps limits h = rw (limits_again limits h) refl
 form_again Trace limits h = rw (limits_again limits h) refl

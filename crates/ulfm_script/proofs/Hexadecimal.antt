@@ -5,7 +5,7 @@ use Rattle.std.proofs.lemmas.{Bool.{cases_lt, lt-ltb, le-ltb, lt-leb, le-leb}, B
 use Rattle.ulfm_laws.specs.{declared.flag_and.FlagAnd.{FlagAnd}, Flags.{same_flag}}
 use Rattle.ulfm_script.specs.declared.line_kind.LineKind.{LineKind}
 use Rattle.ulfm_script.specs.declared.line_kind.LineKind.TheVariants.{Flag}
-use Rattle.ulfm_script.specs.Digits.{digits_after, flag_of, flag_text, hex_digit, hex_digits, hex_of}
+use Rattle.ulfm_script.specs.Digits.{digits_after, read_flag, flag_text, hex_digit, hex_digits, hex_of}
 use Rattle.ulfm_script.specs.Steps.{◌>>=◌, or_fault}
 
 -- the flag of a word
@@ -82,8 +82,8 @@ bits_kept : (n : ℕ) → n < 2 ^ 32 → n % 2 ^ 32 ≡ n
 bits_kept n h = mod-eq_of_lt h
 
 -- a flag that was printed is read
-pub flag_again : (flag : FlagAnd) → flag_of (flag_text flag) ≡ Ok flag
-unfolding flag_of flag_text
+pub flag_again : (flag : FlagAnd) → read_flag (flag_text flag) ≡ Ok flag
+unfolding read_flag flag_text
 flag_again flag =
     let all : cut_off 8 flag.bits ≡ 0 = (let h = flag.fits in omega arith) in
     let read : hex_after 0 (hex_digits 8 flag.bits) ≡ Ok flag.bits = rw all at (digits_again 8 flag.bits) in
@@ -104,8 +104,8 @@ flag_from w flag true (Ok n) eight read e =
     h.0 ∙ ap (λ (k : ℕ). hex_digits k n) long ∙ ap (λ (k : ℕ). hex_digits 8 k) bits
 
 -- a flag that was read is printed so
-pub flag_found : (w : List ℕ) (flag : FlagAnd) → flag_of w ≡ Ok flag → w ≡ flag_text flag
-unfolding flag_of
+pub flag_found : (w : List ℕ) (flag : FlagAnd) → read_flag w ≡ Ok flag → w ≡ flag_text flag
+unfolding read_flag
 flag_found w flag e = flag_from w flag (length w == 8) (hex_after 0 w) refl refl e
 
 -- a flag has eight digits
@@ -142,8 +142,8 @@ digit_written (suc count) rest digits all some fits e =
     rw (back, put) (sym (append_assoc (hex_digits count (rest / 16)) (hex_digit (rest % 16) ∷ []) (drop (suc count) digits)) ∙ e)
 
 -- reading digits from the first to the last
-pub flag_read : (w : List ℕ) (bits i : ℕ) → length w ≡ 8 → length w ≤ i → hex_after bits (drop i w) ≡ hex_after 0 w → (fits : bits < 2 ^ 32) → flag_of w ≡ Ok (record { bits = bits; fits = fits })
-unfolding flag_of
+pub flag_read : (w : List ℕ) (bits i : ℕ) → length w ≡ 8 → length w ≤ i → hex_after bits (drop i w) ≡ hex_after 0 w → (fits : bits < 2 ^ 32) → read_flag w ≡ Ok (record { bits = bits; fits = fits })
+unfolding read_flag
 flag_read w bits i eight past e fits =
     let none : drop i w ≡ [] = drop_all i w past in
     let read : hex_after 0 w ≡ Ok bits = sym e ∙ ap (λ (ds : List ℕ). hex_after bits ds) none in

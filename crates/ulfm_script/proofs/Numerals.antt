@@ -4,7 +4,7 @@ use Rattle.std.specs.{Prelude.{◌⊎◌, ◌==◌, nat_lt}, Int.{IsInRange}, Fm
 use Rattle.std.proofs.lemmas.{Bool.{cases_lt, lt-leb, le-leb, le-ltb, ltb-false}, Bool.Decides.{nat_tests}, Str.Parse.{IsNumeralModel, numerals_by_fold, digits_value_short}, Fmt.{decimal-digits_value, digits_decimal, digits_value-decimal, length-decimal-le, decimal_nonempty, decimal_digit, first_decimal}}
 use Rattle.ulfm_script.specs.declared.line_kind.LineKind.{LineKind}
 use Rattle.ulfm_script.specs.declared.line_kind.LineKind.TheVariants.{Number}
-use Rattle.ulfm_script.specs.Digits.{digit_of, digits_after, number_in, number_of, number_to, point_of}
+use Rattle.ulfm_script.specs.Digits.{digit_of, digits_after, number_in, read_number, number_to, read_point}
 
 -- all are decimal digits
 abbrev pub AreDigits : List ℕ → Type 0
@@ -77,15 +77,15 @@ in_found most w n wide e =
     (omega (arith, small, t.1), sym (ap decimal t.1 ∙ is))
 
 -- a number that was read is printed so
-pub number_found : (w : List ℕ) (n : ℕ) → number_of w ≡ Ok n → (n < 10000) × (w ≡ decimal n)
+pub number_found : (w : List ℕ) (n : ℕ) → read_number w ≡ Ok n → (n < 10000) × (w ≡ decimal n)
 number_found w n e = in_found 4 w n (omega arith) e
 
 -- and so is a count of events
-pub point_found : (w : List ℕ) (n : ℕ) → point_of w ≡ Ok n → (n < 10000000) × (w ≡ decimal n)
+pub point_found : (w : List ℕ) (n : ℕ) → read_point w ≡ Ok n → (n < 10000000) × (w ≡ decimal n)
 point_found w n e = in_found 7 w n (omega arith) e
 
 -- what was read is in its range
-pub number_fits : (r : Result ℕ LineKind) (w : List ℕ) (n : ℕ) → r ≡ number_of w → r ≡ Ok n → n < 10000
+pub number_fits : (r : Result ℕ LineKind) (w : List ℕ) (n : ℕ) → r ≡ read_number w → r ≡ Ok n → n < 10000
 number_fits r w n e f = (number_found w n (sym e ∙ f)).0
 
 one_zero : (n : ℕ) → n < 2 ^ 64 → get_or (decimal n) 0 0 ≡ 48 → length (decimal n) ≡ 1
@@ -102,11 +102,11 @@ in_again most n some small h =
     rw (good, digits_again 0 (decimal n) (digits_decimal own n wide)) (ap (λ (k : ℕ). Ok k) (digits_value-decimal own n wide))
 
 -- a number that was printed is read
-pub number_again : (n : ℕ) → n < 10000 → number_of (decimal n) ≡ Ok n
+pub number_again : (n : ℕ) → n < 10000 → read_number (decimal n) ≡ Ok n
 number_again n h = in_again 4 n (omega arith) (omega arith) (omega (arith, h))
 
 -- and so is a count of events
-pub point_again : (n : ℕ) → n < 10000000 → point_of (decimal n) ≡ Ok n
+pub point_again : (n : ℕ) → n < 10000000 → read_point (decimal n) ≡ Ok n
 point_again n h = in_again 7 n (omega arith) (omega arith) (omega (arith, h))
 
 -- the same up to a greatest number
@@ -118,7 +118,7 @@ within : (b : Bool) (most m n : ℕ) → nat_lt most m ≡ b → cond b (let r :
 within true most m n t e = absurd cc
 within false most m n t e = (ltb-false most m t, cc)
 
-number_to_from : (most n : ℕ) (w : List ℕ) (r : Result ℕ LineKind) → number_of w ≡ r → number_to most w ≡ Ok n → (n ≤ most) × (w ≡ decimal n)
+number_to_from : (most n : ℕ) (w : List ℕ) (r : Result ℕ LineKind) → read_number w ≡ r → number_to most w ≡ Ok n → (n ≤ most) × (w ≡ decimal n)
 unfolding number_to
 number_to_from most n w (Ok m) r e =
     let h = within (nat_lt most m) most m n refl (rw r at e) in
@@ -127,4 +127,4 @@ number_to_from most n w (Err kind) r e = absurd (let k : Err kind ≡ Ok n = rw 
 
 -- what was read up to a greatest number is printed so
 pub number_to_found : (most n : ℕ) (w : List ℕ) → number_to most w ≡ Ok n → (n ≤ most) × (w ≡ decimal n)
-number_to_found most n w e = number_to_from most n w (number_of w) refl e
+number_to_found most n w e = number_to_from most n w (read_number w) refl e

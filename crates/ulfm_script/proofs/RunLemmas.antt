@@ -9,9 +9,9 @@ use Rattle.ulfm_script.specs.declared.line_kind.LineKind.{LineKind}
 use Rattle.ulfm_script.specs.declared.line_kind.LineKind.TheVariants.{Cut, Header, Long}
 use Rattle.ulfm_script.specs.declared.fault.RunFault.{RunFault}
 use Rattle.ulfm_script.specs.declared.fault.RunFault.TheVariants.{Line, Memory, Read, Write}
-use Rattle.ulfm_script.specs.{Buffers.{Drains, HasNoNewline, IsOfLine, Puts, TakesLine}, Headers.{header_of}, Written.{Begins, Holds, WritesPart}}
-use Rattle.ulfm_script.specs.Ends.{Claim, EndsAlone, EndsThrough, EndsUpTo, FindsFault, HasFault, HasRunAll, IsOpened, IsTextOf, Known, Opens, PrintsAll, PrintsFrom, PrintsSome, RunEnd, RunsAll, RunsLine, Stage, StopsInLine, StopsInOutput, TakesItem, TakesUpTo}
-use Rattle.ulfm_script.specs.Scripts.{Asked, Language, Script, asked_last, asked_then, header_at, item_at, lines_from, rest_from, script_of, stopped, without_header}
+use Rattle.ulfm_script.specs.{Buffers.{Drains, HasNoNewline, IsOfLine, Puts, TakesLine}, Headers.{header_of}, Written.{IsBeginning, IsBuffered, Outgoing, WritesPart}}
+use Rattle.ulfm_script.specs.Ends.{Claim, EndsAlone, EndsThrough, EndsUpTo, FindsFault, HasFault, HasRunAll, IsOpened, IsTextOf, KnownText, Opens, PrintsAll, PrintsFrom, PrintsSome, RunEnd, RunSoFar, RunsAll, RunsLine, Stage, StopsInLine, StopsInOutput, TakesItem, TakesUpTo, line_at}
+use Rattle.ulfm_script.specs.Scripts.{Parsed, Language, Script, asked_last, asked_then, header_at, item_at, lines_from, rest_from, script_of, stopped, without_header}
 use Rattle.ulfm_script.proofs.ByteLemmas.{appends_start, appends_then, consumes_keeps, consumes_start, consumes_then, end_behind, taken_of_reader}
 use Rattle.ulfm_script.proofs.ScriptLemmas.{BeginsWith, Comes, asked_from, before_last, comes_cut, comes_end, comes_fault, comes_first, comes_on, comes_unopened, count_on, ended_script, going, kept_header, line_comes, no_header, one_line, one_line_whole, plain_item, script_begins, whole_on}
 
@@ -27,23 +27,27 @@ whole_text None b done h e = tt
 whole_text (Some xs) None done h e = absurd h
 whole_text (Some xs) (Some ys) done h e = sym (h ∙ ap (λ (t : List ℕ). done ++ t) e ∙ append-nil done)
 
-holds_nothing : (a : Option (List ℕ)) (waiting : List ℕ) → waiting ≡ [] → Holds a a waiting []
+-- an output whose writer has this, where this waits
+abbrev to : KnownText → List ℕ → Outgoing
+to has waits = record { written = has; waiting = waits }
+
+holds_nothing : (a : Option (List ℕ)) (waiting : List ℕ) → waiting ≡ [] → IsBuffered a (to a waiting) []
 holds_nothing a waiting e = ([], appends_start a, e)
 
-holds_then : (a b c : Option (List ℕ)) (v w out more : List ℕ) → Holds a b v out → Holds b c w (v ++ more) → Holds a c w (out ++ more)
+holds_then : (a b c : Option (List ℕ)) (v w out more : List ℕ) → IsBuffered a (to b v) out → IsBuffered b (to c w) (v ++ more) → IsBuffered a (to c w) (out ++ more)
 holds_then a b c v w out more h k =
     (h.0 ++ k.0, appends_then a b c h.0 k.0 h.1 k.1, append_assoc h.0 k.0 w ∙ ap (λ (t : List ℕ). h.0 ++ t) k.2 ∙ sym (append_assoc h.0 v more) ∙ ap (λ (t : List ℕ). t ++ more) h.2)
 
-holds_still : (a : Option (List ℕ)) (v : List ℕ) → Holds a a v v
+holds_still : (a : Option (List ℕ)) (v : List ℕ) → IsBuffered a (to a v) v
 holds_still a v = ([], appends_start a, refl)
 
-holds_same : (a b c : Option (List ℕ)) (v w out : List ℕ) → Holds a b v out → Holds b c w v → Holds a c w out
+holds_same : (a b c : Option (List ℕ)) (v w out : List ℕ) → IsBuffered a (to b v) out → IsBuffered b (to c w) v → IsBuffered a (to c w) out
 holds_same a b c v w out h k = (h.0 ++ k.0, appends_then a b c h.0 k.0 h.1 k.1, append_assoc h.0 k.0 w ∙ ap (λ (t : List ℕ). h.0 ++ t) k.2 ∙ h.2)
 
-holds_drained : (a b c : Option (List ℕ)) (w out : List ℕ) → Holds a b w out → Appends b c w → Appends a c out
+holds_drained : (a b c : Option (List ℕ)) (w out : List ℕ) → IsBuffered a (to b w) out → Appends b c w → Appends a c out
 holds_drained a b c w out h k = subst (λ (t : List ℕ). Appends a c t) h.2 (appends_then a b c h.0 w h.1 k)
 
-holds_part : (a b c : Option (List ℕ)) (v out : List ℕ) → Holds a b v out → WritesPart b c v → WritesPart a c out
+holds_part : (a b c : Option (List ℕ)) (v out : List ℕ) → IsBuffered a (to b v) out → WritesPart b c v → WritesPart a c out
 holds_part a b c v out h k =
     (h.0 ++ k.0, (k.1.0, append_assoc h.0 k.0 k.1.0 ∙ ap (λ (t : List ℕ). h.0 ++ t) k.1.1 ∙ h.2), appends_then a b c h.0 k.0 h.1 k.2)
 
@@ -69,22 +73,20 @@ abbrev pub Prints : (lang : Language) → Stage lang → Type 0
 Prints lang HasRun = (limits : Limits) (items : List lang.Item) (out : List ℕ) → HasRun limits items out → lang.Prints limits items out
 
 -- a run that goes on: what was taken of the text asks for these items, what they print is written or waits, and the machine has run them
-pub record Going (lang : Language) (HasRun : Stage lang) (known b old mid : Known) (v : List ℕ) (number : ℕ) : Type 0 where
+pub record Going (lang : Language) (HasRun : Stage lang) (known b old mid : KnownText) (v : List ℕ) (number : ℕ) : Type 0 where
   pub done : List ℕ
-  pub limits : Limits
-  pub items : List lang.Item
-  pub out : List ℕ
+  pub ran : RunSoFar lang
   pub taken : Consumes known b done
-  pub held : Holds old mid v out
-  pub comes : Comes lang done limits items number
-  pub has_run : HasRun limits items out
-  pub prints : lang.Prints limits items out
-  pub counted : number ≡ length items + 2
+  pub held : IsBuffered old (to mid v) ran.out
+  pub comes : Comes lang done ran.limits ran.items number
+  pub has_run : HasRun ran.limits ran.items ran.out
+  pub prints : lang.Prints ran.limits ran.items ran.out
+  pub counted : number ≡ length ran.items + 2
   pub whole : rest_from [] done ≡ []
   pub lines : length (lines_from [] done) + 1 ≡ number
 
 -- nothing behind the next line was taken
-takes_next : (lang : Language) (HasRun : Stage lang) (known b c old mid : Known) (v part : List ℕ) (n m : ℕ) → Going lang HasRun known b old mid v n
+takes_next : (lang : Language) (HasRun : Stage lang) (known b c old mid : KnownText) (v part : List ℕ) (n m : ℕ) → Going lang HasRun known b old mid v n
     → m ≡ n → Consumes b c part → IsOfLine part → TakesUpTo m known c
 takes_next lang HasRun known b c old mid v part n m i same q p = record {
   lines = i.done;
@@ -96,19 +98,19 @@ takes_next lang HasRun known b c old mid v part n m i same q p = record {
 }
 
 -- nothing behind the first line was taken
-pub takes_first : (a b : Known) (part : List ℕ) → Consumes a b part → IsOfLine part → TakesUpTo 1 a b
+pub takes_first : (a b : KnownText) (part : List ℕ) → Consumes a b part → IsOfLine part → TakesUpTo 1 a b
 takes_first a b part q p = record { lines = []; part = part; taken = q; whole = refl; counted = refl; partly = p }
 
 -- the items so far are the first ones of the script
-some_printed : (lang : Language) (text out : List ℕ) (limits : Limits) (items : List lang.Item) (asked : Asked lang.Item)
+some_printed : (lang : Language) (text out : List ℕ) (limits : Limits) (items : List lang.Item) (asked : Parsed lang.Item)
     → script_of lang text ≡ going limits items asked → lang.Prints limits items out → PrintsSome lang text out
 some_printed lang text out limits items asked e prints =
-    let Printed : Script lang.Item → Type 0 = λ s. (out ≡ []) ⊎ ((first : List lang.Item) × Begins first s.items × PrintsFrom lang s.limits first out) in
+    let Printed : Script lang.Item → Type 0 = λ s. (out ≡ []) ⊎ ((first : List lang.Item) × IsBeginning first s.items × PrintsFrom lang s.limits first out) in
     let all : Printed (going limits items asked) = inr (items, (asked.items, refl), prints) in
     subst Printed (sym e) all
 
 -- the items so far are all of the script
-all_printed : (lang : Language) (text out : List ℕ) (limits : Limits) (items : List lang.Item) (asked : Asked lang.Item)
+all_printed : (lang : Language) (text out : List ℕ) (limits : Limits) (items : List lang.Item) (asked : Parsed lang.Item)
     → script_of lang text ≡ ended_script limits items asked → lang.Prints limits items out → PrintsAll lang text out
 all_printed lang text out limits items asked e prints =
     let Printed : Script lang.Item → Type 0 = λ s. PrintsFrom lang s.limits s.items out in
@@ -116,40 +118,40 @@ all_printed lang text out limits items asked e prints =
     subst Printed (sym e) all
 
 -- the run stops inside the next line
-stops_inside : (lang : Language) (HasRun : Stage lang) (known b c old mid new : Known) (v w part : List ℕ) (n : ℕ) (IsPart : Claim)
-    → Going lang HasRun known b old mid v n → Consumes b c part → IsPart part → Holds mid new w v
-    → StopsInLine lang known c IsPart (Holds old new w)
+stops_inside : (lang : Language) (HasRun : Stage lang) (known b c old mid new : KnownText) (v w part : List ℕ) (n : ℕ) (IsPart : Claim)
+    → Going lang HasRun known b old mid v n → Consumes b c part → IsPart part → IsBuffered mid (to new w) v
+    → StopsInLine lang known c IsPart (IsBuffered old (to new w))
 stops_inside lang HasRun known b c old mid new v w part n IsPart i q p k =
-    let e = comes_end lang i.done i.limits i.items n i.comes in
+    let e = comes_end lang i.done i.ran.limits i.ran.items n i.comes in
     record {
       lines = i.done;
       part = part;
-      out = i.out;
+      out = i.ran.out;
       taken = consumes_then known b c i.done part i.taken q;
       right = inr (ap (λ (s : Script lang.Item). s.fault) e);
       partly = p;
-      printed = all_printed lang i.done i.out i.limits i.items (asked_last n []) e i.prints;
-      told = holds_same old mid new v w i.out i.held k;
+      printed = all_printed lang i.done i.ran.out i.ran.limits i.ran.items (asked_last n []) e i.prints;
+      told = holds_same old mid new v w i.ran.out i.held k;
     }
 
 -- the writer failed
-ended_by_writer : (lang : Language) (HasRun : Stage lang) (known b left old mid : Known) (v ahead : List ℕ) (n : ℕ)
-    → Going lang HasRun known b old mid v n → (new : Known) (w : List ℕ) → WritesPart mid new v → EndsUpTo lang known left ahead old new w (Err Write)
+ended_by_writer : (lang : Language) (HasRun : Stage lang) (known b left old mid : KnownText) (v ahead : List ℕ) (n : ℕ)
+    → Going lang HasRun known b old mid v n → (new : KnownText) (w : List ℕ) → WritesPart mid new v → EndsUpTo lang known left ahead old (to new w) (Err Write)
 ended_by_writer lang HasRun known b left old mid v ahead n i new w k =
     let x = text_of known b i.done i.taken in
     let text = i.done ++ x.0 in
     record {
       text = text;
-      out = i.out;
+      out = i.ran.out;
       whole = x.1;
-      printed = some_printed lang text i.out i.limits i.items (asked_from lang n x.0) (i.comes x.0) i.prints;
-      told = holds_part old mid new v i.out i.held k;
+      printed = some_printed lang text i.ran.out i.ran.limits i.ran.items (asked_from lang n x.0) (i.comes x.0) i.prints;
+      told = holds_part old mid new v i.ran.out i.held k;
     }
 
 -- a line couldn't be read
-pub ended_by_read : (lang : Language) (HasRun : Stage lang) (known b left old mid : Known) (v ahead kept : List ℕ) (n : ℕ) (fault : RunFault)
+pub ended_by_read : (lang : Language) (HasRun : Stage lang) (known b left old mid : KnownText) (v ahead kept : List ℕ) (n : ℕ) (fault : RunFault)
     → Going lang HasRun known b old mid v n → TakesLine 65 b (prepend_known ahead left) ahead kept (Err fault)
-    → EndsUpTo lang known left ahead old mid v (Err fault)
+    → EndsUpTo lang known left ahead old (to mid v) (Err fault)
 ended_by_read lang HasRun known b left old mid v ahead kept n Read i k =
     (stops_inside lang HasRun known b left old mid mid v v k.0 n HasNoNewline i (taken_of_reader b left ahead k.0 k.2 k.3) k.1 (holds_still mid v), k.2)
 ended_by_read lang HasRun known b left old mid v ahead kept n Memory i k =
@@ -158,29 +160,29 @@ ended_by_read lang HasRun known b left old mid v ahead kept n Write i k = absurd
 ended_by_read lang HasRun known b left old mid v ahead kept n (Line m kind) i k = absurd k
 
 -- there is no further line: the machine has run all of the text
-pub ended_done : (lang : Language) (HasRun : Stage lang) (known b left old mid : Known) (v ahead : List ℕ) (n : ℕ)
+pub ended_done : (lang : Language) (HasRun : Stage lang) (known b left old mid : KnownText) (v ahead : List ℕ) (n : ℕ)
     → Going lang HasRun known b old mid v n → Keeps b (prepend_known ahead left) → IsAtEnd (prepend_known ahead left)
-    → EndsUpTo lang known left ahead old mid v (Ok tt) × HasRunAll lang HasRun known (Holds old mid v)
+    → EndsUpTo lang known left ahead old (to mid v) (Ok tt) × HasRunAll lang HasRun known (IsBuffered old (to mid v))
 ended_done lang HasRun known b left old mid v ahead n i k z =
-    let e = comes_end lang i.done i.limits i.items n i.comes in
+    let e = comes_end lang i.done i.ran.limits i.ran.items n i.comes in
     let c = prepend_known ahead left in
     let whole = whole_text known c i.done (consumes_keeps known b c i.done i.taken k) z in (
       (
         record {
           text = i.done;
-          out = i.out;
+          out = i.ran.out;
           whole = whole;
           faults = ap (λ (s : Script lang.Item). s.fault) e;
-          printed = all_printed lang i.done i.out i.limits i.items (asked_last n []) e i.prints;
+          printed = all_printed lang i.done i.ran.out i.ran.limits i.ran.items (asked_last n []) e i.prints;
           told = i.held;
         },
         end_behind ahead left z,
       ),
       record {
         text = i.done;
-        limits = i.limits;
-        items = i.items;
-        out = i.out;
+        limits = i.ran.limits;
+        items = i.ran.items;
+        out = i.ran.out;
         whole = whole;
         script_is = e;
         has_run = i.has_run;
@@ -189,9 +191,9 @@ ended_done lang HasRun known b left old mid v ahead n i k z =
     )
 
 -- a fault that all texts with this beginning have
-fault_told : (lang : Language) (known : Known) (text : List ℕ) (old new : Known) (w out : List ℕ) (limits : Limits) (items : List lang.Item)
+fault_told : (lang : Language) (known : KnownText) (text : List ℕ) (old new : KnownText) (w out : List ℕ) (limits : Limits) (items : List lang.Item)
     (n m : ℕ) (kind : LineKind) → IsTextOf known text → m ≡ n → script_of lang text ≡ ended_script limits items (stopped n kind)
-    → lang.Prints limits items out → Holds old new w out → RunsAll lang known (Some (m, kind)) (Holds old new w)
+    → lang.Prints limits items out → IsBuffered old (to new w) out → RunsAll lang known (Some (m, kind)) (IsBuffered old (to new w))
 fault_told lang known text old new w out limits items n m kind whole same e prints held = record {
   text = text;
   out = out;
@@ -202,23 +204,23 @@ fault_told lang known text old new w out limits items n m kind whole same e prin
 }
 
 -- the text ends inside a line
-pub ended_cut : (lang : Language) (HasRun : Stage lang) (known b left old mid : Known) (v ahead line : List ℕ) (n : ℕ)
+pub ended_cut : (lang : Language) (HasRun : Stage lang) (known b left old mid : KnownText) (v ahead line : List ℕ) (n : ℕ)
     → Going lang HasRun known b old mid v n → HasNoNewline line → 0 < length line → Consumes b (prepend_known ahead left) line
-    → IsAtEnd (prepend_known ahead left) → EndsUpTo lang known left ahead old mid v (Err (Line n Cut))
+    → IsAtEnd (prepend_known ahead left) → EndsUpTo lang known left ahead old (to mid v) (Err (Line n Cut))
 ended_cut lang HasRun known b left old mid v ahead line n i free some q z =
     let c = prepend_known ahead left in
-    let e = comes_cut lang i.done line i.limits i.items n i.comes free some in
+    let e = comes_cut lang i.done line i.ran.limits i.ran.items n i.comes free some in
     let whole = whole_text known c (i.done ++ line) (consumes_then known b c i.done line i.taken q) z in (
-      inl (fault_told lang known (i.done ++ line) old mid v i.out i.limits i.items n n Cut whole refl e i.prints i.held),
+      inl (fault_told lang known (i.done ++ line) old mid v i.ran.out i.ran.limits i.ran.items n n Cut whole refl e i.prints i.held),
       takes_next lang HasRun known b c old mid v line n n i refl q (of_line line free),
     )
 
 -- a fault that no line alone shows
-fault_found : (lang : Language) (known : Known) (done line behind : List ℕ) (old new : Known) (w out : List ℕ) (limits : Limits)
+fault_found : (lang : Language) (known : KnownText) (done line behind : List ℕ) (old new : KnownText) (w out : List ℕ) (limits : Limits)
     (items : List lang.Item) (n m : ℕ) (kind : LineKind) (item : lang.Item) → IsTextOf known ((done ++ (line ++ 10 ∷ [])) ++ behind)
     → Comes lang done limits items n → HasNoNewline line → item_at lang n (take 65 line) ≡ Ok item → m ≡ length items + 2
-    → ((more : List lang.Item) → lang.Finds limits (items ++ item ∷ more) (length items + 2) kind out) → lang.Prints limits items out → Holds old new w out
-    → FindsFault lang known m kind (Holds old new w)
+    → ((more : List lang.Item) → lang.Finds limits (items ++ item ∷ more) (length items + 2) kind out) → lang.Prints limits items out → IsBuffered old (to new w) out
+    → FindsFault lang known m kind (IsBuffered old (to new w))
 fault_found lang known done line behind old new w out limits items n m kind item whole comes free e same finds prints held =
     let text = (done ++ (line ++ 10 ∷ [])) ++ behind in
     let more = asked_from lang (n + 1) behind in
@@ -239,10 +241,10 @@ fault_found lang known done line behind old new w out limits items n m kind item
     }
 
 -- a line couldn't be run
-pub ended_line : (lang : Language) (Before After : Stage lang) (known b left old mid new : Known) (v w ahead line shown kept : List ℕ) (n : ℕ)
+pub ended_line : (lang : Language) (Before After : Stage lang) (known b left old mid new : KnownText) (v w ahead line shown kept : List ℕ) (n : ℕ)
     (fault : RunFault) (i : Going lang Before known b old mid v n) → HasNoNewline line → Consumes b (prepend_known ahead left) (line ++ 10 ∷ [])
     → shown ≡ kept → kept ≡ take 65 line
-    → RunsLine lang After i.limits i.items i.out n (item_at lang n shown) mid v new w (Err fault) → EndsUpTo lang known left ahead old new w (Err fault)
+    → RunsLine lang After i.ran (line_at lang n shown) (to mid v) (to new w) (Err fault) → EndsUpTo lang known left ahead old (to new w) (Err fault)
 ended_line lang Before After known b left old mid new v w ahead line shown kept n Read i free q same e r = absurd r
 ended_line lang Before After known b left old mid new v w ahead line shown kept n Memory i free q same e r =
     stops_inside lang Before known b (prepend_known ahead left) old mid new v w (line ++ 10 ∷ []) n IsOfLine i q (of_whole_line line free) r
@@ -253,22 +255,22 @@ ended_line lang Before After known b left old mid new v w ahead line shown kept 
     let x = text_of known c (i.done ++ (line ++ 10 ∷ [])) (consumes_then known b c i.done (line ++ 10 ∷ []) i.taken q) in
     let text = (i.done ++ (line ++ 10 ∷ [])) ++ x.0 in
     let seen : item_at lang n (take 65 line) ≡ item_at lang n shown = ap (item_at lang n) (sym e) ∙ ap (item_at lang n) (sym same) in
-    let held = holds_same old mid new v w i.out i.held r.2 in
-    let fault : RunsAll lang known (Some (m, kind)) (Holds old new w) ⊎ FindsFault lang known m kind (Holds old new w) =
+    let held = holds_same old mid new v w i.ran.out i.held r.2 in
+    let fault : RunsAll lang known (Some (m, kind)) (IsBuffered old (to new w)) ⊎ FindsFault lang known m kind (IsBuffered old (to new w)) =
     elim r.1 [
       | inl own ↦
-          (let o = comes_fault lang i.done line x.0 i.limits i.items n kind i.comes free (seen ∙ own) in
-          inl (fault_told lang known text old new w i.out i.limits i.items n m kind x.1 r.0 o i.prints held))
+          (let o = comes_fault lang i.done line x.0 i.ran.limits i.ran.items n kind i.comes free (seen ∙ own) in
+          inl (fault_told lang known text old new w i.ran.out i.ran.limits i.ran.items n m kind x.1 r.0 o i.prints held))
       | inr found ↦
-          inr (fault_found lang known i.done line x.0 old new w i.out i.limits i.items n m kind found.0 x.1 i.comes free (seen ∙ found.1)
+          inr (fault_found lang known i.done line x.0 old new w i.ran.out i.ran.limits i.ran.items n m kind found.0 x.1 i.comes free (seen ∙ found.1)
           (r.0 ∙ i.counted) found.2 i.prints held)
     ] in
     (fault, takes_next lang Before known b c old mid v (line ++ 10 ∷ []) n m i r.0 q (of_whole_line line free))
 
 -- a line was run
-pub goes_on : (lang : Language) (Before After : Stage lang) (known b c old mid new : Known) (v w line shown kept : List ℕ) (n : ℕ)
+pub goes_on : (lang : Language) (Before After : Stage lang) (known b c old mid new : KnownText) (v w line shown kept : List ℕ) (n : ℕ)
     (i : Going lang Before known b old mid v n) → Prints lang After → HasNoNewline line → Consumes b c (line ++ 10 ∷ []) → shown ≡ kept
-    → kept ≡ take 65 line → RunsLine lang After i.limits i.items i.out n (item_at lang n shown) mid v new w (Ok tt)
+    → kept ≡ take 65 line → RunsLine lang After i.ran (line_at lang n shown) (to mid v) (to new w) (Ok tt)
     → (n + 1 ≤ 100001) × Going lang After known c old new w (n + 1)
 goes_on lang Before After known b c old mid new v w line shown kept n i told free q same e r =
     let item = r.1.0 in
@@ -276,36 +278,34 @@ goes_on lang Before After known b c old mid new v w line shown kept n i told fre
       omega (arith, few),
       record {
         done = i.done ++ (line ++ 10 ∷ []);
-        limits = i.limits;
-        items = i.items ++ item ∷ [];
-        out = i.out ++ r.0;
+        ran = record { limits = i.ran.limits; items = i.ran.items ++ item ∷ []; out = i.ran.out ++ r.0 };
         taken = consumes_then known b c i.done (line ++ 10 ∷ []) i.taken q;
-        held = holds_then old mid new v w i.out r.0 i.held r.2;
-        comes = comes_on lang i.done line i.limits i.items n item i.comes free (ap (item_at lang n) (sym e) ∙ ap (item_at lang n) (sym same) ∙ r.1.1);
+        held = holds_then old mid new v w i.ran.out r.0 i.held r.2;
+        comes = comes_on lang i.done line i.ran.limits i.ran.items n item i.comes free (ap (item_at lang n) (sym e) ∙ ap (item_at lang n) (sym same) ∙ r.1.1);
         has_run = r.1.2;
-        prints = told i.limits (i.items ++ item ∷ []) (i.out ++ r.0) r.1.2;
-        counted = omega (arith, i.counted, length-append i.items (item ∷ []));
+        prints = told i.ran.limits (i.ran.items ++ item ∷ []) (i.ran.out ++ r.0) r.1.2;
+        counted = omega (arith, i.counted, length-append i.ran.items (item ∷ []));
         whole = whole_on i.done line i.whole free;
         lines = count_on i.done line n i.whole free i.lines;
       },
     )
 
 -- a line's item was run, and what it prints was put behind what waits
-pub line_put : (lang : Language) (HasRun : Stage lang) (limits : Limits) (items : List lang.Item) (out : List ℕ) (number : ℕ) (line text bytes rest : List ℕ)
-    (old new : Known) (result : RunEnd) → length line ≤ 64 → number ≤ 100000 → TakesItem lang HasRun limits items out (lang.read line) text (Ok tt)
-    → Puts bytes old text rest new result → RunsLine lang HasRun limits items out number (item_at lang number line) old bytes new rest result
-line_put lang HasRun limits items out number line text bytes rest old new (Ok done) short few took p =
+pub line_put : (lang : Language) (HasRun : Stage lang) (before : RunSoFar lang) (number : ℕ) (line text : List ℕ) (old new : Outgoing) (result : RunEnd)
+    → length line ≤ 64 → number ≤ 100000 → TakesItem lang HasRun before (lang.read line) text (Ok tt)
+    → Puts old.waiting old.written text new.waiting new.written result → RunsLine lang HasRun before (line_at lang number line) old new result
+line_put lang HasRun before number line text old new (Ok done) short few took p =
     (text, (took.0, plain_item lang number line short few ∙ took.1, took.2), (p.0, p.2, sym p.1))
-line_put lang HasRun limits items out number line text bytes rest old new (Err Memory) short few took p = (p.0, p.2, sym p.1)
-line_put lang HasRun limits items out number line text bytes rest old new (Err Write) short few took p = p
-line_put lang HasRun limits items out number line text bytes rest old new (Err Read) short few took p = absurd p
-line_put lang HasRun limits items out number line text bytes rest old new (Err (Line m kind)) short few took p = absurd p
+line_put lang HasRun before number line text old new (Err Memory) short few took p = (p.0, p.2, sym p.1)
+line_put lang HasRun before number line text old new (Err Write) short few took p = p
+line_put lang HasRun before number line text old new (Err Read) short few took p = absurd p
+line_put lang HasRun before number line text old new (Err (Line m kind)) short few took p = absurd p
 
 -- a line can't be run, and nothing was put
-pub line_faulty : (lang : Language) (limits : Limits) (items : List lang.Item) (out : List ℕ) (number : ℕ) (line : List ℕ) (kind : LineKind)
-    → length line ≤ 64 → number ≤ 100000 → HasFault lang limits items out (lang.read line) kind → HasFault lang limits items out (item_at lang number line) kind
-line_faulty lang limits items out number line kind short few h =
-    subst (λ (read : Result lang.Item LineKind). HasFault lang limits items out read kind) (sym (plain_item lang number line short few)) h
+pub line_faulty : (lang : Language) (before : RunSoFar lang) (number : ℕ) (line : List ℕ) (kind : LineKind)
+    → length line ≤ 64 → number ≤ 100000 → HasFault lang before (lang.read line) kind → HasFault lang before (item_at lang number line) kind
+line_faulty lang before number line kind short few h =
+    subst (λ (read : Result lang.Item LineKind). HasFault lang before read kind) (sym (plain_item lang number line short few)) h
 
 -- a script without a header prints nothing
 nothing_to_print : (lang : Language) (text : List ℕ) (kind : LineKind) → script_of lang text ≡ without_header kind → PrintsAll lang text []
@@ -314,8 +314,8 @@ nothing_to_print lang text kind e =
     let none : Printed (without_header kind) = refl in subst Printed (sym e) none
 
 -- the run stops inside the first line
-stops_first : (lang : Language) (known left old new : Known) (w part : List ℕ) (IsPart : Claim) → Consumes known left part → IsPart part
-    → Holds old new w [] → StopsInLine lang known left IsPart (Holds old new w)
+stops_first : (lang : Language) (known left old new : KnownText) (w part : List ℕ) (IsPart : Claim) → Consumes known left part → IsPart part
+    → IsBuffered old (to new w) [] → StopsInLine lang known left IsPart (IsBuffered old (to new w))
 stops_first lang known left old new w part IsPart q p held = record {
   lines = [];
   part = part;
@@ -328,16 +328,16 @@ stops_first lang known left old new w part IsPart q p held = record {
 }
 
 -- memory was refused before the first line
-pub ended_at_once : (lang : Language) (left old : Known) (ahead w : List ℕ) → w ≡ []
-    → EndsUpTo lang (prepend_known ahead left) left ahead old old w (Err Memory)
+pub ended_at_once : (lang : Language) (left old : KnownText) (ahead w : List ℕ) → w ≡ []
+    → EndsUpTo lang (prepend_known ahead left) left ahead old (to old w) (Err Memory)
 ended_at_once lang left old ahead w none =
     let known = prepend_known ahead left in
     stops_first lang known known old old w [] IsOfLine (consumes_start known) (of_line [] tt) (holds_nothing old w none)
 
 -- there is no machine
-pub ended_unopened : {M : Type 0} (lang : Language) (HasRun : M → Stage lang) (text : M → List ℕ) (ahead : List ℕ) (known left old : Known)
+pub ended_unopened : {M : Type 0} (lang : Language) (HasRun : M → Stage lang) (text : M → List ℕ) (ahead : List ℕ) (known left old : KnownText)
     (w : List ℕ) (fault : RunFault) → w ≡ [] → Opens lang HasRun text known (prepend_known ahead left) ahead (Err fault)
-    → EndsUpTo lang known left ahead old old w (Err fault)
+    → EndsUpTo lang known left ahead old (to old w) (Err fault)
 ended_unopened lang HasRun text ahead known left old w Memory e k =
     stops_first lang known (prepend_known ahead left) old old w k.0 IsOfLine k.2 k.1 (holds_nothing old w e)
 ended_unopened lang HasRun text ahead known left old w Read e k =
@@ -356,9 +356,9 @@ ended_unopened lang HasRun text ahead known left old w (Line m kind) e k = (
 )
 
 -- what a new machine prints couldn't be put
-pub ended_first : (lang : Language) (HasRun : Stage lang) (known left old new : Known) (ahead text shown w rest : List ℕ) (fault : RunFault) → w ≡ []
+pub ended_first : (lang : Language) (HasRun : Stage lang) (known left old new : KnownText) (ahead text shown w rest : List ℕ) (fault : RunFault) → w ≡ []
     → IsOpened lang HasRun known (prepend_known ahead left) text → Puts w old shown rest new (Err fault)
-    → EndsUpTo lang known left ahead old new rest (Err fault)
+    → EndsUpTo lang known left ahead old (to new rest) (Err fault)
 ended_first lang HasRun known left old new ahead text shown w rest Memory e k p =
     stops_first lang known (prepend_known ahead left) old new rest (k.line ++ 10 ∷ []) IsOfLine k.taken (of_whole_line k.line k.free)
     (p.0, p.2, sym p.1 ∙ e)
@@ -375,7 +375,7 @@ ended_first lang HasRun known left old new ahead text shown w rest Read e k p = 
 ended_first lang HasRun known left old new ahead text shown w rest (Line m kind) e k p = absurd p
 
 -- the first line couldn't be read
-pub unopened_read : {M : Type 0} (lang : Language) (HasRun : M → Stage lang) (text : M → List ℕ) (old new : Known) (bytes kept : List ℕ) (fault : RunFault)
+pub unopened_read : {M : Type 0} (lang : Language) (HasRun : M → Stage lang) (text : M → List ℕ) (old new : KnownText) (bytes kept : List ℕ) (fault : RunFault)
     → TakesLine 65 old new bytes kept (Err fault) → Opens lang HasRun text old new bytes (Err fault)
 unopened_read lang HasRun text old new bytes kept Memory h = (h.0, of_line h.0 h.1, h.2)
 unopened_read lang HasRun text old new bytes kept Read h = h
@@ -383,18 +383,16 @@ unopened_read lang HasRun text old new bytes kept Write h = h
 unopened_read lang HasRun text old new bytes kept (Line m kind) h = absurd h
 
 -- no machine could be opened, for want of memory
-pub unopened_machine : {M : Type 0} (lang : Language) (HasRun : M → Stage lang) (text : M → List ℕ) (old new : Known) (bytes line : List ℕ)
+pub unopened_machine : {M : Type 0} (lang : Language) (HasRun : M → Stage lang) (text : M → List ℕ) (old new : KnownText) (bytes line : List ℕ)
     → HasNoNewline line → Consumes old new (line ++ 10 ∷ []) → Opens lang HasRun text old new bytes (Err Memory)
 unopened_machine lang HasRun text old new bytes line free q = (line ++ 10 ∷ [], of_whole_line line free, q)
 
 -- a machine was opened, and what it prints was put
-pub goes_first : (lang : Language) (HasRun : Stage lang) (a b old new : Known) (text w rest : List ℕ) → Prints lang HasRun → w ≡ []
+pub goes_first : (lang : Language) (HasRun : Stage lang) (a b old new : KnownText) (text w rest : List ℕ) → Prints lang HasRun → w ≡ []
     → IsOpened lang HasRun a b text → Puts w old text rest new (Ok tt) → Going lang HasRun a b old new rest 2
 goes_first lang HasRun a b old new text w rest told e k p = record {
   done = k.line ++ 10 ∷ [];
-  limits = k.limits;
-  items = [];
-  out = text;
+  ran = record { limits = k.limits; items = []; out = text };
   taken = k.taken;
   held = (p.0, p.2, sym p.1 ∙ ap (λ (t : List ℕ). t ++ text) e);
   comes = comes_first lang k.line k.limits k.free k.header;
@@ -406,18 +404,18 @@ goes_first lang HasRun a b old new text w rest told e k p = record {
 }
 
 -- the first line has a fault
-pub unopened_line : (lang : Language) (a b : Known) (line : List ℕ) (kind : LineKind) → HasNoNewline line → Consumes a b (line ++ 10 ∷ [])
+pub unopened_line : (lang : Language) (a b : KnownText) (line : List ℕ) (kind : LineKind) → HasNoNewline line → Consumes a b (line ++ 10 ∷ [])
     → header_at lang line ≡ Err kind → (text : List ℕ) × IsTextOf a text × (script_of lang text ≡ without_header kind) × TakesUpTo 1 a b
 unopened_line lang a b line kind free q h =
     let x = text_of a b (line ++ 10 ∷ []) q in
     ((line ++ 10 ∷ []) ++ x.0, x.1, comes_unopened lang line x.0 kind free h, takes_first a b (line ++ 10 ∷ []) q (of_whole_line line free))
 
 -- nothing was taken of a text without a byte
-pub takes_none : (a b : Known) → Consumes a b [] → TakesUpTo 1 a b
+pub takes_none : (a b : KnownText) → Consumes a b [] → TakesUpTo 1 a b
 takes_none a b q = takes_first a b [] q (of_line [] tt)
 
 -- a text that ends inside its first line was taken whole
-pub takes_cut : (a b : Known) (line : List ℕ) → HasNoNewline line → Consumes a b line → TakesUpTo 1 a b
+pub takes_cut : (a b : KnownText) (line : List ℕ) → HasNoNewline line → Consumes a b line → TakesUpTo 1 a b
 takes_cut a b line free q = takes_first a b line q (of_line line free)
 
 -- what the first line gives, by what is kept of it
@@ -433,7 +431,7 @@ handed_on (Ok done) fault h = absurd h
 handed_on {T} (Err e) fault h = ap (λ (f : RunFault). let x : Result T RunFault = Err f in x) h
 
 -- memory was refused before anything was read
-pub ran_nothing : (lang : Language) (left old : Known) (ahead : List ℕ) → EndsThrough lang (prepend_known ahead left) left ahead old old (Err Memory)
+pub ran_nothing : (lang : Language) (left old : KnownText) (ahead : List ℕ) → EndsThrough lang (prepend_known ahead left) left ahead old old (Err Memory)
 ran_nothing lang left old ahead = record {
   lines = [];
   part = [];
@@ -454,7 +452,7 @@ printed_first : (lang : Language) (text rest out : List ℕ) → PrintsAll lang 
 printed_first lang text rest out h = from_beginning lang text (text ++ rest) out (script_begins lang text rest) h
 
 -- a whole text was run, and then the writer failed
-all_to_writer : (lang : Language) (known old mid new : Known) (w : List ℕ) (fault : Option (ℕ × LineKind)) → RunsAll lang known fault (Holds old mid w)
+all_to_writer : (lang : Language) (known old mid new : KnownText) (w : List ℕ) (fault : Option (ℕ × LineKind)) → RunsAll lang known fault (IsBuffered old (to mid w))
     → WritesPart mid new w → StopsInOutput lang known (WritesPart old new)
 all_to_writer lang known old mid new w fault h k = record {
   text = h.text;
@@ -465,8 +463,8 @@ all_to_writer lang known old mid new w fault h k = record {
 }
 
 -- the same of a run that stopped inside a line
-stopped_to_writer : (lang : Language) (known left old mid new : Known) (w : List ℕ) (IsPart : Claim)
-    → StopsInLine lang known left IsPart (Holds old mid w) → WritesPart mid new w → StopsInOutput lang known (WritesPart old new)
+stopped_to_writer : (lang : Language) (known left old mid new : KnownText) (w : List ℕ) (IsPart : Claim)
+    → StopsInLine lang known left IsPart (IsBuffered old (to mid w)) → WritesPart mid new w → StopsInOutput lang known (WritesPart old new)
 stopped_to_writer lang known left old mid new w IsPart h k =
     let x = text_of known left (h.lines ++ h.part) h.taken in
     let e = append_assoc h.lines h.part x.0 in
@@ -479,7 +477,7 @@ stopped_to_writer lang known left old mid new w IsPart h k =
     }
 
 -- the same of a run that found a fault
-found_to_writer : (lang : Language) (known old mid new : Known) (w : List ℕ) (n : ℕ) (kind : LineKind) → FindsFault lang known n kind (Holds old mid w)
+found_to_writer : (lang : Language) (known old mid new : KnownText) (w : List ℕ) (n : ℕ) (kind : LineKind) → FindsFault lang known n kind (IsBuffered old (to mid w))
     → WritesPart mid new w → StopsInOutput lang known (WritesPart old new)
 found_to_writer lang known old mid new w n kind h k = record {
   text = h.text;
@@ -490,7 +488,7 @@ found_to_writer lang known old mid new w n kind h k = record {
 }
 
 -- what waited was written after a run of the whole text
-all_drained : (lang : Language) (known old mid new : Known) (w : List ℕ) (fault : Option (ℕ × LineKind)) → RunsAll lang known fault (Holds old mid w)
+all_drained : (lang : Language) (known old mid new : KnownText) (w : List ℕ) (fault : Option (ℕ × LineKind)) → RunsAll lang known fault (IsBuffered old (to mid w))
     → Appends mid new w → RunsAll lang known fault (Appends old new)
 all_drained lang known old mid new w fault h k = record {
   text = h.text;
@@ -502,7 +500,7 @@ all_drained lang known old mid new w fault h k = record {
 }
 
 -- what waited was written after a run of the whole text by a machine
-pub ran_all_drained : (lang : Language) (HasRun : Stage lang) (known old mid new : Known) (w : List ℕ) → HasRunAll lang HasRun known (Holds old mid w)
+pub ran_all_drained : (lang : Language) (HasRun : Stage lang) (known old mid new : KnownText) (w : List ℕ) → HasRunAll lang HasRun known (IsBuffered old (to mid w))
     → Appends mid new w → HasRunAll lang HasRun known (Appends old new)
 ran_all_drained lang HasRun known old mid new w h k = record {
   text = h.text;
@@ -516,7 +514,7 @@ ran_all_drained lang HasRun known old mid new w h k = record {
 }
 
 -- what waited was written after a run that found a fault
-found_drained : (lang : Language) (known old mid new : Known) (w : List ℕ) (n : ℕ) (kind : LineKind) → FindsFault lang known n kind (Holds old mid w)
+found_drained : (lang : Language) (known old mid new : KnownText) (w : List ℕ) (n : ℕ) (kind : LineKind) → FindsFault lang known n kind (IsBuffered old (to mid w))
     → Appends mid new w → FindsFault lang known n kind (Appends old new)
 found_drained lang known old mid new w n kind h k = record {
   text = h.text;
@@ -530,15 +528,15 @@ found_drained lang known old mid new w n kind h k = record {
 }
 
 -- a script that was run to its end, and then what waits was written
-pub ran_to_end : (lang : Language) (known left old mid new : Known) (ahead w rest : List ℕ) (result : RunEnd)
-    → EndsUpTo lang known left ahead old mid w (Ok tt) → Drains w mid rest new result → EndsThrough lang known left ahead old new result
+pub ran_to_end : (lang : Language) (known left old mid new : KnownText) (ahead w rest : List ℕ) (result : RunEnd)
+    → EndsUpTo lang known left ahead old (to mid w) (Ok tt) → Drains w mid rest new result → EndsThrough lang known left ahead old new result
 ran_to_end lang known left old mid new ahead w rest (Ok done) h k = (all_drained lang known old mid new w None h.0 k.1, h.1)
 ran_to_end lang known left old mid new ahead w rest (Err fault) h k =
     let part : EndsThrough lang known left ahead old new (Err Write) = all_to_writer lang known old mid new w None h.0 k.1 in
     rw k.0 part
 
 -- what waited was written after a run that stopped inside a line
-stopped_drained : (lang : Language) (known left old mid new : Known) (w : List ℕ) (IsPart : Claim) → StopsInLine lang known left IsPart (Holds old mid w)
+stopped_drained : (lang : Language) (known left old mid new : KnownText) (w : List ℕ) (IsPart : Claim) → StopsInLine lang known left IsPart (IsBuffered old (to mid w))
     → Appends mid new w → StopsInLine lang known left IsPart (Appends old new)
 stopped_drained lang known left old mid new w IsPart h k = record {
   lines = h.lines;
@@ -552,22 +550,22 @@ stopped_drained lang known left old mid new w IsPart h k = record {
 }
 
 -- what waited was written after a run to the fault of a line
-line_drained : (lang : Language) (known old mid new : Known) (w : List ℕ) (n : ℕ) (kind : LineKind)
-    → RunsAll lang known (Some (n, kind)) (Holds old mid w) ⊎ FindsFault lang known n kind (Holds old mid w) → Appends mid new w
+line_drained : (lang : Language) (known old mid new : KnownText) (w : List ℕ) (n : ℕ) (kind : LineKind)
+    → RunsAll lang known (Some (n, kind)) (IsBuffered old (to mid w)) ⊎ FindsFault lang known n kind (IsBuffered old (to mid w)) → Appends mid new w
     → RunsAll lang known (Some (n, kind)) (Appends old new) ⊎ FindsFault lang known n kind (Appends old new)
 line_drained lang known old mid new w n kind (inl h) k = inl (all_drained lang known old mid new w (Some (n, kind)) h k)
 line_drained lang known old mid new w n kind (inr h) k = inr (found_drained lang known old mid new w n kind h k)
 
 -- the writer failed then
-line_to_writer : (lang : Language) (known old mid new : Known) (w : List ℕ) (n : ℕ) (kind : LineKind)
-    → RunsAll lang known (Some (n, kind)) (Holds old mid w) ⊎ FindsFault lang known n kind (Holds old mid w) → WritesPart mid new w
+line_to_writer : (lang : Language) (known old mid new : KnownText) (w : List ℕ) (n : ℕ) (kind : LineKind)
+    → RunsAll lang known (Some (n, kind)) (IsBuffered old (to mid w)) ⊎ FindsFault lang known n kind (IsBuffered old (to mid w)) → WritesPart mid new w
     → StopsInOutput lang known (WritesPart old new)
 line_to_writer lang known old mid new w n kind (inl h) k = all_to_writer lang known old mid new w (Some (n, kind)) h k
 line_to_writer lang known old mid new w n kind (inr h) k = found_to_writer lang known old mid new w n kind h k
 
 -- a script that was run to another fault than the writer's, and then what waits was written
-pub ran_to_fault : (lang : Language) (known left old mid new : Known) (ahead w : List ℕ) (fault : RunFault) → (fault ≡ Write → ⊥)
-    → EndsUpTo lang known left ahead old mid w (Err fault) → Appends mid new w → EndsThrough lang known left ahead old new (Err fault)
+pub ran_to_fault : (lang : Language) (known left old mid new : KnownText) (ahead w : List ℕ) (fault : RunFault) → (fault ≡ Write → ⊥)
+    → EndsUpTo lang known left ahead old (to mid w) (Err fault) → Appends mid new w → EndsThrough lang known left ahead old new (Err fault)
 ran_to_fault lang known left old mid new ahead w Write other h k = absurd (other refl)
 ran_to_fault lang known left old mid new ahead w (Line n kind) other h k = (line_drained lang known old mid new w n kind h.0 k, h.1)
 ran_to_fault lang known left old mid new ahead w Memory other h k =
@@ -575,8 +573,8 @@ ran_to_fault lang known left old mid new ahead w Memory other h k =
 ran_to_fault lang known left old mid new ahead w Read other h k = (stopped_drained lang known left old mid new w HasNoNewline h.0 k, h.1)
 
 -- the same, and then the writer failed
-pub ran_to_writer : (lang : Language) (known left old mid new : Known) (ahead w : List ℕ) (fault : RunFault) → (fault ≡ Write → ⊥)
-    → EndsUpTo lang known left ahead old mid w (Err fault) → WritesPart mid new w → EndsThrough lang known left ahead old new (Err Write)
+pub ran_to_writer : (lang : Language) (known left old mid new : KnownText) (ahead w : List ℕ) (fault : RunFault) → (fault ≡ Write → ⊥)
+    → EndsUpTo lang known left ahead old (to mid w) (Err fault) → WritesPart mid new w → EndsThrough lang known left ahead old new (Err Write)
 ran_to_writer lang known left old mid new ahead w Write other h k = absurd (other refl)
 ran_to_writer lang known left old mid new ahead w (Line n kind) other h k = line_to_writer lang known old mid new w n kind h.0 k
 ran_to_writer lang known left old mid new ahead w Memory other h k =
@@ -584,20 +582,20 @@ ran_to_writer lang known left old mid new ahead w Memory other h k =
 ran_to_writer lang known left old mid new ahead w Read other h k = stopped_to_writer lang known left old mid new w HasNoNewline h.0 k
 
 -- a run through a buffer that was empty
-pub ran_alone : (lang : Language) (known left old new : Known) (pending ahead : List ℕ) (result : RunEnd) → pending ≡ [] → length ahead ≤ 8192
+pub ran_alone : (lang : Language) (known left old new : KnownText) (pending ahead : List ℕ) (result : RunEnd) → pending ≡ [] → length ahead ≤ 8192
     → EndsThrough lang (prepend_known pending known) left ahead old new result → EndsAlone lang known left old new result
 ran_alone lang known left old new pending ahead result e few h =
     let same : prepend_known pending known ≡ known = rw e (prepend_known-nil known) in
-    (ahead, few, subst (λ (k : Known). EndsThrough lang k left ahead old new result) same h)
+    (ahead, few, subst (λ (k : KnownText). EndsThrough lang k left ahead old new result) same h)
 
 -- the same of a run of the whole text
-pub ran_all_alone : {M : Type 0} (lang : Language) (HasRun : M → Stage lang) (known : Known) (pending : List ℕ) (Told : Claim) (result : Result M RunFault)
+pub ran_all_alone : {M : Type 0} (lang : Language) (HasRun : M → Stage lang) (known : KnownText) (pending : List ℕ) (Told : Claim) (result : Result M RunFault)
     → pending ≡ [] → IfOk result (λ machine. HasRunAll lang (HasRun machine) (prepend_known pending known) Told)
     → IfOk result (λ machine. HasRunAll lang (HasRun machine) known Told)
 ran_all_alone lang HasRun known pending Told result e h =
     let same : prepend_known pending known ≡ known = rw e (prepend_known-nil known) in
-    subst (λ (k : Known). IfOk result (λ machine. HasRunAll lang (HasRun machine) k Told)) same h
+    subst (λ (k : KnownText). IfOk result (λ machine. HasRunAll lang (HasRun machine) k Told)) same h
 
 -- the buffer itself was refused
-pub ran_none : (lang : Language) (left old : Known) → EndsAlone lang left left old old (Err Memory)
+pub ran_none : (lang : Language) (left old : KnownText) → EndsAlone lang left left old old (Err Memory)
 ran_none lang left old = ran_alone lang left left old old [] [] (Err Memory) refl (omega arith) (ran_nothing lang left old [])

@@ -4,10 +4,10 @@ use Rattle.std.proofs.lemmas.{Bool.{ne_eqb, lt-ltb, le-ltb, cases_lt}, List.{app
 use Rattle.ulfm_model.specs.declared.limits.Limits.{Limits}
 use Rattle.ulfm_script.specs.declared.line_kind.LineKind.{LineKind}
 use Rattle.ulfm_script.specs.declared.line_kind.LineKind.TheVariants.{Cut, Header}
-use Rattle.ulfm_script.specs.{Buffers.{HasNoNewline}, Scripts.{Asked, Language, Script, asked_by, asked_last, asked_then, header_at, item_at, lines_from, no_lines, rest_from, script_by, script_of, stopped, with_header, without_header}, Written.{Begins}}
+use Rattle.ulfm_script.specs.{Buffers.{HasNoNewline}, Scripts.{Parsed, Language, Script, asked_by, asked_last, asked_then, header_at, item_at, lines_from, no_lines, rest_from, script_by, script_of, stopped, with_header, without_header}, Written.{IsBeginning}}
 
 -- what a text asks for whose first line has this number
-abbrev pub asked_from : (lang : Language) → ℕ → List ℕ → Asked lang.Item
+abbrev pub asked_from : (lang : Language) → ℕ → List ℕ → Parsed lang.Item
 asked_from lang number text = asked_by lang number (lines_from [] text) (rest_from [] text)
 
 -- a line up to its newline is the first of the lines behind it
@@ -67,7 +67,7 @@ before_last lang number line item e = elim (cases_lt 100000 number) [
 ]
 
 -- a script with these items so far
-abbrev pub going : {X : Type 0} → Limits → List X → Asked X → Script X
+abbrev pub going : {X : Type 0} → Limits → List X → Parsed X → Script X
 going limits items asked = record { limits = Some limits; items = items ++ asked.items; fault = asked.fault }
 
 -- the script of every text that begins with done has these limits and items, and goes on with the line of this number
@@ -96,10 +96,10 @@ comes_on lang done line limits items number item so_far free e rest =
     line_comes lang done line rest limits items number (Ok item) so_far free e ∙ ap put (sym (append_assoc items (item ∷ []) asked.items))
 
 -- a script that ends here
-abbrev pub ended_script : {X : Type 0} → Limits → List X → Asked X → Script X
+abbrev pub ended_script : {X : Type 0} → Limits → List X → Parsed X → Script X
 ended_script limits items asked = record { limits = Some limits; items = items; fault = asked.fault }
 
-last_items : {X : Type 0} (limits : Limits) (items : List X) (asked : Asked X) → asked.items ≡ [] → going limits items asked ≡ ended_script limits items asked
+last_items : {X : Type 0} (limits : Limits) (items : List X) (asked : Parsed X) → asked.items ≡ [] → going limits items asked ≡ ended_script limits items asked
 last_items {X} limits items asked none =
     let put : List X → Script X = λ all. record { limits = Some limits; items = all; fault = asked.fault } in
     ap put (ap (λ (cs : List X). items ++ cs) none ∙ append-nil items)
@@ -209,17 +209,17 @@ asked_last_items : (X : Type 0) (number : ℕ) (last : List ℕ) → (asked_last
 asked_last_items X number [] = refl
 asked_last_items X number (x ∷ last) = refl
 
-none_begins : {X : Type 0} (front items : List X) → front ≡ [] → Begins front items
+none_begins : {X : Type 0} (front items : List X) → front ≡ [] → IsBeginning front items
 none_begins {X} front items e = (items, ap (λ (t : List X). t ++ items) e)
 
-then_begins : {X : Type 0} (number : ℕ) (read : Result X LineKind) (front all : Asked X) → Begins front.items all.items
-    → Begins (asked_then number read front).items (asked_then number read all).items
+then_begins : {X : Type 0} (number : ℕ) (read : Result X LineKind) (front all : Parsed X) → IsBeginning front.items all.items
+    → IsBeginning (asked_then number read front).items (asked_then number read all).items
 then_begins number (Err kind) front all h = ([], refl)
 then_begins {X} number (Ok item) front all h = (h.0, ap (λ (t : List X). item ∷ t) h.1)
 
 -- what lines ask for are the first items of these and more lines
 asked_begins : (lang : Language) (number : ℕ) (lines more : List (List ℕ)) (last rest : List ℕ)
-    → Begins (asked_by lang number lines last).items (asked_by lang number (lines ++ more) rest).items
+    → IsBeginning (asked_by lang number lines last).items (asked_by lang number (lines ++ more) rest).items
 asked_begins lang number [] more last rest =
     none_begins (asked_last {X = lang.Item} number last).items (asked_by lang number more rest).items (asked_last_items lang.Item number last)
 asked_begins lang number (line ∷ lines) more last rest =
@@ -228,7 +228,7 @@ asked_begins lang number (line ∷ lines) more last rest =
 
 -- the script is that of a text with more behind it: without a header, or with the same one and the same first items
 abbrev pub BeginsWith : {X : Type 0} → Script X → Script X → Type 0
-BeginsWith front script = (front.limits ≡ None) ⊎ ((front.limits ≡ script.limits) × Begins front.items script.items)
+BeginsWith front script = (front.limits ≡ None) ⊎ ((front.limits ≡ script.limits) × IsBeginning front.items script.items)
 
 headers_begin : (lang : Language) (header : Result Limits LineKind) (lines more : List (List ℕ)) (last rest : List ℕ)
     → BeginsWith (with_header header (asked_by lang 2 lines last)) (with_header header (asked_by lang 2 (lines ++ more) rest))

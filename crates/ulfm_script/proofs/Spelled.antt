@@ -6,15 +6,15 @@ use Rattle.ulfm_laws.specs.declared.flag_and.FlagAnd.{FlagAnd}
 use Rattle.ulfm_model.specs.declared.call.Call.TheVariants.{Fail, GetFailed, Ack, Agree, Shrink, Barrier, Poll, Revoke, IsRevoked, Free}
 use Rattle.ulfm_script.specs.declared.line_kind.LineKind.{LineKind}
 use Rattle.ulfm_script.specs.declared.line_kind.LineKind.TheVariants.{Verb}
-use Rattle.ulfm_script.specs.{Calls.{ScriptCall, place_of, fail_of, ack_of, agree_of, plain_of, call_from, call_of}, Digits.{rank_of, comm_of, number_of, flag_of, flag_text}, Spelling.{IsOnComm, Spells}, Steps.{◌>>=◌}, Words.{word_of, one_of, two_of, three_of}}
+use Rattle.ulfm_script.specs.{Calls.{ScriptCall, read_rank_comm, fail_of, ack_of, agree_of, read_plain_call, call_from, call_of}, Digits.{read_rank, read_comm, read_number, read_flag, flag_text}, Spelling.{IsOnComm, Spells}, Steps.{◌>>=◌}, Words.{first_word, one_of, two_of, three_of}}
 use Rattle.ulfm_script.proofs.{Hexadecimal.{flag_again, flag_found}, Numerals.{number_again, number_found, number_to_again, number_to_found}, WordLemmas.{IsWord, decimal_is_word, flag_is_word, joined, joined_word, one_again, one_found, same_done, step_found, three_again, three_found, two_again, two_found}}
 
 -- a rank that was printed is read
-pub rank_again : (rank : ℕ) → rank < 1024 → rank_of (decimal rank) ≡ Ok rank
+pub rank_again : (rank : ℕ) → rank < 1024 → read_rank (decimal rank) ≡ Ok rank
 rank_again rank h = number_to_again 1023 rank (omega arith) (omega (arith, h))
 
 -- and so is a communicator
-pub comm_again : (comm : ℕ) → comm < 256 → comm_of (decimal comm) ≡ Ok comm
+pub comm_again : (comm : ℕ) → comm < 256 → read_comm (decimal comm) ≡ Ok comm
 comm_again comm h = number_to_again 255 comm (omega arith) (omega (arith, h))
 
 -- a number can be a word
@@ -29,12 +29,12 @@ fail_again rank h = rw (one_again (decimal rank) (number_is_word rank (omega (ar
 abbrev place_text : ℕ → ℕ → List ℕ
 place_text rank comm = decimal rank ++ 32 ∷ decimal comm
 
-place_again : (rank comm : ℕ) → rank < 1024 → comm < 256 → place_of (Some (place_text rank comm)) ≡ Ok (rank, comm)
-unfolding place_of
+place_again : (rank comm : ℕ) → rank < 1024 → comm < 256 → read_rank_comm (Some (place_text rank comm)) ≡ Ok (rank, comm)
+unfolding read_rank_comm
 place_again rank comm h k =
     rw (two_again (decimal rank) (decimal comm) (number_is_word rank (omega (arith, h))) (number_is_word comm (omega (arith, k))), rank_again rank h, comm_again comm k) refl
 
-plain_again : (call_at : ℕ → ℕ → ScriptCall) (rank comm : ℕ) → rank < 1024 → comm < 256 → plain_of call_at (Some (place_text rank comm)) ≡ Ok (call_at rank comm)
+plain_again : (call_at : ℕ → ℕ → ScriptCall) (rank comm : ℕ) → rank < 1024 → comm < 256 → read_plain_call call_at (Some (place_text rank comm)) ≡ Ok (call_at rank comm)
 plain_again call_at rank comm h k = rw (place_again rank comm h k) refl
 
 ack_again : (rank comm count : ℕ) → rank < 1024 → comm < 256 → count < 10000 → call_of (codes "ack " ++ (decimal rank ++ 32 ∷ (decimal comm ++ 32 ∷ decimal count))) ≡ Ok (Ack rank comm count)
@@ -71,8 +71,8 @@ Reads verb fields_of = (fields : Option (List ℕ)) (call : ScriptCall) → fiel
 fail_found : Reads (codes "fail") fail_of
 unfolding fail_of
 fail_found fields call e =
-    let a = step_found (one_of fields) (λ word. rank_of word >>= λ rank. Ok (Fail rank)) call e in
-    let b = step_found (rank_of a.0) (λ rank. Ok (Fail rank)) call a.2 in
+    let a = step_found (one_of fields) (λ word. read_rank word >>= λ rank. Ok (Fail rank)) call e in
+    let b = step_found (read_rank a.0) (λ rank. Ok (Fail rank)) call a.2 in
     let r = number_to_found 1023 b.0 a.0 b.1 in
     let line : joined (codes "fail") fields ≡ codes "fail " ++ decimal b.0 = ap (joined (codes "fail")) (one_found fields a.0 a.1) ∙ ap (λ (t : List ℕ). codes "fail " ++ t) r.1 in
     subst (Spells (joined (codes "fail") fields)) (same_done (Fail b.0) call b.2) (omega (arith, r.0), line)
@@ -80,8 +80,8 @@ fail_found fields call e =
 -- the rank and the communicator of two words
 abbrev on_comm : {A : Type 0} → (ℕ → ℕ → Result A LineKind) → List ℕ → List ℕ → Result A LineKind
 on_comm then a b = do
-  rank ← rank_of a
-  comm ← comm_of b
+  rank ← read_rank a
+  comm ← read_comm b
   then rank comm
 
 -- both were read, and stand there
@@ -96,8 +96,8 @@ record IsPlace {A : Type 0} (a b : List ℕ) (then : ℕ → ℕ → Result A Li
 
 place_found : {A : Type 0} (then : ℕ → ℕ → Result A LineKind) (a b : List ℕ) (x : A) → on_comm then a b ≡ Ok x → IsPlace a b then x
 place_found then a b x e =
-    let r = step_found (rank_of a) (λ rank. comm_of b >>= λ comm. then rank comm) x e in
-    let c = step_found (comm_of b) (λ comm. then r.0 comm) x r.2 in
+    let r = step_found (read_rank a) (λ rank. read_comm b >>= λ comm. then rank comm) x e in
+    let c = step_found (read_comm b) (λ comm. then r.0 comm) x r.2 in
     let ra = number_to_found 1023 r.0 a r.1 in
     let cb = number_to_found 255 c.0 b c.1 in
     record { rank = r.0; comm = c.0; rank_fits = omega (arith, ra.0); comm_fits = omega (arith, cb.0); a_is = ra.1; b_is = cb.1; rest = c.2 }
@@ -125,37 +125,37 @@ IsPlain verb call_at = (line : List ℕ) (rank comm : ℕ) → IsOnComm line (ve
 abbrev pair : ℕ → ℕ → Result (ℕ × ℕ) LineKind
 pair rank comm = Ok (rank, comm)
 
-plain_found : (verb : List ℕ) (call_at : ℕ → ℕ → ScriptCall) → IsPlain verb call_at → Reads verb (plain_of call_at)
-unfolding place_of
+plain_found : (verb : List ℕ) (call_at : ℕ → ℕ → ScriptCall) → IsPlain verb call_at → Reads verb (read_plain_call call_at)
+unfolding read_rank_comm
 plain_found verb call_at spells fields call e =
-    let x = step_found (place_of fields) (λ place. Ok (call_at place.0 place.1)) call e in
+    let x = step_found (read_rank_comm fields) (λ place. Ok (call_at place.0 place.1)) call e in
     let w = step_found (two_of fields) (λ w. on_comm pair w.0 w.1) x.0 x.1 in
     let p = place_found pair w.0.0 w.0.1 x.0 w.2 in
     let is : call_at p.rank p.comm ≡ call = ap (λ (at : ℕ × ℕ). call_at at.0 at.1) (same_done (p.rank, p.comm) x.0 p.rest) ∙ same_done (call_at x.0.0 x.0.1) call x.2 in
     subst (Spells (joined verb fields)) is (spells (joined verb fields) p.rank p.comm (two_line verb fields w.0.0 w.0.1 p.rank p.comm (two_found fields w.0 w.1) p.rank_fits p.comm_fits p.a_is p.b_is))
 
 abbrev ack_rest : List ℕ → ℕ → ℕ → Result ScriptCall LineKind
-ack_rest word rank comm = number_of word >>= λ count. Ok (Ack rank comm count)
+ack_rest word rank comm = read_number word >>= λ count. Ok (Ack rank comm count)
 
 ack_found : Reads (codes "ack") ack_of
 unfolding ack_of
 ack_found fields call e =
     let w = step_found (three_of fields) (λ w. on_comm (ack_rest w.2) w.0 w.1) call e in
     let p = place_found (ack_rest w.0.2) w.0.0 w.0.1 call w.2 in
-    let n = step_found (number_of w.0.2) (λ count. Ok (Ack p.rank p.comm count)) call p.rest in
+    let n = step_found (read_number w.0.2) (λ count. Ok (Ack p.rank p.comm count)) call p.rest in
     let f = number_found w.0.2 n.0 n.1 in
     subst (Spells (joined (codes "ack") fields)) (same_done (Ack p.rank p.comm n.0) call n.2)
     (f.0, three_line (codes "ack") fields w.0.0 w.0.1 w.0.2 (decimal n.0) p.rank p.comm (three_found fields w.0 w.1) p.rank_fits p.comm_fits p.a_is p.b_is f.1)
 
 abbrev agree_rest : List ℕ → ℕ → ℕ → Result ScriptCall LineKind
-agree_rest word rank comm = flag_of word >>= λ flag. Ok (Agree rank comm flag)
+agree_rest word rank comm = read_flag word >>= λ flag. Ok (Agree rank comm flag)
 
 agree_found : Reads (codes "agree") agree_of
 unfolding agree_of
 agree_found fields call e =
     let w = step_found (three_of fields) (λ w. on_comm (agree_rest w.2) w.0 w.1) call e in
     let p = place_found (agree_rest w.0.2) w.0.0 w.0.1 call w.2 in
-    let n = step_found (flag_of w.0.2) (λ flag. Ok (Agree p.rank p.comm flag)) call p.rest in
+    let n = step_found (read_flag w.0.2) (λ flag. Ok (Agree p.rank p.comm flag)) call p.rest in
     subst (Spells (joined (codes "agree") fields)) (same_done (Agree p.rank p.comm n.0) call n.2)
     (three_line (codes "agree") fields w.0.0 w.0.1 w.0.2 (flag_text n.0) p.rank p.comm (three_found fields w.0 w.1) p.rank_fits p.comm_fits p.a_is p.b_is (flag_found w.0.2 n.0 n.1))
 
@@ -178,20 +178,20 @@ no_verb line call e = absurd cc
 
 read_from : (word : List ℕ) (fields : Option (List ℕ)) (call : ScriptCall) → call_from (word, fields) ≡ Ok call → Spells (joined word fields) call
 read_from word fields call e = verb_found Spells word (codes "fail") fields fail_of _ call fail_found
-    (verb_found Spells word (codes "get") fields (plain_of GetFailed) _ call (plain_found (codes "get") GetFailed (λ line rank comm h. h))
+    (verb_found Spells word (codes "get") fields (read_plain_call GetFailed) _ call (plain_found (codes "get") GetFailed (λ line rank comm h. h))
     (verb_found Spells word (codes "ack") fields ack_of _ call ack_found
     (verb_found Spells word (codes "agree") fields agree_of _ call agree_found
-    (verb_found Spells word (codes "shrink") fields (plain_of Shrink) _ call (plain_found (codes "shrink") Shrink (λ line rank comm h. h))
-    (verb_found Spells word (codes "barrier") fields (plain_of Barrier) _ call (plain_found (codes "barrier") Barrier (λ line rank comm h. h))
-    (verb_found Spells word (codes "poll") fields (plain_of Poll) _ call (plain_found (codes "poll") Poll (λ line rank comm h. h))
-    (verb_found Spells word (codes "revoke") fields (plain_of Revoke) _ call (plain_found (codes "revoke") Revoke (λ line rank comm h. h))
-    (verb_found Spells word (codes "isrevoked") fields (plain_of IsRevoked) _ call (plain_found (codes "isrevoked") IsRevoked (λ line rank comm h. h))
-    (verb_found Spells word (codes "free") fields (plain_of Free) _ call (plain_found (codes "free") Free (λ line rank comm h. h)) (no_verb (joined word fields) call)))))))))) e
+    (verb_found Spells word (codes "shrink") fields (read_plain_call Shrink) _ call (plain_found (codes "shrink") Shrink (λ line rank comm h. h))
+    (verb_found Spells word (codes "barrier") fields (read_plain_call Barrier) _ call (plain_found (codes "barrier") Barrier (λ line rank comm h. h))
+    (verb_found Spells word (codes "poll") fields (read_plain_call Poll) _ call (plain_found (codes "poll") Poll (λ line rank comm h. h))
+    (verb_found Spells word (codes "revoke") fields (read_plain_call Revoke) _ call (plain_found (codes "revoke") Revoke (λ line rank comm h. h))
+    (verb_found Spells word (codes "isrevoked") fields (read_plain_call IsRevoked) _ call (plain_found (codes "isrevoked") IsRevoked (λ line rank comm h. h))
+    (verb_found Spells word (codes "free") fields (read_plain_call Free) _ call (plain_found (codes "free") Free (λ line rank comm h. h)) (no_verb (joined word fields) call)))))))))) e
 
 -- what is read is spelled so
 pub read_is_spelled : (line : List ℕ) (call : ScriptCall) → call_of line ≡ Ok call → Spells line call
 unfolding call_of
-read_is_spelled line call e = subst (λ (t : List ℕ). Spells t call) (joined_word line) (read_from (word_of line).0 (word_of line).1 call e)
+read_is_spelled line call e = subst (λ (t : List ℕ). Spells t call) (joined_word line) (read_from (first_word line).0 (first_word line).1 call e)
 
 -- the same at a result
 pub found : (line : List ℕ) (r : Result ScriptCall LineKind) → r ≡ call_of line → IfOk r (λ call. Spells line call)

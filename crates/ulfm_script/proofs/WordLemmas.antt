@@ -5,7 +5,7 @@ use Rattle.std.proofs.lemmas.{Bool.{ne_eqb, cases_eq, eq-eqb}, List.{append-nil}
 use Rattle.ulfm_laws.specs.declared.flag_and.FlagAnd.{FlagAnd}
 use Rattle.ulfm_script.specs.declared.line_kind.LineKind.{LineKind}
 use Rattle.ulfm_script.specs.declared.line_kind.LineKind.TheVariants.{Words}
-use Rattle.ulfm_script.specs.{Digits.{flag_text}, Steps.{◌>>=◌}, Words.{word_from, word_of, next_word, ended, one_of, two_of, three_of, four_of}}
+use Rattle.ulfm_script.specs.{Digits.{flag_text}, Steps.{◌>>=◌}, Words.{word_from, first_word, next_word, if_last, one_of, two_of, three_of, four_of}}
 use Rattle.ulfm_script.proofs.{Hexadecimal.{flag_free, length-flag_text}, Numerals.{AreDigits, own}}
 
 -- a text that can be a word
@@ -82,7 +82,7 @@ joined_from front (x ∷ xs) = elim (cases_eq x 32) [
 ]
 
 -- the first word and the text behind it make up the text
-pub joined_word : (text : List ℕ) → joined (word_of text).0 (word_of text).1 ≡ text
+pub joined_word : (text : List ℕ) → joined (first_word text).0 (first_word text).1 ≡ text
 joined_word text = joined_from [] text
 
 -- a step that didn't stop
@@ -107,11 +107,11 @@ pub next_found : (text : Option (List ℕ)) (x : List ℕ × Option (List ℕ)) 
 unfolding next_word
 next_found None x e = absurd cc
 next_found (Some text) x e =
-    let is = passed_word (length (word_of text).0 == 0) (word_of text) x e in
+    let is = passed_word (length (first_word text).0 == 0) (first_word text) x e in
     ap (λ (t : List ℕ). Some t) (sym (joined_word text) ∙ ap (λ (y : List ℕ × Option (List ℕ)). joined y.0 y.1) is)
 
 -- nothing stands behind what was read
-pub ended_found : {A : Type 0} (text : Option (List ℕ)) (x y : A) → ended text x ≡ Ok y → (text ≡ None) × (x ≡ y)
+pub ended_found : {A : Type 0} (text : Option (List ℕ)) (x y : A) → if_last text x ≡ Ok y → (text ≡ None) × (x ≡ y)
 ended_found None x y e = (refl, same_done x y e)
 ended_found (Some text) x y e = absurd cc
 
@@ -119,7 +119,7 @@ ended_found (Some text) x y e = absurd cc
 pub one_found : (text : Option (List ℕ)) (a : List ℕ) → one_of text ≡ Ok a → text ≡ Some a
 unfolding one_of
 one_found text a e =
-    let first = step_found (next_word text) (λ x. ended x.1 x.0) a e in
+    let first = step_found (next_word text) (λ x. if_last x.1 x.0) a e in
     let last = ended_found first.0.1 first.0.0 a first.2 in
     next_found text first.0 first.1 ∙ ap (λ (o : Option (List ℕ)). Some (joined first.0.0 o)) last.0 ∙ ap (λ (t : List ℕ). Some t) last.1
 

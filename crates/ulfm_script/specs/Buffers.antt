@@ -2,7 +2,7 @@
 use Rattle.std.specs.Prelude.{◌≡◌, ◌≢◌, ℕ, ◌<◌, List, [], ◌∷◌, ◌++◌, length, take, slice_range, Option, Some, None, Result, Ok, Err}
 use Rattle.std.specs.List.{AllByRecursion}
 use Rattle.std.specs.Io.KnownBytes.{Keeps, Appends, Consumes, IsAtEnd, prepend_known}
-use Rattle.ulfm_script.specs.Written.{Begins, WritesPart}
+use Rattle.ulfm_script.specs.Written.{IsBeginning, Outgoing, WritesPart}
 use Rattle.ulfm_script.specs.declared.buffers.Input.{Input}
 use Rattle.ulfm_script.specs.declared.buffers.LineEnd.{LineEnd}
 use Rattle.ulfm_script.specs.declared.buffers.LineEnd.TheVariants.{Newline, Cut, Done}
@@ -35,7 +35,7 @@ HasNoNewline xs = AllByRecursion (λ x. x ≢ 10) xs
 
 -- bytes of one line: the line and its newline begin with them
 abbrev pub IsOfLine : List ℕ → Type 0
-IsOfLine bytes = (line : List ℕ) × HasNoNewline line × Begins bytes (line ++ 10 ∷ [])
+IsOfLine bytes = (line : List ℕ) × HasNoNewline line × IsBeginning bytes (line ++ 10 ∷ [])
 
 -- A line was taken, or what stands behind the last newline, and so many of its first bytes are kept; nothing where no byte was left. Where the
 -- reader failed inside it, nothing is pending.
@@ -52,6 +52,10 @@ TakesLine most old new bytes kept (Err (Line number kind)) = ⊥
 -- what waits to be written
 abbrev pub waiting : {A : Type 0} → Output A → List ℕ
 waiting output = output.bytes.items
+
+-- the output of a writer, through this buffer
+abbrev pub outgoing : {A W : Type 0} → (W → Option (List ℕ)) → Output A → W → Outgoing
+outgoing contents output writer = record { written = contents writer; waiting = output.bytes.items }
 
 -- all that waited was written, or the writer failed
 abbrev pub Drains : List ℕ → Option (List ℕ) → List ℕ → Option (List ℕ) → Result (Unit {0}) RunFault → Type 0

@@ -27,28 +27,28 @@ number_in most word =
     else digits_after Number 10 digit_of 0 word
 
 -- most numbers have at most four digits
-abbrev pub number_of : List ℕ → Result ℕ LineKind
-number_of word = number_in 4 word
+abbrev pub read_number : List ℕ → Result ℕ LineKind
+read_number word = number_in 4 word
 
 -- a count of events has at most seven
-abbrev pub point_of : List ℕ → Result ℕ LineKind
-point_of word = number_in 7 word
+abbrev pub read_point : List ℕ → Result ℕ LineKind
+read_point word = number_in 7 word
 
 -- a number up to a greatest one
 unfoldable pub number_to : ℕ → List ℕ → Result ℕ LineKind
-number_to most word = number_of word >>= λ n. if nat_lt most n then Err Number else Ok n
+number_to most word = read_number word >>= λ n. if nat_lt most n then Err Number else Ok n
 
 -- a rank
-abbrev pub rank_of : List ℕ → Result ℕ LineKind
-rank_of word = number_to 1023 word
+abbrev pub read_rank : List ℕ → Result ℕ LineKind
+read_rank word = number_to 1023 word
 
 -- a communicator
-abbrev pub comm_of : List ℕ → Result ℕ LineKind
-comm_of word = number_to 255 word
+abbrev pub read_comm : List ℕ → Result ℕ LineKind
+read_comm word = number_to 255 word
 
 -- a flag has eight hexadecimal digits, whose value is its word
-unfoldable pub flag_of : List ℕ → Result FlagAnd LineKind
-flag_of word =
+unfoldable pub read_flag : List ℕ → Result FlagAnd LineKind
+read_flag word =
     if length word == 8 then (digits_after Flag 16 hex_of 0 word >>= λ n. or_fault Flag (flag_unpack n)) else Err Flag
 
 -- the digit of a value below 16

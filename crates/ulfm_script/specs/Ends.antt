@@ -5,8 +5,8 @@ use Rattle.ulfm_model.specs.declared.limits.Limits.{Limits}
 use Rattle.ulfm_script.specs.declared.line_kind.LineKind.{LineKind}
 use Rattle.ulfm_script.specs.declared.fault.RunFault.{RunFault}
 use Rattle.ulfm_script.specs.declared.fault.RunFault.TheVariants.{Line, Memory, Read, Write}
-use Rattle.ulfm_script.specs.{Buffers.{HasNoNewline, IsOfLine}, Written.{Begins, Holds, WritesPart}}
-use Rattle.ulfm_script.specs.Scripts.{Language, header_at, lines_from, rest_from, script_of, without_header}
+use Rattle.ulfm_script.specs.{Buffers.{HasNoNewline, IsOfLine}, Written.{IsBeginning, IsBuffered, Outgoing, WritesPart}}
+use Rattle.ulfm_script.specs.Scripts.{Language, header_at, item_at, lines_from, rest_from, script_of, without_header}
 
 -- what these items print on a new world of these limits; a script without a header prints nothing
 abbrev pub PrintsFrom : (lang : Language) → Option Limits → List lang.Item → List ℕ → Type 0
@@ -17,18 +17,18 @@ PrintsFrom lang (Some limits) items out = lang.Prints limits items out
 abbrev pub PrintsSome : Language → List ℕ → List ℕ → Type 0
 PrintsSome lang text out =
     let script = script_of lang text in
-    (out ≡ []) ⊎ ((first : List lang.Item) × Begins first script.items × PrintsFrom lang script.limits first out)
+    (out ≡ []) ⊎ ((first : List lang.Item) × IsBeginning first script.items × PrintsFrom lang script.limits first out)
 
 -- all items of a text print this
 abbrev pub PrintsAll : Language → List ℕ → List ℕ → Type 0
 PrintsAll lang text out = let script = script_of lang text in PrintsFrom lang script.limits script.items out
 
 -- the bytes that a reader has left, or that a writer has, where they are known
-abbrev pub Known : Type 0
-Known = Option (List ℕ)
+abbrev pub KnownText : Type 0
+KnownText = Option (List ℕ)
 
 -- the reader's text, where it is known
-abbrev pub IsTextOf : Known → List ℕ → Type 0
+abbrev pub IsTextOf : KnownText → List ℕ → Type 0
 IsTextOf known text = IfSome known (λ xs. text ≡ xs)
 
 -- how a run ended
@@ -45,7 +45,7 @@ abbrev pub Claim : Type 1
 Claim = List ℕ → Type 0
 
 -- The run of a reader's whole text, which has this first fault or none: what all items up to there print is told.
-pub record RunsAll (lang : Language) (known : Known) (fault : Option (ℕ × LineKind)) (Told : Claim) : Type 0 where
+pub record RunsAll (lang : Language) (known : KnownText) (fault : Option (ℕ × LineKind)) (Told : Claim) : Type 0 where
   pub text : List ℕ
   pub out : List ℕ
   pub whole : IsTextOf known text
@@ -54,7 +54,7 @@ pub record RunsAll (lang : Language) (known : Known) (fault : Option (ℕ × Lin
   pub told : Told out
 
 -- The run of a reader's whole text that found a fault which no line alone shows: what the items before it print is told.
-pub record FindsFault (lang : Language) (known : Known) (number : ℕ) (kind : LineKind) (Told : Claim) : Type 0 where
+pub record FindsFault (lang : Language) (known : KnownText) (number : ℕ) (kind : LineKind) (Told : Claim) : Type 0 where
   pub text : List ℕ
   pub limits : Limits
   pub out : List ℕ
@@ -65,7 +65,7 @@ pub record FindsFault (lang : Language) (known : Known) (number : ℕ) (kind : L
   pub told : Told out
 
 -- What was taken of the reader's bytes are whole lines, so many that the next one has this number, and then a part of that line or all of it.
-pub record TakesUpTo (number : ℕ) (known left : Known) : Type 0 where
+pub record TakesUpTo (number : ℕ) (known left : KnownText) : Type 0 where
   pub lines : List ℕ
   pub part : List ℕ
   pub taken : Consumes known left (lines ++ part)
@@ -79,7 +79,7 @@ HasNoFault lang text = (text ≡ []) ⊎ ((script_of lang text).fault ≡ None)
 
 -- A run that stopped inside a line: what was taken of the reader's bytes are lines without a fault, of which the output of all items is
 -- told, and then a part of the line that was under work.
-pub record StopsInLine (lang : Language) (known left : Known) (IsPart Told : Claim) : Type 0 where
+pub record StopsInLine (lang : Language) (known left : KnownText) (IsPart Told : Claim) : Type 0 where
   pub lines : List ℕ
   pub part : List ℕ
   pub out : List ℕ
@@ -90,7 +90,7 @@ pub record StopsInLine (lang : Language) (known left : Known) (IsPart Told : Cla
   pub told : Told out
 
 -- A run whose writer failed: a part of what some first items print is told.
-pub record StopsInOutput (lang : Language) (known : Known) (ToldInPart : Claim) : Type 0 where
+pub record StopsInOutput (lang : Language) (known : KnownText) (ToldInPart : Claim) : Type 0 where
   pub text : List ℕ
   pub out : List ℕ
   pub whole : IsTextOf known text
@@ -102,7 +102,7 @@ pub record StopsInOutput (lang : Language) (known : Known) (ToldInPart : Claim) 
 -- before it print is told, and nothing behind this line was taken. Where memory was refused, what all items print is told that were taken before
 -- the line under work. Where the reader failed, what all items print that it gave whole. Where the writer failed, a part of what the first items
 -- print.
-abbrev pub Ends : Language → Known → Known → List ℕ → Claim → Claim → RunEnd → Type 0
+abbrev pub Ends : Language → KnownText → KnownText → List ℕ → Claim → Claim → RunEnd → Type 0
 Ends lang known left ahead Told ToldInPart (Ok done) = RunsAll lang known None Told × IsAtEnd left
 Ends lang known left ahead Told ToldInPart (Err (Line number kind)) =
     (RunsAll lang known (Some (number, kind)) Told ⊎ FindsFault lang known number kind Told) × TakesUpTo number known (prepend_known ahead left)
@@ -112,15 +112,15 @@ Ends lang known left ahead Told ToldInPart (Err Write) = StopsInOutput lang know
 
 -- a run through a buffer that the caller sees: what was to be taken, what the reader has left and what is read ahead; what the writer had
 -- and has
-abbrev pub EndsThrough : Language → Known → Known → List ℕ → Known → Known → RunEnd → Type 0
+abbrev pub EndsThrough : Language → KnownText → KnownText → List ℕ → KnownText → KnownText → RunEnd → Type 0
 EndsThrough lang known left ahead old new result = Ends lang known left ahead (Appends old new) (WritesPart old new) result
 
 -- the same, but for what waits to be written
-abbrev pub EndsUpTo : Language → Known → Known → List ℕ → Known → Known → List ℕ → RunEnd → Type 0
-EndsUpTo lang known left ahead old new waiting result = Ends lang known left ahead (Holds old new waiting) (WritesPart old new) result
+abbrev pub EndsUpTo : Language → KnownText → KnownText → List ℕ → KnownText → Outgoing → RunEnd → Type 0
+EndsUpTo lang known left ahead old new result = Ends lang known left ahead (IsBuffered old new) (WritesPart old new.written) result
 
 -- a run through a buffer of its own, which reads at most 8192 bytes ahead: what the reader had and has left, what the writer had and has
-abbrev pub EndsAlone : Language → Known → Known → Known → Known → RunEnd → Type 0
+abbrev pub EndsAlone : Language → KnownText → KnownText → KnownText → KnownText → RunEnd → Type 0
 EndsAlone lang known left old new result = (ahead : List ℕ) × (length ahead ≤ 8192) × EndsThrough lang known left ahead old new result
 
 -- what a machine has run and printed: its world's limits, the items, and the output
@@ -128,7 +128,7 @@ abbrev pub Stage : Language → Type 1
 Stage lang = Limits → List lang.Item → List ℕ → Type 0
 
 -- A machine has run all items of a reader's whole text, which has no fault: what it printed is told.
-pub record HasRunAll (lang : Language) (HasRun : Stage lang) (known : Known) (Told : Claim) : Type 0 where
+pub record HasRunAll (lang : Language) (HasRun : Stage lang) (known : KnownText) (Told : Claim) : Type 0 where
   pub text : List ℕ
   pub limits : Limits
   pub items : List lang.Item
@@ -139,7 +139,7 @@ pub record HasRunAll (lang : Language) (HasRun : Stage lang) (known : Known) (To
   pub told : Told out
 
 -- a machine was opened by the first line, and printed this
-pub record IsOpened (lang : Language) (HasRun : Stage lang) (old new : Known) (text : List ℕ) : Type 0 where
+pub record IsOpened (lang : Language) (HasRun : Stage lang) (old new : KnownText) (text : List ℕ) : Type 0 where
   pub line : List ℕ
   pub limits : Limits
   pub free : HasNoNewline line
@@ -149,7 +149,7 @@ pub record IsOpened (lang : Language) (HasRun : Stage lang) (old new : Known) (t
 
 -- A machine was opened by the first line; or the text's script has no header; or memory was refused or the reader failed. In these three cases a
 -- part of the first line was taken, or all of it. Where the reader failed, nothing is pending.
-abbrev pub Opens : {M : Type 0} → (lang : Language) → (M → Stage lang) → (M → List ℕ) → Known → Known → List ℕ → Result M RunFault → Type 0
+abbrev pub Opens : {M : Type 0} → (lang : Language) → (M → Stage lang) → (M → List ℕ) → KnownText → KnownText → List ℕ → Result M RunFault → Type 0
 Opens lang HasRun text old new bytes (Ok machine) = IsOpened lang (HasRun machine) old new (text machine)
 Opens lang HasRun text old new bytes (Err (Line number kind)) =
     (all : List ℕ) × IsTextOf old all × (number ≡ 1) × (script_of lang all ≡ without_header kind) × TakesUpTo 1 old new
@@ -157,25 +157,41 @@ Opens lang HasRun text old new bytes (Err Memory) = (part : List ℕ) × IsOfLin
 Opens lang HasRun text old new bytes (Err Read) = (part : List ℕ) × HasNoNewline part × (bytes ≡ []) × Consumes old new part
 Opens lang HasRun text old new bytes (Err Write) = ⊥
 
--- a line with this item or fault can't be run behind these items: it has the fault, or running it finds the fault
-abbrev pub HasFault : (lang : Language) → Limits → List lang.Item → List ℕ → Result lang.Item LineKind → LineKind → Type 0
-HasFault lang limits items out read kind =
+-- what was run of a script so far: its world's limits, the items, and what they printed
+pub record RunSoFar (lang : Language) : Type 0 where
+  pub limits : Limits
+  pub items : List lang.Item
+  pub out : List ℕ
+
+-- a line with this item or fault can't be run behind what was run: it has the fault, or running it finds the fault
+abbrev pub HasFault : (lang : Language) → RunSoFar lang → Result lang.Item LineKind → LineKind → Type 0
+HasFault lang before read kind =
     (read ≡ Err kind)
-    ⊎ ((item : lang.Item) × (read ≡ Ok item) × ((behind : List lang.Item) → lang.Finds limits (items ++ item ∷ behind) (length items + 2) kind out))
+    ⊎ ((item : lang.Item) × (read ≡ Ok item)
+    × ((behind : List lang.Item) → lang.Finds before.limits (before.items ++ item ∷ behind) (length before.items + 2) kind before.out))
 
--- a line with this item or fault was run behind these items, and printed this
-abbrev pub TakesItem : (lang : Language) → Stage lang → Limits → List lang.Item → List ℕ → Result lang.Item LineKind → List ℕ
-    → Result (Unit {0}) LineKind → Type 0
-TakesItem lang HasRun limits items out read text (Ok done) = (item : lang.Item) × (read ≡ Ok item) × HasRun limits (items ++ item ∷ []) (out ++ text)
-TakesItem lang HasRun limits items out read text (Err kind) = HasFault lang limits items out read kind
+-- a line with this item or fault was run behind what was run, and printed this; or it can't be run
+abbrev pub TakesItem : (lang : Language) → Stage lang → RunSoFar lang → Result lang.Item LineKind → List ℕ → Result (Unit {0}) LineKind → Type 0
+TakesItem lang HasRun before read text (Ok done) =
+    (item : lang.Item) × (read ≡ Ok item) × HasRun before.limits (before.items ++ item ∷ []) (before.out ++ text)
+TakesItem lang HasRun before read text (Err kind) = HasFault lang before read kind
 
--- a line with this item or fault was run behind these items, and what it prints is written or waits
-abbrev pub RunsLine : (lang : Language) → Stage lang → Limits → List lang.Item → List ℕ → ℕ → Result lang.Item LineKind → Known → List ℕ → Known
-    → List ℕ → RunEnd → Type 0
-RunsLine lang HasRun limits items out number read old bytes new rest (Ok done) =
-    (text : List ℕ) × TakesItem lang HasRun limits items out read text (Ok tt) × Holds old new rest (bytes ++ text)
-RunsLine lang HasRun limits items out number read old bytes new rest (Err (Line n kind)) =
-    (n ≡ number) × HasFault lang limits items out read kind × Holds old new rest bytes
-RunsLine lang HasRun limits items out number read old bytes new rest (Err Memory) = Holds old new rest bytes
-RunsLine lang HasRun limits items out number read old bytes new rest (Err Write) = WritesPart old new bytes
-RunsLine lang HasRun limits items out number read old bytes new rest (Err Read) = ⊥
+-- a line of a script as it is read: its number, and its item or its first fault
+pub record ScriptLine (lang : Language) : Type 0 where
+  pub number : ℕ
+  pub read : Result lang.Item LineKind
+
+-- the line of this number with this text
+abbrev pub line_at : (lang : Language) → ℕ → List ℕ → ScriptLine lang
+line_at lang number text = record { number = number; read = item_at lang number text }
+
+-- A line was run behind what was run, and what it prints is written or waits behind what waited before. Where it has a fault or memory was refused,
+-- what waited is written or waits, and nothing more. Where the writer failed, a beginning of what waited is written.
+abbrev pub RunsLine : (lang : Language) → Stage lang → RunSoFar lang → ScriptLine lang → Outgoing → Outgoing → RunEnd → Type 0
+RunsLine lang HasRun before line old new (Ok done) =
+    (text : List ℕ) × TakesItem lang HasRun before line.read text (Ok tt) × IsBuffered old.written new (old.waiting ++ text)
+RunsLine lang HasRun before line old new (Err (Line number kind)) =
+    (number ≡ line.number) × HasFault lang before line.read kind × IsBuffered old.written new old.waiting
+RunsLine lang HasRun before line old new (Err Memory) = IsBuffered old.written new old.waiting
+RunsLine lang HasRun before line old new (Err Write) = WritesPart old.written new.written old.waiting
+RunsLine lang HasRun before line old new (Err Read) = ⊥

@@ -7,9 +7,9 @@ use Rattle.ulfm_script.specs.declared.header_kind.HeaderKind.{HeaderKind}
 use Rattle.ulfm_script.specs.declared.header_kind.HeaderKind.TheVariants.{Calls, Steps, Trace}
 use Rattle.ulfm_script.specs.declared.line_kind.LineKind.{LineKind}
 use Rattle.ulfm_script.specs.declared.line_kind.LineKind.TheVariants.{Header, Limits as BadLimits}
-use Rattle.ulfm_script.specs.Digits.{number_of}
+use Rattle.ulfm_script.specs.Digits.{read_number}
 use Rattle.ulfm_script.specs.Steps.{◌>>=◌, with_fault}
-use Rattle.ulfm_script.specs.Words.{word_of, four_of}
+use Rattle.ulfm_script.specs.Words.{first_word, four_of}
 
 -- the first word of each kind
 abbrev pub kind_text : HeaderKind → List ℕ
@@ -33,21 +33,21 @@ may_open limits =
 -- the limits that three words give
 abbrev pub numbers_of : List ℕ × List ℕ × List ℕ → Result Limits LineKind
 numbers_of words = do
-  ranks ← number_of words.0
-  comms ← number_of words.1
-  rounds ← number_of words.2
+  ranks ← read_number words.0
+  comms ← read_number words.1
+  rounds ← read_number words.2
   Ok (record { ranks = ranks; comms = comms; rounds = rounds })
 
 -- behind the name of the format stands its version, and then the limits
-unfoldable pub limits_of : Option (List ℕ) → Result Limits LineKind
-limits_of fields = do
+unfoldable pub read_limits : Option (List ℕ) → Result Limits LineKind
+read_limits fields = do
   words ← four_of fields
   if bytes_eq words.0 (codes "1") then numbers_of (words.1, words.2, words.3) else Err Header
 
 -- a name, and the text behind it; whatever is wrong with its form is the one fault
 abbrev pub form_from : HeaderKind → List ℕ × Option (List ℕ) → Result Limits LineKind
-form_from kind first = if bytes_eq first.0 (kind_text kind) then with_fault Header (limits_of first.1) else Err Header
+form_from kind first = if bytes_eq first.0 (kind_text kind) then with_fault Header (read_limits first.1) else Err Header
 
 -- the limits that a header of this kind gives
 unfoldable pub header_of : HeaderKind → List ℕ → Result Limits LineKind
-header_of kind line = form_from kind (word_of line) >>= λ limits. if may_open limits then Ok limits else Err BadLimits
+header_of kind line = form_from kind (first_word line) >>= λ limits. if may_open limits then Ok limits else Err BadLimits

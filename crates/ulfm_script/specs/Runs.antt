@@ -8,7 +8,7 @@ use Rattle.ulfm_model.specs.declared.reply.Reply.{Reply}
 use Rattle.ulfm_model.specs.declared.reply.Reply.TheVariants.{Shrunk, FailedGroup}
 use Rattle.ulfm_model.specs.{Answers.{traits_of}, History.{failed, members}, Runs.{IsStep, State, new_state}}
 use Rattle.ulfm_script.specs.declared.header_kind.HeaderKind.TheVariants.{Calls}
-use Rattle.ulfm_script.specs.{Calls.{ScriptCall, call_of}, Ends.{EndsAlone, EndsThrough, Known, RunEnd}, Printed.{reply_text}, Scripts.{Language}}
+use Rattle.ulfm_script.specs.{Calls.{ScriptCall, call_of}, Ends.{EndsAlone, EndsThrough, KnownText, RunEnd}, Printed.{reply_text}, Scripts.{Language}}
 
 -- the replies of calls one after another, each by its own caller
 abbrev pub AreReplies : {P : Type 0} → (P → P → P) → State P → List (Call P) → List (Reply P) → Type 0
@@ -34,34 +34,34 @@ abbrev pub Steps : ScriptState → ScriptCall → Reply FlagAnd → ScriptState 
 Steps old call reply new = IsStep flag_meld old (traits_of call).by call reply new
 
 -- the group that a reply is about: the new communicator's members, or the failed group of communicator c, which the call named
-abbrev pub group_of : ScriptState → ℕ → Reply FlagAnd → List ℕ
-group_of state c (Shrunk j context size) = members_at state j
-group_of state c (FailedGroup count) = failed_at state c
-group_of state c reply = []
+abbrev pub reply_group : ScriptState → ℕ → Reply FlagAnd → List ℕ
+reply_group state c (Shrunk j context size) = members_at state j
+reply_group state c (FailedGroup count) = failed_at state c
+reply_group state c reply = []
 
 -- the line that the reply to a call prints, by the state after it
-abbrev pub line_of : ScriptState → ScriptCall → Reply FlagAnd → List ℕ
-line_of state call reply = reply_text (group_of state (traits_of call).comm reply) reply ++ 10 ∷ []
+abbrev pub reply_line : ScriptState → ScriptCall → Reply FlagAnd → List ℕ
+reply_line state call reply = reply_text (reply_group state (traits_of call).comm reply) reply ++ 10 ∷ []
 
 -- a call was answered, and this is the line that it prints
-abbrev pub Answered : ScriptState → ScriptCall → ScriptState → List ℕ → Type 0
-Answered old call new line = (reply : Reply FlagAnd) × Steps old call reply new × (line ≡ line_of new call reply)
+abbrev pub PrintsReply : ScriptState → ScriptCall → ScriptState → List ℕ → Type 0
+PrintsReply old call new line = (reply : Reply FlagAnd) × Steps old call reply new × (line ≡ reply_line new call reply)
 
 -- calls one after another go from one state to another and print these lines
 abbrev pub Prints : ScriptState → List ScriptCall → List ℕ → ScriptState → Type 0
 Prints old [] out new = (out ≡ []) × (new ≡ old)
 Prints old (call ∷ calls) out new =
-    (next : ScriptState) × (line : List ℕ) × (more : List ℕ) × Answered old call next line × (out ≡ line ++ more) × Prints next calls more new
+    (next : ScriptState) × (line : List ℕ) × (more : List ℕ) × PrintsReply old call next line × (out ≡ line ++ more) × Prints next calls more new
 
 -- each line is that of its reply, with some group
-abbrev pub AreLines : List (Reply FlagAnd) → List ℕ → Type 0
-AreLines [] out = out ≡ []
-AreLines (reply ∷ replies) out =
-    (group : List ℕ) × (more : List ℕ) × (out ≡ (reply_text group reply ++ 10 ∷ []) ++ more) × AreLines replies more
+abbrev pub AreReplyLines : List (Reply FlagAnd) → List ℕ → Type 0
+AreReplyLines [] out = out ≡ []
+AreReplyLines (reply ∷ replies) out =
+    (group : List ℕ) × (more : List ℕ) × (out ≡ (reply_text group reply ++ 10 ∷ []) ++ more) × AreReplyLines replies more
 
 -- what calls print are their replies, as the sequential object gives them
 abbrev pub ArePrinted : ScriptState → List ScriptCall → List ℕ → Type 0
-ArePrinted state calls out = (replies : List (Reply FlagAnd)) × AreReplies flag_meld state calls replies × AreLines replies out
+ArePrinted state calls out = (replies : List (Reply FlagAnd)) × AreReplies flag_meld state calls replies × AreReplyLines replies out
 
 -- the lines of these calls on a new object of these limits
 abbrev pub PrintsCalls : Limits → List ScriptCall → List ℕ → Type 0
@@ -73,9 +73,9 @@ call_scripts = record { Item = ScriptCall; kind = Calls; read = call_of; Prints 
 
 -- a run through a buffer that the caller sees: what was to be taken, what the reader has left and what is read ahead; what the writer had
 -- and has
-abbrev pub RunsThrough : Known → Known → List ℕ → Known → Known → RunEnd → Type 0
+abbrev pub RunsThrough : KnownText → KnownText → List ℕ → KnownText → KnownText → RunEnd → Type 0
 RunsThrough known left ahead old new result = EndsThrough call_scripts known left ahead old new result
 
 -- a run through a buffer of its own, which reads at most 8192 bytes ahead: what the reader had and has left, what the writer had and has
-abbrev pub Runs : Known → Known → Known → Known → RunEnd → Type 0
-Runs known left old new result = EndsAlone call_scripts known left old new result
+abbrev pub RunsBuffered : KnownText → KnownText → KnownText → KnownText → RunEnd → Type 0
+RunsBuffered known left old new result = EndsAlone call_scripts known left old new result

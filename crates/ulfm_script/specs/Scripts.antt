@@ -17,7 +17,7 @@ pub record Language : Type 1 where
   pub Finds : Limits → List Item → ℕ → LineKind → List ℕ → Type 0
 
 -- the items of some lines up to the first fault, if there is one: its line's number and its kind
-pub record Asked (X : Type 0) : Type 0 where
+pub record Parsed (X : Type 0) : Type 0 where
   pub items : List X
   pub fault : Option (ℕ × LineKind)
 
@@ -46,21 +46,21 @@ abbrev pub header_at : Language → List ℕ → Result Limits LineKind
 header_at lang line = if nat_lt 64 (length line) then Err Long else header_of lang.kind line
 
 -- a fault in the line of this number
-abbrev pub stopped : {X : Type 0} → ℕ → LineKind → Asked X
+abbrev pub stopped : {X : Type 0} → ℕ → LineKind → Parsed X
 stopped number kind = record { items = []; fault = Some (number, kind) }
 
 -- the text ends, or it ends inside the line of this number
-abbrev pub asked_last : {X : Type 0} → ℕ → List ℕ → Asked X
+abbrev pub asked_last : {X : Type 0} → ℕ → List ℕ → Parsed X
 asked_last number [] = record { items = []; fault = None }
 asked_last number (x ∷ xs) = stopped number Cut
 
 -- a line, and the lines behind it
-abbrev pub asked_then : {X : Type 0} → ℕ → Result X LineKind → Asked X → Asked X
+abbrev pub asked_then : {X : Type 0} → ℕ → Result X LineKind → Parsed X → Parsed X
 asked_then number (Err kind) rest = stopped number kind
 asked_then number (Ok item) rest = record { items = item ∷ rest.items; fault = rest.fault }
 
 -- lines from this number on, and what stands behind the last newline
-abbrev pub asked_by : (lang : Language) → ℕ → List (List ℕ) → List ℕ → Asked lang.Item
+abbrev pub asked_by : (lang : Language) → ℕ → List (List ℕ) → List ℕ → Parsed lang.Item
 asked_by lang number [] rest = asked_last number rest
 asked_by lang number (line ∷ lines) rest = asked_then number (item_at lang number line) (asked_by lang (number + 1) lines rest)
 
@@ -74,7 +74,7 @@ no_lines [] = without_header Header
 no_lines (x ∷ xs) = without_header Cut
 
 -- a first line, and the lines behind it
-abbrev pub with_header : {X : Type 0} → Result Limits LineKind → Asked X → Script X
+abbrev pub with_header : {X : Type 0} → Result Limits LineKind → Parsed X → Script X
 with_header (Err kind) asked = without_header kind
 with_header (Ok limits) asked = record { limits = Some limits; items = asked.items; fault = asked.fault }
 

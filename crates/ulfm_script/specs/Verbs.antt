@@ -1,7 +1,7 @@
 -- Verbs as a reader of lines tells them apart, and their words.
 use Rattle.std.specs.Prelude.{ℕ, List, codes, Option, Some, None, Result, Err}
 use Rattle.ulfm_model.specs.declared.call.Call.TheVariants as call
-use Rattle.ulfm_script.specs.Calls.{ScriptCall, ack_of, agree_of, fail_of, plain_of}
+use Rattle.ulfm_script.specs.Calls.{ScriptCall, ack_of, agree_of, fail_of, read_plain_call}
 use Rattle.ulfm_script.specs.declared.calls.Plain.{Plain}
 use Rattle.ulfm_script.specs.declared.calls.Plain.TheVariants as plain
 use Rattle.ulfm_script.specs.declared.calls.Verb.{Verb}
@@ -41,7 +41,7 @@ abbrev pub verb_call : Verb → Option (List ℕ) → Result ScriptCall LineKind
 verb_call verb.Fail fields = fail_of fields
 verb_call verb.Ack fields = ack_of fields
 verb_call verb.Agree fields = agree_of fields
-verb_call (verb.Plain name) fields = plain_of (call_at name) fields
+verb_call (verb.Plain name) fields = read_plain_call (call_at name) fields
 
 -- the call of a verb that was found, or the fault that there is none
 abbrev pub found_call : Option Verb → Option (List ℕ) → Result ScriptCall LineKind

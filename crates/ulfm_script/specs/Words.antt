@@ -11,22 +11,22 @@ word_from front [] = (front, None)
 word_from front (x ∷ xs) = if x == 32 then (front, Some xs) else word_from (front ++ x ∷ []) xs
 
 -- the first word of a text, and the text behind it
-abbrev pub word_of : List ℕ → List ℕ × Option (List ℕ)
-word_of text = word_from [] text
+abbrev pub first_word : List ℕ → List ℕ × Option (List ℕ)
+first_word text = word_from [] text
 
 -- one more word, which must not be empty, and the text behind it
 unfoldable pub next_word : Option (List ℕ) → Result (List ℕ × Option (List ℕ)) LineKind
 next_word None = Err Words
-next_word (Some text) = if length (word_of text).0 == 0 then Err Words else Ok (word_of text)
+next_word (Some text) = if length (first_word text).0 == 0 then Err Words else Ok (first_word text)
 
 -- a value, where no further word stands behind it
-abbrev pub ended : {A : Type 0} → Option (List ℕ) → A → Result A LineKind
-ended None x = Ok x
-ended (Some text) x = Err Words
+abbrev pub if_last : {A : Type 0} → Option (List ℕ) → A → Result A LineKind
+if_last None x = Ok x
+if_last (Some text) x = Err Words
 
 -- exactly one word
 unfoldable pub one_of : Option (List ℕ) → Result (List ℕ) LineKind
-one_of text = next_word text >>= λ a. ended a.1 a.0
+one_of text = next_word text >>= λ a. if_last a.1 a.0
 
 -- exactly two words
 unfoldable pub two_of : Option (List ℕ) → Result (List ℕ × List ℕ) LineKind
@@ -58,8 +58,8 @@ Gives see (Err kind) read = read ≡ Err kind
 abbrev pub rest_at : Option (Bor (List ℕ)) → Option (List ℕ)
 rest_at text = option_map (λ rest. rest.now) text
 
-abbrev pub word_at : Bor (List ℕ) × Option (Bor (List ℕ)) → List ℕ × Option (List ℕ)
-word_at x = (x.0.now, rest_at x.1)
+abbrev pub word_seen : Bor (List ℕ) × Option (Bor (List ℕ)) → List ℕ × Option (List ℕ)
+word_seen x = (x.0.now, rest_at x.1)
 
 abbrev pub two_at : Bor (List ℕ) × Bor (List ℕ) → List ℕ × List ℕ
 two_at x = (x.0.now, x.1.now)

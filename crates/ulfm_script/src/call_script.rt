@@ -3,7 +3,7 @@ ghost use Rattle.std.specs.Prelude.{◌≡◌, ℕ, List, [], OnOk};
 ghost use Rattle.ulfm_model.specs.declared.limits.Limits.{Limits};
 ghost use Rattle.ulfm_model.specs.Runs.{new_state};
 ghost use Rattle.ulfm_script.specs.Buffers.{pending, unread};
-ghost use Rattle.ulfm_script.specs.Runs.{Answered, Prints, Runs, RunsThrough, call_scripts};
+ghost use Rattle.ulfm_script.specs.Runs.{PrintsReply, Prints, RunsBuffered, RunsThrough, call_scripts};
 ghost use Rattle.ulfm_script.specs.Spelling.{IsSpelled};
 
 use crate::buffers::Input;
@@ -42,7 +42,7 @@ pub fn run_script<M: Machine<A>, A: Allocator + Copy, R: Read, W: Write>(
     reader: &mut R,
     writer: &mut W,
 ) -> Result<(), RunFault>
-    ensures { Runs (R.remaining reader.old) (R.remaining reader.new) (W.contents writer.old) (W.contents writer.new) result }
+    ensures { RunsBuffered (R.remaining reader.old) (R.remaining reader.new) (W.contents writer.old) (W.contents writer.new) result }
 {
     end_of(run_text::<CallLines<M, A>, A, R, W>(alloc, (), reader, writer))
 }
@@ -130,7 +130,7 @@ fn answer<M: Machine<A>, A: Allocator>(
     text: &mut Vec<u8, A>,
 ) -> Result<(), AllocError>
     requires { IsSpelled call.now }
-    ensures { OnOk result (Answered (M.state machine.old) call.now (M.state machine.new) text.new.items) }
+    ensures { OnOk result (PrintsReply (M.state machine.old) call.now (M.state machine.new) text.new.items) }
 {
     let reply = machine.apply(call, group)?;
     text.clear();

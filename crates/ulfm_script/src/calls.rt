@@ -1,6 +1,6 @@
 //! The calls of a script, line by line.
 ghost use Rattle.std.specs.Prelude.{◌≡◌, ℕ, List, Option, Ok, IfOk};
-ghost use Rattle.ulfm_script.specs.Calls.{ScriptCall, call_from, call_of, place_of, fail_of, ack_of, agree_of, plain_of};
+ghost use Rattle.ulfm_script.specs.Calls.{ScriptCall, call_from, call_of, read_rank_comm, fail_of, ack_of, agree_of, read_plain_call};
 ghost use Rattle.ulfm_script.specs.Verbs.{call_at, found_call, plain_word, verb_call, verb_word};
 ghost use Rattle.ulfm_script.specs.Spelling.{Spells};
 ghost use Rattle.ulfm_script.specs.Words.{rest_at};
@@ -130,7 +130,7 @@ enum Plain {
 
 /// A plain call, by its fields.
 fn read_plain(plain: Plain, fields: Option<&[u8]>) -> Result<Call<FlagAnd>, LineKind>
-    ensures { result ≡ plain_of (call_at plain) (rest_at fields.entry) }
+    ensures { result ≡ read_plain_call (call_at plain) (rest_at fields.entry) }
 {
     let (rank, comm) = read_place(fields)?;
     Ok(plain_call(plain, rank, comm))
@@ -161,9 +161,9 @@ fn read_fail(fields: Option<&[u8]>) -> Result<Call<FlagAnd>, LineKind>
 }
 
 /// A rank and a communicator, and nothing behind them.
-#[tactic(auto, unfolding(crate::specs::Calls::place_of))]
+#[tactic(auto, unfolding(crate::specs::Calls::read_rank_comm))]
 fn read_place(fields: Option<&[u8]>) -> Result<(u16, u16), LineKind>
-    ensures { result ≡ place_of (rest_at fields.entry) }
+    ensures { result ≡ read_rank_comm (rest_at fields.entry) }
 {
     let (rank, comm) = two_words(fields)?;
     let rank = read_number_to(LAST_RANK, rank)?;

@@ -1,13 +1,11 @@
 //! The engine that runs the text of a script, over anything that runs its lines.
-ghost use Rattle.std.specs.Prelude.{◌≡◌, ℕ, List, [], length, nat_lt, Err, IfOk, if◌then◌else◌};
+ghost use Rattle.std.specs.Prelude.{◌≡◌, [], length, nat_lt, Err, IfOk, if◌then◌else◌};
 ghost use Rattle.std.specs.Io.KnownBytes.{Appends};
-ghost use Rattle.ulfm_model.specs.declared.limits.Limits.{Limits};
 ghost use Rattle.ulfm_model.specs.Words.{MayOpen};
-ghost use Rattle.ulfm_script.specs.Buffers.{pending, waiting, unread};
-ghost use Rattle.ulfm_script.specs.Ends.{EndsAlone, EndsThrough, EndsUpTo, HasRunAll, IsOpened, Known, Opens, RunsLine, ended};
+ghost use Rattle.ulfm_script.specs.Buffers.{outgoing, pending, waiting, unread};
+ghost use Rattle.ulfm_script.specs.Ends.{EndsAlone, EndsThrough, EndsUpTo, HasRunAll, IsOpened, KnownText, Opens, RunSoFar, RunsLine, ended, line_at};
 ghost use Rattle.ulfm_script.specs.Headers.{header_of};
-ghost use Rattle.ulfm_script.specs.Scripts.{item_at};
-ghost use Rattle.ulfm_script.specs.Written.{Holds};
+ghost use Rattle.ulfm_script.specs.Written.{IsBuffered};
 ghost use Rattle.ulfm_script.specs.declared.line_kind.LineKind.TheVariants.{Long};
 
 use crate::buffers::{Input, LineEnd, Output};
@@ -110,9 +108,9 @@ fn run_lines<M: Interpreter<A>, A: Allocator + Copy, R: Read, W: Write>(
 ) -> Result<M, RunFault>
     requires { waiting output.old ≡ [] }
     ensures ends { EndsUpTo M.lang (unread R.remaining input.old reader.old) (R.remaining reader.new) (pending input.new)
-        (W.contents writer.old) (W.contents writer.new) (waiting output.new) (ended result) }
+        (W.contents writer.old) (outgoing W.contents output.new writer.new) (ended result) }
     ensures all { IfOk result (λ machine. HasRunAll M.lang (M.HasRun plan machine) (unread R.remaining input.old reader.old)
-        (Holds (W.contents writer.old) (W.contents writer.new) (waiting output.new))) }
+        (IsBuffered (W.contents writer.old) (outgoing W.contents output.new writer.new))) }
 {
     let mut line = Vec::with_capacity(alloc, LONGEST + 1)?;
     let mut machine: M = open_machine(alloc, plan, reader, input, &mut line)?;
@@ -130,12 +128,12 @@ fn run_opened<M: Interpreter<A>, A: Allocator + Copy, R: Read, W: Write>(
     line: &mut Vec<u8, A>,
 ) -> Result<(), RunFault>
     requires empty { waiting output.old ≡ [] }
-    requires opened { (plan : M.Plan) × (known : Known) × IsOpened M.lang (M.HasRun plan machine.old) known
+    requires opened { (plan : M.Plan) × (known : KnownText) × IsOpened M.lang (M.HasRun plan machine.old) known
         (unread R.remaining input.old reader.old) (M.text machine.old) }
-    ensures { (plan : M.Plan) (known : Known) → IsOpened M.lang (M.HasRun plan machine.old) known (unread R.remaining input.old reader.old)
-        (M.text machine.old) → EndsUpTo M.lang known (R.remaining reader.new) (pending input.new) (W.contents writer.old) (W.contents writer.new)
-        (waiting output.new) result × IfOk result (λ done. HasRunAll M.lang (M.HasRun plan machine.new) known
-        (Holds (W.contents writer.old) (W.contents writer.new) (waiting output.new))) }
+    ensures { (plan : M.Plan) (known : KnownText) → IsOpened M.lang (M.HasRun plan machine.old) known (unread R.remaining input.old reader.old)
+        (M.text machine.old) → EndsUpTo M.lang known (R.remaining reader.new) (pending input.new) (W.contents writer.old)
+        (outgoing W.contents output.new writer.new) result × IfOk result (λ done. HasRunAll M.lang (M.HasRun plan machine.new) known
+        (IsBuffered (W.contents writer.old) (outgoing W.contents output.new writer.new))) }
 {
     output.put(writer, machine.text())?;
     'lines: for number in 2..LAST_LINE + 2 {
@@ -198,9 +196,9 @@ fn run_line<M: Interpreter<A>, A: Allocator, W: Write>(
     number: u32,
     line: &[u8],
 ) -> Result<(), RunFault>
-    ensures { (plan : M.Plan) (limits : Limits) (items : List M.lang.Item) (out : List ℕ) → M.HasRun plan machine.old limits items out
-        → RunsLine M.lang (M.HasRun plan machine.new) limits items out number (item_at M.lang number line.now) (W.contents writer.old)
-        (waiting output.old) (W.contents writer.new) (waiting output.new) result }
+    ensures { (plan : M.Plan) (before : RunSoFar M.lang) → M.HasRun plan machine.old before.limits before.items before.out
+        → RunsLine M.lang (M.HasRun plan machine.new) before (line_at M.lang number line.now) (outgoing W.contents output.old writer.old)
+        (outgoing W.contents output.new writer.new) result }
 {
     if line.len() > LONGEST {
         let kind = LineKind::Long;

@@ -2,7 +2,7 @@
 ghost use Rattle.std.specs.Prelude.{◌≡◌, ◌++◌, Ok, IfOk, OnOk};
 ghost use Rattle.ulfm_model.specs.declared.limits.Limits.{Limits};
 ghost use Rattle.ulfm_model.specs.Words.{MayOpen};
-ghost use Rattle.ulfm_script.specs.Headers.{header_of, header_text, limits_of};
+ghost use Rattle.ulfm_script.specs.Headers.{header_of, header_text, read_limits};
 ghost use Rattle.ulfm_script.specs.Words.{rest_at};
 
 use crate::header_kind::HeaderKind;
@@ -42,9 +42,9 @@ fn parse_header(kind: HeaderKind, line: &[u8]) -> Result<Limits, LineKind>
     Ok(limits)
 }
 
-#[tactic(auto, unfolding(crate::specs::Headers::limits_of))]
+#[tactic(auto, unfolding(crate::specs::Headers::read_limits))]
 fn read_limits(fields: Option<&[u8]>) -> Result<Limits, LineKind>
-    ensures { result ≡ limits_of (rest_at fields.entry) }
+    ensures { result ≡ read_limits (rest_at fields.entry) }
 {
     let (version, ranks, comms, rounds) = four_words(fields)?;
     if version != b"1".as_slice() {

@@ -1,7 +1,7 @@
 ghost use Rattle.std.specs.Prelude.{◌≡◌, ℕ, List, [], IfOk};
 ghost use Rattle.ulfm_model.specs.declared.limits.Limits.{Limits};
 ghost use Rattle.ulfm_model.specs.Words.{MayOpen};
-ghost use Rattle.ulfm_script.specs.{Ends.{Stage, TakesItem}, Scripts.{Language}};
+ghost use Rattle.ulfm_script.specs.{Ends.{RunSoFar, Stage, TakesItem}, Scripts.{Language}};
 
 use crate::header_kind::HeaderKind;
 use crate::line_kind::LineKind;
@@ -34,8 +34,8 @@ pub trait Interpreter<A: Allocator>: Drop {
     /// Runs a line, without its newline, and prints what comes of it, in place of what it printed last. An inner fault is the line's;
     /// nothing was done then. After any fault it isn't used again.
     fn run(&mut self, line: &[u8]) -> Result<Result<(), LineKind>, AllocError>
-        ensures { (plan : Self.Plan) (limits : Limits) (items : List lang.Item) (out : List ℕ) → HasRun plan self.old limits items out
-            → IfOk result (λ ran. TakesItem lang (HasRun plan self.new) limits items out (lang.read line.now) (text self.new) ran) };
+        ensures { (plan : Self.Plan) (before : RunSoFar lang) → HasRun plan self.old before.limits before.items before.out
+            → IfOk result (λ ran. TakesItem lang (HasRun plan self.new) before (lang.read line.now) (text self.new) ran) };
 
     /// What it printed last, whole lines.
     fn text(&self) -> &[u8]

@@ -1,7 +1,7 @@
 ghost use Rattle.std.specs.Prelude.{◌≡◌, IfOk};
 ghost use Rattle.ulfm_laws.specs.declared.flag_and.FlagAnd.{FlagAnd};
 ghost use Rattle.ulfm_model.specs.{Answers.{traits_of}, Runs.{State, new_state}, Words.{MayOpen}};
-ghost use Rattle.ulfm_script.specs.{Runs.{Steps, group_of}, Spelling.{IsSpelled}};
+ghost use Rattle.ulfm_script.specs.{Runs.{Steps, reply_group}, Spelling.{IsSpelled}};
 
 use std::alloc::{AllocError, Allocator};
 use ulfm_laws::FlagAnd;
@@ -27,5 +27,5 @@ pub trait Machine<A: Allocator>: Drop {
     ) -> Result<Reply<FlagAnd>, AllocError>
         requires { IsSpelled call.now }
         ensures steps { IfOk result (λ reply. Steps (state self.old) call.now reply (state self.new)) }
-        ensures group { IfOk result (λ reply. group.new.items ≡ group_of (state self.new) (traits_of call.now).comm reply) };
+        ensures group { IfOk result (λ reply. group.new.items ≡ reply_group (state self.new) (traits_of call.now).comm reply) };
 }

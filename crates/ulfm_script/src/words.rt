@@ -1,7 +1,7 @@
 //! The words of a line, and the numbers and flags that they are.
 ghost use Rattle.std.specs.Prelude.{◌≡◌, ◌<◌, ◌≤◌};
-ghost use Rattle.ulfm_script.specs.Digits.{digit_of, hex_of, number_in, number_of, point_of, number_to, flag_of, hex_digit, flag_text};
-ghost use Rattle.ulfm_script.specs.Words.{word_of, next_word, one_of, two_of, three_of, four_of, rest_at, word_at, two_at, three_at, four_at, Gives};
+ghost use Rattle.ulfm_script.specs.Digits.{digit_of, hex_of, number_in, read_number, read_point, number_to, read_flag, hex_digit, flag_text};
+ghost use Rattle.ulfm_script.specs.Words.{first_word, next_word, one_of, two_of, three_of, four_of, rest_at, word_seen, two_at, three_at, four_at, Gives};
 
 use crate::line_kind::LineKind;
 use ulfm_laws::FlagAnd;
@@ -14,7 +14,7 @@ pub const LAST_COMM: u16 = 255;
 
 /// The first word, and the text behind the space after it.
 pub fn split_word(text: &[u8]) -> (&[u8], Option<&[u8]>)
-    ensures { word_at result ≡ word_of text.now }
+    ensures { word_seen result ≡ first_word text.now }
 {
     for (i, byte) in text.iter().enumerate() {
         if *byte == b' ' {
@@ -27,7 +27,7 @@ pub fn split_word(text: &[u8]) -> (&[u8], Option<&[u8]>)
 /// One more word, which is not empty, and the text behind it.
 #[tactic(auto, unfolding(crate::specs::Words::next_word))]
 pub fn next_word(text: Option<&[u8]>) -> Result<(&[u8], Option<&[u8]>), LineKind>
-    ensures { Gives word_at result (next_word (rest_at text.entry)) }
+    ensures { Gives word_seen result (next_word (rest_at text.entry)) }
 {
     let Some(text) = text else {
         return Err(LineKind::Words);
@@ -83,7 +83,7 @@ pub fn four_words(text: Option<&[u8]>) -> Result<(&[u8], &[u8], &[u8], &[u8]), L
 
 /// A decimal number of at most four digits, without leading zeros.
 pub fn read_number(word: &[u8]) -> Result<u16, LineKind>
-    ensures { result ≡ number_of word.now }
+    ensures { result ≡ read_number word.now }
 {
     let value = read_digits(4, word)?;
     Ok(value as u16)
@@ -91,7 +91,7 @@ pub fn read_number(word: &[u8]) -> Result<u16, LineKind>
 
 /// A decimal number of at most seven digits, without leading zeros: a count of events.
 pub fn read_point(word: &[u8]) -> Result<u32, LineKind>
-    ensures { result ≡ point_of word.now }
+    ensures { result ≡ read_point word.now }
 {
     read_digits(7, word)
 }
@@ -138,9 +138,9 @@ fn digit_value(byte: u8) -> Option<u32>
 }
 
 /// Eight lower case hexadecimal digits.
-#[tactic(auto, unfolding(crate::specs::Digits::flag_of))]
+#[tactic(auto, unfolding(crate::specs::Digits::read_flag))]
 pub fn read_flag(word: &[u8]) -> Result<FlagAnd, LineKind>
-    ensures { result ≡ flag_of word.now }
+    ensures { result ≡ read_flag word.now }
 {
     if word.len() != 8 {
         return Err(LineKind::Flag);

@@ -4,9 +4,10 @@ use Rattle.ulfm_laws.specs.{Flags.{flag_meld}, declared.flag_and.FlagAnd.{FlagAn
 use Rattle.ulfm_model.specs.declared.step_name.StepName.TheVariants as step
 use Rattle.ulfm_model.specs.declared.step_name.StepName.{StepName}
 use Rattle.ulfm_model.specs.Records.{Record}
-use Rattle.ulfm_words.specs.Steps.{Name, Sight}
+use Rattle.ulfm_words.specs.Steps.{view_of, Name, Sight}
 use Rattle.ulfm_comm.specs.{Phase.{StandsAt, UnderWay, is_looking, next_step}, StepsLeft.{IsStepOf, MakesStep}}
 use Rattle.ulfm_comm.specs.declared.phases.phase.{Phase.{Phase}, Phase.TheVariants.{Over, Begun, Looking, Settling, Arriving, Revoking, Asking, Peeking, Marking, Reading, ReadingOn, Spawning, Waiting, Checking}}
+use Rattle.ulfm_comm.specs.Local.{local}
 use Rattle.ulfm_trace_model.specs.Traces.{Traced}
 use Rattle.ulfm_stepping.specs.Seats.{Sits, SitsAt, next_in}
 use Rattle.ulfm_seats.specs.Walks.{FlagSeat}
@@ -49,7 +50,7 @@ sits_next name now pass own found doing (inl begun) = has_next doing.phase (λ i
 sits_next name now pass own found doing (inr called) =
     has_next doing.phase
     (λ is.
-    let at = subst (λ phase. StandsAt flag_meld false name doing.asked called.old called.before phase doing.group own called.stood) is called.stands.at in
+    let at = subst (λ phase. StandsAt flag_meld false doing.asked (local called.old (view_of name called.before)) phase doing.group (local own (view_of name called.stood))) is called.stands.at in
     absurd (cc (at.0, called.in_use)))
 
 -- the step that is named is one atomic step

@@ -8,8 +8,9 @@ use Rattle.ulfm_words.specs.Steps.{Name, Sight}
 use Rattle.ulfm_stepping.specs.Seats.{next_in}
 use Rattle.ulfm_lines.specs.{Progress.{GoesFar, IsReached, Progress}, Walked.{IsCountOf}}
 use Rattle.ulfm_lines.specs.declared.step_machine.Reach.{Reach}
-use Rattle.ulfm_seats.specs.{Table.{next_of, progress_of}, Walks.{FlagSeat, WalksUntil}}
+use Rattle.ulfm_seats.specs.{Table.{seat_next, progress_of}, Walks.{FlagSeat, WalksUntil}}
 use Rattle.ulfm_seats.proofs.Standing.{get_there}
+use Rattle.ulfm_seats.specs.Walks.{stage}
 
 -- there is no element past the last
 get_none : {X : Type 0} (xs : List X) (i : ℕ) → length xs ≤ i → slice_get xs i ≡ None
@@ -25,26 +26,26 @@ get_set (y ∷ ys) (suc i) x below = get_set ys i x (omega (arith, below))
 
 module _ (pass : Sight FlagAnd) (seats : List FlagSeat) (r : ℕ) (reach : Reach) where
   -- no step
-  pub goes_nowhere : next_of (slice_get seats r) ≡ None → GoesFar (progress_of pass seats) (progress_of pass seats) r reach 0
+  pub goes_nowhere : seat_next (slice_get seats r) ≡ None → GoesFar (progress_of pass seats) (progress_of pass seats) r reach 0
   goes_nowhere none = record { count = 0; counted = inl (refl, omega arith); within = λ most is. omega arith; steps = omega arith; stops = inl none }
 
   -- of a rank that the world doesn't have
-  pub no_seat : length seats ≤ r → next_of (slice_get seats r) ≡ None
-  no_seat over = ap next_of (get_none seats r over)
+  pub no_seat : length seats ≤ r → seat_next (slice_get seats r) ≡ None
+  no_seat over = ap seat_next (get_none seats r over)
 
   -- of one without a call
-  pub no_step : (d : FlagSeat) → r < length seats → (get_or seats r d).call ≡ None → next_of (slice_get seats r) ≡ None
-  no_step d below none = ap next_of (get_there seats r d below) ∙ ap next_in none
+  pub no_step : (d : FlagSeat) → r < length seats → (get_or seats r d).call ≡ None → seat_next (slice_get seats r) ≡ None
+  no_step d below none = ap seat_next (get_there seats r d below) ∙ ap next_in none
 
   -- steps of its call
-  pub goes_until : (made : ℕ) (name : Name) (seat : FlagSeat) (text : List ℕ) (after : Sight FlagAnd) (left : FlagSeat) (more : List ℕ) → r < length seats → WalksUntil reach made name pass seat text after left more
+  pub goes_until : (made : ℕ) (name : Name) (seat : FlagSeat) (text : List ℕ) (after : Sight FlagAnd) (left : FlagSeat) (more : List ℕ) → r < length seats → WalksUntil reach made name (stage pass seat text) (stage after left more)
       → GoesFar (progress_of pass seats) (progress_of after (set seats r left)) r reach made
   goes_until made name seat text after left more below w = record { count = length w.names; counted = w.counted; within = w.within; steps = w.steps; stops = stops w.stops }
     where
-      next : next_of (slice_get (set seats r left) r) ≡ next_in left.call
-      next = ap next_of (get_set seats r left below)
+      next : seat_next (slice_get (set seats r left) r) ≡ next_in left.call
+      next = ap seat_next (get_set seats r left below)
 
-      stops : (left.call ≡ None) ⊎ IsReached reach made (next_in left.call) → (next_of (slice_get (set seats r left) r) ≡ None) ⊎ IsReached reach made (next_of (slice_get (set seats r left) r))
+      stops : (left.call ≡ None) ⊎ IsReached reach made (next_in left.call) → (seat_next (slice_get (set seats r left) r) ≡ None) ⊎ IsReached reach made (seat_next (slice_get (set seats r left) r))
       stops (inl over) = inl (next ∙ ap next_in over)
       stops (inr reached) = inr (subst (IsReached reach made) (sym next) reached)
 

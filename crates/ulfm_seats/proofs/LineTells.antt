@@ -7,17 +7,18 @@ use Rattle.ulfm_model.specs.declared.call.Call.TheVariants as call
 use Rattle.ulfm_model.specs.declared.{call.Call.{Call}, event.Caller.{Caller}, refusal.Refusal.{Refusal}, reply.Reply.{Reply}}
 use Rattle.ulfm_model.specs.{Answers.{rank_of, traits_of}, Records.{Record}}
 use Rattle.ulfm_comm.specs.Phase.{UnderWay}
-use Rattle.ulfm_words.specs.Steps.{IsOf, Name, Sight}
+use Rattle.ulfm_words.specs.Steps.{view_of, IsView, Name, Sight}
 use Rattle.ulfm_trace_model.specs.declared.{line.Line.{Line}, step_line.StepLine.TheVariants.{Called}}
-use Rattle.ulfm_trace_model.specs.{Follows.{AreOf, IsPiece}, Traces.{AnswersRank, AreLegalAfter, IsOpen, MayCome, Told, Traced, Under, after, after_reply, call_by, caller_of, record_of, said_by, same_caller, taken_in}}
+use Rattle.ulfm_trace_model.specs.{Follows.{AreOf, IsPiece}, Traces.{AnswersRank, AreLegalAfter, IsOpen, MayCome, Told, Traced, Under, after, after_reply, call_by, caller_of, record_in, said_by, same_caller, taken_in}}
 use Rattle.ulfm_trace_model.proofs.Callers.{same_rank}
 use Rattle.ulfm_lines.specs.{LineTexts.{lines_text}, Progress.{GoesFar, IsReached}, StepLines.{IsByRank}, Stepped.{TellsStep}, Walked.{TellsSteps}}
 use Rattle.ulfm_lines.specs.declared.step_machine.Reach.{Reach}
 use Rattle.ulfm_lines.specs.declared.step_machine.Taken.TheVariants.{Open, Run}
-use Rattle.ulfm_stepping.specs.Stepping.{replied}
+use Rattle.ulfm_stepping.specs.Stepping.{reply_told}
 use Rattle.ulfm_stepping.specs.{Seats.{Sits, SitsAt as SitsWith, begun_piece, next_in, reply_piece}, declared.told.Answer.{Answer}}
-use Rattle.ulfm_seats.specs.{Lines.{BeginsCall, unknown_piece}, Table.{IsNobody, StandsFor}, Walks.{FlagSeat, GoesOn, WalksUntil}}
+use Rattle.ulfm_seats.specs.{Lines.{BeginsCall, unknown_piece}, Table.{IsNobody, StandsFor}, Walks.{FlagSeat, SitsOn, WalksUntil}}
 use Rattle.ulfm_seats.proofs.{Pieces.{AllBy, are_by, find_no_record, piece_call, piece_entries, piece_history}, Standing.{find_last, get_there, ranks_differ, reply_frees, stands_on, stands_seat, tells_step}}
+use Rattle.ulfm_seats.specs.Walks.{stage}
 
 -- a call of a rank is its own
 pub by_its_rank : (asked : Call FlagAnd) → IsByRank asked → (traits_of asked).by ≡ Caller.Rank (rank_of asked)
@@ -72,9 +73,9 @@ module _ (name : Name) (pass : Sight FlagAnd) (seats : List FlagSeat) (now : Tra
     unknown_by = (mine, (refl, tt))
 
     unknown_is : IsPiece now (Called asked) unknown
-    unknown_is = (replied r (length pass.seen) [] refused ∷ [], refl, inr (replied r (length pass.seen) [] refused, refl, ap (λ c. same_caller (Caller.Rank r) c) mine ∙ same_rank r))
+    unknown_is = (reply_told r (length pass.seen) [] refused ∷ [], refl, inr (reply_told r (length pass.seen) [] refused, refl, ap (λ c. same_caller (Caller.Rank r) c) mine ∙ same_rank r))
 
-    no_record : (t : Traced FlagAnd) (point : ℕ) (answered : Option (Under FlagAnd)) → record_of t r ≡ None → record_of (after_reply t (Caller.Rank r) point refused answered) r ≡ None
+    no_record : (t : Traced FlagAnd) (point : ℕ) (answered : Option (Under FlagAnd)) → record_in t r ≡ None → record_in (after_reply t (Caller.Rank r) point refused answered) r ≡ None
     no_record t point None none = none
     no_record t point (Some v) none = ap (λ (rs : List Record). find (λ x. x.number == r) rs) (find_no_record r (taken_in t v point refused) t.records none) ∙ none
 
@@ -146,12 +147,12 @@ module _ (name : Name) (pass : Sight FlagAnd) (seats : List FlagSeat) (now : Tra
         absurd (cc (ap is_some none, is))
 
     -- steps of its call
-    module _ (later : Sight FlagAnd) (left : FlagSeat) (of : IsOf flag_meld name later) (text more : List ℕ) (reach : Reach) (made : ℕ) (w : WalksUntil reach made name pass seat text later left more)
+    module _ (later : Sight FlagAnd) (left : FlagSeat) (of : IsView flag_meld (view_of name later)) (text more : List ℕ) (reach : Reach) (made : ℕ) (w : WalksUntil reach made name (stage pass seat text) (stage later left more))
         (is_open : IsTrue (is_some seat.call)) (few : length later.seen ≤ 4294967295) where
       abbrev said : Traced FlagAnd
       said = said_by now w.walks.piece
 
-      goes : GoesOn name now w.walks.piece later left
+      goes : SitsOn name now w.walks.piece later left
       goes = w.walks.goes now (stands.each r seat there).sits
 
       left_number : left.own.number ≡ r

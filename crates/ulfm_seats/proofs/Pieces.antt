@@ -6,7 +6,7 @@ use Rattle.ulfm_model.specs.declared.{event.Caller.{Caller}, event.Event.{Event}
 use Rattle.ulfm_model.specs.{Answers.{traits_of}, History.{History}, Records.{Record}}
 use Rattle.ulfm_model.proofs.LeftRuns.{left_keeps}
 use Rattle.ulfm_trace_model.specs.declared.line.Line.{Line}
-use Rattle.ulfm_trace_model.specs.{Follows.{AreOf, is_of}, Traces.{Told, Traced, Under, after, after_reply, call_by, caller_of, change_by, found_by, is_owned, record_of, said_by, same_caller, taken_in, with_event}}
+use Rattle.ulfm_trace_model.specs.{Follows.{AreOf, is_of}, Traces.{Told, Traced, Under, after, after_reply, call_by, caller_of, change_by, found_by, is_owned, record_in, said_by, same_caller, taken_in, with_event}}
 use Rattle.ulfm_trace_model.proofs.Callers.{same_is}
 use Rattle.ulfm_lines.proofs.Calls.{find_behind, find_kept, find_left_out, find_unchanged, keeps_asked}
 use Rattle.ulfm_stepping.specs.Seats.{line_by}
@@ -75,14 +75,14 @@ module _ {P : Type 0} where
   taken_number : (now : Traced P) (u : Under P) (point : ℕ) (reply : Reply P) (own : Record) → (taken_in now u point reply own).number ≡ own.number
   taken_number now u point reply own = (left_keeps now.limits.ranks (take point now.history) (record own { seen = if is_some u.look then found_by now u else own.seen }) u.asked reply).0
 
-  reply_record : (now : Traced P) (by : Caller) (s point : ℕ) (reply : Reply P) (answered : Option (Under P)) → same_caller by (Caller.Rank s) ≡ false → record_of (after_reply now by point reply answered) s ≡ record_of now s
+  reply_record : (now : Traced P) (by : Caller) (s point : ℕ) (reply : Reply P) (answered : Option (Under P)) → same_caller by (Caller.Rank s) ≡ false → record_in (after_reply now by point reply answered) s ≡ record_in now s
   reply_record now by s point reply None differ = refl
   reply_record now Caller.Outside s point reply (Some u) differ = refl
   reply_record now (Caller.Rank r) s point reply (Some u) differ =
       find_record r s (taken_in now u point reply) (taken_number now u point reply) (ne_eqb s r (λ e. eqb-false r s differ (sym e))) now.records
 
   -- a line changes no other's record
-  pub line_record : (now : Traced P) (line : Line P) (by : Caller) (s : ℕ) → line_by line ≡ by → same_caller by (Caller.Rank s) ≡ false → record_of (after now line) s ≡ record_of now s
+  pub line_record : (now : Traced P) (line : Line P) (by : Caller) (s : ℕ) → line_by line ≡ by → same_caller by (Caller.Rank s) ≡ false → record_in (after now line) s ≡ record_in now s
   line_record now (Line.Called asked) by s is differ = refl
   line_record now (Line.Looked r count) by s is differ = refl
   line_record now (Line.Happened c None) by s is differ = refl
@@ -109,7 +109,7 @@ module _ {P : Type 0} where
   piece_call now (told ∷ rest) by other all differ = piece_call (after now told.line) rest by other all.1 differ ∙ line_call now told.line by other all.0 differ
 
   -- and a rank's record
-  pub piece_record : (now : Traced P) (piece : List (Told P)) (by : Caller) (s : ℕ) → AllBy by piece → same_caller by (Caller.Rank s) ≡ false → record_of (said_by now piece) s ≡ record_of now s
+  pub piece_record : (now : Traced P) (piece : List (Told P)) (by : Caller) (s : ℕ) → AllBy by piece → same_caller by (Caller.Rank s) ≡ false → record_in (said_by now piece) s ≡ record_in now s
   piece_record now [] by s all differ = refl
   piece_record now (told ∷ rest) by s all differ = piece_record (after now told.line) rest by s all.1 differ ∙ line_record now told.line by s all.0 differ
 

@@ -5,7 +5,7 @@ use Rattle.std.proofs.lemmas.Bool.{ne_eqb}
 use Rattle.std.proofs.lemmas.List.{length-set}
 use Rattle.ulfm_laws.specs.{Flags.{flag_meld}, declared.flag_and.FlagAnd.{FlagAnd}}
 use Rattle.ulfm_model.specs.declared.{call.Call.{Call}, event.Caller.{Caller}, reply.Reply.{Reply}}
-use Rattle.ulfm_words.specs.Steps.{IsOf, Name, Sight}
+use Rattle.ulfm_words.specs.Steps.{view_of, IsView, Name, Sight}
 use Rattle.ulfm_trace_model.specs.declared.{line.Line.{Line}, step_line.StepLine.TheVariants.{Failed}}
 use Rattle.ulfm_trace_model.specs.{Follows.{IsPiece, fail_event, fail_piece}, Traces.{AreLegalAfter, Told, Traced, Under, after, after_reply, call_by, said_by, same_caller}}
 use Rattle.ulfm_trace_model.proofs.{Kept.{limits_stay}, Parts.{said_append}}
@@ -13,7 +13,7 @@ use Rattle.ulfm_stepping.specs.{Failing.{TellsFail}, Seats.{AreOthers, Sits}}
 use Rattle.ulfm_stepping.proofs.Others.{sits_lasts}
 use Rattle.ulfm_lines.specs.{LineTexts.{lines_text}, StepLines.{ScriptStep}, Stepped.{TellsStep}}
 use Rattle.ulfm_lines.specs.declared.step_machine.Taken.TheVariants.{Run}
-use Rattle.ulfm_seats.specs.{Table.{IsNobody, OthersStay, SitsAt, StandsFor}, Walks.{FlagSeat}}
+use Rattle.ulfm_seats.specs.{Table.{IsNobody, OthersStay, IsSeatOf, StandsFor}, Walks.{FlagSeat}}
 use Rattle.ulfm_lines.proofs.Calls.{find_left_out}
 use Rattle.ulfm_seats.proofs.{Pieces.{AllBy, piece_call, piece_record}}
 
@@ -85,9 +85,9 @@ pub ranks_differ : (r s : ℕ) → r ≢ s → same_caller (Caller.Rank r) (Call
 ranks_differ r s ne = ne_eqb r s ne
 
 module _ (name : Name) (pass : Sight FlagAnd) (seats : List FlagSeat) (now : Traced FlagAnd) (stands : StandsFor name pass seats now) (piece : List (Told FlagAnd)) (by : Caller) (all : AllBy by piece) (later : Sight FlagAnd)
-    (history : (said_by now piece).history ≡ later.seen) (of : IsOf flag_meld name later) (onward : pass.steps ≤ later.steps) where
+    (history : (said_by now piece).history ≡ later.seen) (of : IsView flag_meld (view_of name later)) (onward : pass.steps ≤ later.steps) where
   -- another rank sits on
-  other_sits : (r : ℕ) (seat : FlagSeat) → SitsAt name now pass r seat → same_caller by (Caller.Rank r) ≡ false → SitsAt name (said_by now piece) later r seat
+  other_sits : (r : ℕ) (seat : FlagSeat) → IsSeatOf name now pass r seat → same_caller by (Caller.Rank r) ≡ false → IsSeatOf name (said_by now piece) later r seat
   other_sits r seat sits differ =
       record {
         number = sits.number;
@@ -137,7 +137,7 @@ module _ (name : Name) (pass : Sight FlagAnd) (seats : List FlagSeat) (now : Tra
       within : r < length seats
       within = get_below seats r seat there
 
-      each : (s : ℕ) (other : FlagSeat) → ((s ≡ r) × (other ≡ left)) ⊎ ((s ≢ r) × (slice_get seats s ≡ Some other)) → SitsAt name (said_by now piece) later s other
+      each : (s : ℕ) (other : FlagSeat) → ((s ≡ r) × (other ≡ left)) ⊎ ((s ≢ r) × (slice_get seats s ≡ Some other)) → IsSeatOf name (said_by now piece) later s other
       each s other (inl (same, is)) =
           record { number = ap (λ (x : FlagSeat). x.own.number) is ∙ (number ∙ ((stands.each r seat there).number ∙ sym same)); sits = subst (λ x. Sits flag_meld name (said_by now piece) later x) (sym is) sits }
       each s other (inr (differ, is)) =
@@ -145,7 +145,7 @@ module _ (name : Name) (pass : Sight FlagAnd) (seats : List FlagSeat) (now : Tra
 
 -- a whole declaration
 module _ (name : Name) (pass later : Sight FlagAnd) (seats : List FlagSeat) (now : Traced FlagAnd) (stands : StandsFor name pass seats now) (r : ℕ) (reply : Reply FlagAnd) (tells : TellsFail flag_meld name r pass reply later)
-    (of : IsOf flag_meld name later) (onward : pass.steps ≤ later.steps) where
+    (of : IsView flag_meld (view_of name later)) (onward : pass.steps ≤ later.steps) where
   abbrev failed : List (Told FlagAnd)
   failed = fail_piece r (length later.seen) reply
 

@@ -12,28 +12,28 @@ use Rattle.ulfm_model.specs.declared.{call.Call.{Call}, limits.Limits.{Limits}, 
 use Rattle.ulfm_model.specs.{Answers.{comm_of}, History.{History}, Records.{Record}}
 use Rattle.ulfm_comm.specs.Phase.{UnderWay}
 use Rattle.ulfm_stepping.specs.declared.told.{Answer.{Answer}, StepTold.{StepTold}}
-use Rattle.ulfm_stepping.specs.Seats.{AreToldBy, GoesOrEnds, Sits, TellsPiece, asked_in, comm_in, group_in, left_in, next_in, piece_of}
+use Rattle.ulfm_stepping.specs.Seats.{AreToldBy, GoesOrEnds, Sits, TellsPiece, asked_in, comm_in, group_in, call_steps_left, next_in, piece_of}
 use Rattle.ulfm_lines.specs.declared.step_machine.Reach.{Reach}
 use Rattle.ulfm_lines.specs.Walked.{IsCountOf}
-use Rattle.ulfm_seats.specs.Walks.{AreOther, FlagSeat, GoesOn, KnowsGroup, MakesSteps, Walks}
+use Rattle.ulfm_seats.specs.Walks.{stage, AreOther, FlagSeat, SitsOn, KnowsGroup, MakesNamedSteps, SeatWalks}
 
 -- how many steps a call has still to go, with its reply
 abbrev pub to_go : Limits → Record → Option (UnderWay FlagAnd) → ℕ
 to_go limits own None = 0
-to_go limits own (Some doing) = suc (left_in limits own (Some doing))
+to_go limits own (Some doing) = suc (call_steps_left limits own (Some doing))
 
 -- a step brings a call nearer to its end
 pub goes_nearer : (limits : Limits) (old : Record) (was : Option (UnderWay FlagAnd)) (new : Record) (call : Option (UnderWay FlagAnd)) → IsTrue (is_some was)
-    → (IsTrue (is_some call) → left_in limits new call < left_in limits old was) → to_go limits new call < to_go limits old was
+    → (IsTrue (is_some call) → call_steps_left limits new call < call_steps_left limits old was) → to_go limits new call < to_go limits old was
 goes_nearer limits old None new call is less = absurd (cc is)
 goes_nearer limits old (Some doing) new None is less = omega arith
 goes_nearer limits old (Some doing) new (Some next) is less = let nearer = less refl in omega (arith, nearer)
 
 -- steps, and then further steps
-steps_append : (names others : List (Option StepName)) (pass : Sight FlagAnd) (seat : FlagSeat) (after : Sight FlagAnd) (left : FlagSeat) (later : Sight FlagAnd) (last : FlagSeat) → MakesSteps names pass seat after left → MakesSteps others after left later last
-    → MakesSteps (names ++ others) pass seat later last
+steps_append : (names others : List (Option StepName)) (pass : Sight FlagAnd) (seat : FlagSeat) (after : Sight FlagAnd) (left : FlagSeat) (later : Sight FlagAnd) (last : FlagSeat) → MakesNamedSteps names pass seat after left → MakesNamedSteps others after left later last
+    → MakesNamedSteps (names ++ others) pass seat later last
 steps_append [] others pass seat after left later last none more =
-    subst (λ (p : Sight FlagAnd). MakesSteps others p seat later last) none.0 (subst (λ (s : FlagSeat). MakesSteps others after s later last) none.1 more)
+    subst (λ (p : Sight FlagAnd). MakesNamedSteps others p seat later last) none.0 (subst (λ (s : FlagSeat). MakesNamedSteps others after s later last) none.1 more)
 steps_append (x ∷ names) others pass seat after left later last (is, between, mid, made, rest) more =
     (is, between, mid, made, steps_append names others between mid after left later last rest more)
 
@@ -53,7 +53,7 @@ none_by next name (told ∷ rest) all other = ((λ is. other (all.0 name is)), n
 
 module _ (name : Name) (pass : Sight FlagAnd) (seat : FlagSeat) (text : List ℕ) where
   -- no step
-  pub walks_none : Walks name [] pass seat text pass seat text
+  pub walks_none : SeatWalks name [] (stage pass seat text) (stage pass seat text)
   walks_none =
       record {
         piece = [];
@@ -72,7 +72,7 @@ module _ (name : Name) (pass : Sight FlagAnd) (seat : FlagSeat) (text : List ℕ
     -- one step
     pub walks_one : (told : StepTold FlagAnd) → TellsPiece flag_meld name seat pass told left after → pass.steps ≤ after.steps → (asked : Call FlagAnd) → asked_in seat.call ≡ Some asked
         → ((ranks : ℕ) (h : History FlagAnd) → KnowsGroup ranks h (comm_of asked) told.reply left.own → more ≡ text ++ lines_text (piece_of left.own.number told (group_in ranks h (comm_of asked) told.reply)))
-        → Walks name (next_in seat.call ∷ []) pass seat text after left more
+        → SeatWalks name (next_in seat.call ∷ []) (stage pass seat text) (stage after left more)
     walks_one told t onward asked asked_is tells =
         record {
           piece = t.piece;
@@ -105,8 +105,8 @@ module _ (name : Name) (pass : Sight FlagAnd) (seat : FlagSeat) (text : List ℕ
         ends (Some answer) next over = next.in_reply
 
     -- and then further steps
-    module _ (later : Sight FlagAnd) (last : FlagSeat) (all : List ℕ) (names others : List (Option StepName)) (w : Walks name names pass seat text after left more) (is_open : IsTrue (is_some left.call)) (v : Walks name others after left more later last all) where
-      pub walks_then : Walks name (names ++ others) pass seat text later last all
+    module _ (later : Sight FlagAnd) (last : FlagSeat) (all : List ℕ) (names others : List (Option StepName)) (w : SeatWalks name names (stage pass seat text) (stage after left more)) (is_open : IsTrue (is_some left.call)) (v : SeatWalks name others (stage after left more) (stage later last all)) where
+      pub walks_then : SeatWalks name (names ++ others) (stage pass seat text) (stage later last all)
       walks_then =
           let few_w = w.few in
           let few_v = v.few in
@@ -125,7 +125,7 @@ module _ (name : Name) (pass : Sight FlagAnd) (seat : FlagSeat) (text : List ℕ
             goes = λ now sits. goes now (w.goes now sits);
           }
         where
-          goes : (now : Traced FlagAnd) → GoesOn name now w.piece after left → GoesOn name now (w.piece ++ v.piece) later last
+          goes : (now : Traced FlagAnd) → SitsOn name now w.piece after left → SitsOn name now (w.piece ++ v.piece) later last
           goes now g =
               let h = v.goes (said_by now w.piece) g.sits in
               record {

@@ -4,14 +4,14 @@ use Rattle.ulfm_laws.specs.{Flags.{flag_meld}, declared.flag_and.FlagAnd.{FlagAn
 use Rattle.ulfm_model.specs.declared.{call.Call.{Call}, refusal.Refusal.TheVariants.{NoSuchRank}, reply.Reply.TheVariants.{Refused}}
 use Rattle.ulfm_words.specs.Steps.{Name, Sight}
 use Rattle.ulfm_trace_model.specs.{Follows.{called}, Traces.{Told}}
-use Rattle.ulfm_stepping.specs.Stepping.{replied}
+use Rattle.ulfm_stepping.specs.Stepping.{reply_told}
 use Rattle.ulfm_lines.specs.{LineTexts.{lines_text}}
 use Rattle.ulfm_stepping.specs.{Seats.{TellsBegin, begun_piece}, declared.told.Answer.{Answer}}
 use Rattle.ulfm_seats.specs.Walks.{FlagSeat}
 
 -- the lines of a call of a rank that the world doesn't have
 abbrev pub unknown_piece : ℕ → ℕ → Call FlagAnd → List (Told FlagAnd)
-unknown_piece r point asked = called asked ∷ replied r point [] (Refused NoSuchRank) ∷ []
+unknown_piece r point asked = called asked ∷ reply_told r point [] (Refused NoSuchRank) ∷ []
 
 -- a rank's call began, and was told
 pub record BeginsCall (name : Name) (asked : Call FlagAnd) (pass : Sight FlagAnd) (seat : FlagSeat) (text : List ℕ) (left : FlagSeat) (more : List ℕ)

@@ -2,10 +2,10 @@
 use Rattle.std.specs.Prelude.{◌≡◌, ◌≢◌, ℕ, ◌≤◌, List, length, slice_get, Option, Some, None}
 use Rattle.ulfm_laws.specs.{Flags.{flag_meld}, declared.flag_and.FlagAnd.{FlagAnd}}
 use Rattle.ulfm_model.specs.declared.{event.Caller.{Caller}, step_name.StepName.{StepName}}
-use Rattle.ulfm_words.specs.Steps.{IsOf, Name, Sight}
+use Rattle.ulfm_words.specs.Steps.{view_of, IsView, Name, Sight}
 use Rattle.ulfm_model.specs.Answers.{rank_of}
 use Rattle.ulfm_comm.specs.Counts.{Ranked}
-use Rattle.ulfm_trace_model.specs.Traces.{Traced, call_by, record_of}
+use Rattle.ulfm_trace_model.specs.Traces.{Traced, call_by, record_in}
 use Rattle.ulfm_trace_model.specs.declared.step_line.StepLine.TheVariants.{Before, Called, Failed, Finished, Stepped}
 use Rattle.ulfm_lines.specs.{Progress.{Progress}, StepLines.{ScriptStep}}
 use Rattle.ulfm_stepping.specs.Seats.{Sits, next_in}
@@ -23,33 +23,33 @@ idle_seat rank = record { own = rank.own; call = None; found = 0 }
 
 -- the world doesn't have this rank: it has no record, and no call under way
 pub record IsNobody (now : Traced FlagAnd) (r : ℕ) : Type 0 where
-  pub record_is : record_of now r ≡ None
+  pub record_is : record_in now r ≡ None
   pub free : call_by now (Caller.Rank r) ≡ None
 
 -- the seat is that of rank r, who sits so
-pub record SitsAt (name : Name) (now : Traced FlagAnd) (pass : Sight FlagAnd) (r : ℕ) (seat : FlagSeat) : Type 0 where
+pub record IsSeatOf (name : Name) (now : Traced FlagAnd) (pass : Sight FlagAnd) (r : ℕ) (seat : FlagSeat) : Type 0 where
   pub number : seat.own.number ≡ r
   pub sits : Sits flag_meld name now pass seat
 
 -- The lines so far say what the pass has seen, and no declaration is under way. Each rank of the world sits in its seat, in the order of
 -- their numbers, and the world has no others.
 pub record StandsFor (name : Name) (pass : Sight FlagAnd) (seats : List FlagSeat) (now : Traced FlagAnd) : Type 0 where
-  pub of : IsOf flag_meld name pass
+  pub of : IsView flag_meld (view_of name pass)
   pub limits : now.limits ≡ name.limits
   pub history : now.history ≡ pass.seen
   pub no_declaration : call_by now Caller.Outside ≡ None
   pub size : length seats ≡ name.limits.ranks
-  pub each : (r : ℕ) (seat : FlagSeat) → slice_get seats r ≡ Some seat → SitsAt name now pass r seat
+  pub each : (r : ℕ) (seat : FlagSeat) → slice_get seats r ≡ Some seat → IsSeatOf name now pass r seat
   pub beyond : (r : ℕ) → name.limits.ranks ≤ r → IsNobody now r
 
 -- the next step of a seat's call, if there is one
-abbrev pub next_of : Option FlagSeat → Option StepName
-next_of None = None
-next_of (Some seat) = next_in seat.call
+abbrev pub seat_next : Option FlagSeat → Option StepName
+seat_next None = None
+seat_next (Some seat) = next_in seat.call
 
 -- how far the ranks' calls have come
 abbrev pub progress_of : Sight FlagAnd → List FlagSeat → Progress
-progress_of pass seats = record { steps = pass.steps; next = λ r. next_of (slice_get seats r) }
+progress_of pass seats = record { steps = pass.steps; next = λ r. seat_next (slice_get seats r) }
 
 -- the machine stands for what lines say
 abbrev pub IsTable : Table → Traced FlagAnd → Type 0

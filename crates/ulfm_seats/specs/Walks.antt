@@ -9,7 +9,7 @@ use Rattle.ulfm_comm.specs.StepsLeft.{MakesStep}
 use Rattle.ulfm_trace_model.specs.{Follows.{AreOf, EndsInReply, NoneBy, steps_in}, Traces.{AreLegalAfter, Told, Traced, said_by}}
 use Rattle.ulfm_lines.specs.declared.step_machine.Reach.{Reach}
 use Rattle.ulfm_lines.specs.{LineTexts.{lines_text}, Progress.{IsReached}, Walked.{IsCountOf}}
-use Rattle.ulfm_stepping.specs.{Seats.{MayList, Seated, Sits, comm_in, left_in, next_in}, declared.told.Answer.{Answer}}
+use Rattle.ulfm_stepping.specs.{Seats.{MayList, Seated, Sits, comm_in, call_steps_left, next_in}, declared.told.Answer.{Answer}}
 
 -- the ranks that have a seat, with flags as contributions
 abbrev pub FlagSeat : Type 0
@@ -17,7 +17,7 @@ FlagSeat = Seated FlagAnd
 
 -- how many steps are left of the call under way, at most
 abbrev pub left_of : Name → FlagSeat → ℕ
-left_of name seat = left_in name.limits seat.own seat.call
+left_of name seat = call_steps_left name.limits seat.own seat.call
 
 -- a rank knows the ranks that its answer's line lists, if there is one
 abbrev pub KnowsGroup : ℕ → History FlagAnd → ℕ → Option (Answer FlagAnd) → Record → Type 0
@@ -25,44 +25,51 @@ KnowsGroup ranks h c None own = ⊤
 KnowsGroup ranks h c (Some answer) own = MayList ranks (take answer.point h) c answer.reply own
 
 -- a rank's call goes on by lines in its name, each of which may come, and the rank sits on, where this was said before
-pub record GoesOn (name : Name) (now : Traced FlagAnd) (piece : List (Told FlagAnd)) (after : Sight FlagAnd) (seat : FlagSeat) : Type 0 where
+pub record SitsOn (name : Name) (now : Traced FlagAnd) (piece : List (Told FlagAnd)) (after : Sight FlagAnd) (seat : FlagSeat) : Type 0 where
   pub legal : AreLegalAfter flag_meld now piece
   pub sits : Sits flag_meld name (said_by now piece) after seat
 
 -- the names of the steps that a seat's call made, one after another
-abbrev pub MakesSteps : List (Option StepName) → Sight FlagAnd → FlagSeat → Sight FlagAnd → FlagSeat → Type 0
-MakesSteps [] pass seat after left = (after ≡ pass) × (left ≡ seat)
-MakesSteps (name ∷ names) pass seat after left =
+abbrev pub MakesNamedSteps : List (Option StepName) → Sight FlagAnd → FlagSeat → Sight FlagAnd → FlagSeat → Type 0
+MakesNamedSteps [] pass seat after left = (after ≡ pass) × (left ≡ seat)
+MakesNamedSteps (name ∷ names) pass seat after left =
     (next_in seat.call ≡ name) × (between : Sight FlagAnd) × (mid : FlagSeat) × MakesStep name seat.own.number (comm_in seat.call) pass between
-    × MakesSteps names between mid after left
+    × MakesNamedSteps names between mid after left
 
 -- none of these steps has the name
 abbrev pub AreOther : StepName → List (Option StepName) → Type 0
 AreOther name names = AllByRecursion (λ made. made ≢ Some name) names
 
+-- what a machine of single steps has at a moment: its pass, a rank's seat, and what it has written so far
+pub record Stage : Type 0 where
+  pub pass : Sight FlagAnd
+  pub seat : FlagSeat
+  pub text : List ℕ
+
+abbrev pub stage : Sight FlagAnd → FlagSeat → List ℕ → Stage
+stage pass seat text = record { pass = pass; seat = seat; text = text }
+
 -- Steps of these names were made of a rank's call and told: lines in its name, no more looks and events than steps, none by a step of a name that none
 -- of them has, and a reply at last where the call is over. They may come wherever the rank sits so.
-pub record Walks (name : Name) (names : List (Option StepName)) (pass : Sight FlagAnd) (seat : FlagSeat) (text : List ℕ) (after : Sight FlagAnd)
-    (left : FlagSeat) (more : List ℕ) : Type 0 where
+pub record SeatWalks (name : Name) (names : List (Option StepName)) (old new : Stage) : Type 0 where
   pub piece : List (Told FlagAnd)
-  pub told : more ≡ text ++ lines_text piece
-  pub makes : MakesSteps names pass seat after left
-  pub by : AreOf (Caller.Rank seat.own.number) piece
+  pub told : new.text ≡ old.text ++ lines_text piece
+  pub makes : MakesNamedSteps names old.pass old.seat new.pass new.seat
+  pub by : AreOf (Caller.Rank old.seat.own.number) piece
   pub few : steps_in piece ≤ length names
   pub others : (name : StepName) → AreOther name names → NoneBy name piece
-  pub ends : IsTrue (is_some seat.call) → left.call ≡ None → EndsInReply piece
-  pub number : left.own.number ≡ seat.own.number
-  pub onward : pass.steps ≤ after.steps
-  pub goes : (now : Traced FlagAnd) → Sits flag_meld name now pass seat → GoesOn name now piece after left
+  pub ends : IsTrue (is_some old.seat.call) → new.seat.call ≡ None → EndsInReply piece
+  pub number : new.seat.own.number ≡ old.seat.own.number
+  pub onward : old.pass.steps ≤ new.pass.steps
+  pub goes : (now : Traced FlagAnd) → Sits flag_meld name now old.pass old.seat → SitsOn name now piece new.pass new.seat
 
 -- Steps of a rank's call were made and told, as far as they are taken, and this was counted: no more than may be, and none that has the name before
 -- which they stop. The call is over then, or as far as is said.
-pub record WalksUntil (reach : Reach) (made : ℕ) (name : Name) (pass : Sight FlagAnd) (seat : FlagSeat) (text : List ℕ) (after : Sight FlagAnd)
-    (left : FlagSeat) (more : List ℕ) : Type 0 where
+pub record WalksUntil (reach : Reach) (made : ℕ) (name : Name) (old new : Stage) : Type 0 where
   pub names : List (Option StepName)
   pub counted : IsCountOf (length names) made
   pub within : (most : ℕ) → reach.most ≡ Some most → length names ≤ most
   pub before : (name : StepName) → reach.name ≡ Some name → AreOther name names
-  pub steps : after.steps ≡ pass.steps + length names
-  pub walks : Walks name names pass seat text after left more
-  pub stops : (left.call ≡ None) ⊎ IsReached reach made (next_in left.call)
+  pub steps : new.pass.steps ≡ old.pass.steps + length names
+  pub walks : SeatWalks name names old new
+  pub stops : (new.seat.call ≡ None) ⊎ IsReached reach made (next_in new.seat.call)

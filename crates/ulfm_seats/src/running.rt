@@ -3,12 +3,13 @@ ghost use Rattle.std.specs.Prelude.{◌≡◌, ◌++◌, ◌+◌, ◌*◌, ◌�
 ghost use Rattle.ulfm_laws.specs.{Flags.{flag_meld}, declared.flag_and.FlagAnd.{FlagAnd}};
 ghost use Rattle.ulfm_model.specs.Answers.{rank_of as caller_in, traits_of};
 ghost use Rattle.ulfm_model.specs.declared.{event.Caller.TheVariants.{Rank as OfRank}, reply.Reply.{Reply}};
-ghost use Rattle.ulfm_words.specs.{Pass.{plain_name}, Steps.{IsOf}};
+ghost use Rattle.ulfm_words.specs.{Pass.{plain_name}, Steps.{IsView}};
+ghost use Rattle.ulfm_words.specs.Steps.{view_of};
 ghost use Rattle.ulfm_trace_model.specs.Traces.{Traced};
 ghost use Rattle.ulfm_trace_model.specs.declared.step_line.StepLine.TheVariants.{Called, Failed};
 ghost use Rattle.ulfm_lines.specs.declared.step_machine.Taken.TheVariants.{Run};
 ghost use Rattle.ulfm_lines.specs.Progress.{GoesAsSaid, GoesFar};
-ghost use Rattle.ulfm_lines.specs.{LineTexts.{lines_text}, StepLines.{IsByRank}, Stepped.{IsStep, TellsStep}, Walked.{TellsSteps}};
+ghost use Rattle.ulfm_lines.specs.{LineTexts.{lines_text}, StepLines.{IsByRank}, Stepped.{IsSpelledStep, TellsStep}, Walked.{TellsSteps}};
 ghost use Rattle.ulfm_seats.specs.{Lines.{BeginsCall}, Table.{OthersStay, SeatsStay, StandsFor, progress_of}};
 
 use crate::telling::{tell_begun, tell_declaration, tell_unknown};
@@ -33,7 +34,7 @@ fn begin_at<A: Allocator + Copy + Drop>(
 ) -> Result<(), AllocError>
     requires mine { (traits_of asked).by ≡ OfRank seat.old.own.number }
     requires closed { seat.old.call ≡ None }
-    requires of { IsOf flag_meld (plain_name world.now.words.limits) pass.now }
+    requires of { IsView flag_meld (view_of (plain_name world.now.words.limits) pass.now) }
     ensures { OnOk result (BeginsCall (plain_name world.now.words.limits) asked pass.now seat.old teller.old.text.items seat.new teller.new.text.items) }
 {
     let rank = seat.number();
@@ -137,7 +138,7 @@ pub(crate) fn run_line<A: Allocator + Copy + Drop>(
     group: &mut Vec<u16, A>,
     teller: &mut Teller<A>,
 ) -> Result<Taken, AllocError>
-    requires step { IsStep step.now }
+    requires step { IsSpelledStep step.now }
     requires stands { (now : Traced FlagAnd) × StandsFor (plain_name world.now.words.limits) pass.old seats.old now }
     ensures tells { (now : Traced FlagAnd) → StandsFor (plain_name world.now.words.limits) pass.old seats.old now
         → IfOk result (λ taken. TellsStep (StandsFor (plain_name world.now.words.limits) pass.new seats.new) now step.now taken

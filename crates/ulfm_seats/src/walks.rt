@@ -1,12 +1,13 @@
 // Steps of one rank's call, and the lines that they tell.
 ghost use Rattle.std.specs.Prelude.{◌≡◌, ◌≢◌, ◌+◌, ◌<◌, ◌≤◌, ℕ, [], ◌∷◌, Some, false, is_some, IfOk, IsTrue, OnOk};
 ghost use Rattle.ulfm_laws.specs.{Flags.{flag_meld}, declared.flag_and.FlagAnd.{FlagAnd}};
-ghost use Rattle.ulfm_words.specs.{Pass.{plain_name}, Steps.{IsOf}};
+ghost use Rattle.ulfm_words.specs.{Pass.{plain_name}, Steps.{IsView}};
+ghost use Rattle.ulfm_words.specs.Steps.{view_of};
 ghost use Rattle.ulfm_trace_model.specs.Traces.{Traced};
 ghost use Rattle.ulfm_model.specs.declared.step_name.StepName.{StepName as TheStep};
 ghost use Rattle.ulfm_stepping.specs.Seats.{Sits, next_in};
 ghost use Rattle.ulfm_lines.specs.Progress.{IsReached};
-ghost use Rattle.ulfm_seats.specs.Walks.{Walks, WalksUntil, left_of};
+ghost use Rattle.ulfm_seats.specs.Walks.{stage, SeatWalks, WalksUntil, left_of};
 
 use crate::telling::tell_step;
 use std::alloc::{AllocError, Allocator};
@@ -26,14 +27,15 @@ fn walk_one<A: Allocator + Copy + Drop>(
     group: &mut Vec<u16, A>,
     teller: &mut Teller<A>,
 ) -> Result<(), AllocError>
-    requires of { IsOf flag_meld (plain_name world.now.words.limits) pass.old }
+    requires of { IsView flag_meld (view_of (plain_name world.now.words.limits) pass.old) }
     requires sits { (now : Traced FlagAnd) × Sits flag_meld (plain_name world.now.words.limits) now pass.old seat.old }
     requires is_open { IsTrue (is_some seat.old.call) }
-    ensures of { IsOf flag_meld (plain_name world.now.words.limits) pass.new }
-    ensures walks { OnOk result (Walks (plain_name world.now.words.limits) (next_in seat.old.call ∷ []) pass.old seat.old teller.old.text.items pass.new
-        seat.new teller.new.text.items) }
+    ensures of { IsView flag_meld (view_of (plain_name world.now.words.limits) pass.new) }
+    ensures walks { OnOk result (SeatWalks (plain_name world.now.words.limits) (next_in seat.old.call ∷ []) (stage pass.old seat.old teller.old.text.items)
+        (stage pass.new seat.new teller.new.text.items)) }
     ensures step { OnOk result (pass.new.steps ≡ pass.old.steps + 1) }
-    ensures nearer { OnOk result (IsTrue (is_some seat.new.call) → left_of (plain_name world.now.words.limits) seat.new < left_of (plain_name world.now.words.limits) seat.old) }
+    ensures nearer { OnOk result (IsTrue (is_some seat.new.call) → left_of (plain_name world.now.words.limits) seat.new < left_of
+        (plain_name world.now.words.limits) seat.old) }
 {
     let Some(asked) = seat.asked() else {
         unreachable!()
@@ -68,11 +70,11 @@ pub(crate) fn walk_until<A: Allocator + Copy + Drop>(
     group: &mut Vec<u16, A>,
     teller: &mut Teller<A>,
 ) -> Result<u32, AllocError>
-    requires of { IsOf flag_meld (plain_name world.now.words.limits) pass.old }
+    requires of { IsView flag_meld (view_of (plain_name world.now.words.limits) pass.old) }
     requires sits { (now : Traced FlagAnd) × Sits flag_meld (plain_name world.now.words.limits) now pass.old seat.old }
-    ensures of { IsOf flag_meld (plain_name world.now.words.limits) pass.new }
-    ensures walks { IfOk result (λ made. WalksUntil reach made (plain_name world.now.words.limits) pass.old seat.old teller.old.text.items pass.new
-        seat.new teller.new.text.items) }
+    ensures of { IsView flag_meld (view_of (plain_name world.now.words.limits) pass.new) }
+    ensures walks { IfOk result (λ made. WalksUntil reach made (plain_name world.now.words.limits) (stage pass.old seat.old teller.old.text.items)
+        (stage pass.new seat.new teller.new.text.items)) }
 {
     let mut made = 0;
     'steps: while seat.is_open() {

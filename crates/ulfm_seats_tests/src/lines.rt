@@ -1,6 +1,6 @@
 //! Lines of step scripts, with the lines of the trace that they tell.
 ghost use Rattle.std.specs.Prelude.{IfOk};
-ghost use Rattle.ulfm_lines.specs.Stepped.{IsStep};
+ghost use Rattle.ulfm_lines.specs.Stepped.{IsSpelledStep};
 
 use std::alloc::Global;
 use std::process::Abort;
@@ -37,7 +37,7 @@ fn open(alloc: Global, limits: Limits) -> Result<Told, Fail> {
 }
 
 fn step_of(line: &str) -> Result<StepLine<FlagAnd>, Fail>
-    ensures { IfOk result IsStep }
+    ensures { IfOk result IsSpelledStep }
 {
     match read_step_line(line.as_bytes()) {
         Ok(step) => Ok(step),

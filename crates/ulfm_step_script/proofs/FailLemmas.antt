@@ -6,14 +6,14 @@ use Rattle.ulfm_model.specs.declared.{call.Call.{Call}, event.Caller.{Caller}, l
 use Rattle.ulfm_script.specs.declared.line_kind.LineKind.TheVariants.{Open}
 use Rattle.std.specs.Prelude.{IfOk}
 use Rattle.std.specs.Io.KnownBytes.{Appends}
-use Rattle.ulfm_script.specs.Ends.{HasFault, HasRunAll, Known, TakesItem}
+use Rattle.ulfm_script.specs.Ends.{HasFault, HasRunAll, KnownText, RunSoFar, TakesItem}
 use Rattle.ulfm_trace_model.specs.declared.{line.Line.{Line}, step_line.StepLine.TheVariants.{Before, Called, Failed, Finished, Stepped}}
 use Rattle.ulfm_trace_model.specs.{Follows.{EndsInReply, Follows, IsAtOnce, IsPiece, fail_piece, is_reply, steps_in, takes_step}, Traces.{AreLegalAfter, IsOpen, Told, Under, after, after_reply, call_by, nothing, said_by}}
 use Rattle.ulfm_trace_model.proofs.Parts.{legal_append, said_append}
 use Rattle.ulfm_lines.proofs.{Calls.{opens_all, opens_append, said_opens}, Joined.{all_append, ends_append, lines_append, steps_append}, Taking.{taken_steps}}
 use Rattle.ulfm_lines.specs.{LineTexts.{lines_text}, StepLines.{ScriptStep, step_line_of}, Stepped.{IsOpenCall, TellsStep, TraceState}, Walked.{IsCountOf, IsTaken, TellsSteps, to_the_end}}
 use Rattle.ulfm_lines.specs.declared.step_machine.{Reach.{Reach}, Taken.{Taken}, Taken.TheVariants.{Open as IsOpenStill, Run}}
-use Rattle.ulfm_step_script.specs.{FailingScripts.{Declares, FailsAfter, FindsOpenBehind, HasFailed, LeavesDue, LeavesOut, LeavesSoFar, Lines, RestsAt, RunsFailing, RunsStep, StandsAt, TakesStep, TellsWalk, behind_of, failing_scripts, fewer, ranks_event, ranks_events, up_to}, StepScripts.{first_line, trace_text}}
+use Rattle.ulfm_step_script.specs.{FailingScripts.{DeclaresIfDue, EngineState, FailsAfter, FindsOpenBehind, HasFailed, LeavesDue, LeavesOut, LeavesSoFar, Lines, RestsAt, RunsFailing, RunsStep, StandsSoFar, TakesStepLine, TellsWalk, behind_of, failing_scripts, fewer, ranks_event, ranks_events, up_to}, StepScripts.{first_line, trace_text}}
 use Rattle.ulfm_step_script.specs.declared.plan.Failing.{Failing}
 use Rattle.ulfm_step_script.proofs.TraceLemmas.{follows_append}
 
@@ -180,20 +180,37 @@ leaves_due limits plan true steps trace rest l early = inl (early refl, l.1)
 leaves_due limits plan false steps trace rest l early = inr l
 
 -- lines that are told where the declaration isn't due
-rests_at : (Says : TraceState → Type 0) (limits : Limits) (plan : Failing) (waits : Bool) (made : ℕ) (trace rest : Lines) (at : StandsAt Says limits plan waits made trace rest) → (waits ≡ true → at.steps < plan.at)
-    → RestsAt Says limits plan waits made trace rest
-rests_at Says limits plan waits made trace rest at early =
-    record { stands = at; early = early; left_out = leaves_due limits plan waits at.steps trace rest at.left_out early }
+rests_at : (now : EngineState) (limits : Limits) (trace rest : Lines) (at : StandsSoFar now limits trace rest) → (now.waits ≡ true → at.steps < now.plan.at)
+    → RestsAt now limits trace rest
+rests_at now limits trace rest at early =
+    record { stands = at; early = early; left_out = leaves_due limits now.plan now.waits at.steps trace rest at.left_out early }
 
-module _ (Was After : TraceState → Type 0) (limits : Limits) (plan : Failing) (waits : Bool) (made : ℕ) (trace rest : Lines)
-    (at : StandsAt Was limits plan waits made trace rest) where
+-- what was told last doesn't matter
+retold : (now : EngineState) (text : List ℕ) (limits : Limits) (trace rest : Lines) → RestsAt now limits trace rest → RestsAt (record now { text = text }) limits trace rest
+retold now text limits trace rest at =
+    let s = at.stands in
+    record {
+      stands = record { legal = s.legal; steps = s.steps; made_is = s.made_is; left_out = s.left_out; counted = s.counted; says = s.says };
+      early = at.early;
+      left_out = at.left_out;
+    }
+
+-- the state behind further steps: what the machine says then, how many were counted, and what was told
+abbrev further : EngineState → (TraceState → Type 0) → ℕ → List ℕ → EngineState
+further was After made text = record was { Says = After; made = made; text = text }
+
+-- the state behind the declaration
+abbrev declared : EngineState → (TraceState → Type 0) → List ℕ → EngineState
+declared was After text = record was { Says = After; waits = false; text = text }
+
+module _ (was : EngineState) (After : TraceState → Type 0) (limits : Limits) (trace rest : Lines) (at : StandsSoFar was limits trace rest) where
   abbrev now : TraceState
   now = said_by (nothing limits) trace
 
   -- steps of a rank's call, no more than come before the declaration, if it is still to come
-  pub stands_stepped : (q : ℕ) (reach : Reach) (n sum : ℕ) (old new : List ℕ) (t : TellsSteps After now q reach n old new) → IsCountOf (made + n) sum
-      → (waits ≡ true → at.steps + t.count ≤ plan.at) → StandsAt After limits plan waits sum (trace ++ t.piece) (rest ++ t.piece)
-  stands_stepped q reach n sum old new t all within =
+  pub stands_stepped : (q : ℕ) (reach : Reach) (n sum : ℕ) (new : List ℕ) (t : TellsSteps After now q reach n was.text new) → IsCountOf (was.made + n) sum
+      → (was.waits ≡ true → at.steps + t.count ≤ was.plan.at) → StandsSoFar (further was After sum new) limits (trace ++ t.piece) (rest ++ t.piece)
+  stands_stepped q reach n sum new t all within =
       let said = said_append (nothing limits) trace t.piece in
       let more = ranks_append trace t.piece in
       let fewer_events = ranks_fewer t.piece in
@@ -201,30 +218,30 @@ module _ (Was After : TraceState → Type 0) (limits : Limits) (plan : Failing) 
       let second = ranks_room now t.piece in
       let few = t.few in
       let room = t.room in
-      let counted = counted_on (ranks_events trace) (ranks_events t.piece) t.count n made sum at.counted (omega (arith, fewer_events, few)) t.counted all (omega (arith, first, second, room)) in
+      let counted = counted_on (ranks_events trace) (ranks_events t.piece) t.count n was.made sum at.counted (omega (arith, fewer_events, few)) t.counted all (omega (arith, first, second, room)) in
       record {
         legal = legal_append flag_meld (nothing limits) trace t.piece at.legal t.legal;
         steps = at.steps + t.count;
-        made_is = made_on at.steps t.count n made sum at.made_is t.counted all;
-        left_out = leaves_more limits plan waits at.steps t.count trace rest t.piece at.left_out (omega (arith, fewer_events, few)) within;
+        made_is = made_on at.steps t.count n was.made sum at.made_is t.counted all;
+        left_out = leaves_more limits was.plan was.waits at.steps t.count trace rest t.piece at.left_out (omega (arith, fewer_events, few)) within;
         counted = omega (arith, more, counted);
         says = subst After (sym said) t.stands;
       }
 
   -- no step
-  left_same : (piece : Lines) → ranks_events piece ≡ 0 → LeavesSoFar limits plan waits at.steps (trace ++ piece) (rest ++ piece)
+  left_same : (piece : Lines) → ranks_events piece ≡ 0 → LeavesSoFar limits was.plan was.waits at.steps (trace ++ piece) (rest ++ piece)
   left_same piece none =
-      subst (λ n. LeavesSoFar limits plan waits n (trace ++ piece) (rest ++ piece)) (add-zero at.steps)
-      (leaves_more limits plan waits at.steps 0 trace rest piece at.left_out (omega (arith, none)) (λ is. within waits is at.left_out))
+      subst (λ n. LeavesSoFar limits was.plan was.waits n (trace ++ piece) (rest ++ piece)) (add-zero at.steps)
+      (leaves_more limits was.plan was.waits at.steps 0 trace rest piece at.left_out (omega (arith, none)) (λ is. within was.waits is at.left_out))
     where
-      within : (b : Bool) → b ≡ true → LeavesSoFar limits plan b at.steps trace rest → at.steps + 0 ≤ plan.at
+      within : (b : Bool) → b ≡ true → LeavesSoFar limits was.plan b at.steps trace rest → at.steps + 0 ≤ was.plan.at
       within true is l = let below = l.0 in omega (arith, below)
       within false is l = absurd (cc is)
 
   -- a line of the script that makes no step
-  stands_told : (piece : Lines) → AreLegalAfter flag_meld now piece → ranks_events piece ≡ 0 → After (said_by now piece)
-      → StandsAt After limits plan waits made (trace ++ piece) (rest ++ piece)
-  stands_told piece legal none stands =
+  stands_told : (piece : Lines) (new : List ℕ) → AreLegalAfter flag_meld now piece → ranks_events piece ≡ 0 → After (said_by now piece)
+      → StandsSoFar (further was After was.made new) limits (trace ++ piece) (rest ++ piece)
+  stands_told piece new legal none stands =
       let more = ranks_append trace piece in
       let counted = at.counted in
       record {
@@ -236,30 +253,30 @@ module _ (Was After : TraceState → Type 0) (limits : Limits) (plan : Failing) 
         says = subst After (sym (said_append (nothing limits) trace piece)) stands;
       }
 
-  pub runs_told : (waits ≡ true → at.steps < plan.at) → (step : ScriptStep) → ((piece : Lines) → IsPiece now step piece → ranks_events piece ≡ 0) → (old new : List ℕ)
-      → TellsStep After now step Run old new → RunsStep After limits plan waits made trace rest step old new
+  pub runs_told : (was.waits ≡ true → at.steps < was.plan.at) → (step : ScriptStep) → ((piece : Lines) → IsPiece now step piece → ranks_events piece ≡ 0) → (new : List ℕ)
+      → TellsStep After now step Run was.text new → RunsStep was (further was After was.made new) limits trace rest step
   unfolding stands_told
-  runs_told early step none old new t =
+  runs_told early step none new t =
       let f = t.2.follows in
       let whole : t.0 ≡ f.0 = f.2 ∙ (ap (λ (x : Lines). f.0 ++ x) f.4 ∙ append-nil f.0) in
       let is : IsPiece now step t.0 = subst (IsPiece now step) (sym whole) f.3 in
       record {
         whole = t.0;
         piece = t.0;
-        rests = rests_at After limits plan waits made (trace ++ t.0) (rest ++ t.0) (stands_told t.0 t.2.legal (none t.0 is) (subst After t.2.new_is t.3)) early;
+        rests = rests_at (further was After was.made new) limits (trace ++ t.0) (rest ++ t.0) (stands_told t.0 new t.2.legal (none t.0 is) (subst After t.2.new_is t.3)) early;
         is_piece = is;
         told = t.4;
       }
 
   -- the declaration, where it was still to come, and is due
-  module _ (due : plan.at ≤ made) where
-    declares_here : (declaration : Lines) → IsPiece now (Failed plan.rank) declaration → (b : Bool) → b ≡ true → LeavesSoFar limits plan b at.steps trace rest
-        → LeavesOut limits plan.rank plan.at at.steps (trace ++ declaration) rest
+  module _ (due : was.plan.at ≤ was.made) where
+    declares_here : (declaration : Lines) → IsPiece now (Failed was.plan.rank) declaration → (b : Bool) → b ≡ true → LeavesSoFar limits was.plan b at.steps trace rest
+        → LeavesOut limits was.plan.rank was.plan.at at.steps (trace ++ declaration) rest
     declares_here declaration is false same l = absurd (cc same)
     declares_here declaration is true same l =
         let all = l.1.few in
         let below = l.0 in
-        let made_steps = made_below at.steps made at.made_is in
+        let made_steps = made_below at.steps was.made at.made_is in
         record {
           before = trace;
           declaration = declaration;
@@ -271,24 +288,24 @@ module _ (Was After : TraceState → Type 0) (limits : Limits) (plan : Failing) 
           few_behind = omega (arith, due, made_steps);
         }
 
-    pub stands_declared : waits ≡ true → (old new : List ℕ) → TellsStep After now (Failed plan.rank) Run old new
-        → Declares After limits plan false made trace rest true old new
-    stands_declared is old new t =
+    pub stands_declared : was.waits ≡ true → (new : List ℕ) → TellsStep After now (Failed was.plan.rank) Run was.text new
+        → DeclaresIfDue was (declared was After new) limits trace rest true
+    stands_declared is new t =
         let f = t.2.follows in
         let whole : t.0 ≡ f.0 = f.2 ∙ (ap (λ (x : Lines). f.0 ++ x) f.4 ∙ append-nil f.0) in
-        let piece : IsPiece now (Failed plan.rank) t.0 = subst (IsPiece now (Failed plan.rank)) (sym whole) f.3 in
+        let piece : IsPiece now (Failed was.plan.rank) t.0 = subst (IsPiece now (Failed was.plan.rank)) (sym whole) f.3 in
         let more = ranks_append trace t.0 in
-        let none = failed_events now plan.rank t.0 piece in
+        let none = failed_events now was.plan.rank t.0 piece in
         let counted = at.counted in (
           refl,
           t.0,
           piece,
-          rests_at After limits plan false made (trace ++ t.0) rest
+          rests_at (declared was After new) limits (trace ++ t.0) rest
               (record {
                 legal = legal_append flag_meld (nothing limits) trace t.0 at.legal t.2.legal;
                 steps = at.steps;
                 made_is = at.made_is;
-                left_out = declares_here t.0 piece waits is at.left_out;
+                left_out = declares_here t.0 piece was.waits is at.left_out;
                 counted = omega (arith, more, none, counted);
                 says = subst After (sym (said_append (nothing limits) trace t.0)) (subst After t.2.new_is t.3);
               }) (λ same. absurd (cc same)),
@@ -301,33 +318,33 @@ still_early steps made at (inl is) early fits = omega (arith, is.0, early)
 still_early steps made at (inr full) early fits = absurd (omega (arith, full.0, early, fits))
 
 -- a declaration is no call of a rank that has one under way
-pub declared_by : (Was After : TraceState → Type 0) (limits : Limits) (plan : Failing) (waits : Bool) (made : ℕ) (trace rest : Lines) → StandsAt Was limits plan waits made trace rest
-    → plan.at ≤ made → waits ≡ true → (taken : Taken) (old new : List ℕ) → TellsStep After (said_by (nothing limits) trace) (Failed plan.rank) taken old new
-    → Declares After limits plan false made trace rest true old new
-declared_by Was After limits plan waits made trace rest at due is Run old new t = stands_declared Was After limits plan waits made trace rest at due is old new t
-declared_by Was After limits plan waits made trace rest at due is IsOpenStill old new t = absurd (cc t.0.1)
+pub declared_by : (was : EngineState) (After : TraceState → Type 0) (limits : Limits) (trace rest : Lines) → StandsSoFar was limits trace rest
+    → was.plan.at ≤ was.made → was.waits ≡ true → (taken : Taken) (new : List ℕ)
+    → TellsStep After (said_by (nothing limits) trace) (Failed was.plan.rank) taken was.text new → DeclaresIfDue was (declared was After new) limits trace rest true
+declared_by was After limits trace rest at due is Run new t = stands_declared was After limits trace rest at due is new t
+declared_by was After limits trace rest at due is IsOpenStill new t = absurd (cc t.0.1)
 
 -- a line of the script that makes no step was run, or couldn't be
-pub took_other : {E : Type 0} (Was After : TraceState → Type 0) (limits : Limits) (plan : Failing) (waits : Bool) (made : ℕ) (trace rest : Lines)
-    → RestsAt Was limits plan waits made trace rest → (step : ScriptStep) → ((piece : Lines) → IsPiece (said_by (nothing limits) trace) step piece → ranks_events piece ≡ 0)
-    → (old new : List ℕ) (result : Result Taken E) → IfOk result (λ taken. TellsStep After (said_by (nothing limits) trace) step taken old new)
-    → IfOk result (λ taken. TakesStep After limits plan waits made trace rest step taken old new)
-took_other Was After limits plan waits made trace rest at step none old new (Ok Run) t = runs_told Was After limits plan waits made trace rest at.stands at.early step none old new t
-took_other Was After limits plan waits made trace rest at step none old new (Ok IsOpenStill) t = t
-took_other Was After limits plan waits made trace rest at step none old new (Err fault) t = tt
+pub took_other : {E : Type 0} (was : EngineState) (After : TraceState → Type 0) (limits : Limits) (trace rest : Lines)
+    → RestsAt was limits trace rest → (step : ScriptStep) → ((piece : Lines) → IsPiece (said_by (nothing limits) trace) step piece → ranks_events piece ≡ 0)
+    → (new : List ℕ) (result : Result Taken E) → IfOk result (λ taken. TellsStep After (said_by (nothing limits) trace) step taken was.text new)
+    → IfOk result (λ taken. TakesStepLine was (further was After was.made new) limits trace rest step taken)
+took_other was After limits trace rest at step none new (Ok Run) t = runs_told was After limits trace rest at.stands at.early step none new t
+took_other was After limits trace rest at step none new (Ok IsOpenStill) t = t
+took_other was After limits trace rest at step none new (Err fault) t = tt
 
-module _ (Says : TraceState → Type 0) (limits : Limits) (plan : Failing) (waits : Bool) (made : ℕ) (trace rest : Lines) (old new : List ℕ) where
+module _ (old new : EngineState) (limits : Limits) (trace rest : Lines) where
   -- a declaration that isn't due, since it was made or fewer steps were
-  pub none_due : (at : StandsAt Says limits plan waits made trace rest) → (waits ≡ true → (made < plan.at) × (plan.at ≤ 4294967295)) → new ≡ old → Declares Says limits plan waits made trace rest false old new
-  none_due at early same = (rests_at Says limits plan waits made trace rest at (λ is. let before = early is in still_early at.steps made plan.at at.made_is before.0 before.1), same)
+  pub none_due : StandsSoFar new limits trace rest → (new.waits ≡ true → (new.made < new.plan.at) × (new.plan.at ≤ 4294967295)) → new.text ≡ old.text → DeclaresIfDue old new limits trace rest false
+  none_due at early same = (rests_at new limits trace rest at (λ is. let before = early is in still_early at.steps new.made new.plan.at at.made_is before.0 before.1), same)
 
   -- one that wasn't due
-  pub not_due : (due : Bool) → due ≡ false → Declares Says limits plan waits made trace rest due old new → Declares Says limits plan waits made trace rest false old new
+  pub not_due : (due : Bool) → due ≡ false → DeclaresIfDue old new limits trace rest due → DeclaresIfDue old new limits trace rest false
   not_due true is d = absurd (cc is)
   not_due false is d = d
 
   -- one that was
-  pub is_due : (due : Bool) → due ≡ true → Declares Says limits plan waits made trace rest due old new → Declares Says limits plan waits made trace rest true old new
+  pub is_due : (due : Bool) → due ≡ true → DeclaresIfDue old new limits trace rest due → DeclaresIfDue old new limits trace rest true
   is_due true is d = d
   is_due false is d = absurd (cc is)
 
@@ -411,96 +428,95 @@ within_plan steps made at count left (inl is) below fits left_is few = omega (ar
 within_plan steps made at count left (inr full) below fits left_is few = omega (arith, full.0, full.1, below, fits, left_is, few)
 
 -- the first part of a walk, up to the declaration
-pub stands_first_part : (Was After : TraceState → Type 0) (limits : Limits) (plan : Failing) (waits : Bool) (made : ℕ) (trace rest : Lines) (at : StandsAt Was limits plan waits made trace rest) (q : ℕ) (reach : Reach) (left n sum : ℕ) (old new : List ℕ)
-    (t : TellsSteps After (said_by (nothing limits) trace) q (up_to left reach) n old new) → IsCountOf (made + n) sum → left ≡ plan.at - made → plan.at ≤ 4294967295
-    → StandsAt After limits plan waits sum (trace ++ t.piece) (rest ++ t.piece)
-stands_first_part Was After limits plan waits made trace rest at q reach left n sum old new t all left_is fits =
-    stands_stepped Was After limits plan waits made trace rest at q (up_to left reach) n sum old new t all (λ is. go waits is at.left_out)
+pub stands_first_part : (was : EngineState) (After : TraceState → Type 0) (limits : Limits) (trace rest : Lines) (at : StandsSoFar was limits trace rest) (q : ℕ) (reach : Reach) (left n sum : ℕ) (new : List ℕ)
+    (t : TellsSteps After (said_by (nothing limits) trace) q (up_to left reach) n was.text new) → IsCountOf (was.made + n) sum → left ≡ was.plan.at - was.made → was.plan.at ≤ 4294967295
+    → StandsSoFar (further was After sum new) limits (trace ++ t.piece) (rest ++ t.piece)
+stands_first_part was After limits trace rest at q reach left n sum new t all left_is fits =
+    stands_stepped was After limits trace rest at q (up_to left reach) n sum new t all (λ is. go was.waits is at.left_out)
   where
-    go : (b : Bool) → b ≡ true → LeavesSoFar limits plan b at.steps trace rest → at.steps + t.count ≤ plan.at
+    go : (b : Bool) → b ≡ true → LeavesSoFar limits was.plan b at.steps trace rest → at.steps + t.count ≤ was.plan.at
     go true is l =
         let one = t.within (fewer left reach.most) refl in
         let two = fewer_left left reach.most in
-        within_plan at.steps made plan.at t.count left at.made_is l.0 fits left_is (omega (arith, one, two))
+        within_plan at.steps was.made was.plan.at t.count left at.made_is l.0 fits left_is (omega (arith, one, two))
     go false is l = absurd (cc is)
 
-module _ (limits : Limits) (plan : Failing) (q : ℕ) (reach : Reach) (trace rest : Lines) where
+module _ (limits : Limits) (q : ℕ) (reach : Reach) (trace rest : Lines) where
   abbrev said : TraceState
   said = said_by (nothing limits) trace
 
   -- a walk behind the declaration
-  pub walk_whole : (Was After : TraceState → Type 0) (waits : Bool) (made n sum : ℕ) (old new : List ℕ) → waits ≡ false → StandsAt Was limits plan waits made trace rest
-      → TellsSteps After said q reach n old new → IsCountOf (made + n) sum → TellsWalk After limits plan waits sum trace rest q reach old new
-  walk_whole Was After waits made n sum old new over at t all = record {
+  pub walk_whole : (was : EngineState) (After : TraceState → Type 0) (n sum : ℕ) (new : List ℕ) → was.waits ≡ false → StandsSoFar was limits trace rest
+      → TellsSteps After said q reach n was.text new → IsCountOf (was.made + n) sum → TellsWalk was (further was After sum new) limits trace rest q reach
+  walk_whole was After n sum new over at t all = record {
     whole = t.piece;
     piece = t.piece;
-    rests = rests_at After limits plan waits sum (trace ++ t.piece) (rest ++ t.piece)
-        (stands_stepped Was After limits plan waits made trace rest at q reach n sum old new t all (λ is. absurd (cc (is, over)))) (λ is. absurd (cc (is, over)));
-    taken = taken_steps After said q reach n old new t;
+    rests = rests_at (further was After sum new) limits (trace ++ t.piece) (rest ++ t.piece)
+        (stands_stepped was After limits trace rest at q reach n sum new t all (λ is. absurd (cc (is, over)))) (λ is. absurd (cc (is, over)));
+    taken = taken_steps After said q reach n was.text new t;
     told = t.told;
   }
 
   -- one that ended before the declaration
-  pub walk_cut : (Later After : TraceState → Type 0) (waits : Bool) (made left n : ℕ) (old new last : List ℕ)
-      (t : TellsSteps After said q (up_to left reach) n old new) → n ≢ left → RestsAt Later limits plan waits made (trace ++ t.piece) (rest ++ t.piece)
-      → last ≡ new → TellsWalk Later limits plan waits made trace rest q reach old last
-  walk_cut Later After waits made left n old new last t other at same = record {
+  pub walk_cut : (was later : EngineState) (After : TraceState → Type 0) (left n : ℕ) (new : List ℕ) (t : TellsSteps After said q (up_to left reach) n was.text new)
+      → n ≢ left → RestsAt later limits (trace ++ t.piece) (rest ++ t.piece) → later.text ≡ new → TellsWalk was later limits trace rest q reach
+  walk_cut was later After left n new t other at same = record {
     whole = t.piece;
     piece = t.piece;
     rests = at;
-    taken = taken_cut After said q reach left n old new t other;
+    taken = taken_cut After said q reach left n was.text new t other;
     told = same ∙ t.told;
   }
 
   -- one with the declaration in between
-  module _ (Mid Later After : TraceState → Type 0) (waits : Bool) (over : waits ≡ false) (made left n m sum : ℕ) (fits : left ≤ 4294967295) (old new mid last : List ℕ)
-      (t : TellsSteps After said q (up_to left reach) n old new) (declaration : Lines) (is : IsPiece (nothing limits) (Failed plan.rank) declaration)
-      (at : StandsAt Mid limits plan waits made ((trace ++ t.piece) ++ declaration) (rest ++ t.piece)) (told : mid ≡ new ++ lines_text declaration)
-      (u : TellsSteps Later (said_by (nothing limits) ((trace ++ t.piece) ++ declaration)) q (behind_of n reach) m mid last) (all : IsCountOf (made + m) sum) where
+  module _ (was mid : EngineState) (Later After : TraceState → Type 0) (over : mid.waits ≡ false) (left n m sum : ℕ) (fits : left ≤ 4294967295) (new last : List ℕ)
+      (t : TellsSteps After said q (up_to left reach) n was.text new) (declaration : Lines) (is : IsPiece (nothing limits) (Failed mid.plan.rank) declaration)
+      (at : StandsSoFar mid limits ((trace ++ t.piece) ++ declaration) (rest ++ t.piece)) (told : mid.text ≡ new ++ lines_text declaration)
+      (u : TellsSteps Later (said_by (nothing limits) ((trace ++ t.piece) ++ declaration)) q (behind_of n reach) m mid.text last) (all : IsCountOf (mid.made + m) sum) where
     abbrev whole : Lines
     whole = t.piece ++ (declaration ++ u.piece)
 
     then_same : is_some (call_by (said_by (nothing limits) ((trace ++ t.piece) ++ declaration)) (Caller.Rank q)) ≡ is_some (call_by (said_by said t.piece) (Caller.Rank q))
     then_same =
         ap (λ (x : TraceState). is_some (call_by x (Caller.Rank q))) (said_append (nothing limits) (trace ++ t.piece) declaration ∙ ap (λ (x : TraceState). said_by x declaration) (said_append (nothing limits) trace t.piece))
-        ∙ (said_opens q (said_by said t.piece) declaration ∙ declared_opens q limits plan.rank declaration (is_some (call_by (said_by said t.piece) (Caller.Rank q))) is)
+        ∙ (said_opens q (said_by said t.piece) declaration ∙ declared_opens q limits mid.plan.rank declaration (is_some (call_by (said_by said t.piece) (Caller.Rank q))) is)
 
     regroup : ((trace ++ t.piece) ++ declaration) ++ u.piece ≡ trace ++ whole
     regroup =
         append_assoc (trace ++ t.piece) declaration u.piece ∙ append_assoc trace t.piece (declaration ++ u.piece)
 
-    stands : StandsAt Later limits plan waits sum (trace ++ whole) (rest ++ (t.piece ++ u.piece))
+    stands : StandsSoFar (further mid Later sum last) limits (trace ++ whole) (rest ++ (t.piece ++ u.piece))
     stands =
-        subst (λ (x : Lines). StandsAt Later limits plan waits sum x (rest ++ (t.piece ++ u.piece))) regroup
-        (subst (λ (x : Lines). StandsAt Later limits plan waits sum (((trace ++ t.piece) ++ declaration) ++ u.piece) x) (append_assoc rest t.piece u.piece)
-        (stands_stepped Mid Later limits plan waits made ((trace ++ t.piece) ++ declaration) (rest ++ t.piece) at q (behind_of n reach) m sum mid last u all (λ is. absurd (cc (is, over)))))
+        subst (λ (x : Lines). StandsSoFar (further mid Later sum last) limits x (rest ++ (t.piece ++ u.piece))) regroup
+        (subst (λ (x : Lines). StandsSoFar (further mid Later sum last) limits (((trace ++ t.piece) ++ declaration) ++ u.piece) x) (append_assoc rest t.piece u.piece)
+        (stands_stepped mid Later limits ((trace ++ t.piece) ++ declaration) (rest ++ t.piece) at q (behind_of n reach) m sum last u all (λ is. absurd (cc (is, over)))))
 
-    texts : last ≡ old ++ lines_text whole
+    texts : last ≡ was.text ++ lines_text whole
     texts =
         u.told
         ∙ (ap (λ (x : List ℕ). x ++ lines_text u.piece) (told ∙ ap (λ (x : List ℕ). x ++ lines_text declaration) t.told)
-        ∙ (append_assoc (old ++ lines_text t.piece) (lines_text declaration) (lines_text u.piece)
-        ∙ (append_assoc old (lines_text t.piece) (lines_text declaration ++ lines_text u.piece)
-        ∙ ap (λ (x : List ℕ). old ++ x) (ap (λ (x : List ℕ). lines_text t.piece ++ x) (sym (lines_append declaration u.piece)) ∙ sym (lines_append t.piece (declaration ++ u.piece))))))
+        ∙ (append_assoc (was.text ++ lines_text t.piece) (lines_text declaration) (lines_text u.piece)
+        ∙ (append_assoc was.text (lines_text t.piece) (lines_text declaration ++ lines_text u.piece)
+        ∙ ap (λ (x : List ℕ). was.text ++ x) (ap (λ (x : List ℕ). lines_text t.piece ++ x) (sym (lines_append declaration u.piece)) ∙ sym (lines_append t.piece (declaration ++ u.piece))))))
 
-    pub walk_both : TellsWalk Later limits plan waits sum trace rest q reach old last
+    pub walk_both : TellsWalk was (further mid Later sum last) limits trace rest q reach
     walk_both = record {
       whole = whole;
       piece = t.piece ++ u.piece;
-      rests = rests_at Later limits plan waits sum (trace ++ whole) (rest ++ (t.piece ++ u.piece)) stands (λ is. absurd (cc (is, over)));
-      taken = taken_both After said q reach Later (said_by (nothing limits) ((trace ++ t.piece) ++ declaration)) left n m fits old new mid last t u then_same;
+      rests = rests_at (further mid Later sum last) limits (trace ++ whole) (rest ++ (t.piece ++ u.piece)) stands (λ is. absurd (cc (is, over)));
+      taken = taken_both After said q reach Later (said_by (nothing limits) ((trace ++ t.piece) ++ declaration)) left n m fits was.text new mid.text last t u then_same;
       told = texts;
     }
 
 -- a walk is the piece of its line
-pub walk_step : (Says : TraceState → Type 0) (limits : Limits) (plan : Failing) (waits : Bool) (made : ℕ) (trace rest : Lines) (q : ℕ) (reach : Reach) (old new : List ℕ)
-    (step : ScriptStep) → (w : TellsWalk Says limits plan waits made trace rest q reach old new) → IsPiece (said_by (nothing limits) trace) step w.piece
-    → RunsStep Says limits plan waits made trace rest step old new
-walk_step Says limits plan waits made trace rest q reach old new step w is = record { whole = w.whole; piece = w.piece; rests = w.rests; is_piece = is; told = w.told }
+pub walk_step : (old new : EngineState) (limits : Limits) (trace rest : Lines) (q : ℕ) (reach : Reach) (step : ScriptStep)
+    → (w : TellsWalk old new limits trace rest q reach) → IsPiece (said_by (nothing limits) trace) step w.piece → RunsStep old new limits trace rest step
+walk_step old new limits trace rest q reach step w is = record { whole = w.whole; piece = w.piece; rests = w.rests; is_piece = is; told = w.told }
 
 -- nothing is told yet
-pub stands_first : (Says : TraceState → Type 0) (limits : Limits) (plan : Failing) → Says (nothing limits) → StandsAt Says limits plan true 0 [] []
-stands_first Says limits plan says = record {
+pub stands_first : (Says : TraceState → Type 0) (limits : Limits) (plan : Failing) (text : List ℕ) → Says (nothing limits)
+    → StandsSoFar (record { Says = Says; plan = plan; waits = true; made = 0; text = text }) limits [] []
+stands_first Says limits plan text says = record {
   legal = tt;
   steps = 0;
   made_is = inl (refl, omega arith);
@@ -510,29 +526,29 @@ stands_first Says limits plan says = record {
 }
 
 -- behind the header, and the declaration, if it was due there
-pub has_opened : (Says : TraceState → Type 0) (limits : Limits) (plan own : Failing) (waits : Bool) (made : ℕ) (due : Bool) (old new : List ℕ) → own ≡ plan
-    → old ≡ first_line limits → Declares Says limits plan waits made [] [] due old new → HasFailed plan own Says waits made limits [] new
-has_opened Says limits plan own waits made true old new same first d = record {
+pub has_opened : (plan : Failing) (old new : EngineState) (limits : Limits) (due : Bool) → new.plan ≡ plan → old.text ≡ first_line limits
+    → DeclaresIfDue old new limits [] [] due → HasFailed plan new limits [] new.text
+has_opened plan old new limits true same first d = record {
   plan_is = same;
   trace = d.1;
   rest = [];
-  rests = subst (λ (x : Failing). RestsAt Says limits x waits made d.1 []) (sym same) d.3;
+  rests = d.3;
   follows = refl;
   out_is = d.4 ∙ ap (λ (x : List ℕ). x ++ lines_text d.1) first;
 }
-has_opened Says limits plan own waits made false old new same first d = record {
+has_opened plan old new limits false same first d = record {
   plan_is = same;
   trace = [];
   rest = [];
-  rests = subst (λ (x : Failing). RestsAt Says limits x waits made [] []) (sym same) d.0;
+  rests = d.0;
   follows = refl;
   out_is = d.1 ∙ (first ∙ sym (append-nil (first_line limits)));
 }
 
 -- so much was written of lines that were run
-fails_after : (Says : TraceState → Type 0) (plan own : Failing) (waits : Bool) (made : ℕ) (limits : Limits) (lines : List ScriptStep) (out : List ℕ) → HasFailed plan own Says waits made limits lines out
-    → FailsAfter own.at own.rank made limits lines out
-fails_after Says plan own waits made limits lines out h =
+fails_after : (plan : Failing) (own : EngineState) (limits : Limits) (lines : List ScriptStep) (out : List ℕ) → HasFailed plan own limits lines out
+    → FailsAfter own.plan.at own.plan.rank own.made limits lines out
+fails_after plan own limits lines out h =
     let s = h.rests.stands in
     record {
       trace = h.trace;
@@ -546,53 +562,63 @@ fails_after Says plan own waits made limits lines out h =
       out_is = h.out_is;
     }
 
-module _ (Was Says : TraceState → Type 0) (plan own later : Failing) (waited waits : Bool) (made sum : ℕ) (limits : Limits) (lines : List ScriptStep) (out line : List ℕ)
-    (step : ScriptStep) (h : HasFailed plan own Was waited made limits lines out) (e : step_line_of line ≡ Ok step) where
+-- the state before a line, with nothing told of it yet
+abbrev cleared : EngineState → List ℕ → EngineState
+cleared was text = record was { text = text }
+
+module _ (plan : Failing) (was own : EngineState) (before : RunSoFar failing_scripts) (line : List ℕ) (step : ScriptStep)
+    (h : HasFailed plan was before.limits before.items before.out) (e : step_line_of line ≡ Ok step) where
+  -- the lines that were told before stand
+  pub rests_cleared : (text : List ℕ) → RestsAt (cleared was text) before.limits h.trace h.rest
+  rests_cleared text = retold was text before.limits h.trace h.rest h.rests
+
   -- a line was run
-  pub takes_failing : (old text : List ℕ) → old ≡ [] → later ≡ own → RunsStep Says limits own waits sum h.trace h.rest step old text
-      → TakesItem failing_scripts (HasFailed plan later Says waits sum) limits lines out (step_line_of line) text (Ok tt)
-  takes_failing old text none same t =
-      let told : text ≡ lines_text t.whole = t.told ∙ ap (λ (x : List ℕ). x ++ lines_text t.whole) none in
-      let follows : Follows (nothing limits) (lines ++ step ∷ []) (h.rest ++ t.piece) =
-      follows_append (nothing limits) lines (step ∷ []) h.rest t.piece h.follows
-      (t.piece, [], sym (append-nil t.piece), piece_without limits own waited h.rests.stands.steps h.trace h.rest h.rests.stands.left_out step t.piece t.is_piece, refl) in (
+  pub takes_failing : (text : List ℕ) → text ≡ [] → own.plan ≡ was.plan → RunsStep (cleared was text) own before.limits h.trace h.rest step
+      → TakesItem failing_scripts (HasFailed plan own) before (step_line_of line) own.text (Ok tt)
+  takes_failing text none same t =
+      let limits = before.limits in
+      let told : own.text ≡ lines_text t.whole = t.told ∙ ap (λ (x : List ℕ). x ++ lines_text t.whole) none in
+      let follows : Follows (nothing limits) (before.items ++ step ∷ []) (h.rest ++ t.piece) =
+      follows_append (nothing limits) before.items (step ∷ []) h.rest t.piece h.follows
+      (t.piece, [], sym (append-nil t.piece), piece_without limits was.plan was.waits h.rests.stands.steps h.trace h.rest h.rests.stands.left_out step t.piece t.is_piece, refl) in (
         step,
         e,
         record {
           plan_is = same ∙ h.plan_is;
           trace = h.trace ++ t.whole;
           rest = h.rest ++ t.piece;
-          rests = subst (λ (x : Failing). RestsAt Says limits x waits sum (h.trace ++ t.whole) (h.rest ++ t.piece)) (sym same) t.rests;
+          rests = t.rests;
           follows = follows;
-          out_is = ap (λ (x : List ℕ). x ++ text) h.out_is
+          out_is = ap (λ (x : List ℕ). x ++ own.text) h.out_is
               ∙ (ap (λ (x : List ℕ). trace_text limits h.trace ++ x) told
               ∙ (append_assoc (first_line limits) (lines_text h.trace) (lines_text t.whole) ∙ ap (λ (x : List ℕ). first_line limits ++ x) (sym (lines_append h.trace t.whole))));
         },
       )
 
   -- a line begins a call of a rank that has one under way
-  pub finds_failing : IsOpenCall (said_by (nothing limits) h.trace) step → HasFault failing_scripts limits lines out (step_line_of line) Open
+  pub finds_failing : IsOpenCall (said_by (nothing before.limits) h.trace) step → HasFault failing_scripts before (step_line_of line) Open
   unfolding fails_after
   finds_failing is =
-      let found : (behind : List ScriptStep) → FindsOpenBehind limits (lines ++ step ∷ behind) (length lines + 2) Open out = λ behind. record {
+      let lines : List ScriptStep = before.items in
+      let found : (behind : List ScriptStep) → FindsOpenBehind before.limits (lines ++ step ∷ behind) (length lines + 2) Open before.out = λ behind. record {
         first = lines;
         asked = is.0;
         behind = behind;
         kind_is = refl;
         lines_are = ap (λ (s : ScriptStep). lines ++ s ∷ behind) is.1;
         number_is = refl;
-        at = own.at;
-        r = own.rank;
-        made = made;
-        fails = fails_after Was plan own waited made limits lines out h;
+        at = was.plan.at;
+        r = was.plan.rank;
+        made = was.made;
+        fails = fails_after plan was before.limits lines before.out h;
         is_open = is.2;
       } in
       inr (step, e, found)
 
 -- what was run by a plan fails its rank
-pub all_failing : (Says : TraceState → Type 0) (plan own : Failing) (waits : Bool) (made : ℕ) (known old new : Known)
-    → HasRunAll failing_scripts (HasFailed plan own Says waits made) known (Appends old new) → RunsFailing plan.at plan.rank made known old new
-all_failing Says plan own waits made known old new h =
+pub all_failing : (plan : Failing) (own : EngineState) (known old new : KnownText) → HasRunAll failing_scripts (HasFailed plan own) known (Appends old new)
+    → RunsFailing plan.at plan.rank own.made known old new
+all_failing plan own known old new h =
     record {
       text = h.text;
       limits = h.limits;
@@ -600,6 +626,6 @@ all_failing Says plan own waits made known old new h =
       out = h.out;
       whole = h.whole;
       script_is = h.script_is;
-      has_run = subst (λ (x : Failing). FailsAfter x.at x.rank made h.limits h.items h.out) h.has_run.plan_is (fails_after Says plan own waits made h.limits h.items h.out h.has_run);
+      has_run = subst (λ (x : Failing). FailsAfter x.at x.rank own.made h.limits h.items h.out) h.has_run.plan_is (fails_after plan own h.limits h.items h.out h.has_run);
       told = h.told;
     }

@@ -1,5 +1,5 @@
 -- How far a script's line takes a call, with the declaration in between.
-use Rattle.std.proofs.Common.{◌≡◌, ◌≢◌, ℕ, ◌+◌, ◌-◌, ◌≤◌, ◌<◌, option_map, Option, Some, None, Result, Ok, Err, refl, ap, sym, ◌∙◌, subst, arith, inl, inr}
+use Rattle.std.proofs.Common.{◌≡◌, ◌≢◌, ℕ, ◌+◌, ◌-◌, ◌≤◌, option_map, Option, Some, None, Result, Ok, Err, refl, ap, sym, ◌∙◌, subst, arith, inl, inr}
 use Rattle.std.specs.Prelude.{◌⊎◌, OnOk, min}
 use Rattle.std.proofs.Math.Nat.{add-zero}
 use Rattle.ulfm_laws.specs.declared.flag_and.FlagAnd.{FlagAnd}

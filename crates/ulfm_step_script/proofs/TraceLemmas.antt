@@ -1,9 +1,8 @@
 -- Traces that grow, one line of a script after another.
 use Rattle.std.proofs.Common.{◌≡◌, ℕ, ◌+◌, List, [], ◌∷◌, ◌++◌, length, Ok, refl, sym, ap, subst, ◌∙◌, append_assoc, inr}
-use Rattle.ulfm_laws.specs.{Flags.{flag_meld}, declared.flag_and.FlagAnd.{FlagAnd}}
-use Rattle.ulfm_model.specs.declared.limits.Limits.{Limits}
+use Rattle.ulfm_laws.specs.{Flags.{flag_meld}}
 use Rattle.ulfm_script.specs.declared.line_kind.LineKind.TheVariants.{Open}
-use Rattle.ulfm_script.specs.Ends.{HasFault, TakesItem}
+use Rattle.ulfm_script.specs.Ends.{HasFault, RunSoFar, TakesItem}
 use Rattle.ulfm_trace_model.specs.declared.step_line.StepLine.{StepLine}
 use Rattle.ulfm_trace_model.specs.{Follows.{Follows, Runs}, Traces.{AreLegalAfter, Told, Traced, nothing, said_by}}
 use Rattle.ulfm_trace_model.proofs.Parts.{legal_append, said_append}
@@ -36,24 +35,26 @@ runs_then {P} meld old mid new lines more trace piece h k = record {
 }
 
 -- a line was run, and its piece of the trace was told
-pub takes_line : (Before After : TraceState → Type 0) (limits : Limits) (lines : List ScriptStep) (out line old text : List ℕ) (step : ScriptStep)
-    (h : Traces Before limits lines out) → step_line_of line ≡ Ok step → old ≡ [] → TellsStep After h.1 step taken.Run old text
-    → TakesItem step_scripts (Traces After) limits lines out (step_line_of line) text (Ok tt)
-takes_line Before After limits lines out line old text step h e none t =
+pub takes_line : (Before After : TraceState → Type 0) (before : RunSoFar step_scripts) (line old text : List ℕ) (step : ScriptStep)
+    (h : Traces Before before.limits before.items before.out) → step_line_of line ≡ Ok step → old ≡ [] → TellsStep After h.1 step taken.Run old text
+    → TakesItem step_scripts (Traces After) before (step_line_of line) text (Ok tt)
+takes_line Before After before line old text step h e none t =
+    let limits = before.limits in
     let piece = lines_text t.0 in
     let told : text ≡ piece = t.4 ∙ ap (λ (bytes : List ℕ). bytes ++ piece) none in
-    let all : out ++ text ≡ trace_text limits (h.0 ++ t.0) =
+    let all : before.out ++ text ≡ trace_text limits (h.0 ++ t.0) =
     ap (λ (bytes : List ℕ). bytes ++ text) h.4 ∙ ap (λ (bytes : List ℕ). trace_text limits h.0 ++ bytes) told
     ∙ append_assoc (first_line limits) (lines_text h.0) piece ∙ ap (λ (bytes : List ℕ). first_line limits ++ bytes) (sym (lines_append h.0 t.0))
     in
-    (step, e, (h.0 ++ t.0, t.1, runs_then flag_meld (nothing limits) h.1 t.1 lines (step ∷ []) h.0 t.0 h.2 t.2, t.3, all))
+    (step, e, (h.0 ++ t.0, t.1, runs_then flag_meld (nothing limits) h.1 t.1 before.items (step ∷ []) h.0 t.0 h.2 t.2, t.3, all))
 
 -- a line begins a call of a rank that has one under way
-pub finds_open : (Before : TraceState → Type 0) (limits : Limits) (lines : List ScriptStep) (out line : List ℕ) (step : ScriptStep)
-    (h : Traces Before limits lines out) → step_line_of line ≡ Ok step → IsOpenCall h.1 step
-    → HasFault step_scripts limits lines out (step_line_of line) Open
-finds_open Before limits lines out line step h e is =
-    let found : (behind : List ScriptStep) → FindsOpenCall limits (lines ++ step ∷ behind) (length lines + 2) Open out = λ behind. (
+pub finds_open : (Before : TraceState → Type 0) (before : RunSoFar step_scripts) (line : List ℕ) (step : ScriptStep)
+    (h : Traces Before before.limits before.items before.out) → step_line_of line ≡ Ok step → IsOpenCall h.1 step
+    → HasFault step_scripts before (step_line_of line) Open
+finds_open Before before line step h e is =
+    let lines : List ScriptStep = before.items in
+    let found : (behind : List ScriptStep) → FindsOpenCall before.limits (lines ++ step ∷ behind) (length lines + 2) Open before.out = λ behind. (
       h.0,
       refl,
       record {

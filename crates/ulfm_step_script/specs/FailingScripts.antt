@@ -7,7 +7,7 @@ use Rattle.ulfm_model.specs.Answers.{traits_of}
 use Rattle.ulfm_script.specs.declared.header_kind.HeaderKind.TheVariants.{Steps}
 use Rattle.ulfm_script.specs.declared.line_kind.LineKind.{LineKind}
 use Rattle.ulfm_script.specs.declared.line_kind.LineKind.TheVariants.{Open}
-use Rattle.ulfm_script.specs.{Ends.{HasRunAll, Known}, Scripts.{Language}}
+use Rattle.ulfm_script.specs.{Ends.{HasRunAll, KnownText}, Scripts.{Language}}
 use Rattle.std.specs.Io.KnownBytes.{Appends}
 use Rattle.ulfm_trace_model.specs.declared.{line.Line.{Line}, step_line.StepLine.TheVariants.{Before, Called, Failed, Finished, Stepped}}
 use Rattle.ulfm_trace_model.specs.{Follows.{Follows, IsPiece}, Traces.{IsLegalTrace, IsOpen, Told, nothing, said_by}}
@@ -15,7 +15,7 @@ use Rattle.ulfm_lines.specs.{LineTexts.{lines_text}, StepLines.{ScriptStep, step
 use Rattle.ulfm_lines.specs.{Progress.{Progress}, Walked.{IsCountOf, IsTaken}}
 use Rattle.ulfm_lines.specs.declared.step_machine.{Reach.{Reach}, Taken.{Taken}, Taken.TheVariants.{Open as IsOpenStill, Run}}
 use Rattle.ulfm_step_script.specs.StepScripts.{trace_text}
-use Rattle.ulfm_step_script.specs.declared.plan.Failing.{Failing}
+use Rattle.ulfm_step_script.specs.declared.{failing.FailingLines.{FailingLines}, plan.Failing.{Failing}}
 
 -- lines of a trace
 abbrev pub Lines : Type 0
@@ -89,7 +89,7 @@ failing_scripts = record { Item = ScriptStep; kind = Steps; read = step_line_of;
 
 -- The script of the reader's whole text was run, which has no fault, and rank r was declared behind step `at`, or the script was too short: what
 -- the reader had, what the writer had and has, and the number of steps.
-abbrev pub RunsFailing : ℕ → ℕ → ℕ → Known → Known → Known → Type 0
+abbrev pub RunsFailing : ℕ → ℕ → ℕ → KnownText → KnownText → KnownText → Type 0
 RunsFailing at r number known old new = HasRunAll failing_scripts (FailsAfter at r number) known (Appends old new)
 
 -- while the declaration is still to come, nothing is left out, and no more steps were made than come before it
@@ -97,29 +97,42 @@ abbrev pub LeavesSoFar : Limits → Failing → Bool → ℕ → Lines → Lines
 LeavesSoFar limits plan true steps trace rest = (steps ≤ plan.at) × LeavesAll steps trace rest
 LeavesSoFar limits plan false steps trace rest = LeavesOut limits plan.rank plan.at steps trace rest
 
+-- The state of an engine that runs such lines: what its machine says of a trace, the declaration that was planned and whether it is still to come,
+-- the number of steps that was counted, and the text that was told last.
+pub record EngineState : Type 1 where
+  pub Says : TraceState → Type 0
+  pub plan : Failing
+  pub waits : Bool
+  pub made : ℕ
+  pub text : List ℕ
+
+-- the state of this engine, by what its machine says
+abbrev pub state_of : {M A : Type 0} → (M → TraceState → Type 0) → FailingLines M A → EngineState
+state_of Stands it =
+    record { Says = Stands it.machine; plan = it.plan; waits = it.waits; made = it.made; text = it.teller.text.items }
+
 -- Lines that the machine stands for, and what is left of them without the declaration that was planned, if it isn't still to come. So many steps
 -- were made, and this was counted.
-pub record StandsAt (Says : TraceState → Type 0) (limits : Limits) (plan : Failing) (waits : Bool) (made : ℕ) (trace rest : Lines) : Type 0 where
+pub record StandsSoFar (now : EngineState) (limits : Limits) (trace rest : Lines) : Type 0 where
   pub legal : IsLegalTrace flag_meld limits trace
   pub steps : ℕ
-  pub made_is : IsCountOf steps made
-  pub left_out : LeavesSoFar limits plan waits steps trace rest
-  pub counted : ranks_events trace ≤ made
-  pub says : Says (said_by (nothing limits) trace)
+  pub made_is : IsCountOf steps now.made
+  pub left_out : LeavesSoFar limits now.plan now.waits steps trace rest
+  pub counted : ranks_events trace ≤ now.made
+  pub says : now.Says (said_by (nothing limits) trace)
 
 -- the same, where the declaration isn't due
-pub record RestsAt (Says : TraceState → Type 0) (limits : Limits) (plan : Failing) (waits : Bool) (made : ℕ) (trace rest : Lines) : Type 0 where
-  pub stands : StandsAt Says limits plan waits made trace rest
-  pub early : waits ≡ true → stands.steps < plan.at
-  pub left_out : LeavesDue limits plan.rank plan.at stands.steps trace rest
+pub record RestsAt (now : EngineState) (limits : Limits) (trace rest : Lines) : Type 0 where
+  pub stands : StandsSoFar now limits trace rest
+  pub early : now.waits ≡ true → stands.steps < now.plan.at
+  pub left_out : LeavesDue limits now.plan.rank now.plan.at stands.steps trace rest
 
--- the lines of a script were run, and this was told
-pub record HasFailed (plan : Failing) (own : Failing) (Says : TraceState → Type 0) (waits : Bool) (made : ℕ) (limits : Limits) (lines : List ScriptStep)
-    (out : List ℕ) : Type 0 where
-  pub plan_is : own ≡ plan
+-- the lines of a script were run by this plan, and this was told
+pub record HasFailed (plan : Failing) (now : EngineState) (limits : Limits) (lines : List ScriptStep) (out : List ℕ) : Type 0 where
+  pub plan_is : now.plan ≡ plan
   pub trace : Lines
   pub rest : Lines
-  pub rests : RestsAt Says limits own waits made trace rest
+  pub rests : RestsAt now limits trace rest
   pub follows : Follows (nothing limits) lines rest
   pub out_is : out ≡ trace_text limits trace
 
@@ -136,34 +149,32 @@ abbrev pub behind_of : ℕ → Reach → Reach
 behind_of made reach = record { most = option_map (λ most. most - made) reach.most; name = reach.name }
 
 -- the declaration was due, and was made and told; or it wasn't due
-abbrev pub Declares : (TraceState → Type 0) → Limits → Failing → Bool → ℕ → Lines → Lines → Bool → List ℕ → List ℕ → Type 0
-Declares Says limits plan waits made trace rest true old new =
-    (waits ≡ false) × (declaration : Lines) × IsPiece (nothing limits) (Failed plan.rank) declaration
-    × RestsAt Says limits plan waits made (trace ++ declaration) rest × (new ≡ old ++ lines_text declaration)
-Declares Says limits plan waits made trace rest false old new = RestsAt Says limits plan waits made trace rest × (new ≡ old)
+abbrev pub DeclaresIfDue : EngineState → EngineState → Limits → Lines → Lines → Bool → Type 0
+DeclaresIfDue old new limits trace rest true =
+    (new.waits ≡ false) × (declaration : Lines) × IsPiece (nothing limits) (Failed new.plan.rank) declaration
+    × RestsAt new limits (trace ++ declaration) rest × (new.text ≡ old.text ++ lines_text declaration)
+DeclaresIfDue old new limits trace rest false = RestsAt new limits trace rest × (new.text ≡ old.text)
 
 -- Steps of rank q's call were told as far as they are taken, with the declaration, if it was due in between.
-pub record TellsWalk (Says : TraceState → Type 0) (limits : Limits) (plan : Failing) (waits : Bool) (made : ℕ) (trace rest : Lines) (q : ℕ) (reach : Reach)
-    (old new : List ℕ) : Type 0 where
+pub record TellsWalk (old new : EngineState) (limits : Limits) (trace rest : Lines) (q : ℕ) (reach : Reach) : Type 0 where
   pub whole : Lines
   pub piece : Lines
-  pub rests : RestsAt Says limits plan waits made (trace ++ whole) (rest ++ piece)
+  pub rests : RestsAt new limits (trace ++ whole) (rest ++ piece)
   pub taken : IsTaken (said_by (nothing limits) trace) q reach piece
-  pub told : new ≡ old ++ lines_text whole
+  pub told : new.text ≡ old.text ++ lines_text whole
 
 -- a line of a script was run and told, with the declaration, if it was due in between
-pub record RunsStep (Says : TraceState → Type 0) (limits : Limits) (plan : Failing) (waits : Bool) (made : ℕ) (trace rest : Lines) (step : ScriptStep)
-    (old new : List ℕ) : Type 0 where
+pub record RunsStep (old new : EngineState) (limits : Limits) (trace rest : Lines) (step : ScriptStep) : Type 0 where
   pub whole : Lines
   pub piece : Lines
-  pub rests : RestsAt Says limits plan waits made (trace ++ whole) (rest ++ piece)
+  pub rests : RestsAt new limits (trace ++ whole) (rest ++ piece)
   pub is_piece : IsPiece (said_by (nothing limits) trace) step piece
-  pub told : new ≡ old ++ lines_text whole
+  pub told : new.text ≡ old.text ++ lines_text whole
 
 -- a line was run; or its call is of a rank that has one under way, and nothing was told
-abbrev pub TakesStep : (TraceState → Type 0) → Limits → Failing → Bool → ℕ → Lines → Lines → ScriptStep → Taken → List ℕ → List ℕ → Type 0
-TakesStep Says limits plan waits made trace rest step Run old new = RunsStep Says limits plan waits made trace rest step old new
-TakesStep Says limits plan waits made trace rest step IsOpenStill old new = IsOpenCall (said_by (nothing limits) trace) step × (new ≡ old)
+abbrev pub TakesStepLine : EngineState → EngineState → Limits → Lines → Lines → ScriptStep → Taken → Type 0
+TakesStepLine old new limits trace rest step Run = RunsStep old new limits trace rest step
+TakesStepLine old new limits trace rest step IsOpenStill = IsOpenCall (said_by (nothing limits) trace) step × (new.text ≡ old.text)
 
 -- A call was taken as far as is said, where so many steps were counted before and are counted now: it is over, or none was under way; or so many
 -- were made, or its next step has the name.

@@ -5,7 +5,7 @@ use Rattle.ulfm_model.specs.declared.limits.Limits.{Limits}
 use Rattle.ulfm_script.specs.declared.header_kind.HeaderKind.TheVariants.{Steps, Trace}
 use Rattle.ulfm_script.specs.declared.line_kind.LineKind.{LineKind}
 use Rattle.ulfm_script.specs.declared.line_kind.LineKind.TheVariants.{Open}
-use Rattle.ulfm_script.specs.{Ends.{EndsAlone, EndsThrough, Known, RunEnd}, Headers.{header_text}, Scripts.{Language}}
+use Rattle.ulfm_script.specs.{Ends.{EndsAlone, EndsThrough, KnownText, RunEnd}, Headers.{header_text}, Scripts.{Language}}
 use Rattle.ulfm_trace_model.specs.{Follows.{FindsOpen, Runs}, Traces.{Told, nothing}}
 use Rattle.ulfm_lines.specs.{LineTexts.{lines_text}, StepLines.{ScriptStep, step_line_of}, Stepped.{TraceState}}
 
@@ -38,9 +38,9 @@ step_scripts = record { Item = ScriptStep; kind = Steps; read = step_line_of; Pr
 
 -- a run through a buffer that the caller sees: what was to be taken, what the reader has left and what is read ahead; what the writer had
 -- and has
-abbrev pub RunsStepsThrough : Known → Known → List ℕ → Known → Known → RunEnd → Type 0
+abbrev pub RunsStepsThrough : KnownText → KnownText → List ℕ → KnownText → KnownText → RunEnd → Type 0
 RunsStepsThrough known left ahead old new result = EndsThrough step_scripts known left ahead old new result
 
 -- a run through a buffer of its own, which reads at most 8192 bytes ahead: what the reader had and has left, what the writer had and has
-abbrev pub RunsSteps : Known → Known → Known → Known → RunEnd → Type 0
+abbrev pub RunsSteps : KnownText → KnownText → KnownText → KnownText → RunEnd → Type 0
 RunsSteps known left old new result = EndsAlone step_scripts known left old new result

@@ -2,9 +2,10 @@
 ghost use Rattle.std.specs.Prelude.{◌≡◌, ◌<◌, IfOk, OnOk, true, false};
 ghost use Rattle.ulfm_model.specs.declared.limits.Limits.{Limits as TheLimits};
 ghost use Rattle.ulfm_script.specs.Ends.{EndsAlone, ended};
-ghost use Rattle.ulfm_lines.specs.Stepped.{IsStep};
-ghost use Rattle.ulfm_step_script.specs.FailingScripts.{ComesAsSaid, ComesFar, Declares, HasFailed, Lines, RestsAt, RunsFailing, StandsAt, TakesStep};
-ghost use Rattle.ulfm_step_script.specs.FailingScripts.{CountsAsSaid, CountsOn, TellsWalk, behind_of, failing_scripts, fewer, up_to};
+ghost use Rattle.ulfm_lines.specs.Stepped.{IsSpelledStep};
+ghost use Rattle.ulfm_step_script.specs.FailingScripts.{ComesAsSaid, ComesFar, DeclaresIfDue, HasFailed, Lines, RestsAt, RunsFailing, StandsSoFar};
+ghost use Rattle.ulfm_step_script.specs.FailingScripts.{TakesStepLine};
+ghost use Rattle.ulfm_step_script.specs.FailingScripts.{CountsAsSaid, CountsOn, TellsWalk, behind_of, failing_scripts, fewer, state_of, up_to};
 
 use crate::engine::tell_header;
 use crate::plan::Failing;
@@ -88,9 +89,8 @@ impl<M: StepMachine<A>, A: Allocator + Copy> FailingLines<M, A> {
         ensures early { IfOk result (λ due. due ≡ false → self.old.waits ≡ true → self.old.made < self.old.plan.at) }
         ensures idle { IfOk result (λ due. due ≡ false → M.Has self.new.machine ≡ M.Has self.old.machine) }
         ensures once { IfOk result (λ due. due ≡ true → (self.old.waits ≡ true) × (self.new.waits ≡ false)) }
-        ensures told { (limits : TheLimits) (trace rest : Lines) → StandsAt (M.Stands self.old.machine) limits self.old.plan self.old.waits
-            self.old.made trace rest → IfOk result (λ due. Declares (M.Stands self.new.machine) limits self.old.plan self.new.waits
-            self.new.made trace rest due self.old.teller.text.items self.new.teller.text.items) }
+        ensures told { (limits : TheLimits) (trace rest : Lines) → StandsSoFar (state_of M.Stands self.old) limits trace rest
+            → IfOk result (λ due. DeclaresIfDue (state_of M.Stands self.old) (state_of M.Stands self.new) limits trace rest due) }
     {
         if !self.waits || self.made < self.plan.at {
             return Ok(false);
@@ -105,9 +105,8 @@ impl<M: StepMachine<A>, A: Allocator + Copy> FailingLines<M, A> {
     /// Takes steps of a rank's call as far as they are to be taken, and declares the rank where that is due in between.
     fn walk(&mut self, rank: u16, reach: Reach) -> Result<(), AllocError>
         ensures plan { self.new.plan ≡ self.old.plan }
-        ensures told { (limits : TheLimits) (trace rest : Lines) → StandsAt (M.Stands self.old.machine) limits self.old.plan self.old.waits
-            self.old.made trace rest → OnOk result (TellsWalk (M.Stands self.new.machine) limits self.old.plan self.new.waits self.new.made trace rest
-            rank reach self.old.teller.text.items self.new.teller.text.items) }
+        ensures told { (limits : TheLimits) (trace rest : Lines) → StandsSoFar (state_of M.Stands self.old) limits trace rest
+            → OnOk result (TellsWalk (state_of M.Stands self.old) (state_of M.Stands self.new) limits trace rest rank reach) }
         ensures far { OnOk result (ComesFar reach self.old.made self.new.made ((M.Has self.new.machine).next rank)) }
         // (The machine also makes the steps of the declaration, which aren't counted.)
         ensures counts { self.old.waits ≡ self.new.waits
@@ -135,11 +134,10 @@ impl<M: StepMachine<A>, A: Allocator + Copy> FailingLines<M, A> {
 
     /// Runs a line.
     fn take(&mut self, step: &StepLine<FlagAnd>) -> Result<Taken, AllocError>
-        requires { IsStep step.now }
+        requires { IsSpelledStep step.now }
         ensures plan { self.new.plan ≡ self.old.plan }
-        ensures told { (limits : TheLimits) (trace rest : Lines) → RestsAt (M.Stands self.old.machine) limits self.old.plan self.old.waits
-            self.old.made trace rest → IfOk result (λ taken. TakesStep (M.Stands self.new.machine) limits self.old.plan self.new.waits self.new.made
-            trace rest step.now taken self.old.teller.text.items self.new.teller.text.items) }
+        ensures told { (limits : TheLimits) (trace rest : Lines) → RestsAt (state_of M.Stands self.old) limits trace rest
+            → IfOk result (λ taken. TakesStepLine (state_of M.Stands self.old) (state_of M.Stands self.new) limits trace rest step.now taken) }
         ensures far { OnOk result (ComesAsSaid (M.Has self.new.machine) self.old.made self.new.made step.now) }
         ensures counts { self.old.waits ≡ self.new.waits
             → OnOk result (CountsAsSaid (M.Has self.old.machine) (M.Has self.new.machine) self.old.made self.new.made step.now) }
@@ -169,7 +167,7 @@ impl<M: StepMachine<A>, A: Allocator + Copy> Interpreter<A> for FailingLines<M, 
 
     ghost lang = { failing_scripts };
 
-    ghost HasRun = { λ plan it limits lines out. HasFailed plan it.plan (M.Stands it.machine) it.waits it.made limits lines out };
+    ghost HasRun = { λ plan it limits lines out. HasFailed plan (state_of M.Stands it) limits lines out };
 
     ghost text = { λ it. it.teller.text.items };
 

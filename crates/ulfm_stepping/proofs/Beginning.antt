@@ -2,9 +2,10 @@
 use Rattle.std.proofs.Common.{◌≡◌, Bool, true, false, List, [], ◌∷◌, ◌++◌, length, find, take, Some, None, refl, ap, sym, ◌∙◌, subst, arith, inl, if◌then◌else◌}
 use Rattle.ulfm_model.specs.declared.{call.Call.{Call}, event.Caller.TheVariants.{Rank}, refusal.Refusal.TheVariants.{SelfFailed}, reply.Reply.{Reply}, reply.Reply.TheVariants.{Refused}}
 use Rattle.ulfm_model.specs.{Answers.{comm_of, traits_of}, Records.{Record}}
-use Rattle.ulfm_words.specs.Steps.{Name, Sight}
+use Rattle.ulfm_words.specs.Steps.{view_of, Name, Sight}
 use Rattle.ulfm_comm.specs.Phase.{Stands, UnderWay, is_looking}
 use Rattle.ulfm_comm.specs.declared.phases.phase.{Phase.TheVariants.{Begun}}
+use Rattle.ulfm_comm.specs.Local.{local}
 use Rattle.ulfm_trace_model.specs.declared.line.Line.TheVariants.{Called}
 use Rattle.ulfm_model.proofs.LeftRuns.{left_keeps}
 use Rattle.ulfm_trace_model.specs.Traces.{AnswersRank, MayCome, Traced, Under, after, after_reply, call_by, same_caller, taken_in}
@@ -35,7 +36,7 @@ module _ {P : Type 0} (meld : P → P → P) (name : Name) (now : Traced P) (pas
   call_is = find_push (λ (v : Under P). same_caller (traits_of v.asked).by (Rank own.number)) now.calls u idle.free (ap (λ by. same_caller by (Rank own.number)) mine ∙ same_rank own.number)
 
   -- it looks next
-  pub begun : (doing : UnderWay P) → doing.asked ≡ asked → own.refused ≡ false → doing.phase ≡ Begun → Stands meld false name own pass doing own pass → HasBegun meld name told pass own doing
+  pub begun : (doing : UnderWay P) → doing.asked ≡ asked → own.refused ≡ false → doing.phase ≡ Begun → Stands meld false (local own (view_of name pass)) doing (local own (view_of name pass)) → HasBegun meld name told pass own doing
   begun doing asked_is in_use phase stands =
       record {
         limits = idle.limits;

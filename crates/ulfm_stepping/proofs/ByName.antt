@@ -6,10 +6,11 @@ use Rattle.ulfm_model.specs.declared.{call.Call.{Call}, call.Request.{Request}, 
 use Rattle.ulfm_model.specs.declared.step_name.StepName.TheVariants as step
 use Rattle.ulfm_model.specs.declared.step_name.StepName.{StepName}
 use Rattle.ulfm_model.specs.{Answers.{CallAdds, PollAdds}, History.{History, entries_by}, Records.{Held, Record}, Runs.{Did}}
-use Rattle.ulfm_words.specs.Steps.{Name, Sight}
+use Rattle.ulfm_words.specs.Steps.{view_of, Name, Sight}
 use Rattle.ulfm_words.proofs.Trails.{did_quiet}
 use Rattle.ulfm_comm.specs.{Exchange.{StartsWith}, Phase.{StandsAt, is_looking, next_step}, Step.{Adds, Makes, StepAdds}}
 use Rattle.ulfm_comm.specs.declared.phases.phase.{Phase.{Phase}, Phase.TheVariants.{Over, Begun, Looking, Settling, Arriving, Revoking, Asking, Peeking, Marking, Reading, ReadingOn, Spawning, Waiting, Checking}}
+use Rattle.ulfm_comm.specs.Local.{local}
 use Rattle.ulfm_trace_model.specs.Follows.{step_of}
 use Rattle.ulfm_stepping.proofs.{ByPhase.{in_look}, Stepped.{did_is}}
 
@@ -82,7 +83,7 @@ look_named {P} = in_look (λ (phase : Phase P). next_step phase ≡ Some step.Li
 module _ {P : Type 0} (meld : P → P → P) (name : Name) (asked : Call P) (old : Record) (before : Sight P) (group : List ℕ) (was : Record) (stood : Sight P) (own : Record) (reply : Option (Reply P)) (x y : History P) (event : Event P)
     (added : x ++ record { by = Rank own.number; event = event } ∷ [] ≡ y) (n : StepName) (is : step_of event ≡ Some n) where
   abbrev Here : Phase P → Type 0
-  Here phase = StandsAt meld false name asked old before phase group was stood
+  Here phase = StandsAt meld false asked (local old (view_of name before)) phase group (local was (view_of name stood))
 
   quiet : (phase : Phase P) → Did true [] x y → next_step phase ≡ Some n
   quiet phase did = absurd (none_came (record { by = Rank own.number; event = event }) x y added (did_quiet true x y did refl))

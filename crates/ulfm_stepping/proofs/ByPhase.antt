@@ -2,6 +2,7 @@
 use Rattle.std.proofs.Common.{◌≡◌, ℕ, true}
 use Rattle.ulfm_model.specs.declared.limits.Limits.{Limits}
 use Rattle.ulfm_model.specs.{History.{History}, Records.{Record}}
+use Rattle.ulfm_model.specs.Records.{moment}
 use Rattle.ulfm_steps.specs.declared.arrivals.Missing.{Missing}
 use Rattle.ulfm_comm.specs.Phase.{is_looking}
 use Rattle.ulfm_comm.specs.declared.phases.phase.{Phase.{Phase}, Phase.TheVariants.{Over, Begun, Looking, Settling, Arriving, Revoking, Asking, Peeking, Marking, Reading, ReadingOn, Spawning, Waiting, Checking}}
@@ -26,8 +27,8 @@ in_look Holds begun looks (Checking missing) looking = absurd (cc looking)
 
 -- who is missing is found where a barrier's poll makes its last load next, and nothing is asked in other phases
 module _ {P : Type 0} (Given : Phase P → Type 0) (meld : P → P → P) (limits : Limits) (c : ℕ) (old : Record) (before : History P) (own : Record) (now : History P) (found : ℕ)
-    (checking : (missing : Missing) → Given (Checking missing) → FoundAt meld limits c old before own now found (Checking missing)) where
-  pub found_by_check : (phase : Phase P) → Given phase → FoundAt meld limits c old before own now found phase
+    (checking : (missing : Missing) → Given (Checking missing) → FoundAt meld limits c (moment old before) (moment own now) found (Checking missing)) where
+  pub found_by_check : (phase : Phase P) → Given phase → FoundAt meld limits c (moment old before) (moment own now) found phase
   found_by_check (Checking missing) given = checking missing given
   found_by_check Over given = tt
   found_by_check Begun given = tt

@@ -7,11 +7,12 @@ use Rattle.ulfm_model.specs.declared.{call.Call.{Call}, event.Caller.{Caller}, e
 use Rattle.ulfm_model.specs.declared.reply.Reply.TheVariants as reply_of
 use Rattle.ulfm_model.specs.{Answers.{IsReply, IsSelfFailed, closed, comm_of, left_by}, History.{History, failures, members}, Records.{Fits, Held, Record, held_at, new_held}}
 use Rattle.ulfm_model.proofs.{Histories.{failures_begin}, LeftRuns.{left_keeps}, Lists.{find_holds}}
+use Rattle.ulfm_model.specs.Records.{moment}
 use Rattle.ulfm_words.specs.Steps.{Name, Sight}
 use Rattle.ulfm_comm.specs.Ends.{IsEndRun}
 use Rattle.ulfm_comm.proofs.ReplyKinds.{answered_on, counted_seen}
 use Rattle.ulfm_trace_model.specs.declared.line.Line.TheVariants.{Replied}
-use Rattle.ulfm_trace_model.specs.Traces.{AnswersRank, MayCome, Traced, Under, after_reply, call_by, caller_of, found_by, listed, record_of, same_caller, taken_in}
+use Rattle.ulfm_trace_model.specs.Traces.{AnswersRank, MayCome, Traced, Under, after_reply, call_by, caller_of, found_by, listed, record_in, same_caller, taken_in}
 use Rattle.ulfm_stepping.specs.{Seats.{HoldsGroup, MayList}, Stepping.{IsIdle, is_early}}
 use Rattle.ulfm_stepping.proofs.{Reseen.{answer_reseen, left_reseen, reseen}, Turns.{EndsSo}}
 
@@ -65,7 +66,7 @@ module _ {P : Type 0} (meld : P → P → P) (limits : Limits) (h : History P) (
 
 -- the rank knows whom a reply at the present point lists
 module _ {P : Type 0} (meld : P → P → P) (limits : Limits) (start at : History P) (old : Record) (asked : Call P) (new : Record) (fits : Fits meld limits at new) where
-  pub may_list : (reply : Reply P) → IsEndRun meld limits false start at old asked reply new → MayList limits.ranks at (comm_of asked) reply new
+  pub may_list : (reply : Reply P) → IsEndRun meld limits false (moment old start) asked reply (moment new at) → MayList limits.ranks at (comm_of asked) reply new
   may_list (reply_of.Shrunk j context size) ended =
       let left = ended.run.answer.leaves.record_is in
       let rest = closed (reseen old new.seen) (comm_of asked) in
@@ -112,10 +113,10 @@ lists_none ranks h c (reply_of.Refused refusal) own early = tt
 
 -- The judge's test of a reply holds at `at`, of which the pass has seen more, `later`; the look was made at `start`. Then its line may come.
 module _ {P : Type 0} (meld : P → P → P) (name : Name) (t : Traced P) (after_it : Sight P) (r : ℕ) (old : Record) (seen : List ℕ) (u : Under P) (asked : Call P) (start at rest later : History P) (reply : Reply P) (new : Record)
-    (limits_t : t.limits ≡ name.limits) (history_t : t.history ≡ after_it.seen) (call_t : call_by t (Rank r) ≡ Some u) (record_t : record_of t r ≡ Some (reseen old seen)) (number : r ≡ old.number) (in_use : IsFalse old.refused)
+    (limits_t : t.limits ≡ name.limits) (history_t : t.history ≡ after_it.seen) (call_t : call_by t (Rank r) ≡ Some u) (record_t : record_in t r ≡ Some (reseen old seen)) (number : r ≡ old.number) (in_use : IsFalse old.refused)
     (asked_t : u.asked ≡ asked) (begun_t : u.begun ≤ length start) (look_t : u.look ≡ Some (length (failures start))) (since : start ++ rest ≡ at) (goes_on : at ++ later ≡ after_it.seen)
     (answers : IsSelfFailed (record { look = failures start; history = at; own = u.own }) old asked reply ⊎ IsReply meld name.limits (record { look = failures start; history = at; own = u.own }) old asked reply)
-    (ended : IsEndRun meld name.limits false start at old asked reply new) (fits : Fits meld name.limits after_it.seen new) (list : MayList name.limits.ranks at (comm_of asked) reply new) where
+    (ended : IsEndRun meld name.limits false (moment old start) asked reply (moment new at)) (fits : Fits meld name.limits after_it.seen new) (list : MayList name.limits.ranks at (comm_of asked) reply new) where
   at_point : take (length at) after_it.seen ≡ at
   at_point = ap (take (length at)) (sym goes_on) ∙ take-append_seam at later
 

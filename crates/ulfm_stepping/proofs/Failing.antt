@@ -3,9 +3,9 @@ use Rattle.std.proofs.Common.{◌≡◌, ℕ, ◌≤◌, Bool, true, false, List
 use Rattle.std.proofs.Math.Seq.{take-length}
 use Rattle.std.proofs.lemmas.Bool.{eq-eqb}
 use Rattle.ulfm_model.specs.declared.{call.Call.{Call}, event.Caller.{Caller}, event.Event.{Event}, refusal.Refusal.{Refusal}, reply.Reply.{Reply}}
-use Rattle.ulfm_model.specs.{Answers.{AnswersFail}, History.{History, IsLegal, MayFollow, entries_by, failures, has}, Terms.{view_of}}
+use Rattle.ulfm_model.specs.{Answers.{AnswersFail}, History.{History, IsLegal, MayFollow, entries_by, failures, has}, Terms.{rests_on}}
 use Rattle.ulfm_model.proofs.Histories.{legal_parts}
-use Rattle.ulfm_words.specs.Steps.{Name, Sight}
+use Rattle.ulfm_words.specs.Steps.{view_of, Name, Sight}
 use Rattle.ulfm_comm.specs.Fails.{Fails}
 use Rattle.ulfm_trace_model.specs.declared.{line.Line.{Line}, step_line.StepLine.{StepLine}}
 use Rattle.ulfm_trace_model.specs.{Follows.{Runs, fail_piece}, Traces.{MayCome, Traced, Under, after, after_reply, call_by, caller_of, is_owned, listed, said_by, same_caller, view_at, with_event}}
@@ -113,7 +113,7 @@ module _ {P : Type 0} (meld : P → P → P) (name : Name) (r : ℕ) (old new : 
           history_left (Reply.Refused Refusal.NoSuchRank),
         )
 
-module _ {P : Type 0} (meld : P → P → P) (name : Name) (r : ℕ) (old : Sight P) (reply : Reply P) (new : Sight P) (fails : Fails meld true name r old reply new) where
+module _ {P : Type 0} (meld : P → P → P) (name : Name) (r : ℕ) (old : Sight P) (reply : Reply P) (new : Sight P) (fails : Fails meld true r (view_of name old) reply (view_of name new)) where
   abbrev so_far : List (Event P) → History P
   so_far own = old.seen ++ entries_by Caller.Outside own
 
@@ -129,7 +129,7 @@ module _ {P : Type 0} (meld : P → P → P) (name : Name) (r : ℕ) (old : Sigh
   nothing_added is = sym since ∙ (ap so_far is ∙ append-nil old.seen)
 
   module _ (now : Traced P) (limits : now.limits ≡ name.limits) (history : now.history ≡ old.seen) (free : call_by now Caller.Outside ≡ None) where
-    by_answer : AnswersFail name.limits (view_of fails.run.span) r reply → Tells meld name r old new now limits history free reply
+    by_answer : AnswersFail name.limits (rests_on fails.run.span) r reply → Tells meld name r old new now limits history free reply
     by_answer (inl (is, own, declared)) =
         subst (Tells meld name r old new now limits history free) (sym is)
         (runs_declared meld name r old new now limits history free (ap so_far (sym own) ∙ since) fails.run.span.legal (at_end declared))
@@ -138,5 +138,5 @@ module _ {P : Type 0} (meld : P → P → P) (name : Name) (r : ℕ) (old : Sigh
     by_answer (inr (inr (is, own, out))) =
         subst (Tells meld name r old new now limits history free) (sym is) (runs_unknown meld name r old new now limits history free (nothing_added own) out)
 
-pub tells_fail : {P : Type 0} (meld : P → P → P) (name : Name) (r : ℕ) (old : Sight P) (reply : Reply P) (new : Sight P) → Fails meld true name r old reply new → TellsFail meld name r old reply new
+pub tells_fail : {P : Type 0} (meld : P → P → P) (name : Name) (r : ℕ) (old : Sight P) (reply : Reply P) (new : Sight P) → Fails meld true r (view_of name old) reply (view_of name new) → TellsFail meld name r old reply new
 tells_fail meld name r old reply new fails = λ now limits history free. by_answer meld name r old reply new fails now limits history free fails.run.answer

@@ -6,13 +6,16 @@ use Rattle.ulfm_model.specs.declared.{call.Call.{Call}, call.Request.{Request}, 
 use Rattle.ulfm_model.specs.{Answers.{first_refusal, refusal_of, refusal_on}, History.{History, entries_by, failures, has}, Records.{Held, Record, held_at}}
 use Rattle.ulfm_model.specs.Terms.{comm_of}
 use Rattle.ulfm_model.proofs.{Histories.{failures_begin}, Lists.{prefix_trans}, Stable.{fits_stays}}
-use Rattle.ulfm_words.specs.Steps.{IsOf, Name, Sight}
+use Rattle.ulfm_model.specs.Records.{moment}
+use Rattle.ulfm_words.specs.Steps.{view_of, IsView, Name, Sight}
 use Rattle.ulfm_words.proofs.Trails.{did_none, did_prefix}
 use Rattle.ulfm_laws.specs.declared.ctx_mask.CtxMask.{CtxMask}
-use Rattle.ulfm_comm.specs.{Look.{HasLooked, Looked as HasFound}, Spawning.{IsDecided}}
+use Rattle.ulfm_comm.specs.{Look.{HasLooked, Looked as HasFound}, Spawning.{HasReadMask}}
 use Rattle.ulfm_comm.specs.Phase.{Stands, StandsAt, UnderWay, is_looking}
 use Rattle.ulfm_comm.specs.declared.phases.phase.{Phase.{Phase}, Phase.TheVariants.{Over, Begun, Looking, Settling, Arriving, Revoking, Asking, Peeking, Marking, Reading, ReadingOn, Spawning, Waiting, Checking}}
 use Rattle.ulfm_comm.proofs.{Polls.{not_refused}, WholeCall.{held_before}}
+use Rattle.ulfm_comm.specs.Local.{frame, local}
+use Rattle.ulfm_comm.specs.Spawning.{decided_as}
 use Rattle.ulfm_stepping.proofs.ByPhase.{in_look}
 
 -- a history between two that are one
@@ -70,7 +73,7 @@ module _ {P : Type 0} (meld : P → P → P) (name : Name) (asked : Call P) (old
       (ap (refusal_of {P = P} old) polls ∙ poll_passes P old (comm_of asked) x request (held_before meld name.limits false before.seen look old own looked (comm_of asked) (Some x) (subst (λ w. held_at own w ≡ Some x) c_is held)) open_is)
 
   -- of a shrink's poll that comes by its communicator
-  decided_found : (k count : ℕ) (mask : CtxMask) (x : Held) → asked ≡ call.Poll old.number (comm_of asked) → IsDecided meld name.limits false (comm_of asked) k mask x count old before.seen own now.seen → Found asked old own before.seen now.seen
+  decided_found : (k count : ℕ) (mask : CtxMask) (x : Held) → asked ≡ call.Poll old.number (comm_of asked) → HasReadMask (frame meld name.limits false) (comm_of asked) (decided_as k mask count) x (moment old before.seen) (moment own now.seen) → Found asked old own before.seen now.seen
   decided_found k count mask x polls d =
       let m = d.marked in
       let seen : d.mid.seen ≡ failures m.look = ap (λ (w : Record). w.seen) m.looked.record_is in
@@ -85,10 +88,10 @@ module _ {P : Type 0} (meld : P → P → P) (name : Name) (asked : Call P) (old
         not_refused = ap (refusal_of {P = P} old) polls ∙ not_refused meld name.limits false before.seen old d.mid (comm_of asked) true k x d.decided m;
       }
 
-  looked_found : (p : HasLooked meld name.limits false asked old before.seen own now.seen) → Found asked old own before.seen now.seen
+  looked_found : (p : HasLooked (frame meld name.limits false) asked (moment old before.seen) (moment own now.seen)) → Found asked old own before.seen now.seen
   looked_found l = just_found l.look (did_prefix false [] before.seen l.look l.looked.did) (did_prefix false [] l.look now.seen l.waited) l.looked.record_is l.looked.not_declared l.passed
 
-  pub found_by_phase : (phase : Phase P) → is_looking phase ≡ false → StandsAt meld false name asked old before phase group own now → Found asked old own before.seen now.seen
+  pub found_by_phase : (phase : Phase P) → is_looking phase ≡ false → StandsAt meld false asked (local old (view_of name before)) phase group (local own (view_of name now)) → Found asked old own before.seen now.seen
   found_by_phase Over past p = absurd (cc (p.0, in_use))
   found_by_phase Begun past p = absurd (cc past)
   found_by_phase Looking past p = absurd (cc past)
@@ -119,9 +122,9 @@ found_all asked old own before now f same =
     let all = ap failures (squeeze before f.look now f.begins f.ends same) in (all, squeeze (failures f.look) own.seen (failures now) f.low f.high all)
 
 -- a call in its look may as well begin now
-pub begins_again : {P : Type 0} (meld : P → P → P) (name : Name) (old : Record) (before : Sight P) (doing : UnderWay P) (own : Record) (now : Sight P) → is_looking doing.phase ≡ true → Stands meld false name old before doing own now → IsOf meld name now → IsPrefix before.seen now.seen
-    → Stands meld false name old now doing own now
+pub begins_again : {P : Type 0} (meld : P → P → P) (name : Name) (old : Record) (before : Sight P) (doing : UnderWay P) (own : Record) (now : Sight P) → is_looking doing.phase ≡ true → Stands meld false (local old (view_of name before)) doing (local own (view_of name now)) → IsView meld (view_of name now) → IsPrefix before.seen now.seen
+    → Stands meld false (local old (view_of name now)) doing (local own (view_of name now))
 begins_again {P} meld name old before doing own now looking s of begins =
-    let At : Phase P → Sight P → Type 0 = λ phase start. StandsAt meld false name doing.asked old start phase doing.group own now in
+    let At : Phase P → Sight P → Type 0 = λ phase start. StandsAt meld false doing.asked (local old (view_of name start)) phase doing.group (local own (view_of name now)) in
     let again = in_look (λ (phase : Phase P). At phase before → At phase now) (λ p. (p.0, p.1, did_none false now.seen)) (λ p. (p.0, p.1, did_none false now.seen, p.3)) doing.phase looking in
     record { fits = fits_stays meld name.limits before.seen now.seen old begins of.legal s.fits; mine = s.mine; onward = omega arith; at = again s.at }

@@ -5,14 +5,16 @@ use Rattle.ulfm_model.specs.declared.{call.Call.{Call}, event.Caller.TheVariants
 use Rattle.ulfm_model.specs.{Answers.{IsReply, IsSelfFailed, Sees, comm_of, polled_by, refusal_of}, History.{History, failures, has}, Records.{Fits, Record, is_shrink}}
 use Rattle.ulfm_model.specs.declared.limits.Limits.{Limits}
 use Rattle.ulfm_model.proofs.Lists.{prefix_trans}
-use Rattle.ulfm_words.specs.Steps.{IsOf, Name, Sight}
+use Rattle.ulfm_model.specs.Records.{moment}
+use Rattle.ulfm_words.specs.Steps.{view_of, IsView, Name, Sight}
 use Rattle.ulfm_words.proofs.Trails.{did_prefix, did_quiet}
 use Rattle.ulfm_steps.specs.declared.arrivals.Missing.{Missing}
 use Rattle.ulfm_comm.specs.{Barrier.{IsChecking}, Calls.{RepliedAs, HasReplied, wants_memory}, Ends.{IsEarlyRun, IsEndRun, IsRefusedAgain}, Phase.{Answered, Stands, StandsAt, UnderWay, Waits, is_looking}, Step.{StepAdds}}
 use Rattle.ulfm_comm.specs.declared.phases.phase.{Phase.{Phase}, Phase.TheVariants.{Checking}}
 use Rattle.ulfm_comm.proofs.AmongOthers.{waits_none}
+use Rattle.ulfm_comm.specs.Local.{frame, local}
 use Rattle.ulfm_trace_model.specs.declared.line.Line.TheVariants.{Looked}
-use Rattle.ulfm_trace_model.specs.Traces.{MayCome, Traced, Under, after, call_by, record_of}
+use Rattle.ulfm_trace_model.specs.Traces.{MayCome, Traced, Under, after, call_by, record_in}
 use Rattle.ulfm_trace_model.proofs.Callers.{find_change}
 use Rattle.ulfm_stepping.specs.Stepping.{FoundAt, HasBegun, HasCalled}
 use Rattle.ulfm_stepping.proofs.{ByPhase.{found_by_check, in_look}, Ending.{ends_so, may_list}, LookedAt.{begins_again, found_all, found_by_phase, squeeze}, Replying.{reply_answers}, Reseen.{reseen}, Turns.{EndsSo, LooksOn}}
@@ -23,9 +25,9 @@ no_event {P} own asked phase reply old new looking =
     in_look (λ (at : Phase P). StepAdds true own asked at reply old new → new ≡ old) (λ did. did_quiet true old new did refl) (λ did. did_quiet true old new did refl) phase looking
 
 -- in its look, a call's rank has its number
-same_number : {P : Type 0} (meld : P → P → P) (name : Name) (asked : Call P) (old : Record) (before : Sight P) (group : List ℕ) (own : Record) (now : Sight P) (phase : Phase P) → is_looking phase ≡ true → StandsAt meld false name asked old before phase group own now → own.number ≡ old.number
+same_number : {P : Type 0} (meld : P → P → P) (name : Name) (asked : Call P) (old : Record) (before : Sight P) (group : List ℕ) (own : Record) (now : Sight P) (phase : Phase P) → is_looking phase ≡ true → StandsAt meld false asked (local old (view_of name before)) phase group (local own (view_of name now)) → own.number ≡ old.number
 same_number {P} meld name asked old before group own now =
-    in_look (λ (phase : Phase P). StandsAt meld false name asked old before phase group own now → own.number ≡ old.number) (λ p. ap (λ (w : Record). w.number) p.1) (λ p. ap (λ (w : Record). w.number) p.1)
+    in_look (λ (phase : Phase P). StandsAt meld false asked (local old (view_of name before)) phase group (local own (view_of name now)) → own.number ≡ old.number) (λ p. ap (λ (w : Record). w.number) p.1) (λ p. ap (λ (w : Record). w.number) p.1)
 
 -- all that a call's last look found was seen, whatever it polls
 sees_all : {P : Type 0} (b : Bool) (look after : History P) (seen : List ℕ) → Sees b (failures look) after seen → failures look ≡ failures after → seen ≡ failures after
@@ -33,20 +35,20 @@ sees_all false look after seen sees all = sees ∙ all
 sees_all true look after seen sees all = squeeze (failures look) seen (failures after) sees.0 sees.1 all
 
 -- a barrier's poll that makes its last load at the look's end found at the look who is missing
-found_now : {P : Type 0} (meld : P → P → P) (limits : Limits) (asked : Call P) (name : Name) (old : Record) (before : Sight P) (group : List ℕ) (own : Record) (now : Sight P) (found : ℕ) (phase : Phase P) → StandsAt meld false name asked old before phase group own now
-    → name.limits ≡ limits → before.seen ≡ now.seen → found ≡ length now.seen → FoundAt meld limits (comm_of asked) old before.seen own now.seen found phase
+found_now : {P : Type 0} (meld : P → P → P) (limits : Limits) (asked : Call P) (name : Name) (old : Record) (before : Sight P) (group : List ℕ) (own : Record) (now : Sight P) (found : ℕ) (phase : Phase P) → StandsAt meld false asked (local old (view_of name before)) phase group (local own (view_of name now))
+    → name.limits ≡ limits → before.seen ≡ now.seen → found ≡ length now.seen → FoundAt meld limits (comm_of asked) (moment old before.seen) (moment own now.seen) found phase
 found_now {P} meld limits asked name old before group own now found phase p limits_is still found_is =
-    found_by_check (λ (at : Phase P). StandsAt meld false name asked old before at group own now) meld limits (comm_of asked) old before.seen own now.seen found go phase p
+    found_by_check (λ (at : Phase P). StandsAt meld false asked (local old (view_of name before)) at group (local own (view_of name now))) meld limits (comm_of asked) old before.seen own now.seen found go phase p
   where
-    go : (missing : Missing) → StandsAt meld false name asked old before (Checking missing) group own now → FoundAt meld limits (comm_of asked) old before.seen own now.seen found (Checking missing)
+    go : (missing : Missing) → StandsAt meld false asked (local old (view_of name before)) (Checking missing) group (local own (view_of name now)) → FoundAt meld limits (comm_of asked) (moment old before.seen) (moment own now.seen) found (Checking missing)
     go missing p =
         let i = p.2 in
         let w = i.waits in
         let begins = prefix_trans before.seen w.look p.1 (did_prefix false [] before.seen w.look w.looked.did) (did_prefix false [] w.look p.1 w.waited) in
         let here : p.1 ≡ now.seen = squeeze before.seen p.1 now.seen begins (did_prefix false [] p.1 now.seen i.waited) still in
-        (p.1, subst (λ (l : Limits). IsChecking meld l false (comm_of asked) missing p.1 old before.seen own now.seen) limits_is i, ap length here ∙ sym found_is)
+        (p.1, subst (λ (l : Limits). IsChecking (frame meld l false) (comm_of asked) missing p.1 (moment old before.seen) (moment own now.seen)) limits_is i, ap length here ∙ sym found_is)
 
-module _ {P : Type 0} (meld : P → P → P) (name : Name) (now : Traced P) (pass after_it : Sight P) (own : Record) (doing : UnderWay P) (h : HasBegun meld name now pass own doing) (of : IsOf meld name after_it) (result : Option (Reply P)) (own' : Record) (doing' : UnderWay P)
+module _ {P : Type 0} (meld : P → P → P) (name : Name) (now : Traced P) (pass after_it : Sight P) (own : Record) (doing : UnderWay P) (h : HasBegun meld name now pass own doing) (of : IsView meld (view_of name after_it)) (result : Option (Reply P)) (own' : Record) (doing' : UnderWay P)
     (adds : StepAdds true own doing.asked doing.phase result pass.seen after_it.seen) (asked' : doing'.asked ≡ doing.asked) (found' : ℕ) (found_is' : found' ≡ length after_it.seen) where
   still : pass.seen ≡ after_it.seen
   still = sym (no_event own doing.asked doing.phase result pass.seen after_it.seen h.looking adds)
@@ -55,7 +57,7 @@ module _ {P : Type 0} (meld : P → P → P) (name : Name) (now : Traced P) (pas
   history' = h.history ∙ still
 
   -- the look goes on
-  goes_on : is_looking doing'.phase ≡ true → Stands meld false name h.old pass doing' own' after_it → (own'.number ≡ own.number) × HasBegun meld name now after_it own' doing'
+  goes_on : is_looking doing'.phase ≡ true → Stands meld false (local h.old (view_of name pass)) doing' (local own' (view_of name after_it)) → (own'.number ≡ own.number) × HasBegun meld name now after_it own' doing'
   goes_on looking stands =
       let number' : own'.number ≡ own.number = same_number meld name doing'.asked h.old pass doing'.group own' after_it doing'.phase looking stands.at ∙ sym h.number in (
         number',
@@ -67,7 +69,7 @@ module _ {P : Type 0} (meld : P → P → P) (name : Name) (now : Traced P) (pas
           asked = h.asked ∙ sym asked';
           old = h.old;
           seen = h.seen;
-          record_is = subst (λ n. record_of now n ≡ Some (reseen h.old h.seen)) (sym number') h.record_is;
+          record_is = subst (λ n. record_in now n ≡ Some (reseen h.old h.seen)) (sym number') h.record_is;
           number = number' ∙ h.number;
           looking = looking;
           in_use = h.in_use;
@@ -96,7 +98,7 @@ module _ {P : Type 0} (meld : P → P → P) (name : Name) (now : Traced P) (pas
     look' = ap (λ s. Some (length s)) (seen' ∙ ap failures (sym still))
 
     -- and the call goes on
-    ends_on : is_looking doing'.phase ≡ false → Stands meld false name h.old pass doing' own' after_it → own' ≡ record h.old { seen = own'.seen } → IsFalse (has (failures after_it.seen) h.old.number) → refusal_of h.old doing'.asked ≡ None
+    ends_on : is_looking doing'.phase ≡ false → Stands meld false (local h.old (view_of name pass)) doing' (local own' (view_of name after_it)) → own' ≡ record h.old { seen = own'.seen } → IsFalse (has (failures after_it.seen) h.old.number) → refusal_of h.old doing'.asked ≡ None
         → (own'.number ≡ own.number) × HasCalled meld name told after_it own' found' doing'
     ends_on past stands same alive passes =
         let number' : own'.number ≡ own.number = ap (λ (w : Record). w.number) same ∙ sym h.number in (
@@ -109,7 +111,7 @@ module _ {P : Type 0} (meld : P → P → P) (name : Name) (now : Traced P) (pas
             asked = h.asked ∙ sym asked';
             old = h.old;
             seen = h.seen;
-            record_is = subst (λ n. record_of now n ≡ Some (reseen h.old h.seen)) (sym number') h.record_is;
+            record_is = subst (λ n. record_in now n ≡ Some (reseen h.old h.seen)) (sym number') h.record_is;
             before = pass;
             stood = after_it;
             stands = stands;
@@ -131,7 +133,7 @@ module _ {P : Type 0} (meld : P → P → P) (name : Name) (now : Traced P) (pas
         )
 
     -- or it is answered
-    ends_reply : (reply : Reply P) → IsEndRun meld name.limits false pass.seen after_it.seen h.old doing.asked reply own' → Fits meld name.limits after_it.seen own'
+    ends_reply : (reply : Reply P) → IsEndRun meld name.limits false (moment h.old pass.seen) doing.asked reply (moment own' after_it.seen) → Fits meld name.limits after_it.seen own'
         → EndsSo meld name told after_it own.number (comm_of doing.asked) (length after_it.seen) reply own'
     ends_reply reply ended fits =
         let answers = reply_answers meld name.limits pass.seen after_it.seen h.old doing.asked reply own' ended [] (append-nil pass.seen ∙ still) [] refl (λ no_poll. inl refl) (λ other. seen' ∙ ap failures (sym still)) in
@@ -140,24 +142,24 @@ module _ {P : Type 0} (meld : P → P → P) (name : Name) (now : Traced P) (pas
         there ended fits (may_list meld name.limits pass.seen after_it.seen h.old doing.asked own' fits reply ended)
 
   -- what the reply says was seen
-  seen_of : (reply : Reply P) → IsEndRun meld name.limits false pass.seen after_it.seen h.old doing.asked reply own' → own'.seen ≡ failures after_it.seen
+  seen_of : (reply : Reply P) → IsEndRun meld name.limits false (moment h.old pass.seen) doing.asked reply (moment own' after_it.seen) → own'.seen ≡ failures after_it.seen
   seen_of reply ended =
       let span = ended.run.span in
       let here : span.look ≡ after_it.seen = squeeze pass.seen span.look after_it.seen (did_prefix false [] pass.seen span.look span.looked) (did_prefix false _ span.look after_it.seen span.did) still in
       sees_all (is_shrink (polled_by h.old doing.asked)) span.look after_it.seen own'.seen ended.run.answer.leaves.seen (ap failures here)
 
   -- a run that ended as it was when somebody was found missing ended now
-  ended_now : (reply : Reply P) → IsEarlyRun meld name.limits false pass.seen after_it.seen h.old doing.asked reply own' → IsEndRun meld name.limits false pass.seen after_it.seen h.old doing.asked reply own'
+  ended_now : (reply : Reply P) → IsEarlyRun meld name.limits false (moment h.old pass.seen) doing.asked reply (moment own' after_it.seen) → IsEndRun meld name.limits false (moment h.old pass.seen) doing.asked reply (moment own' after_it.seen)
   ended_now reply early =
       let span = early.run.run.span in
       let begins = prefix_trans pass.seen span.look early.found (did_prefix false [] pass.seen span.look span.looked) (did_prefix false _ span.look early.found span.did) in
       let here : early.found ≡ after_it.seen = squeeze pass.seen early.found after_it.seen begins (did_prefix false [] early.found after_it.seen early.waited) still in
-      subst (λ w. IsEndRun meld name.limits false pass.seen w h.old doing.asked reply own') here early.run
+      subst (λ w. IsEndRun meld name.limits false (moment h.old pass.seen) doing.asked reply (moment own' w)) here early.run
 
   abbrev Comes : Option (Reply P) → Type 0
   Comes r = LooksOn meld name own.number (comm_of doing.asked) (length after_it.seen) found' now r after_it own' doing'
 
-  going : Stands meld false name h.old pass doing' own' after_it → Comes None
+  going : Stands meld false (local h.old (view_of name pass)) doing' (local own' (view_of name after_it)) → Comes None
   going stands = go (is_looking doing'.phase) refl
     where
       go : (b : Bool) → is_looking doing'.phase ≡ b → Comes None
@@ -167,25 +169,25 @@ module _ {P : Type 0} (meld : P → P → P) (name : Name) (now : Traced P) (pas
           let all = found_all doing'.asked h.old own' pass.seen after_it.seen f still in
           inr (may_look all.1, ends_on all.1 past stands f.same (subst (λ s. IsFalse (has s h.old.number)) all.0 f.not_declared) f.not_refused)
 
-  answered : (reply : Reply P) → wants_memory reply ≡ false → Answered meld false name doing.asked h.old pass reply own' after_it → Comes (Some reply)
+  answered : (reply : Reply P) → wants_memory reply ≡ false → Answered meld false doing.asked (local h.old (view_of name pass)) reply (local own' (view_of name after_it)) → Comes (Some reply)
   answered reply has_memory a = go a.ends
     where
-      ending : IsEndRun meld name.limits false pass.seen after_it.seen h.old doing.asked reply own' → Fits meld name.limits after_it.seen own' → Comes (Some reply)
+      ending : IsEndRun meld name.limits false (moment h.old pass.seen) doing.asked reply (moment own' after_it.seen) → Fits meld name.limits after_it.seen own' → Comes (Some reply)
       ending ended fits = let seen' = seen_of reply ended in inr (may_look seen', ends_reply seen' reply ended fits)
 
       by_calls : Fits meld name.limits after_it.seen own'
-          → (IsRefusedAgain h.old reply own' × (after_it ≡ pass)) ⊎ (IsEndRun meld name.limits false pass.seen after_it.seen h.old doing.asked reply own' ⊎ IsEarlyRun meld name.limits false pass.seen after_it.seen h.old doing.asked reply own') → Comes (Some reply)
+          → (IsRefusedAgain h.old reply own' × (after_it ≡ pass)) ⊎ (IsEndRun meld name.limits false (moment h.old pass.seen) doing.asked reply (moment own' after_it.seen) ⊎ IsEarlyRun meld name.limits false (moment h.old pass.seen) doing.asked reply (moment own' after_it.seen)) → Comes (Some reply)
       by_calls fits (inl again) = absurd (cc (again.0.refused, h.in_use))
       by_calls fits (inr (inl ended)) = ending ended fits
       by_calls fits (inr (inr early)) = ending (ended_now reply early) fits
 
-      go : (IsRefusedAgain h.old reply own' × Waits false pass after_it) ⊎ HasReplied meld false name doing.asked h.old pass reply own' after_it → Comes (Some reply)
+      go : (IsRefusedAgain h.old reply own' × Waits false pass after_it) ⊎ HasReplied meld false doing.asked (local h.old (view_of name pass)) reply (local own' (view_of name after_it)) → Comes (Some reply)
       go (inl again) = absurd (cc (again.0.refused, h.in_use))
-      go (inr e) = let calls = subst (λ b. RepliedAs meld false name doing.asked h.old pass reply b own' after_it) has_memory e in by_calls calls.fits calls.ends
+      go (inr e) = let calls = subst (λ b. RepliedAs meld false doing.asked (local h.old (view_of name pass)) reply b (local own' (view_of name after_it))) has_memory e in by_calls calls.fits calls.ends
 
-  pub looks_on : ((reply : Reply P) → result ≡ Some reply → wants_memory reply ≡ false) → MatchOption result (Stands meld false name h.old pass doing' own' after_it) (λ reply. Answered meld false name doing.asked h.old pass reply own' after_it) → Comes result
+  pub looks_on : ((reply : Reply P) → result ≡ Some reply → wants_memory reply ≡ false) → MatchOption result (Stands meld false (local h.old (view_of name pass)) doing' (local own' (view_of name after_it))) (λ reply. Answered meld false doing.asked (local h.old (view_of name pass)) reply (local own' (view_of name after_it))) → Comes result
   looks_on has_memory ends = go result refl ends
     where
-      go : (r : Option (Reply P)) → result ≡ r → MatchOption r (Stands meld false name h.old pass doing' own' after_it) (λ reply. Answered meld false name doing.asked h.old pass reply own' after_it) → Comes r
+      go : (r : Option (Reply P)) → result ≡ r → MatchOption r (Stands meld false (local h.old (view_of name pass)) doing' (local own' (view_of name after_it))) (λ reply. Answered meld false doing.asked (local h.old (view_of name pass)) reply (local own' (view_of name after_it))) → Comes r
       go None is stands = going stands
       go (Some reply) is a = answered reply (has_memory reply is) a

@@ -5,7 +5,8 @@ use mathlib.Core.List.{IsPrefix}
 use Rattle.ulfm_model.specs.declared.{call.Call.{Call}, event.Caller.{Caller}, event.Caller.TheVariants.{Outside, Rank}, limits.Limits.{Limits}, reply.Reply.{Reply}}
 use Rattle.ulfm_model.specs.{Answers.{comm_of, traits_of}, History.{History}, Records.{Record}}
 use Rattle.ulfm_model.proofs.{LeftRuns.{left_keeps}, Stable.{fits_stays}}
-use Rattle.ulfm_words.specs.Steps.{IsOf, Name, Sight}
+use Rattle.ulfm_model.specs.Records.{moment}
+use Rattle.ulfm_words.specs.Steps.{view_of, IsView, Name, Sight}
 use Rattle.ulfm_words.proofs.Trails.{did_wait}
 use Rattle.ulfm_steps.specs.declared.arrivals.Missing.{Missing}
 use Rattle.ulfm_comm.specs.Phase.{UnderWay, Waits}
@@ -13,7 +14,7 @@ use Rattle.ulfm_comm.specs.declared.phases.phase.{Phase.{Phase}, Phase.TheVarian
 use Rattle.ulfm_comm.proofs.{Stands.{stands_lasts}, AmongOthers.{did_among}}
 use Rattle.ulfm_trace_model.specs.declared.line.{Line.{Line}, Line.TheVariants.{Called, Happened, Looked, Replied}}
 use Rattle.ulfm_trace_model.specs.Follows.{AreOf, is_of}
-use Rattle.ulfm_trace_model.specs.Traces.{Told, Traced, Under, after, after_reply, call_by, caller_of, change_by, found_by, record_of, records_after, said_by, same_caller, taken_in, with_event}
+use Rattle.ulfm_trace_model.specs.Traces.{Told, Traced, Under, after, after_reply, call_by, caller_of, change_by, found_by, record_in, records_after, said_by, same_caller, taken_in, with_event}
 use Rattle.ulfm_trace_model.proofs.{Callers.{same_is}, Kept.{find_other_record, limits_stay}}
 use Rattle.ulfm_stepping.specs.{Seats.{AreOthers, Seated, Sits, SitsAt, line_by}, Stepping.{FoundAt, HasBegun, HasCalled, IsIdle, events_by}}
 use Rattle.ulfm_stepping.proofs.{ByPhase.{found_by_check}, LookedAt.{begins_again}, Replying.{by_append}, Stepped.{keeps_asked}}
@@ -64,15 +65,15 @@ module _ {P : Type 0} (n : ℕ) where
   -- what a line of another changes for this rank: nothing but the history, which gets no event of its
   pub record Stays (now t : Traced P) : Type 0 where
     pub call : call_by t (Rank n) ≡ call_by now (Rank n)
-    pub record_is : record_of t n ≡ record_of now n
+    pub record_is : record_in t n ≡ record_in now n
     pub more : History P
     pub grown : now.history ++ more ≡ t.history
     pub others : events_by (Rank n) more ≡ []
 
-  stays_same : (now t : Traced P) → call_by t (Rank n) ≡ call_by now (Rank n) → record_of t n ≡ record_of now n → t.history ≡ now.history → Stays now t
+  stays_same : (now t : Traced P) → call_by t (Rank n) ≡ call_by now (Rank n) → record_in t n ≡ record_in now n → t.history ≡ now.history → Stays now t
   stays_same now t call same history = record { call = call; record_is = same; more = []; grown = append-nil now.history ∙ sym history; others = refl }
 
-  left_records : (now : Traced P) (by : Caller) (v : Under P) (point : ℕ) (reply : Reply P) → same_caller by (Rank n) ≡ false → find (λ x. x.number == n) (records_after now by v point reply) ≡ record_of now n
+  left_records : (now : Traced P) (by : Caller) (v : Under P) (point : ℕ) (reply : Reply P) → same_caller by (Rank n) ≡ false → find (λ x. x.number == n) (records_after now by v point reply) ≡ record_in now n
   left_records now Outside v point reply differ = refl
   left_records now (Rank r) v point reply differ =
       find_other_record (λ (a b : P). a) r n (taken_in now v point reply) (λ own. (left_keeps now.limits.ranks (take point now.history) (record own { seen = if is_some v.look then found_by now v else own.seen }) v.asked reply).0)
@@ -113,17 +114,17 @@ module _ {P : Type 0} (n : ℕ) where
       }
 
 -- who is missing in a barrier was found at a beginning of what is seen later, too
-found_lasts : {P : Type 0} (meld : P → P → P) (limits : Limits) (c : ℕ) (old : Record) (before : History P) (own : Record) (now later : History P) (found : ℕ) → IsPrefix now later → (phase : Phase P) → FoundAt meld limits c old before own now found phase
-    → FoundAt meld limits c old before own later found phase
+found_lasts : {P : Type 0} (meld : P → P → P) (limits : Limits) (c : ℕ) (old : Record) (before : History P) (own : Record) (now later : History P) (found : ℕ) → IsPrefix now later → (phase : Phase P) → FoundAt meld limits c (moment old before) (moment own now) found phase
+    → FoundAt meld limits c (moment old before) (moment own later) found phase
 found_lasts meld limits c old before own now later found begins =
-    found_by_check (FoundAt meld limits c old before own now found) meld limits c old before own later found go
+    found_by_check (FoundAt meld limits c (moment old before) (moment own now) found) meld limits c old before own later found go
   where
-    go : (missing : Missing) → FoundAt meld limits c old before own now found (Checking missing) → FoundAt meld limits c old before own later found (Checking missing)
+    go : (missing : Missing) → FoundAt meld limits c (moment old before) (moment own now) found (Checking missing) → FoundAt meld limits c (moment old before) (moment own later) found (Checking missing)
     go missing (earlier, i, is) =
         (earlier, record { x = i.x; k = i.k; waits = i.waits; are = i.are; legal = i.legal; waited = did_wait false [] earlier now later i.waited (did_among now later begins) }, is)
 
 -- others' lines led from `now` to `t`, and the pass has seen their events since
-module _ {P : Type 0} (meld : P → P → P) (name : Name) (now t : Traced P) (pass later : Sight P) (own : Record) (of : IsOf meld name later) (limits_t : t.limits ≡ now.limits) (history_t : t.history ≡ later.seen) (s : Stays own.number now t) (onward : pass.steps ≤ later.steps) where
+module _ {P : Type 0} (meld : P → P → P) (name : Name) (now t : Traced P) (pass later : Sight P) (own : Record) (of : IsView meld (view_of name later)) (limits_t : t.limits ≡ now.limits) (history_t : t.history ≡ later.seen) (s : Stays own.number now t) (onward : pass.steps ≤ later.steps) where
   grown_from : now.history ≡ pass.seen → pass.seen ++ s.more ≡ later.seen
   grown_from history = ap (λ h. h ++ s.more) (sym history) ∙ (s.grown ∙ history_t)
 
@@ -204,7 +205,7 @@ module _ {P : Type 0} (meld : P → P → P) (name : Name) (now t : Traced P) (p
   at_lasts found (Some doing) (inr h) = inr (called_lasts found doing h)
 
 -- lines of others leave a rank where it sits
-pub sits_lasts : {P : Type 0} (meld : P → P → P) (name : Name) (now : Traced P) (piece : List (Told P)) (pass later : Sight P) (seat : Seated P) → AreOthers (Rank seat.own.number) piece → (said_by now piece).history ≡ later.seen → IsOf meld name later
+pub sits_lasts : {P : Type 0} (meld : P → P → P) (name : Name) (now : Traced P) (piece : List (Told P)) (pass later : Sight P) (seat : Seated P) → AreOthers (Rank seat.own.number) piece → (said_by now piece).history ≡ later.seen → IsView meld (view_of name later)
     → pass.steps ≤ later.steps → Sits meld name now pass seat → Sits meld name (said_by now piece) later seat
 sits_lasts meld name now piece pass later seat others history of onward sits =
     at_lasts meld name now (said_by now piece) pass later seat.own of (limits_stay meld now piece) history (stays_along seat.own.number now piece others) onward seat.found seat.call sits

@@ -4,11 +4,12 @@ use Rattle.ulfm_model.specs.declared.call.Call.TheVariants as call
 use Rattle.ulfm_model.specs.declared.{call.Call.{Call}, call.Request.{Request}, call.Request.TheVariants.{Barrier}, contribution.Offer.{Offer}}
 use Rattle.ulfm_model.specs.{Answers.{polled_by}, History.{History}, Records.{Held, Record, held_at, is_shrink}}
 use Rattle.ulfm_model.specs.Terms.{comm_of, request_of}
-use Rattle.ulfm_words.specs.Steps.{Name, Sight}
+use Rattle.ulfm_words.specs.Steps.{view_of, Name, Sight}
 use Rattle.ulfm_steps.specs.declared.{arrivals.Arrivals.{Arrivals}, arrivals.Missing.{Missing}}
 use Rattle.ulfm_comm.specs.{Exchange.{StartsWith}, Look.{Looked as HasFound}, Phase.{LeadsTo, StandsAt, is_looking, is_making, next_of}, Requests.{agreement}, Step.{StepSees}}
 use Rattle.ulfm_comm.specs.declared.phases.phase.{Phase.{Phase}, Phase.TheVariants.{Over, Begun, Looking, Settling, Arriving, Revoking, Asking, Peeking, Marking, Reading, ReadingOn, Spawning, Waiting, Checking}}
 use Rattle.ulfm_comm.proofs.{Polls.{polls_it}, WholeCall.{held_before}}
+use Rattle.ulfm_comm.specs.Local.{local}
 
 seen_same : (own old : Record) (s : List ℕ) → own ≡ record old { seen = s } → own ≡ record old { seen = own.seen }
 seen_same own old s is = is ∙ ap (λ w. record old { seen = w }) (sym (ap (λ (r : Record). r.seen) is))
@@ -37,7 +38,7 @@ IsBarrier {P} phase = ((arrivals : Arrivals) × (phase ≡ Waiting arrivals)) �
 
 module _ {P : Type 0} (meld : P → P → P) (alone : Bool) (name : Name) (asked : Call P) (old : Record) (before : Sight P) (group : List ℕ) (own : Record) (now : Sight P) (in_use : IsFalse old.refused) where
   -- of the record only what was seen is new
-  pub stands_same : (phase : Phase P) → is_looking phase ≡ false → StandsAt meld alone name asked old before phase group own now → own ≡ record old { seen = own.seen }
+  pub stands_same : (phase : Phase P) → is_looking phase ≡ false → StandsAt meld alone asked (local old (view_of name before)) phase group (local own (view_of name now)) → own ≡ record old { seen = own.seen }
   stands_same Over past p = absurd (cc (p.0, in_use))
   stands_same Begun past p = absurd (cc past)
   stands_same Looking past p = absurd (cc past)
@@ -54,7 +55,7 @@ module _ {P : Type 0} (meld : P → P → P) (alone : Bool) (name : Name) (asked
   stands_same (Checking missing) past p = seen_same own old _ p.2.waits.looked.record_is
 
   -- one that comes by a communicator polls a shrink
-  pub making_shrinks : (phase : Phase P) → is_making phase ≡ true → StandsAt meld alone name asked old before phase group own now → is_shrink (polled_by old asked) ≡ true
+  pub making_shrinks : (phase : Phase P) → is_making phase ≡ true → StandsAt meld alone asked (local old (view_of name before)) phase group (local own (view_of name now)) → is_shrink (polled_by old asked) ≡ true
   making_shrinks (ReadingOn on made) making p =
       ap is_shrink (ap (polled_by old) p.0 ∙ polls_it meld name.limits alone before.seen old p.2.mid (comm_of asked) true made.round p.1 p.2.decided p.2.marked)
   making_shrinks (Spawning append context reach) making p =
@@ -79,7 +80,7 @@ module _ {P : Type 0} (meld : P → P → P) (alone : Bool) (name : Name) (asked
       ap (polled_by old) polls ∙ (ap request_of (held_before meld name.limits alone before.seen look old own looked (comm_of asked) (Some x) (subst (λ w. held_at own w ≡ Some x) c_is held)) ∙ open_is)
 
   -- the poll of a barrier does nothing else behind its look
-  pub barrier_phase : (k : ℕ) → polled_by old asked ≡ Some (Barrier k) → (phase : Phase P) → is_looking phase ≡ false → StandsAt meld alone name asked old before phase group own now → IsBarrier phase
+  pub barrier_phase : (k : ℕ) → polled_by old asked ≡ Some (Barrier k) → (phase : Phase P) → is_looking phase ≡ false → StandsAt meld alone asked (local old (view_of name before)) phase group (local own (view_of name now)) → IsBarrier phase
   barrier_phase k polls (Waiting arrivals) past p = inl (arrivals, refl)
   barrier_phase k polls (Checking missing) past p = inr (missing, refl)
   barrier_phase k polls Over past p = absurd (cc (p.0, in_use))
@@ -102,7 +103,7 @@ module _ {P : Type 0} (meld : P → P → P) (alone : Bool) (name : Name) (asked
       let is = ap (polled_by old) p.0 ∙ polls_it meld name.limits alone before.seen old d.mid (comm_of asked) true p.1.round p.1.x d.decided d.marked in absurd (cc (sym is ∙ polls))
 
   -- a barrier's poll that makes its last load is one
-  pub checking_polls : (missing : Missing) (p : StandsAt meld alone name asked old before (Checking missing) group own now) → polled_by old asked ≡ Some (Barrier p.2.k)
+  pub checking_polls : (missing : Missing) (p : StandsAt meld alone asked (local old (view_of name before)) (Checking missing) group (local own (view_of name now))) → polled_by old asked ≡ Some (Barrier p.2.k)
   checking_polls missing p = let w = p.2.waits in open_polls (comm_of asked) w.look p.2.x (Barrier p.2.k) refl p.0 w.looked w.held w.open_is
 
 -- but where it comes by a communicator, a step behind the look leaves what was seen

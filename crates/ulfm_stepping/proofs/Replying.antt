@@ -4,8 +4,10 @@ use Rattle.std.specs.Option.{option_and_then}
 use mathlib.Core.List.{IsPrefix}
 use Rattle.ulfm_model.specs.declared.call.Call.TheVariants as call
 use Rattle.ulfm_model.specs.declared.{call.Call.{Call}, call.Request.{Request}, call.Request.TheVariants.{Agree, Shrink, Barrier}, event.Caller.{Caller}, event.Caller.TheVariants.{Rank}, event.Entry.{Entry}, event.Event.{Event}, limits.Limits.{Limits}, refusal.Refusal.{Refusal}, reply.Reply.{Reply}, reply.Reply.TheVariants.{Revoked, Started}}
-use Rattle.ulfm_model.specs.{Answers.{IsReply, IsSelfFailed, PollReplies, RepliesBy, Sees, View, polled_by, refusal_of, traits_of}, History.{History, entries_by, failures, has}, Records.{Held, Record, held_at, is_shrink}, Runs.{StandsIn}}
+use Rattle.ulfm_model.specs.{Answers.{IsReply, IsSelfFailed, PollReplies, RepliesBy, Sees, AtPoint, polled_by, refusal_of, traits_of}, History.{History, entries_by, failures, has}, Records.{Held, Record, held_at, is_shrink}, Runs.{StandsIn}}
+use Rattle.ulfm_model.specs.Answers.{Replies}
 use Rattle.ulfm_model.proofs.Histories.{failures_begin}
+use Rattle.ulfm_model.specs.Records.{moment}
 use Rattle.ulfm_words.proofs.Trails.{did_prefix}
 use Rattle.ulfm_comm.specs.Ends.{IsEndRun}
 use Rattle.ulfm_trace_model.specs.Traces.{same_caller}
@@ -63,13 +65,13 @@ not_before (x ∷ xs) ys r begins none =
     both_none (x == r) (has xs r) parts.0 (not_before xs (xs ++ begins.0) r (begins.0, refl) parts.1)
 
 -- the same view, but for the look
-abbrev with_look : {P : Type 0} → View P → List ℕ → View P
+abbrev with_look : {P : Type 0} → AtPoint P → List ℕ → AtPoint P
 with_look view look = record { look = look; history = view.history; own = view.own }
 
 -- the poll of a shrink may rest on a beginning of what was read, too
-module _ {P : Type 0} (meld : P → P → P) (limits : Limits) (view : View P) (look : List ℕ) (begins : IsPrefix look view.look) (old : Record) (reply : Reply P) where
-  shrink_relooks : (rank c : ℕ) (held : Option Held) (refusal : Option Refusal) → is_shrink (option_and_then (λ x. x.request) held) ≡ true → RepliesBy meld limits view old held (call.Poll rank c) reply refusal
-      → RepliesBy meld limits (with_look view look) old held (call.Poll rank c) reply refusal
+module _ {P : Type 0} (meld : P → P → P) (limits : Limits) (view : AtPoint P) (look : List ℕ) (begins : IsPrefix look view.look) (old : Record) (reply : Reply P) where
+  shrink_relooks : (rank c : ℕ) (held : Option Held) (refusal : Option Refusal) → is_shrink (option_and_then (λ x. x.request) held) ≡ true → RepliesBy {P = P} (λ x. Replies meld limits view old x (call.Poll rank c) reply) reply held refusal
+      → RepliesBy {P = P} (λ x. Replies meld limits (with_look view look) old x (call.Poll rank c) reply) reply held refusal
   shrink_relooks rank c held (Some refusal) shrinks r = r
   shrink_relooks rank c None None shrinks r = r
   shrink_relooks rank c (Some x) None shrinks r = go x.request shrinks r
@@ -81,8 +83,8 @@ module _ {P : Type 0} (meld : P → P → P) (limits : Limits) (view : View P) (
       go (Some (Shrink k)) shrinks (inl (p, is)) = inl (record { member = p.member; in_group = p.in_group; not_declared = not_before look view.look p.member begins p.not_declared; unsettled = p.unsettled }, is)
       go (Some (Shrink k)) shrinks (inr r) = inr r
 
-  replies_relook : (asked : Call P) → is_shrink (polled_by old asked) ≡ true → (refusal : Option Refusal) → RepliesBy meld limits view old (held_at old (traits_of asked).comm) asked reply refusal
-      → RepliesBy meld limits (with_look view look) old (held_at old (traits_of asked).comm) asked reply refusal
+  replies_relook : (asked : Call P) → is_shrink (polled_by old asked) ≡ true → (refusal : Option Refusal) → RepliesBy {P = P} (λ x. Replies meld limits view old x asked reply) reply (held_at old (traits_of asked).comm) refusal
+      → RepliesBy {P = P} (λ x. Replies meld limits (with_look view look) old x asked reply) reply (held_at old (traits_of asked).comm) refusal
   replies_relook (call.Poll rank c) shrinks refusal r = shrink_relooks rank c (held_at old c) refusal shrinks r
   replies_relook (call.Fail rank) shrinks refusal r = absurd (cc shrinks)
   replies_relook (call.GetFailed rank c) shrinks refusal r = absurd (cc shrinks)
@@ -100,7 +102,7 @@ module _ {P : Type 0} (meld : P → P → P) (limits : Limits) (view : View P) (
   shrink_answer asked shrinks (inr rep) = inr (record { not_declared = not_before look view.look old.number begins rep.not_declared; replies = replies_relook asked shrinks (refusal_of old asked) rep.replies })
 
 -- A run of a call from its look on, with its point at its end: so much was seen at the look (`start`), and after it came these events of the rank, `mine`.
-module _ {P : Type 0} (meld : P → P → P) (limits : Limits) (start after : History P) (old : Record) (asked : Call P) (reply : Reply P) (new : Record) (ended : IsEndRun meld limits false start after old asked reply new) (rest : History P) (goes_on : start ++ rest ≡ after)
+module _ {P : Type 0} (meld : P → P → P) (limits : Limits) (start after : History P) (old : Record) (asked : Call P) (reply : Reply P) (new : Record) (ended : IsEndRun meld limits false (moment old start) asked reply (moment new after)) (rest : History P) (goes_on : start ++ rest ≡ after)
     (mine : List (Event P)) (mine_is : events_by (Rank old.number) rest ≡ mine) (few : (traits_of asked).polls ≡ false → (mine ≡ []) ⊎ ((e : Event P) × (mine ≡ e ∷ []) × ((reply ≡ Started) ⊎ (reply ≡ Revoked))))
     (seen : is_shrink (polled_by old asked) ≡ false → new.seen ≡ failures start) where
   abbrev own : List (Event P)
@@ -134,7 +136,7 @@ module _ {P : Type 0} (meld : P → P → P) (limits : Limits) (start after : Hi
       none no_poll not_started not_revoked (inr (f, is, inl started)) = absurd (not_started started)
       none no_poll not_started not_revoked (inr (f, is, inr revoked)) = absurd (not_revoked revoked)
 
-  abbrev view : View P
+  abbrev view : AtPoint P
   view = record { look = failures ended.run.span.look; history = after; own = mine }
 
   at_point : IsSelfFailed view old asked reply ⊎ IsReply meld limits view old asked reply

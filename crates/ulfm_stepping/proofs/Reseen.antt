@@ -3,7 +3,8 @@ use Rattle.std.proofs.Common.{◌≡◌, ◌⊎◌, ℕ, List, Option, Some, Non
 use Rattle.ulfm_model.specs.declared.call.Call.TheVariants as call
 use Rattle.ulfm_model.specs.declared.{call.Call.{Call}, contribution.Offer.{Offer}, contribution.Offer.TheVariants.{Ctx, Flag}, event.Event.{Event}, limits.Limits.{Limits}, refusal.Refusal.{Refusal}, reply.Reply.{Reply}}
 use Rattle.ulfm_model.specs.declared.reply.Reply.TheVariants as is_reply
-use Rattle.ulfm_model.specs.{Answers.{Effect, IsReply, IsSelfFailed, MayOwn, RepliesBy, StartReplies, View, comm_of, left_by, left_with, printed, refusal_of, refusal_on, traits_of}, History.{History}, Records.{Held, Record, free_ids, held_at}}
+use Rattle.ulfm_model.specs.{Answers.{Effect, IsReply, IsSelfFailed, MayOwn, RepliesBy, StartReplies, AtPoint, comm_of, left_by, left_with, printed, refusal_of, refusal_on, traits_of}, History.{History}, Records.{Held, Record, free_ids, held_at}}
+use Rattle.ulfm_model.specs.Answers.{Replies}
 
 -- the record with other failures seen
 abbrev pub reseen : Record → List ℕ → Record
@@ -31,13 +32,13 @@ pub own_reseen : {P : Type 0} (look : List ℕ) (old : Record) (s : List ℕ) (a
 own_reseen look old s asked event may = record { not_declared = may.not_declared; not_refused = refusal_reseen old s asked ∙ may.not_refused; adds = may.adds }
 
 -- its reply
-module _ {P : Type 0} (meld : P → P → P) (limits : Limits) (view : View P) (old : Record) (s : List ℕ) where
+module _ {P : Type 0} (meld : P → P → P) (limits : Limits) (view : AtPoint P) (old : Record) (s : List ℕ) where
   start_reseen : (x : Held) (offer : Offer P) (reply : Reply P) → StartReplies view old x offer reply → StartReplies view (reseen old s) x offer reply
   start_reseen x offer reply (inl (is, gives)) =
       inl (is, record { given = gives.given; own = gives.own; stands = gives.stands; offer_is = gives.offer_is; known = gives.known; acked = gives.acked })
   start_reseen x offer reply (inr twice) = inr twice
 
-  by_reseen : (asked : Call P) (reply : Reply P) (held : Option Held) (refusal : Option Refusal) → RepliesBy meld limits view old held asked reply refusal → RepliesBy meld limits view (reseen old s) held asked reply refusal
+  by_reseen : (asked : Call P) (reply : Reply P) (held : Option Held) (refusal : Option Refusal) → RepliesBy {P = P} (λ x. Replies meld limits view old x asked reply) reply held refusal → RepliesBy {P = P} (λ x. Replies meld limits view (reseen old s) x asked reply) reply held refusal
   by_reseen asked reply held (Some refusal) r = r
   by_reseen asked reply None None r = absurd r
   by_reseen (call.Fail rank) reply (Some x) None r = r
@@ -55,7 +56,7 @@ module _ {P : Type 0} (meld : P → P → P) (limits : Limits) (view : View P) (
   reply_reseen asked reply r =
       record {
         not_declared = r.not_declared;
-        replies = subst (RepliesBy meld limits view (reseen old s) (held_at old (comm_of asked)) asked reply) (sym (refusal_reseen old s asked)) (by_reseen asked reply (held_at old (comm_of asked)) (refusal_of old asked) r.replies);
+        replies = subst (RepliesBy {P = P} (λ x. Replies meld limits view (reseen old s) x asked reply) reply (held_at old (comm_of asked))) (sym (refusal_reseen old s asked)) (by_reseen asked reply (held_at old (comm_of asked)) (refusal_of old asked) r.replies);
       }
 
   pub answer_reseen : (asked : Call P) (reply : Reply P) → IsSelfFailed view old asked reply ⊎ IsReply meld limits view old asked reply

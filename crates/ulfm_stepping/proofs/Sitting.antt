@@ -6,17 +6,18 @@ use Rattle.ulfm_model.specs.declared.step_name.StepName.TheVariants as step
 use Rattle.ulfm_model.specs.declared.step_name.StepName.{StepName}
 use Rattle.ulfm_model.specs.{Answers.{comm_of, polled_by, traits_of}, History.{History, failures}, Records.{Fits, Record, is_shrink}}
 use Rattle.ulfm_model.proofs.Lists.{in_list}
-use Rattle.ulfm_words.specs.Steps.{IsOf, Name, Sight}
+use Rattle.ulfm_words.specs.Steps.{view_of, IsView, Name, Sight}
 use Rattle.ulfm_words.proofs.Ranks.{failures_le}
 use Rattle.ulfm_comm.specs.{Calls.{RepliedAs, HasReplied, wants_memory}, Ends.{IsRefusedAgain}, Phase.{Answered, Stands, StandsAt, UnderWay, Waits, is_checking, is_looking, next_of, next_step}, Step.{StepAdds, Stepped}, StepsLeft.{FewerLeft, steps_left}}
 use Rattle.ulfm_comm.specs.declared.phases.phase.{Phase.{Phase}, Phase.TheVariants.{Begun}}
 use Rattle.ulfm_comm.proofs.AmongOthers.{waits_none}
+use Rattle.ulfm_comm.specs.Local.{local}
 use Rattle.ulfm_trace_model.specs.declared.line.Line.TheVariants.{Happened, Looked}
 use Rattle.ulfm_trace_model.specs.Follows.{AreOf, EndsInReply, step_of, steps_in}
 use Rattle.ulfm_trace_model.specs.Traces.{AreLegalAfter, Told, Traced, after, listed, said_by, same_caller}
 use Rattle.ulfm_trace_model.proofs.Callers.{same_rank}
 use Rattle.ulfm_stepping.specs.declared.told.{Answer.{Answer}, StepTold.{StepTold}}
-use Rattle.ulfm_stepping.specs.{Seats.{AreToldBy, MayList, Seated, Sits, SitsAt, TellsBegin, TellsPiece, entries_of, event_piece, has_looked, left_in, look_piece, piece_of, reply_piece, wants_in}, Stepping.{HasBegun, HasCalled, IsIdle, point_of, replied}}
+use Rattle.ulfm_stepping.specs.{Seats.{AreToldBy, MayList, Seated, Sits, SitsAt, TellsBegin, TellsPiece, entries_of, event_piece, has_looked, call_steps_left, look_piece, piece_of, reply_piece, wants_in}, Stepping.{HasBegun, HasCalled, IsIdle, point_of, reply_told}}
 use Rattle.ulfm_stepping.proofs.{Beginning.{begun, may_call, refused}, ByName.{event_named, get_last, look_named}, ByPhase.{in_look}, LooksOn.{looks_on, no_event}, Nexts.{reply_next}, Reseen.{reseen}, Stepped.{comes}, Turns.{EndsSo, LooksOn, NextAt, SaysStep}}
 
 -- The lines of a call that begins.
@@ -27,7 +28,7 @@ module _ {P : Type 0} (meld : P → P → P) (name : Name) (own : Record) (found
   -- of a rank that was refused for good before
   pub begins_over : own.refused ≡ true → (point : ℕ) → point ≡ length pass.seen → TellsBegin meld name idle pass asked (Some (record { point = point; reply = Refused SelfFailed })) idle
   begins_over is point point_is =
-      let told : ℕ → Told P = λ n. replied own.number n [] (Refused SelfFailed) in
+      let told : ℕ → Told P = λ n. reply_told own.number n [] (Refused SelfFailed) in
       subst (λ n. TellsBegin meld name idle pass asked (Some (record { point = n; reply = Refused SelfFailed })) idle) (sym point_is) (record {
         number = refl;
         at_once = inr (told (length pass.seen), refl, ap (same_caller (Rank own.number)) mine ∙ same_rank own.number);
@@ -37,8 +38,8 @@ module _ {P : Type 0} (meld : P → P → P) (name : Name) (own : Record) (found
       })
 
   -- of any other
-  pub begins_open : (doing : UnderWay P) → doing.asked ≡ asked → own.refused ≡ false → doing.phase ≡ Begun → IsOf meld name pass
-      → ((alone : Bool) (other : Name) (before : Sight P) → IsOf meld other before → Fits meld other.limits before.seen own → Stands meld alone other own before doing own before)
+  pub begins_open : (doing : UnderWay P) → doing.asked ≡ asked → own.refused ≡ false → doing.phase ≡ Begun → IsView meld (view_of name pass)
+      → ((alone : Bool) (other : Name) (before : Sight P) → IsView meld (view_of other before) → Fits meld other.limits before.seen own → Stands meld alone (local own (view_of other before)) doing (local own (view_of other before)))
       → TellsBegin meld name idle pass asked None (record { own = own; call = Some doing; found = found })
   begins_open doing asked_is in_use phase of stands =
       record {
@@ -113,17 +114,17 @@ module _ {P : Type 0} (r : ℕ) where
       looks (Some count) is = ((λ n by. list count is ∙ by), events told.event refl)
 
   pub last_reply : (group : List ℕ) (look : Option ℕ) (event : Option (Event P)) (answer : Answer P) → EndsInReply (look_piece r look ++ (event_piece r event ++ reply_piece r group (Some answer)))
-  last_reply group look event answer = (look_piece r look ++ event_piece r event, replied r answer.point group answer.reply, sym (append_assoc (look_piece r look) (event_piece r event) (reply_piece r group (Some answer))), refl)
+  last_reply group look event answer = (look_piece r look ++ event_piece r event, reply_told r answer.point group answer.reply, sym (append_assoc (look_piece r look) (event_piece r event) (reply_piece r group (Some answer))), refl)
 
 -- a look makes no load of a barrier's poll
 not_checking : {P : Type 0} (phase : Phase P) → is_looking phase ≡ true → is_checking phase ≡ false
 not_checking {P} = in_look (λ (phase : Phase P). is_checking phase ≡ false) refl refl
 
 -- One step of a call, by what `Rank::step` promises, and by what was read off it.
-module _ {P : Type 0} (meld : P → P → P) (name : Name) (before later : Sight P) (own own' : Record) (found : ℕ) (doing doing' : UnderWay P) (result : Option (Reply P)) (of : IsOf meld name before) (s : Stepped meld true name doing own before (next_of result doing'.phase) own' later)
+module _ {P : Type 0} (meld : P → P → P) (name : Name) (before later : Sight P) (own own' : Record) (found : ℕ) (doing doing' : UnderWay P) (result : Option (Reply P)) (of : IsView meld (view_of name before)) (s : Stepped meld true doing (local own (view_of name before)) (next_of result doing'.phase) (local own' (view_of name later)))
     (asked' : doing'.asked ≡ doing.asked)
-    (stands : (alone : Bool) → (IsTrue alone → IsTrue true) → (old : Record) → (start : Sight P) → (stood : Sight P) → Stands meld alone name old start doing own stood → Waits alone stood before
-    → MatchOption result (Stands meld alone name old start doing' own' later) (λ reply. Answered meld alone name doing.asked old start reply own' later))
+    (stands : (alone : Bool) → (IsTrue alone → IsTrue true) → (old : Record) → (start : Sight P) → (stood : Sight P) → Stands meld alone (local old (view_of name start)) doing (local own (view_of name stood)) → Waits alone stood before
+    → MatchOption result (Stands meld alone (local old (view_of name start)) doing' (local own' (view_of name later))) (λ reply. Answered meld alone doing.asked (local old (view_of name start)) reply (local own' (view_of name later))))
     (look : Option ℕ) (look_is : look ≡ look_end (is_looking doing.phase) result doing'.phase own') (event : Option (Event P)) (reads : ReadsEvent later.seen (length before.seen) event)
     (has_memory : (reply : Reply P) → result ≡ Some reply → wants_memory reply ≡ false) (found' : ℕ) (found_is : found' ≡ length later.seen) (point : ℕ)
     (point_is : (reply : Reply P) → result ≡ Some reply → point ≡ point_of found (length later.seen) (is_checking doing.phase) reply) where
@@ -269,7 +270,7 @@ module _ {P : Type 0} (meld : P → P → P) (name : Name) (before later : Sight
       at now there =
           comes_at now [] After (λ t next. let on = subst (λ q. Then q t) none next in (on.0, tt, inr on.1)) (λ is number begins. (tt, inl begins)) there
 
-      nearer : left_in name.limits own' (Some doing') < left_in name.limits own (Some doing)
+      nearer : call_steps_left name.limits own' (Some doing') < call_steps_left name.limits own (Some doing)
       nearer =
           subst (λ a. steps_left name.limits own' a doing'.phase < steps_left name.limits own doing.asked doing.phase) (sym asked')
           (subst (λ q. FewerLeft (steps_left name.limits own doing.asked doing.phase) name.limits own' doing.asked (next_of q doing'.phase)) none s.nearer)
@@ -305,28 +306,28 @@ module _ {P : Type 0} (meld : P → P → P) (name : Name) (before later : Sight
       piece : List (Told P)
       piece = piece_of r told group
 
-      at : (now : Traced P) → Sits meld name now before taken → Comes now (replied r point group reply ∷ []) (λ t. IsIdle meld name t later own' × MayList name.limits.ranks (take point later.seen) c reply own')
+      at : (now : Traced P) → Sits meld name now before taken → Comes now (reply_told r point group reply ∷ []) (λ t. IsIdle meld name t later own' × MayList name.limits.ranks (take point later.seen) c reply own')
       at now there =
-          comes_at now (replied r point group reply ∷ []) (λ t. IsIdle meld name t later own' × MayList name.limits.ranks (take point later.seen) c reply own')
+          comes_at now (reply_told r point group reply ∷ []) (λ t. IsIdle meld name t later own' × MayList name.limits.ranks (take point later.seen) c reply own')
           (λ t next. let e = subst (λ q. Then q t) is next in (e.number, (e.may, tt), (e.idle, e.list))) (λ none number begins. absurd (cc (is, none))) there
 
 -- in a look of a record only what was seen is new
-begun_same : {P : Type 0} (meld : P → P → P) (name : Name) (asked : Call P) (old : Record) (before : Sight P) (group : List ℕ) (own : Record) (now : Sight P) (phase : Phase P) → is_looking phase ≡ true → StandsAt meld false name asked old before phase group own now → own ≡ reseen old own.seen
+begun_same : {P : Type 0} (meld : P → P → P) (name : Name) (asked : Call P) (old : Record) (before : Sight P) (group : List ℕ) (own : Record) (now : Sight P) (phase : Phase P) → is_looking phase ≡ true → StandsAt meld false asked (local old (view_of name before)) phase group (local own (view_of name now)) → own ≡ reseen old own.seen
 begun_same {P} meld name asked old before group own now =
-    in_look (λ (phase : Phase P). StandsAt meld false name asked old before phase group own now → own ≡ reseen old own.seen) (λ p. p.1 ∙ ap (λ (w : Record). reseen old w.seen) (sym p.1)) (λ p. p.1)
+    in_look (λ (phase : Phase P). StandsAt meld false asked (local old (view_of name before)) phase group (local own (view_of name now)) → own ≡ reseen old own.seen) (λ p. p.1 ∙ ap (λ (w : Record). reseen old w.seen) (sym p.1)) (λ p. p.1)
 
 -- only the poll of a shrink runs out of memory
 module _ {P : Type 0} (meld : P → P → P) (name : Name) (before later : Sight P) (own own' : Record) (found : ℕ) (doing doing' : UnderWay P) (result : Option (Reply P))
-    (stands : (alone : Bool) → (IsTrue alone → IsTrue true) → (old : Record) → (start : Sight P) → (stood : Sight P) → Stands meld alone name old start doing own stood → Waits alone stood before
-    → MatchOption result (Stands meld alone name old start doing' own' later) (λ reply. Answered meld alone name doing.asked old start reply own' later))
+    (stands : (alone : Bool) → (IsTrue alone → IsTrue true) → (old : Record) → (start : Sight P) → (stood : Sight P) → Stands meld alone (local old (view_of name start)) doing (local own (view_of name stood)) → Waits alone stood before
+    → MatchOption result (Stands meld alone (local old (view_of name start)) doing' (local own' (view_of name later))) (λ reply. Answered meld alone doing.asked (local old (view_of name start)) reply (local own' (view_of name later))))
     (reply : Reply P) (is : result ≡ Some reply) (wants : wants_memory reply ≡ true) where
-  shrinks : (old : Record) (start : Sight P) → IsFalse old.refused → own ≡ reseen old own.seen → MatchOption result (Stands meld false name old start doing' own' later) (λ answer. Answered meld false name doing.asked old start answer own' later)
+  shrinks : (old : Record) (start : Sight P) → IsFalse old.refused → own ≡ reseen old own.seen → MatchOption result (Stands meld false (local old (view_of name start)) doing' (local own' (view_of name later))) (λ answer. Answered meld false doing.asked (local old (view_of name start)) answer (local own' (view_of name later)))
       → IsTrue (is_shrink (polled_by own doing.asked))
-  shrinks old start in_use same ends = go (subst (λ q. MatchOption q (Stands meld false name old start doing' own' later) (λ answer. Answered meld false name doing.asked old start answer own' later)) is ends).ends
+  shrinks old start in_use same ends = go (subst (λ q. MatchOption q (Stands meld false (local old (view_of name start)) doing' (local own' (view_of name later))) (λ answer. Answered meld false doing.asked (local old (view_of name start)) answer (local own' (view_of name later)))) is ends).ends
     where
-      go : (IsRefusedAgain old reply own' × Waits false start later) ⊎ HasReplied meld false name doing.asked old start reply own' later → IsTrue (is_shrink (polled_by own doing.asked))
+      go : (IsRefusedAgain old reply own' × Waits false start later) ⊎ HasReplied meld false doing.asked (local old (view_of name start)) reply (local own' (view_of name later)) → IsTrue (is_shrink (polled_by own doing.asked))
       go (inl again) = absurd (cc (again.0.refused, in_use))
-      go (inr e) = let polls = (subst (λ b. RepliedAs meld false name doing.asked old start reply b own' later) wants e).1 in ap (λ w. is_shrink (polled_by w doing.asked)) same ∙ polls
+      go (inr e) = let polls = (subst (λ b. RepliedAs meld false doing.asked (local old (view_of name start)) reply b (local own' (view_of name later))) wants e).1 in ap (λ w. is_shrink (polled_by w doing.asked)) same ∙ polls
 
   pub polls_shrink : (now : Traced P) → SitsAt meld name now before own found (Some doing) → IsTrue (is_shrink (polled_by own doing.asked))
   polls_shrink now (inl h) =
@@ -335,10 +336,10 @@ module _ {P : Type 0} (meld : P → P → P) (name : Name) (before later : Sight
   polls_shrink now (inr h) = shrinks h.old h.before h.in_use h.own_same (stands false (λ alone. absurd (cc alone)) h.old h.before h.stood h.stands h.waits)
 
 -- so many failures as a look found are fewer than can be counted
-module _ {P : Type 0} (meld : P → P → P) (name : Name) (before later : Sight P) (own own' : Record) (found : ℕ) (doing doing' : UnderWay P) (result : Option (Reply P)) (of : IsOf meld name before) (s : Stepped meld true name doing own before (next_of result doing'.phase) own' later)
+module _ {P : Type 0} (meld : P → P → P) (name : Name) (before later : Sight P) (own own' : Record) (found : ℕ) (doing doing' : UnderWay P) (result : Option (Reply P)) (of : IsView meld (view_of name before)) (s : Stepped meld true doing (local own (view_of name before)) (next_of result doing'.phase) (local own' (view_of name later)))
     (asked' : doing'.asked ≡ doing.asked)
-    (stands : (alone : Bool) → (IsTrue alone → IsTrue true) → (old : Record) → (start : Sight P) → (stood : Sight P) → Stands meld alone name old start doing own stood → Waits alone stood before
-    → MatchOption result (Stands meld alone name old start doing' own' later) (λ reply. Answered meld alone name doing.asked old start reply own' later))
+    (stands : (alone : Bool) → (IsTrue alone → IsTrue true) → (old : Record) → (start : Sight P) → (stood : Sight P) → Stands meld alone (local old (view_of name start)) doing (local own (view_of name stood)) → Waits alone stood before
+    → MatchOption result (Stands meld alone (local old (view_of name start)) doing' (local own' (view_of name later))) (λ reply. Answered meld alone doing.asked (local old (view_of name start)) reply (local own' (view_of name later))))
     (has_memory : (reply : Reply P) → result ≡ Some reply → wants_memory reply ≡ false) (ended : has_looked (is_looking doing.phase) result doing'.phase ≡ true) where
   pub look_fits : (now : Traced P) → SitsAt meld name now before own found (Some doing) → length own'.seen < 2 ^ 16
   look_fits now (inr h) = let none = ap (λ b. has_looked b result doing'.phase) h.past in absurd (cc (none, ended))

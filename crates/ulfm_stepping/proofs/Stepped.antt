@@ -8,15 +8,17 @@ use Rattle.ulfm_model.specs.declared.{call.Call.{Call}, call.Request.{Request}, 
 use Rattle.ulfm_model.specs.{Answers.{CallAdds, PollAdds, MayOwn, polled_by, rank_of, refusal_of, traits_of}, History.{History, IsLegal, MayFollow, entries_by, failures, says}, Records.{Fits, Held, Record, held_at, is_shrink}, Runs.{Did}}
 use Rattle.ulfm_model.specs.Terms.{comm_of}
 use Rattle.ulfm_model.proofs.{Histories.{legal_parts}, Lists.{prefix_trans}}
-use Rattle.ulfm_words.specs.Steps.{IsOf, Name, Sight}
+use Rattle.ulfm_model.specs.Records.{moment}
+use Rattle.ulfm_words.specs.Steps.{view_of, IsView, Name, Sight}
 use Rattle.ulfm_words.proofs.Trails.{did_prefix, did_quiet}
 use Rattle.ulfm_steps.specs.declared.{arrivals.Missing.{Missing}}
-use Rattle.ulfm_comm.specs.Missing.{AnsweredNow, AnswersMissing, FindsMissing, FoundNow, Midway}
-use Rattle.ulfm_comm.specs.{Barrier.{AnswersEarly, IsChecking}, Calls.{Replied, RepliedAs, HasReplied, wants_memory}, Ends.{IsEarlyRun, IsEndRun, IsRefusedAgain}, Phase.{Answered, LeadsTo, Stands, StandsAt, UnderWay, Waits, is_checking, is_making, next_of, reply_in}, Step.{Adds, Makes, StepAdds, Stepped}, StepsLeft.{FewerLeft, steps_left}}
+use Rattle.ulfm_comm.specs.Missing.{AnsweredNow, AnswersMissing, FindsMissing, FoundNow, Midway, midway}
+use Rattle.ulfm_comm.specs.{Barrier.{AnswersEarly, IsChecking}, Calls.{Linearizes, RepliedAs, HasReplied, wants_memory}, Ends.{IsEarlyRun, IsEndRun, IsRefusedAgain}, Phase.{Answered, LeadsTo, Stands, StandsAt, UnderWay, Waits, is_checking, is_making, next_of, reply_in}, Step.{Adds, Makes, StepAdds, Stepped}, StepsLeft.{FewerLeft, steps_left}}
 use Rattle.ulfm_comm.specs.declared.phases.phase.{Phase.{Phase}, Phase.TheVariants.{Over, Begun, Looking, Settling, Arriving, Revoking, Asking, Peeking, Marking, Reading, ReadingOn, Spawning, Waiting, Checking}}
 use Rattle.ulfm_comm.proofs.{StepAdds.{adds_none}, AmongOthers.{waits_none}, Stands.{stands_lasts}}
+use Rattle.ulfm_comm.specs.Local.{frame, local}
 use Rattle.ulfm_trace_model.specs.declared.line.Line.TheVariants.{Happened}
-use Rattle.ulfm_trace_model.specs.Traces.{MayCome, Traced, Under, after, call_by, found_by, is_owned, record_of, same_caller, with_event}
+use Rattle.ulfm_trace_model.specs.Traces.{MayCome, Traced, Under, after, call_by, found_by, is_owned, record_in, same_caller, with_event}
 use Rattle.ulfm_trace_model.proofs.Callers.{find_change, same_rank}
 use Rattle.ulfm_stepping.specs.Stepping.{FoundAt, HasCalled, events_by, is_early, point_of}
 use Rattle.ulfm_stepping.proofs.{ByPhase.{found_by_check}, Ending.{ends_so, found_is, lists_none, may_list}, Nexts.{reply_next}, Phases.{IsBarrier, barrier_phase, checking_polls, making_shrinks, seen_stays, stands_same, stays_making, stays_past}}
@@ -96,9 +98,9 @@ keeps_asked {P} event u = go (is_owned u event)
     go true = refl
     go false = refl
 
-module _ {P : Type 0} (meld : P → P → P) (name : Name) (now : Traced P) (pass after_it : Sight P) (own : Record) (found : ℕ) (doing : UnderWay P) (h : HasCalled meld name now pass own found doing) (of_old : IsOf meld name pass)
-    (result : Option (Reply P)) (own' : Record) (doing' : UnderWay P) (s : Stepped meld true name doing own pass (next_of result doing'.phase) own' after_it) (asked' : doing'.asked ≡ doing.asked)
-    (ends : MatchOption result (Stands meld false name h.old h.before doing' own' after_it) (λ reply. Answered meld false name doing.asked h.old h.before reply own' after_it)) where
+module _ {P : Type 0} (meld : P → P → P) (name : Name) (now : Traced P) (pass after_it : Sight P) (own : Record) (found : ℕ) (doing : UnderWay P) (h : HasCalled meld name now pass own found doing) (of_old : IsView meld (view_of name pass))
+    (result : Option (Reply P)) (own' : Record) (doing' : UnderWay P) (s : Stepped meld true doing (local own (view_of name pass)) (next_of result doing'.phase) (local own' (view_of name after_it))) (asked' : doing'.asked ≡ doing.asked)
+    (ends : MatchOption result (Stands meld false (local h.old (view_of name h.before)) doing' (local own' (view_of name after_it))) (λ reply. Answered meld false doing.asked (local h.old (view_of name h.before)) reply (local own' (view_of name after_it)))) where
   abbrev start : History P
   start = h.before.seen
 
@@ -175,10 +177,10 @@ module _ {P : Type 0} (meld : P → P → P) (name : Name) (now : Traced P) (pas
     since_then = sym (append_assoc start h.rest (record { by = Rank own.number; event = event } ∷ [])) ∙ (ap (λ w. w ++ record { by = Rank own.number; event = event } ∷ []) h.since ∙ one_more)
 
   -- The step has ended, and so much is said: `t`, with the call as `u`.
-  module _ (t : Traced P) (u : Under P) (rest : History P) (limits_t : t.limits ≡ name.limits) (history_t : t.history ≡ after_it.seen) (call_t : call_by t (Rank own.number) ≡ Some u) (record_t : record_of t own.number ≡ Some (reseen h.old h.seen))
+  module _ (t : Traced P) (u : Under P) (rest : History P) (limits_t : t.limits ≡ name.limits) (history_t : t.history ≡ after_it.seen) (call_t : call_by t (Rank own.number) ≡ Some u) (record_t : record_in t own.number ≡ Some (reseen h.old h.seen))
       (asked_t : u.asked ≡ doing.asked) (begun_t : u.begun ≡ h.u.begun) (look_t : u.look ≡ h.u.look) (since_t : start ++ rest ≡ after_it.seen) (own_t : events_by (Rank own.number) rest ≡ u.own) where
     -- the call goes on
-    goes_on : (leads : LeadsTo doing.phase (next_of None doing'.phase)) → Stands meld false name h.old h.before doing' own' after_it → (found' : ℕ) → FoundAt meld name.limits (comm_of doing'.asked) h.old start own' after_it.seen found' doing'.phase
+    goes_on : (leads : LeadsTo doing.phase (next_of None doing'.phase)) → Stands meld false (local h.old (view_of name h.before)) doing' (local own' (view_of name after_it)) → (found' : ℕ) → FoundAt meld name.limits (comm_of doing'.asked) (moment h.old start) (moment own' after_it.seen) found' doing'.phase
         → ((traits_of doing.asked).polls ≡ false → u.own ≡ []) → (own'.number ≡ own.number) × HasCalled meld name t after_it own' found' doing'
     goes_on leads stands found' found_at no_own =
         let past = stays_past doing.phase doing'.phase h.past leads in
@@ -193,7 +195,7 @@ module _ {P : Type 0} (meld : P → P → P) (name : Name) (now : Traced P) (pas
             asked = asked_t ∙ sym asked';
             old = h.old;
             seen = h.seen;
-            record_is = subst (λ n. record_of t n ≡ Some (reseen h.old h.seen)) number record_t;
+            record_is = subst (λ n. record_in t n ≡ Some (reseen h.old h.seen)) number record_t;
             before = h.before;
             stood = after_it;
             stands = stands;
@@ -219,7 +221,7 @@ module _ {P : Type 0} (meld : P → P → P) (name : Name) (now : Traced P) (pas
         sees false before not = seen_stays doing.phase h.past before own.seen own'.seen s.sees ∙ h.sees before
 
     -- it is answered, at the present point
-    ends_now : (reply : Reply P) → IsEndRun meld name.limits false start after_it.seen h.old doing.asked reply own' → Fits meld name.limits after_it.seen own'
+    ends_now : (reply : Reply P) → IsEndRun meld name.limits false (moment h.old start) doing.asked reply (moment own' after_it.seen) → Fits meld name.limits after_it.seen own'
         → ((traits_of doing.asked).polls ≡ false → (u.own ≡ []) ⊎ ((e : Event P) × (u.own ≡ e ∷ []) × ((reply ≡ Started) ⊎ (reply ≡ Revoked))))
         → EndsSo meld name t after_it own.number (comm_of doing.asked) (length after_it.seen) reply own'
     ends_now reply ended fits few =
@@ -240,7 +242,7 @@ module _ {P : Type 0} (meld : P → P → P) (name : Name) (now : Traced P) (pas
   Few = (added.events ≡ []) ⊎ ((event : Event P) × (added.events ≡ event ∷ []) × Makes look own doing.asked result event)
 
   -- whether it told an event or not, the call goes on
-  says_goes : result ≡ None → Stands meld false name h.old h.before doing' own' after_it → LeadsTo doing.phase (next_of None doing'.phase) → (found' : ℕ) → FoundAt meld name.limits (comm_of doing'.asked) h.old start own' after_it.seen found' doing'.phase → Few
+  says_goes : result ≡ None → Stands meld false (local h.old (view_of name h.before)) doing' (local own' (view_of name after_it)) → LeadsTo doing.phase (next_of None doing'.phase) → (found' : ℕ) → FoundAt meld name.limits (comm_of doing'.asked) (moment h.old start) (moment own' after_it.seen) found' doing'.phase → Few
       → Says (λ t. (own'.number ≡ own.number) × HasCalled meld name t after_it own' found' doing')
   says_goes going stands leads found' found_at (inl none) =
       let same = same_history none in inl (same, goes_on now h.u h.rest h.limits (h.history ∙ same) h.call h.record_is h.asked refl refl (h.since ∙ same) h.own_is leads stands found' found_at h.no_own)
@@ -259,7 +261,7 @@ module _ {P : Type 0} (meld : P → P → P) (name : Name) (now : Traced P) (pas
       no_more (inr is) = absurd (cc (is, going))
 
   -- or is answered
-  says_ends : (reply : Reply P) → result ≡ Some reply → IsEndRun meld name.limits false start after_it.seen h.old doing.asked reply own' → Fits meld name.limits after_it.seen own' → Few
+  says_ends : (reply : Reply P) → result ≡ Some reply → IsEndRun meld name.limits false (moment h.old start) doing.asked reply (moment own' after_it.seen) → Fits meld name.limits after_it.seen own' → Few
       → Says (λ t. EndsSo meld name t after_it own.number (comm_of doing.asked) (length after_it.seen) reply own')
   says_ends reply is ended fits (inl none) =
       let same = same_history none in inl (same, ends_now now h.u h.rest h.limits (h.history ∙ same) h.call h.record_is h.asked refl refl (h.since ∙ same) h.own_is reply ended fits (λ no_poll. inl (h.no_own no_poll)))
@@ -278,9 +280,9 @@ module _ {P : Type 0} (meld : P → P → P) (name : Name) (now : Traced P) (pas
       how (inr revoked) = inr (cc (is, revoked))
 
   -- the poll of a barrier found somebody missing before its last load, and is answered as it was then
-  module _ (missing : Missing) (phase_is : doing.phase ≡ Checking missing) (polls : doing.asked ≡ call.Poll h.old.number (comm_of doing.asked)) (earlier : History P) (i : IsChecking meld name.limits false (comm_of doing.asked) missing earlier h.old start own pass.seen)
+  module _ (missing : Missing) (phase_is : doing.phase ≡ Checking missing) (polls : doing.asked ≡ call.Poll h.old.number (comm_of doing.asked)) (earlier : History P) (i : IsChecking (frame meld name.limits false) (comm_of doing.asked) missing earlier (moment h.old start) (moment own pass.seen))
       (still : pass.seen ≡ after_it.seen) where
-    says_early : (reply : Reply P) → is_early reply ≡ true → IsEndRun meld name.limits false start earlier h.old doing.asked reply own' → Fits meld name.limits after_it.seen own' → EndsSo meld name now after_it own.number (comm_of doing.asked) (length earlier) reply own'
+    says_early : (reply : Reply P) → is_early reply ≡ true → IsEndRun meld name.limits false (moment h.old start) doing.asked reply (moment own' earlier) → Fits meld name.limits after_it.seen own' → EndsSo meld name now after_it own.number (comm_of doing.asked) (length earlier) reply own'
     says_early reply early ended fits =
         let w = i.waits in
         let from_start = prefix_trans start w.look earlier (did_prefix false [] start w.look w.looked.did) (did_prefix false [] w.look earlier w.waited) in
@@ -292,33 +294,33 @@ module _ {P : Type 0} (meld : P → P → P) (name : Name) (now : Traced P) (pas
         ends_so meld name now after_it own.number h.old h.seen h.u doing.asked start earlier from_start.0 to_now.0 reply own' h.limits (h.history ∙ still) h.call h.record_is own_number h.in_use h.asked h.begun h.look from_start.1 (to_now.1 ∙ still)
         swapped ended fits (lists_none name.limits.ranks earlier (comm_of doing.asked) reply own' early)
 
-  stands_now : Stands meld false name h.old h.before doing own pass
+  stands_now : Stands meld false (local h.old (view_of name h.before)) doing (local own (view_of name pass))
   stands_now = stands_lasts meld false name h.old h.before doing own h.stood pass h.stands h.waits of_old
 
   classified : (k : ℕ) → polled_by h.old doing.asked ≡ Some (Barrier k) → IsBarrier doing.phase
   classified k polls = barrier_phase meld false name doing.asked h.old h.before doing.group own h.stood h.in_use k polls doing.phase h.past h.stands.at
 
   -- a barrier's poll that makes its last load next has just found who is missing
-  module _ (going : result ≡ None) (stands : Stands meld false name h.old h.before doing' own' after_it) (found' : ℕ) (found_is : found' ≡ length after_it.seen) where
+  module _ (going : result ≡ None) (stands : Stands meld false (local h.old (view_of name h.before)) doing' (local own' (view_of name after_it))) (found' : ℕ) (found_is : found' ≡ length after_it.seen) where
     abbrev FoundIn : Phase P → Type 0
-    FoundIn phase = FoundAt meld name.limits (comm_of doing'.asked) h.old start own' after_it.seen found' phase
+    FoundIn phase = FoundAt meld name.limits (comm_of doing'.asked) (moment h.old start) (moment own' after_it.seen) found' phase
 
     found_checking : (missing : Missing) → doing'.phase ≡ Checking missing → FoundIn (Checking missing)
     found_checking missing is = go (classified at.2.k (ap (polled_by h.old) (sym asked') ∙ checking_polls meld false name doing'.asked h.old h.before doing'.group own' after_it h.in_use missing at))
       where
-        at : StandsAt meld false name doing'.asked h.old h.before (Checking missing) doing'.group own' after_it
-        at = subst (λ phase. StandsAt meld false name doing'.asked h.old h.before phase doing'.group own' after_it) is stands.at
+        at : StandsAt meld false doing'.asked (local h.old (view_of name h.before)) (Checking missing) doing'.group (local own' (view_of name after_it))
+        at = subst (λ phase. StandsAt meld false doing'.asked (local h.old (view_of name h.before)) phase doing'.group (local own' (view_of name after_it))) is stands.at
 
         next_is : next_of result doing'.phase ≡ next_of None (Checking missing)
         next_is = ap₂ next_of going is
 
         go : IsBarrier doing.phase → FoundIn (Checking missing)
         go (inl (arrivals, was)) =
-            let at : Midway P = record { doing = doing; own = own; pass = pass } in
-            let found = subst (λ next. FoundNow (FindsMissing meld true name at own' after_it) (Waiting arrivals) next) next_is
-            (subst (λ phase. FoundNow (FindsMissing meld true name at own' after_it) phase (next_of result doing'.phase)) was s.checks) in
+            let at : Midway P = midway doing (local own (view_of name pass)) in
+            let found = subst (λ next. FoundNow (FindsMissing meld true at (local own' (view_of name after_it))) (Waiting arrivals) next) next_is
+            (subst (λ phase. FoundNow (FindsMissing meld true at (local own' (view_of name after_it))) phase (next_of result doing'.phase)) was s.checks) in
             let here = found false (λ alone. absurd (cc alone)) h.old h.before stands_now in
-            (after_it.seen, subst (λ (a : Call P). IsChecking meld name.limits false (comm_of a) missing after_it.seen h.old start own' after_it.seen) (sym asked') here, sym found_is)
+            (after_it.seen, subst (λ (a : Call P). IsChecking (frame meld name.limits false) (comm_of a) missing after_it.seen (moment h.old start) (moment own' after_it.seen)) (sym asked') here, sym found_is)
         go (inr (before, was)) =
             let fewer = subst (λ next. FewerLeft (steps_left name.limits own doing.asked doing.phase) name.limits own' doing.asked next) next_is s.nearer in
             let less = subst (λ phase. 1 < steps_left name.limits own doing.asked phase) was fewer in
@@ -328,15 +330,15 @@ module _ {P : Type 0} (meld : P → P → P) (name : Name) (now : Traced P) (pas
     found_then = found_by_check (λ (phase : Phase P). doing'.phase ≡ phase) meld name.limits (comm_of doing'.asked) h.old start own' after_it.seen found' found_checking doing'.phase refl
 
   -- the call is answered
-  module _ (reply : Reply P) (is : result ≡ Some reply) (point : ℕ) (point_is : point ≡ point_of found (length after_it.seen) (is_checking doing.phase) reply) (calls : Replied meld false name doing.asked h.old h.before reply own' after_it) where
+  module _ (reply : Reply P) (is : result ≡ Some reply) (point : ℕ) (point_is : point ≡ point_of found (length after_it.seen) (is_checking doing.phase) reply) (calls : Linearizes meld false doing.asked (local h.old (view_of name h.before)) reply (local own' (view_of name after_it))) where
     abbrev SaysReply : ℕ → Type 0
     SaysReply n = Says (λ t. EndsSo meld name t after_it own.number (comm_of doing.asked) n reply own')
 
     abbrev Ended : Type 0
-    Ended = (IsRefusedAgain h.old reply own' × (after_it ≡ h.before)) ⊎ (IsEndRun meld name.limits false start after_it.seen h.old doing.asked reply own' ⊎ IsEarlyRun meld name.limits false start after_it.seen h.old doing.asked reply own')
+    Ended = (IsRefusedAgain h.old reply own' × (after_it ≡ h.before)) ⊎ (IsEndRun meld name.limits false (moment h.old start) doing.asked reply (moment own' after_it.seen) ⊎ IsEarlyRun meld name.limits false (moment h.old start) doing.asked reply (moment own' after_it.seen))
 
     -- at the present point
-    present : (IsEarlyRun meld name.limits false start after_it.seen h.old doing.asked reply own' → ⊥) → SaysReply (length after_it.seen)
+    present : (IsEarlyRun meld name.limits false (moment h.old start) doing.asked reply (moment own' after_it.seen) → ⊥) → SaysReply (length after_it.seen)
     present never = go calls.ends
       where
         go : Ended → SaysReply (length after_it.seen)
@@ -351,17 +353,17 @@ module _ {P : Type 0} (meld : P → P → P) (name : Name) (now : Traced P) (pas
     -- the last load of a barrier's poll
     checked : (missing : Missing) → doing.phase ≡ Checking missing → SaysReply (point_of found (length after_it.seen) true reply)
     checked missing phase_is =
-        let at : Midway P = record { doing = doing; own = own; pass = pass } in
-        let answered = subst (λ next. AnsweredNow (AnswersMissing meld true name at own') (Checking missing) next) (ap (λ r. next_of r doing'.phase) is)
-        (subst (λ phase. AnsweredNow (AnswersMissing meld true name at own') phase (next_of result doing'.phase)) phase_is s.early) in
+        let at : Midway P = midway doing (local own (view_of name pass)) in
+        let answered = subst (λ next. AnsweredNow (AnswersMissing meld true at own') (Checking missing) next) (ap (λ r. next_of r doing'.phase) is)
+        (subst (λ phase. AnsweredNow (AnswersMissing meld true at own') phase (next_of result doing'.phase)) phase_is s.early) in
         by_clause
         (answered false (λ alone. absurd (cc alone)) (record { old = h.old; before = start; fits = h.stands.fits; polls = polls; earlier = there.0; checking = there.1 }))
       where
         polls : doing.asked ≡ call.Poll h.old.number (comm_of doing.asked)
-        polls = let at = subst (λ phase. StandsAt meld false name doing.asked h.old h.before phase doing.group own h.stood) phase_is h.stands.at in at.0
+        polls = let at = subst (λ phase. StandsAt meld false doing.asked (local h.old (view_of name h.before)) phase doing.group (local own (view_of name h.stood))) phase_is h.stands.at in at.0
 
-        there : FoundAt meld name.limits (comm_of doing.asked) h.old start own pass.seen found (Checking missing)
-        there = subst (FoundAt meld name.limits (comm_of doing.asked) h.old start own pass.seen found) phase_is h.found_at
+        there : FoundAt meld name.limits (comm_of doing.asked) (moment h.old start) (moment own pass.seen) found (Checking missing)
+        there = subst (FoundAt meld name.limits (comm_of doing.asked) (moment h.old start) (moment own pass.seen) found) phase_is h.found_at
 
         still : pass.seen ≡ after_it.seen
         still =
@@ -371,13 +373,13 @@ module _ {P : Type 0} (meld : P → P → P) (name : Name) (now : Traced P) (pas
         late not =
             subst SaysReply (sym (ap (λ (b : Bool). if b then found else length after_it.seen) not)) (present (λ early. let sooner = early_is early.missing in cc (sooner, not)))
 
-        by_early : (b : Bool) → is_early reply ≡ b → IsEndRun meld name.limits false start there.0 h.old doing.asked reply own' → SaysReply (point_of found (length after_it.seen) true reply)
+        by_early : (b : Bool) → is_early reply ≡ b → IsEndRun meld name.limits false (moment h.old start) doing.asked reply (moment own' there.0) → SaysReply (point_of found (length after_it.seen) true reply)
         by_early true early ended =
             subst SaysReply (there.2 ∙ sym (ap (λ (b : Bool). if b then found else length after_it.seen) early))
             (inl (still, says_early missing phase_is polls there.0 there.1 still reply early ended calls.fits))
         by_early false not ended = late not
 
-        by_clause : AnswersEarly meld name.limits false doing.asked missing there.0 h.old start reply own' → SaysReply (point_of found (length after_it.seen) true reply)
+        by_clause : AnswersEarly (frame meld name.limits false) doing.asked missing (moment h.old start) reply (moment own' there.0) → SaysReply (point_of found (length after_it.seen) true reply)
         by_clause (inl (nobody, done)) = late (ap is_early done)
         by_clause (inr (inl revoked)) = late (ap is_early revoked)
         by_clause (inr (inr ended)) = by_early (is_early reply) refl ended
@@ -385,7 +387,7 @@ module _ {P : Type 0} (meld : P → P → P) (name : Name) (now : Traced P) (pas
     says_reply : SaysReply point
     says_reply = go (is_checking doing.phase) refl
       where
-        never : is_checking doing.phase ≡ false → IsEarlyRun meld name.limits false start after_it.seen h.old doing.asked reply own' → ⊥
+        never : is_checking doing.phase ≡ false → IsEarlyRun meld name.limits false (moment h.old start) doing.asked reply (moment own' after_it.seen) → ⊥
         never not early = by (classified early.round early.open_is)
           where
             by : IsBarrier doing.phase → ⊥
@@ -405,12 +407,12 @@ module _ {P : Type 0} (meld : P → P → P) (name : Name) (now : Traced P) (pas
       → ((reply : Reply P) → result ≡ Some reply → point ≡ point_of found (length after_it.seen) (is_checking doing.phase) reply) → Comes point found' result
   comes has_memory found' found_is point point_is = go result refl ends
     where
-      answered : (reply : Reply P) → result ≡ Some reply → (IsRefusedAgain h.old reply own' × Waits false h.before after_it) ⊎ HasReplied meld false name doing.asked h.old h.before reply own' after_it → Comes point found' (Some reply)
+      answered : (reply : Reply P) → result ≡ Some reply → (IsRefusedAgain h.old reply own' × Waits false h.before after_it) ⊎ HasReplied meld false doing.asked (local h.old (view_of name h.before)) reply (local own' (view_of name after_it)) → Comes point found' (Some reply)
       answered reply is (inl again) = absurd (cc (again.0.refused, h.in_use))
       answered reply is (inr e) =
-          says_reply reply is point (point_is reply is) (subst (λ b. RepliedAs meld false name doing.asked h.old h.before reply b own' after_it) (has_memory reply is) e)
+          says_reply reply is point (point_is reply is) (subst (λ b. RepliedAs meld false doing.asked (local h.old (view_of name h.before)) reply b (local own' (view_of name after_it))) (has_memory reply is) e)
 
-      go : (r : Option (Reply P)) → result ≡ r → MatchOption r (Stands meld false name h.old h.before doing' own' after_it) (λ reply. Answered meld false name doing.asked h.old h.before reply own' after_it) → Comes point found' r
+      go : (r : Option (Reply P)) → result ≡ r → MatchOption r (Stands meld false (local h.old (view_of name h.before)) doing' (local own' (view_of name after_it))) (λ reply. Answered meld false doing.asked (local h.old (view_of name h.before)) reply (local own' (view_of name after_it))) → Comes point found' r
       go None is stands =
           says_goes is stands (subst (λ r. LeadsTo doing.phase (next_of r doing'.phase)) is s.leads) found' (found_then is stands found' found_is) added.few
       go (Some reply) is a = answered reply is a.ends

@@ -3,15 +3,16 @@ use Rattle.std.specs.Prelude.{◌≡◌, ◌⊎◌, ℕ, ◌<◌, ◌≤◌, ◌
 use Rattle.std.specs.List.{AllByRecursion}
 use Rattle.ulfm_model.specs.declared.{call.Call.{Call}, event.Caller.{Caller}, event.Caller.TheVariants.{Rank}, event.Event.{Event}, limits.Limits.{Limits}}
 use Rattle.ulfm_model.specs.declared.{reply.Reply.{Reply}, reply.Reply.TheVariants.{FailedGroup, Shrunk}, step_name.StepName.{StepName}}
-use Rattle.ulfm_model.specs.{Answers.{comm_of, polled_by, traits_of}, History.{History, failures, members}, Records.{Fits, Held, Record, held_at, is_shrink, new_record}}
-use Rattle.ulfm_words.specs.Steps.{IsOf, Name, Sight}
+use Rattle.ulfm_model.specs.{Answers.{comm_of, polled_by, traits_of}, History.{History, failures, members}}
+use Rattle.ulfm_model.specs.Records.{Fits, Held, Record, held_at, is_shrink, new_record}
+use Rattle.ulfm_words.specs.Steps.{view_of, IsView, Name, Sight}
 use Rattle.ulfm_comm.specs.{Calls.{wants_memory}, Counts.{Counted}, Phase.{UnderWay, is_looking, next_step}, StepsLeft.{MakesStep, steps_left}}
 use Rattle.ulfm_comm.specs.declared.phases.phase.Phase.{Phase}
 use Rattle.ulfm_trace_model.specs.declared.line.{Line.{Line}, Line.TheVariants.{Called, Happened, Looked, Replied}}
 use Rattle.ulfm_trace_model.specs.Follows.{AreOf, EndsInReply, IsAtOnce, called, steps_in, told_by}
 use Rattle.ulfm_trace_model.specs.Traces.{AreLegalAfter, Told, Traced, listed, nothing, said_by, same_caller}
 use Rattle.ulfm_stepping.specs.declared.told.{Answer.{Answer}, StepTold.{StepTold}}
-use Rattle.ulfm_stepping.specs.Stepping.{HasBegun, HasCalled, IsIdle, happened, replied}
+use Rattle.ulfm_stepping.specs.Stepping.{HasBegun, HasCalled, IsIdle, happened, reply_told}
 
 -- a rank; its call that is under way, if there is one; and how many events there were when its last step went on
 pub record Seated (P : Type 0) : Type 0 where
@@ -40,9 +41,9 @@ asked_in None = None
 asked_in (Some doing) = Some doing.asked
 
 -- how many steps it makes from here on, at most
-abbrev pub left_in : {P : Type 0} → Limits → Record → Option (UnderWay P) → ℕ
-left_in limits own None = 0
-left_in limits own (Some doing) = steps_left limits own doing.asked doing.phase
+abbrev pub call_steps_left : {P : Type 0} → Limits → Record → Option (UnderWay P) → ℕ
+call_steps_left limits own None = 0
+call_steps_left limits own (Some doing) = steps_left limits own doing.asked doing.phase
 
 -- a rank without a call is idle; one with a call is in its look, or behind it
 abbrev pub SitsAt : {P : Type 0} → (P → P → P) → Name → Traced P → Sight P → Record → ℕ → Option (UnderWay P) → Type 0
@@ -75,7 +76,7 @@ event_piece r (Some event) = happened r event ∷ []
 -- the line of a reply, if there is one, with the ranks that it lists
 abbrev pub reply_piece : {P : Type 0} → ℕ → List ℕ → Option (Answer P) → List (Told P)
 reply_piece r group None = []
-reply_piece r group (Some answer) = replied r answer.point group answer.reply ∷ []
+reply_piece r group (Some answer) = reply_told r answer.point group answer.reply ∷ []
 
 -- the lines of one step of rank r
 abbrev pub piece_of : {P : Type 0} → ℕ → StepTold P → List ℕ → List (Told P)
@@ -105,10 +106,10 @@ MayList ranks h c _ own = ⊤
 
 -- the call goes on, and fewer steps are left
 abbrev pub GoesNearer : {P : Type 0} → Limits → Seated P → Seated P → Type 0
-GoesNearer limits old new = IsTrue (is_some new.call) × (left_in limits new.own new.call < left_in limits old.own old.call)
+GoesNearer limits old new = IsTrue (is_some new.call) × (call_steps_left limits new.own new.call < call_steps_left limits old.own old.call)
 
 -- the call is over, the piece ends in its reply, and the rank knows whom that lists
-pub record Ends {P : Type 0} (ranks : ℕ) (h : History P) (c : ℕ) (answer : Answer P) (piece : List (Told P)) (new : Seated P) : Type 0 where
+pub record CallEnds {P : Type 0} (ranks : ℕ) (h : History P) (c : ℕ) (answer : Answer P) (piece : List (Told P)) (new : Seated P) : Type 0 where
   pub over : new.call ≡ None
   pub in_reply : EndsInReply piece
   pub may_list : MayList ranks (take answer.point h) c answer.reply new.own
@@ -116,7 +117,7 @@ pub record Ends {P : Type 0} (ranks : ℕ) (h : History P) (c : ℕ) (answer : A
 -- it goes on, or is answered
 abbrev pub GoesOrEnds : {P : Type 0} → Limits → History P → List (Told P) → Seated P → Seated P → Option (Answer P) → Type 0
 GoesOrEnds limits h piece old new None = GoesNearer limits old new
-GoesOrEnds limits h piece old new (Some answer) = Ends limits.ranks h (comm_in old.call) answer piece new
+GoesOrEnds limits h piece old new (Some answer) = CallEnds limits.ranks h (comm_in old.call) answer piece new
 
 -- no line is told by a step of another name than this, where the line says by which
 abbrev pub AreToldBy : {P : Type 0} → Option StepName → List (Told P) → Type 0
@@ -159,9 +160,9 @@ pub record TellsBegin {P : Type 0} (meld : P → P → P) (name : Name) (old : S
   pub next : IsUnderWay asked new answer
 
 -- the call polls a shrink
-abbrev pub PollsShrink : {P : Type 0} → Record → Option (UnderWay P) → Type 0
-PollsShrink own None = ⊥
-PollsShrink own (Some doing) = IsTrue (is_shrink (polled_by own doing.asked))
+abbrev pub CallPollsShrink : {P : Type 0} → Record → Option (UnderWay P) → Type 0
+CallPollsShrink own None = ⊥
+CallPollsShrink own (Some doing) = IsTrue (is_shrink (polled_by own doing.asked))
 
 -- whose line it is
 abbrev pub line_by : {P : Type 0} → Line P → Caller
@@ -178,7 +179,7 @@ AreOthers by piece = AllByRecursion (λ told. same_caller (line_by told.line) by
 abbrev pub SeatsLast : {P : Type 0} → (P → P → P) → Type 0
 SeatsLast {P} meld =
     (name : Name) (now : Traced P) (piece : List (Told P)) (pass later : Sight P) (seat : Seated P) → AreOthers (Rank seat.own.number) piece
-    → (said_by now piece).history ≡ later.seen → IsOf meld name later → pass.steps ≤ later.steps
+    → (said_by now piece).history ≡ later.seen → IsView meld (view_of name later) → pass.steps ≤ later.steps
     → Sits meld name now pass seat → Sits meld name (said_by now piece) later seat
 
 -- where nothing is said yet, and nothing was seen, each new rank of the world sits idle

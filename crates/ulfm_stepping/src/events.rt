@@ -1,7 +1,8 @@
 // The events that a pass has seen.
 ghost use Rattle.std.specs.Prelude.{◌≡◌, ◌≤◌, Some, length, slice_get, MatchOption};
 ghost use Rattle.ulfm_model.specs.declared.event.Caller.{Caller};
-ghost use Rattle.ulfm_words.specs.{Entries.{event_in as event_told, put_of as put_by}, Steps.{IsOf}};
+ghost use Rattle.ulfm_words.specs.{Entries.{event_in as event_told, put_of as put_by}, Steps.{IsView}};
+ghost use Rattle.ulfm_words.specs.Steps.{view_of};
 ghost use Rattle.ulfm_stepping.specs.Events.{IsEventWord};
 
 use std::alloc::Allocator;
@@ -56,7 +57,7 @@ fn event_in<P: Packed>(place: Place, word: u64) -> Option<Event<P>>
 
 /// The event that a pass has seen as the `i`-th, counted from 0; none past the last. It is no atomic step.
 pub fn event_at<P: Packed, A: Allocator + Copy>(pass: &PlainPass<P, A>, i: u32) -> Option<Event<P>>
-    requires { IsOf P.meld pass.now.name pass.now }
+    requires { IsView P.meld (view_of pass.now.name pass.now) }
     ensures { MatchOption result (length pass.now.seen ≤ i) (λ event. (by : Caller) × (slice_get pass.now.seen i ≡ Some (record { by = by; event = event }))) }
 {
     let step = pass.nth(i as usize)?;

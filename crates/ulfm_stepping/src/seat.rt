@@ -3,8 +3,9 @@ ghost use Rattle.std.specs.Prelude.{◌≡◌, ◌<◌, ◌≤◌, ◌^◌, ℕ,
 ghost use Rattle.ulfm_model.specs.{Answers.{traits_of}, History.{History, has}};
 ghost use Rattle.ulfm_model.specs.declared.event.Caller.TheVariants.{Rank as OfRank};
 ghost use Rattle.ulfm_trace_model.specs.Traces.{Traced, listed};
-ghost use Rattle.ulfm_words.specs.{Pass.{plain_name}, Steps.{IsOf}};
-ghost use Rattle.ulfm_stepping.specs.Seats.{MayList, PollsShrink, Sits, TellsBegin, TellsPiece, asked_in, has_looked, next_in, wants_in};
+ghost use Rattle.ulfm_words.specs.{Pass.{plain_name}, Steps.{IsView}};
+ghost use Rattle.ulfm_words.specs.Steps.{view_of};
+ghost use Rattle.ulfm_stepping.specs.Seats.{MayList, CallPollsShrink, Sits, TellsBegin, TellsPiece, asked_in, has_looked, next_in, wants_in};
 ghost use Rattle.ulfm_stepping.specs.Stepping.{is_early as early_reply, point_of as point_by};
 
 use crate::events::event_at;
@@ -135,7 +136,7 @@ impl<P: Packed, A: Allocator + Copy + Drop> Seat<P, A> {
     ) -> Option<Answer<P>>
         requires mine { (traits_of asked).by ≡ OfRank self.old.own.number }
         requires closed { self.old.call ≡ None }
-        requires of { IsOf P.meld (plain_name world.now.words.limits) pass.now }
+        requires of { IsView P.meld (view_of (plain_name world.now.words.limits) pass.now) }
         ensures { TellsBegin P.meld (plain_name world.now.words.limits) self.old pass.now asked result self.new }
     {
         let _ = world;
@@ -168,13 +169,13 @@ impl<P: Packed, A: Allocator + Copy + Drop> Seat<P, A> {
         world: &World<PlainWords<P>, P, A>,
         pass: &mut PlainPass<P, A>,
     ) -> Result<StepTold<P>, AllocError>
-        requires of { IsOf P.meld (plain_name world.now.words.limits) pass.old }
+        requires of { IsView P.meld (view_of (plain_name world.now.words.limits) pass.old) }
         requires sits { (now : Traced P) × Sits P.meld (plain_name world.now.words.limits) now pass.old self.old }
         requires open { IsTrue (is_some self.old.call) }
-        ensures of { IsOf P.meld (plain_name world.now.words.limits) pass.new }
+        ensures of { IsView P.meld (view_of (plain_name world.now.words.limits) pass.new) }
         ensures onward { pass.old.steps ≤ pass.new.steps }
         ensures tells { IfOk result (λ told. TellsPiece P.meld (plain_name world.now.words.limits) self.old pass.old told self.new pass.new) }
-        ensures memory { OnErr result (PollsShrink self.old.own self.old.call) }
+        ensures memory { OnErr result (CallPollsShrink self.old.own self.old.call) }
     {
         let Some(mut doing) = self.call.take() else {
             unreachable!()

@@ -9,8 +9,10 @@ use Rattle.ulfm_model.specs.Terms.{made_at}
 use Rattle.ulfm_model.proofs.{Histories.{failures_begin}, Lists.{get_prefix, in_list, prefix_trans}, Stable.{spawns_begin}}
 use Rattle.ulfm_words.specs.{Steps.{Goes, Name, Sight}, Tries.{MayMake, entry}}
 use Rattle.ulfm_words.proofs.Trails.{added_after, did_wait}
+use Rattle.ulfm_words.specs.Steps.{view_of}
 use Rattle.ulfm_steps.specs.declared.{append.Append.{Append}, append.Appended.{Appended}, append.Appended.TheVariants.{Won, Found, Full}, item.Item.{Item}, item.Item.TheVariants.{Failure, Comm}}
-use Rattle.ulfm_steps.specs.{Appends.{AppendIs, Appends, MayAdd, MayAppend, Passed, event_at, items, room, turns_left}}
+use Rattle.ulfm_steps.specs.{Appends.{AppendIs, Appends, MayStand, MayAppend, Passed, event_at, items, room, turns_left}}
+use Rattle.ulfm_steps.specs.Appends.{wanted}
 
 get_map : {X Y : Type 0} (f : X → Y) (xs : List X) (i : ℕ) (x : X) → slice_get xs i ≡ Some x → slice_get (map f xs) i ≡ Some (f x)
 get_map f [] i x e = absurd (cc e)
@@ -42,7 +44,7 @@ no_failure h i a e = no_map (λ x. Failure x) (failures h) i e
 pub no_comm : {P : Type 0} (h : History P) (i a b : ℕ) → made_at h (i + 1) ≡ None → slice_get (items (Comm a b) h) i ≡ None
 no_comm h i a b e = no_map (λ made. Comm made.0 made.1) (spawns h) i (sym (next_made h i) ∙ e)
 
-pub comm_may : {P : Type 0} (meld : P → P → P) (limits : Limits) (seen : History P) (p k i : ℕ) → MayAdd meld limits seen (Comm p k) i → MayMake meld limits seen (i + 1) p k
+pub comm_may : {P : Type 0} (meld : P → P → P) (limits : Limits) (seen : History P) (p k i : ℕ) → MayStand meld limits seen (Comm p k) i → MayMake meld limits seen (i + 1) p k
 comm_may meld limits seen p k i may more begins legal none = (may more begins legal (no_map (λ made. Comm made.0 made.1) (spawns more) i (sym (next_made more i) ∙ none))).0
 
 -- a list goes on as its history does
@@ -84,7 +86,7 @@ not_there item n h passed count j = λ e. go e (below_or j n)
 
 module _ {P : Type 0} (meld : P → P → P) (limits : Limits) where
   -- the first place that is empty may be the item's
-  pub may_add : (seen : History P) (item : Item) (n : ℕ) → MayAppend meld limits seen item → Passed seen item n → n < room item limits → MayAdd meld limits seen item n
+  pub may_add : (seen : History P) (item : Item) (n : ℕ) → MayAppend meld limits seen item → Passed seen item n → n < room item limits → MayStand meld limits seen item n
   may_add seen item n may passed lt more begins legal none =
       let now = passed_stays item n seen more begins passed in
       let count : length (items item more) ≡ n = omega (arith, all_passed item n more now, no_more (items item more) n none) in
@@ -97,7 +99,7 @@ module _ {P : Type 0} (meld : P → P → P) (limits : Limits) where
 
 -- steps before it that made no event
 pub appends_later : {P : Type 0} (meld : P → P → P) (alone : Bool) (name : Name) (item : Item) (by : Caller) (few most : ℕ) (result : Appended) (x y z : Sight P) → Did alone [] x.seen y.seen → IsPrefix x.cached y.cached → y.caches ≡ x.caches → x.steps ≤ y.steps → y.steps + few ≤ x.steps + most
-    → Appends meld alone name item by few y result z → Appends meld alone name item by most x result z
+    → Appends meld alone (wanted item by) few (view_of name y) result (view_of name z) → Appends meld alone (wanted item by) most (view_of name x) result (view_of name z)
 appends_later {P} meld alone name item by few most result x y z did kept same onward fewer ends = record { of = ends.of; outcome = later result ends.outcome; cached = prefix_trans x.cached y.cached z.cached kept ends.cached; caches = ends.caches ∙ same; onward = omega (arith, onward, ends.onward); steps = omega (arith, fewer, ends.steps) }
   where
     later : (r : Appended) → AppendIs alone name.limits item by y.seen z.seen r → AppendIs alone name.limits item by x.seen z.seen r
@@ -107,7 +109,7 @@ appends_later {P} meld alone name item by few most result x y z did kept same on
 
 -- .. and one more step, whether it was the last or not
 pub appends_next : {P : Type 0} (meld : P → P → P) (alone : Bool) (name : Name) (item : Item) (by : Caller) (most : ℕ) (result : Option Appended) (x y z : Sight P) → Did alone [] x.seen y.seen → IsPrefix x.cached y.cached → y.caches ≡ x.caches → x.steps ≤ y.steps → y.steps + 1 ≤ x.steps + most
-    → MatchOption result (Goes meld alone false name 1 y z) (λ a. Appends meld alone name item by 1 y a z) → MatchOption result (Goes meld alone false name most x z) (λ a. Appends meld alone name item by most x a z)
+    → MatchOption result (Goes meld alone false 1 (view_of name y) (view_of name z)) (λ a. Appends meld alone (wanted item by) 1 (view_of name y) a (view_of name z)) → MatchOption result (Goes meld alone false most (view_of name x) (view_of name z)) (λ a. Appends meld alone (wanted item by) most (view_of name x) a (view_of name z))
 appends_next meld alone name item by most None x y z did kept same onward fewer went =
     record { of = went.of; did = did_wait alone [] x.seen y.seen z.seen did went.did; cached = prefix_trans x.cached y.cached z.cached kept went.cached; caches = went.caches ∙ same; onward = omega (arith, onward, went.onward); steps = omega (arith, fewer, went.steps) }
 appends_next meld alone name item by most (Some a) x y z did kept same onward fewer ends = appends_later meld alone name item by 1 most a x y z did kept same onward fewer ends

@@ -13,7 +13,7 @@ use Rattle.ulfm_model.specs.declared.limits.Limits.{Limits}
 use Rattle.ulfm_model.specs.History.{History, IsLegal, failures, has, has_arrived, without}
 use Rattle.ulfm_model.proofs.{Lists.{any_same, distinct_filter, each_always, has_filter, has_kept, has_passes, some_fails}, Melds.{filter_take}, Spawned.{failures_distinct}}
 use Rattle.ulfm_words.proofs.Growing.{arrival_stays}
-use Rattle.ulfm_steps.specs.Arriving.{AtArrival, IsAsked, IsWithin, MissingAre, asked_before, asked_of, asks, in_order, rank_at, ranks_of}
+use Rattle.ulfm_steps.specs.Arriving.{AtArrival, IsAsked, IsPosition, MissingAre, asked_before, asked_members, asks, in_order, rank_at, ranks_of}
 use Rattle.ulfm_steps.specs.declared.arrivals.{Arrivals.{Arrivals}, Missing.TheVariants.{Nobody, Others, Declared}}
 use Rattle.ulfm_steps.proofs.Reading.{has_at}
 
@@ -86,7 +86,7 @@ asked_member group declared false at asked = asked.1
 asked_member group declared true at asked = has_at group at 0 asked.0
 
 -- where somebody is asked about there is a place
-pub asked_within : (group declared : List ℕ) (others : Bool) (at : ℕ) → IsAsked group declared others at → IsWithin group declared others at
+pub asked_within : (group declared : List ℕ) (others : Bool) (at : ℕ) → IsAsked group declared others at → IsPosition group declared others at
 asked_within group declared false at asked = omega (arith, asked.0)
 asked_within group declared true at asked = omega (arith, asked.0)
 
@@ -131,7 +131,7 @@ fewer_before p (x ∷ xs) (suc at) below is =
     elim (p x) as (λ b. length (cond b (x ∷ filter p (take at xs)) (filter p (take at xs))) < length (cond b (x ∷ filter p xs) (filter p xs))) [ true ↦ omega arith | false ↦ rest ]
 
 -- .. than there are in all
-pub asked_fewer : (group declared : List ℕ) (others : Bool) (at : ℕ) → IsAsked group declared others at → length (asked_before group declared others at) < length (asked_of group declared others)
+pub asked_fewer : (group declared : List ℕ) (others : Bool) (at : ℕ) → IsAsked group declared others at → length (asked_before group declared others at) < length (asked_members group declared others)
 asked_fewer group declared false at asked = fewer_before (has group) declared at asked.0 asked.1
 asked_fewer group declared true at asked =
     omega (arith, fewer_before (λ x. not (has declared x)) group at asked.0 asked.1, length-append (filter (has group) declared) (without group declared), length-append (filter (has group) declared) (without (take at group) declared))
@@ -142,12 +142,12 @@ asked_left group declared false at asked = omega (arith, asked_fewer group decla
 asked_left group declared true at asked = asked_fewer group declared true at asked
 
 -- all that are gone through
-pub asked_end : (group declared : List ℕ) (others : Bool) → asked_before group declared others (length (ranks_of group declared others)) ≡ asked_of group declared others
+pub asked_end : (group declared : List ℕ) (others : Bool) → asked_before group declared others (length (ranks_of group declared others)) ≡ asked_members group declared others
 asked_end group declared false = ap (filter (has group)) (take-length declared)
 asked_end group declared true = ap (λ w. filter (has group) declared ++ without w declared) (take-length group)
 
 -- a place is one of the ranks' or the one past the last
-pub within_ranks : (group declared : List ℕ) (others : Bool) (at : ℕ) → IsWithin group declared others at → at ≤ length (ranks_of group declared others)
+pub within_ranks : (group declared : List ℕ) (others : Bool) (at : ℕ) → IsPosition group declared others at → at ≤ length (ranks_of group declared others)
 within_ranks group declared false at within = within
 within_ranks group declared true at within = within
 
@@ -208,7 +208,7 @@ module _ {P : Type 0} (h : History P) (c k : ℕ) (group declared : List ℕ) wh
       (fails_at came group (slice_index group at) (has_at group at 0 asked.0) missing, parts.0)
 
   -- one of those who are asked about is missing
-  pub asked_missing : (others : Bool) (at : ℕ) → IsAsked group declared others at → came (rank_at group declared others at) ≡ false → list_all came (asked_of group declared others) ≡ false
+  pub asked_missing : (others : Bool) (at : ℕ) → IsAsked group declared others at → came (rank_at group declared others at) ≡ false → list_all came (asked_members group declared others) ≡ false
   asked_missing false at asked missing = fails_at came (filter (has group) declared) (slice_index declared at) (has_kept (has group) declared (slice_index declared at) (has_at declared at 0 asked.0) asked.1) missing
   asked_missing true at asked missing =
       let r = slice_index group at in
@@ -216,14 +216,14 @@ module _ {P : Type 0} (h : History P) (c k : ℕ) (group declared : List ℕ) wh
       fails_at came (in_order group declared) r (list_any-append (λ x. x == r) (filter (has group) declared) (without group declared) ∙ or_right (has (filter (has group) declared) r) (has (without group declared) r) other) missing
 
   -- somebody of the declared ranks is missing
-  pub declared_missing : (r : Bool) → r ≡ list_all came (asked_of group declared false) → r ≡ false → MissingAre h c k group declared Declared
+  pub declared_missing : (r : Bool) → r ≡ list_all came (asked_members group declared false) → r ≡ false → MissingAre h c k group declared Declared
   declared_missing r is out =
       let missing = sym is ∙ out in
       let one = some_fails came (filter (has group) declared) missing in
       (fails_at came group one.0 (has_passes (has group) declared one.0 one.1) one.2, missing)
 
   -- or somebody is, and nobody of these
-  pub others_missing : (r : Bool) → list_all came (filter (has group) declared) ≡ true → r ≡ list_all came (asked_of group declared true) → r ≡ false → MissingAre h c k group declared Others
+  pub others_missing : (r : Bool) → list_all came (filter (has group) declared) ≡ true → r ≡ list_all came (asked_members group declared true) → r ≡ false → MissingAre h c k group declared Others
   others_missing r listed is out =
       let rest : list_all came (without group declared) ≡ false =
       ap (λ b. b && list_all came (without group declared)) (sym listed) ∙ (sym (list_all-append came (filter (has group) declared) (without group declared)) ∙ (sym is ∙ out)) in
@@ -231,7 +231,7 @@ module _ {P : Type 0} (h : History P) (c k : ℕ) (group declared : List ℕ) wh
       (fails_at came group one.0 (has_filter (λ x. not (has declared x)) group one.0 one.1) one.2, listed)
 
   -- or nobody
-  pub nobody_is : (r : Bool) → r ≡ list_all came (asked_of group declared true) → r ≡ true → MissingAre h c k group declared Nobody
+  pub nobody_is : (r : Bool) → r ≡ list_all came (asked_members group declared true) → r ≡ true → MissingAre h c k group declared Nobody
   nobody_is r is came_all = holds_of_group came group declared (sym is ∙ came_all)
 
   -- where the others are asked about, no declared member is missing

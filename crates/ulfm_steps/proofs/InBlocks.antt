@@ -11,9 +11,10 @@ use Rattle.ulfm_laws.specs.{declared.summary.Summary.{Summary}}
 use Rattle.ulfm_model.specs.declared.{block.Side.{Side}, block.Side.TheVariants.{Front, Back}, place.Place.TheVariants.{Slot as SlotAt}, limits.Limits.{Limits}}
 use Rattle.ulfm_model.specs.{Blocks.{IsBlock, IsBlockWithin, IsSide, IsSummed, block_of, block_word, width}, History.{History, IsLegal}, Words.{MayOpen}}
 use Rattle.ulfm_model.proofs.{Blocks.{width_is, width_power, width_wide}, Groups.{members_few}, Lists.{none_of}, Summed.{summed_later, summed_none}}
-use Rattle.ulfm_words.specs.{Blocks.{Caches, Says}, Steps.{Name, Sight}, declared.step.Site.{Site}}
+use Rattle.ulfm_words.specs.{Blocks.{Caches, BlockSays}, Steps.{Name, Sight}, declared.step.Site.{Site}}
 use Rattle.ulfm_words.proofs.Ranks.{spawns_below}
-use Rattle.ulfm_steps.specs.{Blocks.{AreOf, AtBlock, Tells, begins_at, block_at, blocks_cost, blocks_left, cost_behind, cost_of, first_of, next_of, peeks_left, site_of, starts_at, unread_cost, has_back, is_whole, said_at}, Rounds.{IsRoundOf}, Turns.{TakesAt}}
+use Rattle.ulfm_words.specs.Steps.{view_of}
+use Rattle.ulfm_steps.specs.{Blocks.{BothTell, AtBlock, MembersTell, begins_at, block_at, blocks_cost, blocks_left, cost_behind, cost_of, first_of, next_in_block, peeks_left, site_of, starts_at, unread_cost, has_back, is_whole, said_at}, Rounds.{IsRoundOf}, Turns.{TakesAt}}
 use Rattle.ulfm_steps.specs.declared.{blocks.ReadBlocks.{ReadBlocks}, blocks.RoundBlocks.{RoundBlocks}}
 
 -- a block has as many members as it is wide
@@ -52,11 +53,11 @@ block_all side n g is = take_more n (block_of side g) (omega (arith, is, block_l
 
 module _ {P : Type 0} (meld : P → P → P) where
   -- what is known of blocks stays
-  tells_later : (h longer : History P) (c k : ℕ) (g : List ℕ) (said : Option (Summary P)) → IsPrefix h longer → Tells meld h c k g said → Tells meld longer c k g said
+  tells_later : (h longer : History P) (c k : ℕ) (g : List ℕ) (said : Option (Summary P)) → IsPrefix h longer → MembersTell meld h c k g said → MembersTell meld longer c k g said
   tells_later h longer c k g None begins tells = tt
   tells_later h longer c k g (Some all) begins tells = summed_later meld h longer c k g all begins tells
 
-  pub are_later : (h longer : History P) (c k : ℕ) (g : List ℕ) (blocks : RoundBlocks P) → IsPrefix h longer → AreOf meld h c k g blocks → AreOf meld longer c k g blocks
+  pub are_later : (h longer : History P) (c k : ℕ) (g : List ℕ) (blocks : RoundBlocks P) → IsPrefix h longer → BothTell meld h c k g blocks → BothTell meld longer c k g blocks
   are_later h longer c k g blocks begins are = record { front = tells_later h longer c k (block_of Front g) blocks.front begins are.front; back = tells_later h longer c k (block_of Back g) blocks.back begins are.back }
 
   -- and so where a reading of them stands
@@ -111,8 +112,8 @@ is_block meld pack limits h c k side g n w all round there is read word = record
 }
 
 -- what a block that was loaded says
-pub told_of : {P : Type 0} (meld : P → P → P) (limits : Limits) (h : History P) (c k : ℕ) (side : Side) (g : List ℕ) (said : Option (Summary P)) → IsRoundOf limits h c k g → IfSome said (Says meld limits.ranks h (block_at c k side))
-    → Tells meld h c k (block_of side g) said
+pub told_of : {P : Type 0} (meld : P → P → P) (limits : Limits) (h : History P) (c k : ℕ) (side : Side) (g : List ℕ) (said : Option (Summary P)) → IsRoundOf limits h c k g → IfSome said (BlockSays meld limits.ranks h (block_at c k side))
+    → MembersTell meld h c k (block_of side g) said
 told_of meld limits h c k side g None round says = tt
 told_of meld limits h c k side g (Some all) round says = subst (λ x. IsSummed meld h c k (block_of side x) all) (sym round.group_is) says.summed
 
@@ -128,10 +129,10 @@ module _ {P : Type 0} (meld : P → P → P) (h longer : History P) (g : List �
   read_all : IsSummed meld longer r.comm r.round (block_of r.side g) r.all
   read_all = summed_later meld h longer r.comm r.round (block_of r.side g) r.all begins (subst (λ x. IsSummed meld h r.comm r.round x r.all) (block_all r.side r.read g all) at.read)
 
-  pub are_with : AreOf meld longer r.comm r.round g (known_with r.blocks r.side r.all)
+  pub are_with : BothTell meld longer r.comm r.round g (known_with r.blocks r.side r.all)
   are_with = go r.side (are_later meld h longer r.comm r.round g r.blocks begins at.are) read_all
     where
-      go : (side : Side) → AreOf meld longer r.comm r.round g r.blocks → IsSummed meld longer r.comm r.round (block_of side g) r.all → AreOf meld longer r.comm r.round g (known_with r.blocks side r.all)
+      go : (side : Side) → BothTell meld longer r.comm r.round g r.blocks → IsSummed meld longer r.comm r.round (block_of side g) r.all → BothTell meld longer r.comm r.round g (known_with r.blocks side r.all)
       go Front are said = record { front = said; back = are.back }
       go Back are said = record { front = are.front; back = said }
 
@@ -155,25 +156,25 @@ pub apart_lt : (n : ℕ) → has_back n ≡ true → width n < n
 apart_lt n is = grind (arith, nat_tests)
 
 -- the member that a reading loads next
-pub rank_is : {P : Type 0} (meld : P → P → P) (h : History P) (g : List ℕ) (r : ReadBlocks P) → AtBlock meld h g r → slice_index g (r.first + r.read) ≡ next_of g r
+pub rank_is : {P : Type 0} (meld : P → P → P) (h : History P) (g : List ℕ) (r : ReadBlocks P) → AtBlock meld h g r → slice_index g (r.first + r.read) ≡ next_in_block g r
 rank_is meld h g r at = ap (λ n. slice_index g (n + r.read)) at.begins
 
 pub rank_within : {P : Type 0} (meld : P → P → P) (h : History P) (g : List ℕ) (r : ReadBlocks P) → AtBlock meld h g r → r.read < width (length g) → r.first + r.read < length g
 rank_within meld h g r at more = let lt = index_within r.side r.read g more in omega (arith, lt, at.begins)
 
 -- a reading's next step while there are members of the block
-pub takes_member : {P : Type 0} (g : List ℕ) (r : ReadBlocks P) (before after : ℕ) (old new : Sight P) → r.read < r.width → TakesAt false (Site.Place (SlotAt r.comm r.round (next_of g r))) true before after old new
+pub takes_member : {P : Type 0} (g : List ℕ) (r : ReadBlocks P) (before after : ℕ) (old new : Sight P) → r.read < r.width → TakesAt false (Site.Place (SlotAt r.comm r.round (next_in_block g r))) true before after old new
     → TakesAt false (site_of g r) (nat_lt r.read r.width) before after old new
 takes_member {P} g r before after old new lt takes =
     let is : nat_lt r.read r.width ≡ true = grind (arith, nat_tests) in
-    subst (λ b. TakesAt false (if b then Site.Place (SlotAt r.comm r.round (next_of g r)) else Site.Block (block_at r.comm r.round r.side)) b before after old new) (sym is) takes
+    subst (λ b. TakesAt false (if b then Site.Place (SlotAt r.comm r.round (next_in_block g r)) else Site.Block (block_at r.comm r.round r.side)) b before after old new) (sym is) takes
 
 -- .. and where all of them were read
 pub takes_cache : {P : Type 0} (meld : P → P → P) (alone : Bool) (name : Name) (g : List ℕ) (r : ReadBlocks P) (word before after : ℕ) (old : Sight P) (result : Result (Unit {0}) ℕ) (new : Sight P) → r.width ≤ r.read → after + 1 ≤ before
-    → Caches meld alone name (block_at r.comm r.round r.side) word old result new → TakesAt false (site_of g r) (nat_lt r.read r.width) before after old new
+    → Caches meld alone (block_at r.comm r.round r.side) word (view_of name old) result (view_of name new) → TakesAt false (site_of g r) (nat_lt r.read r.width) before after old new
 takes_cache {P} meld alone name g r word before after old result new le fewer caches =
     let is : nat_lt r.read r.width ≡ false = grind (arith, nat_tests) in
-    subst (λ b. TakesAt false (if b then Site.Place (SlotAt r.comm r.round (next_of g r)) else Site.Block (block_at r.comm r.round r.side)) b before after old new) (sym is)
+    subst (λ b. TakesAt false (if b then Site.Place (SlotAt r.comm r.round (next_in_block g r)) else Site.Block (block_at r.comm r.round r.side)) b before after old new) (sym is)
     (record { one = λ _. record { steps = caches.steps; word = _; last = caches.last }; some = omega (arith, caches.steps); turns = omega (arith, caches.steps, fewer) })
 
 -- the cost of the block that comes next
@@ -229,7 +230,7 @@ blocks_most {P} n r = go r.side
     go Back = omega arith
 
 -- a reading of blocks that aren't all known begins at one that isn't
-pub starts : {P : Type 0} (meld : P → P → P) (h : History P) (c k : ℕ) (g : List ℕ) (blocks : RoundBlocks P) → 0 < length g → AreOf meld h c k g blocks → is_whole blocks (length g) ≡ false → AtBlock meld h g (starts_at c k blocks (length g))
+pub starts : {P : Type 0} (meld : P → P → P) (h : History P) (c k : ℕ) (g : List ℕ) (blocks : RoundBlocks P) → 0 < length g → BothTell meld h c k g blocks → is_whole blocks (length g) ≡ false → AtBlock meld h g (starts_at c k blocks (length g))
 starts {P} meld h c k g blocks some are more = go blocks.front refl blocks.back refl (has_back (length g)) refl
   where
     begun : (side : Side) → (if is_some blocks.front then Back else Front) ≡ side → said_at blocks side ≡ None → IsSide side g → (side ≡ Back → is_some blocks.front ≡ true) → AtBlock meld h g (starts_at c k blocks (length g))

@@ -9,5 +9,5 @@ pub mod Arriving
 pub mod ReadingOn
 pub mod Marking
 pub mod Appending
-pub mod Welcome
+pub mod Coming
 pub mod Spawning

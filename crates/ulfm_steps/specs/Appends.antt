@@ -4,8 +4,8 @@ use mathlib.Core.List.{IsPrefix}
 use Rattle.ulfm_model.specs.declared.{event.Caller.{Caller}, event.Event.{Event}, event.Event.TheVariants.{Fail, Spawn}, limits.Limits.{Limits}}
 use Rattle.ulfm_model.specs.declared.{place.Place.{Place}, place.Place.TheVariants.{List as ListAt, Comm as CommAt}}
 use Rattle.ulfm_model.specs.{History.{History, IsLegal, MayFollow, failures, spawns}, Runs.{Did}}
-use Rattle.ulfm_words.specs.{Steps.{IsAdded, IsOf, Name, Sight}, Tries.{entry}}
-use Rattle.ulfm_steps.specs.Turns.{Takes, left_without}
+use Rattle.ulfm_words.specs.{Steps.{IsAdded, IsView, Sight, View}, Tries.{entry}}
+use Rattle.ulfm_steps.specs.Turns.{TakesFirst, left_without}
 use Rattle.ulfm_steps.specs.declared.{append.Append.{Append}, append.Appended.{Appended}, append.Appended.TheVariants.{Won, Found, Full}, item.Item.{Item}}
 use Rattle.ulfm_steps.specs.declared.{item.Item.TheVariants.{Failure, Comm}}
 
@@ -30,8 +30,8 @@ event_at (Failure rank) i = Fail rank
 event_at (Comm parent round) i = Spawn (i + 1) parent round
 
 -- in each legal history that goes on from what was seen, while the list has no such place yet, the item may stand there
-abbrev pub MayAdd : {P : Type 0} → (P → P → P) → Limits → History P → Item → ℕ → Type 0
-MayAdd {P} meld limits seen item i = (more : History P) → IsPrefix seen more → IsLegal meld limits more → slice_get (items item more) i ≡ None
+abbrev pub MayStand : {P : Type 0} → (P → P → P) → Limits → History P → Item → ℕ → Type 0
+MayStand {P} meld limits seen item i = (more : History P) → IsPrefix seen more → IsLegal meld limits more → slice_get (items item more) i ≡ None
     → MayFollow meld limits more (event_at item i) × (length (items item more) ≡ i)
 
 -- .. whose list has room and not this item, the item may come next
@@ -49,15 +49,23 @@ AppendIs alone limits item by old new (Won i) = IsAdded alone (entry by (event_a
 AppendIs alone limits item by old new (Found i) = Did alone [] old new × (slice_get (items item new) i ≡ Some item)
 AppendIs alone limits item by old new Full = Did alone [] old new × Passed new item (room item limits)
 
+-- what is appended, and in whose name
+pub record Wanted : Type 0 where
+  pub item : Item
+  pub by : Caller
+
+abbrev pub wanted : Item → Caller → Wanted
+wanted item by = record { item = item; by = by }
+
 -- so many atomic steps at most led to this end
-pub record Appends {P : Type 0} (meld : P → P → P) (alone : Bool) (name : Name) (item : Item) (by : Caller) (most : ℕ) (old : Sight P) (result : Appended)
-    (new : Sight P) : Type 0 where
-  pub of : IsOf meld name new
-  pub outcome : AppendIs alone name.limits item by old.seen new.seen result
-  pub cached : IsPrefix old.cached new.cached
-  pub caches : new.caches ≡ old.caches
-  pub onward : old.steps ≤ new.steps
-  pub steps : new.steps ≤ old.steps + most
+pub record Appends {P : Type 0} (meld : P → P → P) (alone : Bool) (want : Wanted) (most : ℕ) (old : View P) (result : Appended) (new : View P)
+    : Type 0 where
+  pub of : IsView meld new
+  pub outcome : AppendIs alone new.words.limits want.item want.by old.pass.seen new.pass.seen result
+  pub cached : IsPrefix old.pass.cached new.pass.cached
+  pub caches : new.pass.caches ≡ old.pass.caches
+  pub onward : old.pass.steps ≤ new.pass.steps
+  pub steps : new.pass.steps ≤ old.pass.steps + most
 
 -- a communicator's round is one that there is
 abbrev pub HasRound : Limits → Item → Type 0
@@ -71,7 +79,8 @@ turns_left places a = 2 * (places - a.index) - (if a.empty then 1 else 0)
 -- the steps of an appending, the first of them at the place that is tried: an exchange after a load that found nothing, or else a load
 abbrev pub AppendTakes : {P : Type 0} → Bool → Limits → Append → Option Appended → Append → Sight P → Sight P → Type 0
 AppendTakes whole limits old end new =
-    Takes whole (place_at old.item old.index) (not old.empty) (turns_left (room old.item limits) old) (left_without end (turns_left (room old.item limits) new))
+    TakesFirst whole (place_at old.item old.index) (not old.empty) (turns_left (room old.item limits) old)
+    (left_without end (turns_left (room old.item limits) new))
 
 -- an exchange comes next only at a place that was empty in what is seen
 abbrev pub FoundEmpty : {P : Type 0} → History P → Append → Type 0

@@ -3,7 +3,7 @@ use Rattle.std.specs.Prelude.{◌≡◌, ℕ, ◌-◌, ◌<◌, ◌≤◌, Bool,
 use Rattle.std.specs.List.{list_all}
 use Rattle.ulfm_model.specs.{History.{History, has, has_arrived, without}, declared.place.Place.TheVariants.{Arrival as ArrivalAt}}
 use Rattle.ulfm_words.specs.Steps.{Sight}
-use Rattle.ulfm_steps.specs.Turns.{Takes, left_without}
+use Rattle.ulfm_steps.specs.{Among.{Among}, Turns.{TakesFirst, left_without}}
 use Rattle.ulfm_steps.specs.declared.arrivals.{Arrivals.{Arrivals}, Missing.{Missing}, Missing.TheVariants.{Nobody, Others, Declared}}
 
 -- first the members among the declared ranks, in the order of these, and then the others, in the group's order
@@ -16,9 +16,9 @@ asked_before group declared false at = filter (has group) (take at declared)
 asked_before group declared true at = filter (has group) declared ++ without (take at group) declared
 
 -- all of them, of the declared ranks, and with the others
-abbrev pub asked_of : List ℕ → List ℕ → Bool → List ℕ
-asked_of group declared false = filter (has group) declared
-asked_of group declared true = in_order group declared
+abbrev pub asked_members : List ℕ → List ℕ → Bool → List ℕ
+asked_members group declared false = filter (has group) declared
+asked_members group declared true = in_order group declared
 
 -- the ranks that are gone through
 abbrev pub ranks_of : List ℕ → List ℕ → Bool → List ℕ
@@ -36,9 +36,9 @@ rank_at group declared false at = slice_index declared at
 rank_at group declared true at = slice_index group at
 
 -- there is such a place, or it is the one past the last rank
-abbrev pub IsWithin : List ℕ → List ℕ → Bool → ℕ → Type 0
-IsWithin group declared false at = at ≤ length declared
-IsWithin group declared true at = at ≤ length group
+abbrev pub IsPosition : List ℕ → List ℕ → Bool → ℕ → Type 0
+IsPosition group declared false at = at ≤ length declared
+IsPosition group declared true at = at ≤ length group
 
 -- a rank stands there that is asked about: a declared member, or a member who isn't declared
 abbrev pub IsAsked : List ℕ → List ℕ → Bool → ℕ → Type 0
@@ -68,7 +68,7 @@ abbrev pub arrivals_left : List ℕ → List ℕ → Arrivals → ℕ
 arrivals_left group declared a = length (in_order group declared) - length (asked_before group declared a.others a.next)
 
 -- the loads of a reading of arrivals, the first of them of the next member's place
-abbrev pub ArrivalsTake : {P : Type 0} → Bool → List ℕ → List ℕ → Arrivals → Option Missing → Arrivals → Sight P → Sight P → Type 0
-ArrivalsTake whole group declared old found new =
-    Takes whole (ArrivalAt old.comm old.round (rank_at group declared old.others old.next)) true
-    (arrivals_left group declared old) (left_without found (arrivals_left group declared new))
+abbrev pub ArrivalsTake : {P : Type 0} → Bool → Among → Arrivals → Option Missing → Arrivals → Sight P → Sight P → Type 0
+ArrivalsTake whole ranks old found new =
+    TakesFirst whole (ArrivalAt old.comm old.round (rank_at ranks.group ranks.declared old.others old.next)) true
+    (arrivals_left ranks.group ranks.declared old) (left_without found (arrivals_left ranks.group ranks.declared new))

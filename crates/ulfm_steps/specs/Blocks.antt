@@ -1,11 +1,11 @@
 -- What is known of a round's blocks, and what the machines that load and read them ask for and tell.
-use Rattle.std.specs.Prelude.{◌≡◌, ℕ, ◌+◌, ◌-◌, ◌≤◌, Bool, true, false, List, Option, Some, None, IsSome, is_some}
+use Rattle.std.specs.Prelude.{◌≡◌, ℕ, ◌+◌, ◌-◌, ◌*◌, ◌≤◌, Bool, true, false, List, Option, Some, None, IsSome, is_some}
 use Rattle.std.specs.Prelude.{length, slice_index, take, if◌then◌else◌, nat_lt}
 use Rattle.ulfm_laws.specs.{declared.summary.Summary.{Summary}, Summaries.{summary_unit}}
 use Rattle.ulfm_model.specs.declared.{block.Block.{Block}, block.Side.{Side}, block.Side.TheVariants.{Front, Back}, place.Place.TheVariants.{Slot as SlotAt}}
 use Rattle.ulfm_model.specs.{Blocks.{IsSide, IsSummed, block_of, has_block, width}, History.{History}}
-use Rattle.ulfm_words.specs.{Steps.{Goes, IsOf, Name, Sight}, declared.{step.Site.{Site}}}
-use Rattle.ulfm_steps.specs.{Rounds.{IsMissing, IsRoundOf}, Turns.{TakesAt, left_without}}
+use Rattle.ulfm_words.specs.{Steps.{Goes, IsView, Sight}, declared.{step.Site.{Site}}}
+use Rattle.ulfm_steps.specs.{Rounds.{IsMissing, IsRoundOf}, Turns.{Running, TakesAt, left_without}}
 use Rattle.ulfm_steps.specs.declared.{blocks.Peek.{Peek}, blocks.ReadBlocks.{ReadBlocks}, blocks.Found.{Found}, blocks.Found.TheVariants.{Missing, All}}
 use Rattle.ulfm_steps.specs.declared.blocks.RoundBlocks.{RoundBlocks}
 
@@ -14,14 +14,14 @@ abbrev pub block_at : ℕ → ℕ → Side → Block
 block_at c k side = record { comm = c; round = k; side = side }
 
 -- nothing is known of these members, or what they say, each of whom is settled
-abbrev pub Tells : {P : Type 0} → (P → P → P) → History P → ℕ → ℕ → List ℕ → Option (Summary P) → Type 0
-Tells meld h c k group None = Unit {0}
-Tells meld h c k group (Some all) = IsSummed meld h c k group all
+abbrev pub MembersTell : {P : Type 0} → (P → P → P) → History P → ℕ → ℕ → List ℕ → Option (Summary P) → Type 0
+MembersTell meld h c k group None = Unit {0}
+MembersTell meld h c k group (Some all) = IsSummed meld h c k group all
 
 -- .. of the members of both blocks of a round
-pub record AreOf {P : Type 0} (meld : P → P → P) (h : History P) (c k : ℕ) (group : List ℕ) (blocks : RoundBlocks P) : Type 0 where
-  pub front : Tells meld h c k (block_of Front group) blocks.front
-  pub back : Tells meld h c k (block_of Back group) blocks.back
+pub record BothTell {P : Type 0} (meld : P → P → P) (h : History P) (c k : ℕ) (group : List ℕ) (blocks : RoundBlocks P) : Type 0 where
+  pub front : MembersTell meld h c k (block_of Front group) blocks.front
+  pub back : MembersTell meld h c k (block_of Back group) blocks.back
 
 -- what is known of a block
 abbrev pub said_at : {P : Type 0} → RoundBlocks P → Side → Option (Summary P)
@@ -63,27 +63,28 @@ abbrev pub FindsSet : {P : Type 0} → List Block → Peek P → Side → Type 0
 FindsSet cached peek side = has_block cached (block_at peek.comm peek.round side) ≡ true → is_some (said_at peek.blocks side) ≡ true
 
 -- what a peek asks for: the pass is of these words, these are its round's members, it has the next block, and what it knows stands
-pub record MayPeek {P : Type 0} (meld : P → P → P) (name : Name) (group : List ℕ) (peek : Peek P) (sight : Sight P) : Type 0 where
-  pub of : IsOf meld name sight
-  pub round : IsRoundOf name.limits sight.seen peek.comm peek.round group
-  pub some : IsSide peek.side group
-  pub are : AreOf meld sight.seen peek.comm peek.round group peek.blocks
+pub record MayPeek {P : Type 0} (meld : P → P → P) (group : List ℕ) (at : Running (Peek P) P) : Type 0 where
+  pub of : IsView meld at.view
+  pub round : IsRoundOf at.view.words.limits at.view.pass.seen at.state.comm at.state.round group
+  pub some : IsSide at.state.side group
+  pub are : BothTell meld at.view.pass.seen at.state.comm at.state.round group at.state.blocks
 
--- loads of a peek, so many at most, and whether the last was made: what it knows stands, and says which blocks were set before; and what it
+-- loads of a peek, two at most, and whether the last was made: what it knows stands, and says which blocks were set before; and what it
 -- knows is known to be set from then on
-pub record PeeksOn {P : Type 0} (meld : P → P → P) (alone whole : Bool) (name : Name) (most : ℕ) (group : List ℕ) (peek : Peek P) (old : Sight P)
-    (done : Bool) (left : Peek P) (new : Sight P) : Type 0 where
-  pub goes : Goes meld alone false name most old new
-  pub takes : PeekTakes whole (length group) peek done left old new
-  pub comm : left.comm ≡ peek.comm
-  pub round : left.round ≡ peek.round
-  pub are : AreOf meld new.seen peek.comm peek.round group left.blocks
-  pub some : done ≡ false → IsSide left.side group
+pub record PeeksOn {P : Type 0} (meld : P → P → P) (alone whole : Bool) (group : List ℕ) (old : Running (Peek P) P) (done : Bool) (new : Running (Peek P) P)
+    : Type 0 where
+  pub goes : Goes meld alone false 2 old.view new.view
+  pub takes : PeekTakes whole (length group) old.state done new.state old.view.pass new.view.pass
+  pub comm : new.state.comm ≡ old.state.comm
+  pub round : new.state.round ≡ old.state.round
+  pub are : BothTell meld new.view.pass.seen old.state.comm old.state.round group new.state.blocks
+  pub some : done ≡ false → IsSide new.state.side group
   pub ends : whole ≡ true → done ≡ true
-  pub front : peek.side ≡ Front → FindsSet old.cached left Front
-  pub back : done ≡ true → has_back (length group) ≡ true → FindsSet old.cached left Back
-  pub kept : peek.side ≡ Back → left.blocks.front ≡ peek.blocks.front
-  pub sets : AreSet old.cached peek.comm peek.round peek.blocks → AreSet new.cached peek.comm peek.round left.blocks
+  pub front : old.state.side ≡ Front → FindsSet old.view.pass.cached new.state Front
+  pub back : done ≡ true → has_back (length group) ≡ true → FindsSet old.view.pass.cached new.state Back
+  pub kept : old.state.side ≡ Back → new.state.blocks.front ≡ old.state.blocks.front
+  pub sets : AreSet old.view.pass.cached old.state.comm old.state.round old.state.blocks
+      → AreSet new.view.pass.cached old.state.comm old.state.round new.state.blocks
 
 -- where a block's members begin among those of its round
 abbrev pub first_of : Side → ℕ → ℕ
@@ -91,8 +92,8 @@ first_of Front n = 0
 first_of Back n = n - width n
 
 -- the next member of a block
-abbrev pub next_of : {P : Type 0} → List ℕ → ReadBlocks P → ℕ
-next_of group reading = slice_index group (first_of reading.side (length group) + reading.read)
+abbrev pub next_in_block : {P : Type 0} → List ℕ → ReadBlocks P → ℕ
+next_in_block group reading = slice_index group (first_of reading.side (length group) + reading.read)
 
 -- how many steps it costs to read a block that isn't known: a load for each member, and its cache
 abbrev pub cost_of : {P : Type 0} → Option (Summary P) → ℕ → ℕ
@@ -118,7 +119,7 @@ blocks_left n reading = width n - reading.read + 1 + cost_behind reading.blocks 
 
 -- A reading stands at a block that isn't known, behind the members of it that were read. At a back block the front one is known.
 pub record AtBlock {P : Type 0} (meld : P → P → P) (h : History P) (group : List ℕ) (reading : ReadBlocks P) : Type 0 where
-  pub are : AreOf meld h reading.comm reading.round group reading.blocks
+  pub are : BothTell meld h reading.comm reading.round group reading.blocks
   pub unknown : said_at reading.blocks reading.side ≡ None
   pub side : IsSide reading.side group
   pub front : reading.side ≡ Back → is_some reading.blocks.front ≡ true
@@ -136,7 +137,7 @@ BlocksTell meld sight group reading (Some (All all)) = IsSummed meld sight.seen 
 -- where a reading's next step is: at the next member's place, or, once all of the block's are read, at the block
 abbrev pub site_of : {P : Type 0} → List ℕ → ReadBlocks P → Site
 site_of group reading =
-    if nat_lt reading.read reading.width then Site.Place (SlotAt reading.comm reading.round (next_of group reading))
+    if nat_lt reading.read reading.width then Site.Place (SlotAt reading.comm reading.round (next_in_block group reading))
     else Site.Block (block_at reading.comm reading.round reading.side)
 
 -- its steps, the first of them a load there, or the block's cache
@@ -153,21 +154,25 @@ SetsBlocks cached group reading (Some Missing) = Unit {0}
 SetsBlocks cached group reading (Some (All all)) = AllSet cached reading.comm reading.round group
 
 -- what a reading of blocks asks for: the pass is of these words, these are its round's members, and it stands at a block
-pub record MayReadBlocks {P : Type 0} (meld : P → P → P) (name : Name) (group : List ℕ) (reading : ReadBlocks P) (sight : Sight P) : Type 0 where
-  pub of : IsOf meld name sight
-  pub round : IsRoundOf name.limits sight.seen reading.comm reading.round group
-  pub at : AtBlock meld sight.seen group reading
+pub record MayReadBlocks {P : Type 0} (meld : P → P → P) (group : List ℕ) (now : Running (ReadBlocks P) P) : Type 0 where
+  pub of : IsView meld now.view
+  pub round : IsRoundOf now.view.words.limits now.view.pass.seen now.state.comm now.state.round group
+  pub at : AtBlock meld now.view.pass.seen group now.state
 
--- Steps of a reading of blocks, so many at most, and what was found: an answer, where all are made at once, or else where it stands. Whoever
--- finds what all members say leaves no block of the round unset.
-pub record ReadsBlocks {P : Type 0} (meld : P → P → P) (alone whole : Bool) (name : Name) (most : ℕ) (group : List ℕ) (reading : ReadBlocks P)
-    (old : Sight P) (found : Option (Found P)) (left : ReadBlocks P) (new : Sight P) : Type 0 where
-  pub goes : Goes meld alone true name most old new
-  pub takes : BlocksTake whole group reading found left old new
-  pub comm : left.comm ≡ reading.comm
-  pub round : left.round ≡ reading.round
-  pub tells : BlocksTell meld new group left found
-  pub sets : AreSet old.cached reading.comm reading.round reading.blocks → SetsBlocks new.cached group left found
+-- how many steps a reading of both blocks makes at most: a load for each member of a block's width, and a cache, of each
+abbrev pub reads_most : ℕ → ℕ
+reads_most n = 2 * (width n + 1)
+
+-- Steps of a reading of blocks, and what was found: an answer, where all are made at once, or else where it stands. Whoever finds what all
+-- members say leaves no block of the round unset.
+pub record ReadsBlocks {P : Type 0} (meld : P → P → P) (alone whole : Bool) (group : List ℕ) (old : Running (ReadBlocks P) P) (found : Option (Found P))
+    (new : Running (ReadBlocks P) P) : Type 0 where
+  pub goes : Goes meld alone true (reads_most (length group)) old.view new.view
+  pub takes : BlocksTake whole group old.state found new.state old.view.pass new.view.pass
+  pub comm : new.state.comm ≡ old.state.comm
+  pub round : new.state.round ≡ old.state.round
+  pub tells : BlocksTell meld new.view.pass group new.state found
+  pub sets : AreSet old.view.pass.cached old.state.comm old.state.round old.state.blocks → SetsBlocks new.view.pass.cached group new.state found
   pub ends : whole ≡ true → IsSome found
 
 -- a reading that has read nothing of a block yet

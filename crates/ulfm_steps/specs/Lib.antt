@@ -1,4 +1,5 @@
 pub mod Turns
+pub mod Among
 pub mod Looks
 pub mod Settles
 pub mod Rounds
@@ -7,4 +8,3 @@ pub mod Arriving
 pub mod ReadsOn
 pub mod Marks
 pub mod Appends
-pub mod Intrusions

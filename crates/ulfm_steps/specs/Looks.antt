@@ -3,7 +3,7 @@ use Rattle.std.specs.Prelude.{◌≡◌, ℕ, ◌-◌, ◌<◌, Bool, false, tru
 use mathlib.Core.List.{IsPrefix}
 use Rattle.ulfm_model.specs.declared.{limits.Limits.{Limits}, place.Place.TheVariants.{List as ListAt}}
 use Rattle.ulfm_words.specs.Steps.{Sight}
-use Rattle.ulfm_steps.specs.Turns.{Takes}
+use Rattle.ulfm_steps.specs.Turns.{TakesFirst}
 use Rattle.ulfm_model.specs.History.{History, failures}
 
 -- under way it has found a beginning of the list, of fewer ranks than there are; at its end, the list
@@ -19,4 +19,4 @@ looks_left limits true found = limits.ranks - length found - 1
 
 -- the loads of a look, the first of them of the place past what it had found
 abbrev pub LookTakes : {P : Type 0} → Bool → Limits → List ℕ → Bool → List ℕ → Sight P → Sight P → Type 0
-LookTakes whole limits found done new = Takes whole (ListAt (length found)) true (looks_left limits false found) (looks_left limits done new)
+LookTakes whole limits found done new = TakesFirst whole (ListAt (length found)) true (looks_left limits false found) (looks_left limits done new)

@@ -6,8 +6,8 @@ use Rattle.ulfm_model.specs.declared.{contribution.MarkCount.{MarkCount}, event.
 use Rattle.ulfm_model.specs.declared.{event.Event.TheVariants.{Mark}, limits.Limits.{Limits}, place.Place.TheVariants.{Slot as SlotAt}}
 use Rattle.ulfm_model.specs.{History.{History, entries_by, failures, has, slot}, Runs.{Did}}
 use Rattle.ulfm_model.specs.Terms.{settled_by}
-use Rattle.ulfm_words.specs.Steps.{IsAdded, IsOf, Name, Sight}
-use Rattle.ulfm_steps.specs.{Rounds.{IsRoundOf}, Turns.{Takes}}
+use Rattle.ulfm_words.specs.Steps.{IsAdded, IsView, Sight, View}
+use Rattle.ulfm_steps.specs.{Among.{Among}, Rounds.{IsRoundOf, RoundOn, round_on}, Turns.{TakesFirst}}
 use Rattle.ulfm_steps.specs.declared.mark_all.MarkAll.{MarkAll}
 
 -- a mark of one of these ranks in this round
@@ -31,13 +31,13 @@ MarksOnce alone number c k r old new =
     Did alone [] old new ⊎ ((mark : MarkCount) × IsAdded alone (record { by = ByRank number; event = Mark c k r mark }) old new)
 
 -- one exchange for each of these ranks, at most
-pub record MarkSteps {P : Type 0} (meld : P → P → P) (alone : Bool) (name : Name) (number c k : ℕ) (ranks : List ℕ) (old new : Sight P) : Type 0 where
-  pub of : IsOf meld name new
-  pub marks : Marks alone number c k ranks old.seen new.seen
-  pub cached : IsPrefix old.cached new.cached
-  pub caches : new.caches ≡ old.caches
-  pub onward : old.steps ≤ new.steps
-  pub steps : new.steps ≤ old.steps + length ranks
+pub record MarkSteps {P : Type 0} (meld : P → P → P) (alone : Bool) (number : ℕ) (at : RoundOn) (ranks : List ℕ) (old new : View P) : Type 0 where
+  pub of : IsView meld new
+  pub marks : Marks alone number at.comm at.round ranks old.pass.seen new.pass.seen
+  pub cached : IsPrefix old.pass.cached new.pass.cached
+  pub caches : new.pass.caches ≡ old.pass.caches
+  pub onward : old.pass.steps ≤ new.pass.steps
+  pub steps : new.pass.steps ≤ old.pass.steps + length ranks
 
 -- the round is one of these members', and these ranks are the first that were declared
 pub record MayMarkAll {P : Type 0} (limits : Limits) (h : History P) (c k : ℕ) (group declared : List ℕ) : Type 0 where
@@ -62,11 +62,10 @@ pub record IsAt (group declared : List ℕ) (at known : ℕ) : Type 0 where
   pub counted : known ≡ length (members_in group declared at)
 
 -- a marking has come from its place to another: it has marked the members in between
-pub record HasMarked {P : Type 0} (meld : P → P → P) (alone : Bool) (name : Name) (start : MarkAll) (group declared : List ℕ) (at : ℕ) (old new : Sight P)
-    : Type 0 where
+pub record HasMarked {P : Type 0} (meld : P → P → P) (alone : Bool) (start : MarkAll) (ranks : Among) (at : ℕ) (old new : View P) : Type 0 where
   pub between : List ℕ
-  pub members_are : members_in group declared at ≡ members_in group declared start.next ++ between
-  pub marks : MarkSteps meld alone name start.rank start.comm start.round between old new
+  pub members_are : members_in ranks.group ranks.declared at ≡ members_in ranks.group ranks.declared start.next ++ between
+  pub marks : MarkSteps meld alone start.rank (round_on start.comm start.round) between old new
 
 -- how many members a marking may still mark, from this place on
 abbrev pub marks_left : List ℕ → List ℕ → ℕ → ℕ
@@ -75,4 +74,4 @@ marks_left group declared at = length (filter (has group) declared) - length (me
 -- the exchanges of a marking, the first of them of the next member's place
 abbrev pub MarksTake : {P : Type 0} → Bool → List ℕ → List ℕ → MarkAll → MarkAll → Sight P → Sight P → Type 0
 MarksTake whole group declared old new =
-    Takes whole (SlotAt old.comm old.round (slice_index declared old.next)) false (marks_left group declared old.next) (marks_left group declared new.next)
+    TakesFirst whole (SlotAt old.comm old.round (slice_index declared old.next)) false (marks_left group declared old.next) (marks_left group declared new.next)

@@ -1,7 +1,7 @@
 -- The steps that machines take, and how many are left.
 use Rattle.std.specs.Prelude.{◌≡◌, ℕ, ◌+◌, ◌<◌, ◌≤◌, Bool, false, Option, Some, None}
 use Rattle.ulfm_model.specs.declared.place.Place.{Place}
-use Rattle.ulfm_words.specs.{Steps.{Sight}, declared.step.Site.{Site}}
+use Rattle.ulfm_words.specs.{Steps.{Sight, View}, declared.step.Site.{Site}}
 
 -- one atomic step, at this site: a load, or an exchange
 pub record IsStepAt {P : Type 0} (site : Site) (load : Bool) (old new : Sight P) : Type 0 where
@@ -21,8 +21,16 @@ pub record TakesAt {P : Type 0} (whole : Bool) (site : Site) (load : Bool) (befo
   pub turns : new.steps + after ≤ old.steps + before
 
 -- .. the first at this place
-abbrev pub Takes : {P : Type 0} → Bool → Place → Bool → ℕ → ℕ → Sight P → Sight P → Type 0
-Takes whole place load before after old new = TakesAt whole (Site.Place place) load before after old new
+abbrev pub TakesFirst : {P : Type 0} → Bool → Place → Bool → ℕ → ℕ → Sight P → Sight P → Type 0
+TakesFirst whole place load before after old new = TakesAt whole (Site.Place place) load before after old new
+
+-- a machine between two steps: where it stands, and its caller's view
+pub record Running (S P : Type 0) : Type 0 where
+  pub state : S
+  pub view : View P
+
+abbrev pub running : {S P : Type 0} → S → View P → Running S P
+running state view = record { state = state; view = view }
 
 -- so many are left where there is no answer yet
 abbrev pub left_without : {R : Type 0} → Option R → ℕ → ℕ

@@ -1,8 +1,8 @@
 // Appending an item to a list that fills from the front, unless it is there: at each place a load and, where nothing stands,
 // an exchange. A place that was passed has another item for good, so the first place that is empty is the next one.
 ghost use Rattle.std.specs.Prelude.{◌≡◌, ◌<◌, ◌≤◌, ◌+◌, ◌*◌, ◌-◌, false, MatchOption};
-ghost use Rattle.ulfm_words.specs.Steps.{IsOf, Goes};
-ghost use Rattle.ulfm_steps.specs.Appends.{AppendTakes, Appends, FoundEmpty, HasRound, MayAppend, Passed, room};
+ghost use Rattle.ulfm_words.specs.Steps.{view_of, IsView, Goes};
+ghost use Rattle.ulfm_steps.specs.Appends.{wanted, AppendTakes, Appends, FoundEmpty, HasRound, MayAppend, Passed, room};
 
 use crate::item::Item;
 use crate::items::{load_item, room_for, set_item};
@@ -54,14 +54,16 @@ impl Append {
         words: &W,
         pass: &mut W::Pass,
     ) -> Option<Appended>
-        requires of { IsOf P.meld (W.name words.now) (W.sight pass.old) }
+        requires of { IsView P.meld (view_of (W.name words.now) (W.sight pass.old)) }
         requires may { MayAppend P.meld (W.name words.now).limits (W.sight pass.old).seen self.old.item }
         requires round { HasRound (W.name words.now).limits self.old.item }
         requires passed { Passed (W.sight pass.old).seen self.old.item self.old.index }
         requires more { self.old.index < room self.old.item (W.name words.now).limits }
         ensures same { (self.new.item ≡ self.old.item) × (self.new.by ≡ self.old.by) }
-        ensures goes { MatchOption result (Goes P.meld W.alone false (W.name words.now) 1 (W.sight pass.old) (W.sight pass.new))
-            (λ a. Appends P.meld W.alone (W.name words.now) self.old.item self.old.by 1 (W.sight pass.old) a (W.sight pass.new)) }
+        ensures goes { MatchOption result (Goes P.meld W.alone false 1 (view_of (W.name words.now) (W.sight pass.old))
+            (view_of (W.name words.now) (W.sight pass.new)))
+            (λ a. Appends P.meld W.alone (wanted self.old.item self.old.by) 1 (view_of (W.name words.now) (W.sight pass.old)) a
+            (view_of (W.name words.now) (W.sight pass.new))) }
         ensures takes { AppendTakes false (W.name words.now).limits self.old result self.new (W.sight pass.old) (W.sight pass.new) }
         ensures passed { MatchOption result (Passed (W.sight pass.new).seen self.old.item self.new.index) (λ _. Unit {0}) }
         ensures empty { MatchOption result (FoundEmpty (W.sight pass.new).seen self.new) (λ _. Unit {0}) }
@@ -101,15 +103,16 @@ impl Append {
         pass: &mut W::Pass,
         whole: bool,
     ) -> Option<Appended>
-        requires of { IsOf P.meld (W.name words.now) (W.sight pass.old) }
+        requires of { IsView P.meld (view_of (W.name words.now) (W.sight pass.old)) }
         requires may { MayAppend P.meld (W.name words.now).limits (W.sight pass.old).seen self.old.item }
         requires round { HasRound (W.name words.now).limits self.old.item }
         requires passed { Passed (W.sight pass.old).seen self.old.item self.old.index }
         requires more { self.old.index < room self.old.item (W.name words.now).limits }
         ensures same { (self.new.item ≡ self.old.item) × (self.new.by ≡ self.old.by) }
-        ensures goes { MatchOption result (Goes P.meld W.alone false (W.name words.now) (2 * room self.old.item (W.name words.now).limits) (W.sight pass.old)
-            (W.sight pass.new)) (λ a. Appends P.meld W.alone (W.name words.now) self.old.item self.old.by (2 * room self.old.item (W.name words.now).limits)
-            (W.sight pass.old) a (W.sight pass.new)) }
+        ensures goes { MatchOption result (Goes P.meld W.alone false (2 * room self.old.item (W.name words.now).limits)
+            (view_of (W.name words.now) (W.sight pass.old)) (view_of (W.name words.now) (W.sight pass.new)))
+            (λ a. Appends P.meld W.alone (wanted self.old.item self.old.by) (2 * room self.old.item (W.name words.now).limits)
+            (view_of (W.name words.now) (W.sight pass.old)) a (view_of (W.name words.now) (W.sight pass.new))) }
         ensures takes { AppendTakes whole (W.name words.now).limits self.old result self.new (W.sight pass.old) (W.sight pass.new) }
         ensures passed { MatchOption result (Passed (W.sight pass.new).seen self.old.item self.new.index) (λ _. Unit {0}) }
         ensures empty { MatchOption result (FoundEmpty (W.sight pass.new).seen self.new) (λ _. Unit {0}) }
@@ -131,13 +134,13 @@ impl Append {
         words: &W,
         pass: &mut W::Pass,
     ) -> Appended
-        requires of { IsOf P.meld (W.name words.now) (W.sight pass.old) }
+        requires of { IsView P.meld (view_of (W.name words.now) (W.sight pass.old)) }
         requires may { MayAppend P.meld (W.name words.now).limits (W.sight pass.old).seen self.item }
         requires round { HasRound (W.name words.now).limits self.item }
         requires passed { Passed (W.sight pass.old).seen self.item self.index }
         requires within { self.index ≤ room self.item (W.name words.now).limits }
-        ensures { Appends P.meld W.alone (W.name words.now) self.item self.by (2 * room self.item (W.name words.now).limits) (W.sight pass.old) result
-            (W.sight pass.new) }
+        ensures { Appends P.meld W.alone (wanted self.item self.by) (2 * room self.item (W.name words.now).limits)
+            (view_of (W.name words.now) (W.sight pass.old)) result (view_of (W.name words.now) (W.sight pass.new)) }
     {
         let places = room_for(self.item, words.limits());
         if self.index == places {

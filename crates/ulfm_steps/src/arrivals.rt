@@ -6,9 +6,10 @@ ghost use Rattle.std.specs.List.{list_all};
 ghost use Rattle.std.specs.List.Sorted.{IsStrictlyIncreasing};
 ghost use Rattle.ulfm_model.specs.History.{has_arrived};
 ghost use Rattle.ulfm_words.specs.Places.{IsCell};
-ghost use Rattle.ulfm_words.specs.Steps.{IsOf, Goes};
-ghost use Rattle.ulfm_steps.specs.Arriving.{ArrivalsTake, AtArrival, IsAsked, IsNextOther, IsWithin, MissingAre, asked_before, asked_of, asks, in_order};
+ghost use Rattle.ulfm_words.specs.Steps.{view_of, IsView, Goes};
+ghost use Rattle.ulfm_steps.specs.Arriving.{ArrivalsTake, AtArrival, IsAsked, IsNextOther, IsPosition, MissingAre, asked_before, asked_members, asks, in_order};
 ghost use Rattle.ulfm_steps.specs.Rounds.{IsRoundOf};
+ghost use Rattle.ulfm_steps.specs.Among.{among};
 
 use crate::group::{has_rank, is_member};
 use crate::mark_all::next_member;
@@ -73,9 +74,9 @@ fn is_there<P: Packed, A: Allocator, W: Words<P, A>>(
     rank: u16,
     asked: bool,
 ) -> bool
-    requires of { IsOf P.meld (W.name words.now) (W.sight pass.old) }
+    requires of { IsView P.meld (view_of (W.name words.now) (W.sight pass.old)) }
     requires within { asked ≡ true → IsCell (W.name words.now).limits comm round rank }
-    ensures goes { Goes P.meld W.alone false (W.name words.now) 1 (W.sight pass.old) (W.sight pass.new) }
+    ensures goes { Goes P.meld W.alone false 1 (view_of (W.name words.now) (W.sight pass.old)) (view_of (W.name words.now) (W.sight pass.new)) }
     ensures steps { (W.sight pass.new).steps ≡ (W.sight pass.old).steps + (if asked then 1 else 0) }
     ensures arrived { MatchBool result (asked ≡ true → has_arrived (W.sight pass.new).seen comm round rank ≡ true) ((asked ≡ true)
         × (has_arrived (W.sight pass.new).seen comm round rank ≡ false)) }
@@ -98,14 +99,14 @@ fn arrived_from<P: Packed, A: Allocator, W: Words<P, A>>(
     others: bool,
     start: usize,
 ) -> bool
-    requires of { IsOf P.meld (W.name words.now) (W.sight pass.old) }
+    requires of { IsView P.meld (view_of (W.name words.now) (W.sight pass.old)) }
     requires round { IsRoundOf (W.name words.now).limits (W.sight pass.old).seen comm round group.now }
-    requires within { IsWithin group.now declared.now others start }
+    requires within { IsPosition group.now declared.now others start }
     requires before { list_all (has_arrived (W.sight pass.old).seen comm round) (asked_before group.now declared.now others start) ≡ true }
-    ensures goes { Goes P.meld W.alone false (W.name words.now)
-        (length (asked_of group.now declared.now others) - length (asked_before group.now declared.now others start)) (W.sight pass.old) (W.sight pass.new) }
+    ensures goes { Goes P.meld W.alone false (length (asked_members group.now declared.now others) - length (asked_before group.now declared.now others start))
+        (view_of (W.name words.now) (W.sight pass.old)) (view_of (W.name words.now) (W.sight pass.new)) }
     ensures more { IsAsked group.now declared.now others start → (W.sight pass.old).steps < (W.sight pass.new).steps }
-    ensures arrived { result ≡ list_all (has_arrived (W.sight pass.new).seen comm round) (asked_of group.now declared.now others) }
+    ensures arrived { result ≡ list_all (has_arrived (W.sight pass.new).seen comm round) (asked_members group.now declared.now others) }
 {
     let ranks = if others { group } else { declared };
     for at in start..ranks.len() {
@@ -143,7 +144,7 @@ impl Arrivals {
     #[inline(always)]
     fn move_on(&mut self, group: &[u16], declared: &[u16]) -> bool
         requires rises { IsStrictlyIncreasing group.now }
-        requires within { IsWithin group.now declared.now self.old.others self.old.next }
+        requires within { IsPosition group.now declared.now self.old.others self.old.next }
         ensures comm { self.new.comm ≡ self.old.comm }
         ensures round { self.new.round ≡ self.old.round }
         ensures none_between { asked_before group.now declared.now self.new.others self.new.next ≡ asked_before group.now declared.now self.old.others
@@ -172,11 +173,11 @@ impl Arrivals {
         group: &[u16],
         declared: &[u16],
     ) -> Option<Missing>
-        requires of { IsOf P.meld (W.name words.now) (W.sight pass.old) }
+        requires of { IsView P.meld (view_of (W.name words.now) (W.sight pass.old)) }
         requires round { IsRoundOf (W.name words.now).limits (W.sight pass.old).seen self.old.comm self.old.round group.now }
         requires at { AtArrival group.now declared.now self.old (W.sight pass.old).seen }
-        ensures goes { Goes P.meld W.alone false (W.name words.now) 1 (W.sight pass.old) (W.sight pass.new) }
-        ensures takes { ArrivalsTake false group.now declared.now self.old result self.new (W.sight pass.old) (W.sight pass.new) }
+        ensures goes { Goes P.meld W.alone false 1 (view_of (W.name words.now) (W.sight pass.old)) (view_of (W.name words.now) (W.sight pass.new)) }
+        ensures takes { ArrivalsTake false (among group.now declared.now) self.old result self.new (W.sight pass.old) (W.sight pass.new) }
         ensures comm { self.new.comm ≡ self.old.comm }
         ensures round { self.new.round ≡ self.old.round }
         ensures further { MatchOption result (length (asked_before group.now declared.now self.new.others self.new.next) ≡ length
@@ -213,13 +214,13 @@ impl Arrivals {
         declared: &[u16],
         whole: bool,
     ) -> Option<Missing>
-        requires of { IsOf P.meld (W.name words.now) (W.sight pass.old) }
+        requires of { IsView P.meld (view_of (W.name words.now) (W.sight pass.old)) }
         requires round { IsRoundOf (W.name words.now).limits (W.sight pass.old).seen self.old.comm self.old.round group.now }
         requires at { AtArrival group.now declared.now self.old (W.sight pass.old).seen }
-        ensures goes { Goes P.meld W.alone false (W.name words.now)
-            (length (in_order group.now declared.now) - length (asked_before group.now declared.now self.old.others self.old.next)) (W.sight pass.old)
-            (W.sight pass.new) }
-        ensures takes { ArrivalsTake whole group.now declared.now self.old result self.new (W.sight pass.old) (W.sight pass.new) }
+        ensures goes { Goes P.meld W.alone false (length (in_order group.now declared.now) - length
+            (asked_before group.now declared.now self.old.others self.old.next)) (view_of (W.name words.now) (W.sight pass.old))
+            (view_of (W.name words.now) (W.sight pass.new)) }
+        ensures takes { ArrivalsTake whole (among group.now declared.now) self.old result self.new (W.sight pass.old) (W.sight pass.new) }
         ensures comm { self.new.comm ≡ self.old.comm }
         ensures round { self.new.round ≡ self.old.round }
         ensures further { MatchOption result (length (asked_before group.now declared.now self.new.others self.new.next) ≡ length
@@ -243,12 +244,11 @@ impl Arrivals {
         group: &[u16],
         declared: &[u16],
     ) -> Missing
-        requires of { IsOf P.meld (W.name words.now) (W.sight pass.old) }
+        requires of { IsView P.meld (view_of (W.name words.now) (W.sight pass.old)) }
         requires round { IsRoundOf (W.name words.now).limits (W.sight pass.old).seen self.comm self.round group.now }
         requires at { AtArrival group.now declared.now self (W.sight pass.old).seen }
-        ensures goes { Goes P.meld W.alone false (W.name words.now)
-            (length (in_order group.now declared.now) - length (asked_before group.now declared.now self.others self.next)) (W.sight pass.old)
-            (W.sight pass.new) }
+        ensures goes { Goes P.meld W.alone false (length (in_order group.now declared.now) - length (asked_before group.now declared.now self.others self.next))
+            (view_of (W.name words.now) (W.sight pass.old)) (view_of (W.name words.now) (W.sight pass.new)) }
         ensures more { (W.sight pass.old).steps < (W.sight pass.new).steps }
         ensures are { MissingAre (W.sight pass.new).seen self.comm self.round group.now declared.now result }
     {

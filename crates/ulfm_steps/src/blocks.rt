@@ -5,8 +5,10 @@ ghost use Rattle.std.specs.Prelude.{◌≡◌, ◌<◌, ◌+◌, ◌*◌, None, 
 ghost use Rattle.ulfm_model.specs.Blocks.{width as width_of};
 ghost use Rattle.ulfm_model.specs.History.{History};
 ghost use Rattle.ulfm_model.specs.declared.block.Side.TheVariants.{Front, Back};
-ghost use Rattle.ulfm_steps.specs.Blocks.{AreOf, FindsSet, MayPeek, MayReadBlocks, PeeksOn, ReadsBlocks, Tells};
+ghost use Rattle.ulfm_steps.specs.Blocks.{BothTell, FindsSet, MayPeek, MayReadBlocks, PeeksOn, ReadsBlocks, MembersTell};
 ghost use Rattle.ulfm_steps.specs.Blocks.{has_back as is_apart, is_whole, said_at, starts_at};
+ghost use Rattle.ulfm_steps.specs.Turns.{running};
+ghost use Rattle.ulfm_words.specs.Steps.{view_of};
 
 use std::alloc::Allocator;
 use ulfm_laws::meld::{Meld, Packed};
@@ -67,7 +69,8 @@ impl<P: Packed> RoundBlocks<P> {
     pub fn all(&self, members: u16) -> Option<Summary<P>>
         requires { 0 < members }
         ensures whole { is_some result ≡ is_whole self.now members }
-        ensures tells { (h : History P) (c k : _) (group : _) → length group ≡ members → AreOf P.meld h c k group self.now → Tells P.meld h c k group result }
+        ensures tells { (h : History P) (c k : _) (group : _) → length group ≡ members → BothTell P.meld h c k group self.now → MembersTell P.meld h c k group
+            result }
     {
         let front = self.front?;
         if !has_back(members) {
@@ -113,8 +116,9 @@ impl<P: Packed> Peek<P> {
         pass: &mut W::Pass,
         group: &[u16],
     ) -> bool
-        requires { MayPeek P.meld (W.name words.now) group.now self.old (W.sight pass.old) }
-        ensures peeks { PeeksOn P.meld W.alone false (W.name words.now) 1 group.now self.old (W.sight pass.old) result self.new (W.sight pass.new) }
+        requires { MayPeek P.meld group.now (running self.old (view_of (W.name words.now) (W.sight pass.old))) }
+        ensures peeks { PeeksOn P.meld W.alone false group.now (running self.old (view_of (W.name words.now) (W.sight pass.old))) result
+            (running self.new (view_of (W.name words.now) (W.sight pass.new))) }
         ensures next { result ≡ false → (self.old.side ≡ Front) × (self.new.side ≡ Back) × (is_apart (length group.now) ≡ true) }
         ensures last { result ≡ true → self.old.side ≡ Front → is_apart (length group.now) ≡ false }
         ensures back { self.old.side ≡ Back → FindsSet (W.sight pass.old).cached self.new Back }
@@ -147,8 +151,9 @@ impl<P: Packed> Peek<P> {
         group: &[u16],
         whole: bool,
     ) -> bool
-        requires { MayPeek P.meld (W.name words.now) group.now self.old (W.sight pass.old) }
-        ensures { PeeksOn P.meld W.alone whole (W.name words.now) 2 group.now self.old (W.sight pass.old) result self.new (W.sight pass.new) }
+        requires { MayPeek P.meld group.now (running self.old (view_of (W.name words.now) (W.sight pass.old))) }
+        ensures { PeeksOn P.meld W.alone whole group.now (running self.old (view_of (W.name words.now) (W.sight pass.old))) result
+            (running self.new (view_of (W.name words.now) (W.sight pass.new))) }
     {
         if self.step(words, pass, group) {
             return true;
@@ -219,8 +224,9 @@ impl<P: Packed> ReadBlocks<P> {
         pass: &mut W::Pass,
         group: &[u16],
     ) -> Option<Found<P>>
-        requires { MayReadBlocks P.meld (W.name words.now) group.now self.old (W.sight pass.old) }
-        ensures { ReadsBlocks P.meld W.alone false (W.name words.now) 1 group.now self.old (W.sight pass.old) result self.new (W.sight pass.new) }
+        requires { MayReadBlocks P.meld group.now (running self.old (view_of (W.name words.now) (W.sight pass.old))) }
+        ensures { ReadsBlocks P.meld W.alone false group.now (running self.old (view_of (W.name words.now) (W.sight pass.old))) result
+            (running self.new (view_of (W.name words.now) (W.sight pass.new))) }
     {
         if self.read < self.width {
             return self.load(words, pass, group);
@@ -237,9 +243,9 @@ impl<P: Packed> ReadBlocks<P> {
         group: &[u16],
         whole: bool,
     ) -> Option<Found<P>>
-        requires { MayReadBlocks P.meld (W.name words.now) group.now self.old (W.sight pass.old) }
-        ensures { ReadsBlocks P.meld W.alone whole (W.name words.now) (2 * (width_of (length group.now) + 1)) group.now self.old (W.sight pass.old)
-            result self.new (W.sight pass.new) }
+        requires { MayReadBlocks P.meld group.now (running self.old (view_of (W.name words.now) (W.sight pass.old))) }
+        ensures { ReadsBlocks P.meld W.alone whole group.now (running self.old (view_of (W.name words.now) (W.sight pass.old))) result
+            (running self.new (view_of (W.name words.now) (W.sight pass.new))) }
     {
         loop {
             let found = self.step(words, pass, group);
@@ -257,9 +263,10 @@ impl<P: Packed> ReadBlocks<P> {
         pass: &mut W::Pass,
         group: &[u16],
     ) -> Option<Found<P>>
-        requires may { MayReadBlocks P.meld (W.name words.now) group.now self.old (W.sight pass.old) }
+        requires may { MayReadBlocks P.meld group.now (running self.old (view_of (W.name words.now) (W.sight pass.old))) }
         requires more { self.old.read < width_of (length group.now) }
-        ensures { ReadsBlocks P.meld W.alone false (W.name words.now) 1 group.now self.old (W.sight pass.old) result self.new (W.sight pass.new) }
+        ensures { ReadsBlocks P.meld W.alone false group.now (running self.old (view_of (W.name words.now) (W.sight pass.old))) result
+            (running self.new (view_of (W.name words.now) (W.sight pass.new))) }
     {
         let rank = group[(self.first + self.read) as usize];
         match load_summary(words, pass, self.comm, self.round, rank) {
@@ -279,9 +286,10 @@ impl<P: Packed> ReadBlocks<P> {
         pass: &mut W::Pass,
         group: &[u16],
     ) -> Option<Found<P>>
-        requires may { MayReadBlocks P.meld (W.name words.now) group.now self.old (W.sight pass.old) }
+        requires may { MayReadBlocks P.meld group.now (running self.old (view_of (W.name words.now) (W.sight pass.old))) }
         requires all { self.old.read ≡ width_of (length group.now) }
-        ensures { ReadsBlocks P.meld W.alone false (W.name words.now) 1 group.now self.old (W.sight pass.old) result self.new (W.sight pass.new) }
+        ensures { ReadsBlocks P.meld W.alone false group.now (running self.old (view_of (W.name words.now) (W.sight pass.old))) result
+            (running self.new (view_of (W.name words.now) (W.sight pass.new))) }
     {
         let block = Block {
             comm: self.comm,

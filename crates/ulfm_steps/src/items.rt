@@ -1,7 +1,7 @@
 ghost use Rattle.std.specs.Prelude.{◌≡◌, ◌<◌, Some, is_ok, slice_get, MatchResult};
-ghost use Rattle.ulfm_words.specs.Steps.{IsOf, Loads};
-ghost use Rattle.ulfm_words.specs.Tries.{Tries, entry};
-ghost use Rattle.ulfm_steps.specs.Appends.{items, room, place_at, event_at, HasRound, MayAdd};
+ghost use Rattle.ulfm_words.specs.Steps.{view_of, IsView, Loads};
+ghost use Rattle.ulfm_words.specs.Tries.{attempt, Tries, entry};
+ghost use Rattle.ulfm_steps.specs.Appends.{items, room, place_at, event_at, HasRound, MayStand};
 
 use crate::item::Item;
 use std::alloc::Allocator;
@@ -29,9 +29,10 @@ pub(crate) fn load_item<P: Packed, A: Allocator, W: Words<P, A>>(
     item: Item,
     index: u16,
 ) -> Option<Item>
-    requires of { IsOf P.meld (W.name words.now) (W.sight pass.old) }
+    requires of { IsView P.meld (view_of (W.name words.now) (W.sight pass.old)) }
     requires within { index < room item (W.name words.now).limits }
-    ensures loads { Loads P.meld P.pack W.alone (W.name words.now) (place_at item index) (W.sight pass.old) (W.sight pass.new) }
+    ensures loads { Loads P.meld P.pack W.alone (place_at item index) (view_of (W.name words.now) (W.sight pass.old))
+        (view_of (W.name words.now) (W.sight pass.new)) }
     ensures stands { result ≡ slice_get (items item (W.sight pass.new).seen) index }
 {
     match item {
@@ -54,12 +55,12 @@ pub(crate) fn set_item<P: Packed, A: Allocator, W: Words<P, A>>(
     item: Item,
     index: u16,
 ) -> Result<(), Item>
-    requires of { IsOf P.meld (W.name words.now) (W.sight pass.old) }
+    requires of { IsView P.meld (view_of (W.name words.now) (W.sight pass.old)) }
     requires within { index < room item (W.name words.now).limits }
-    requires may { MayAdd P.meld (W.name words.now).limits (W.sight pass.old).seen item index }
+    requires may { MayStand P.meld (W.name words.now).limits (W.sight pass.old).seen item index }
     requires round { HasRound (W.name words.now).limits item }
-    ensures tries { Tries P.meld P.pack W.alone (W.name words.now) (place_at item index) (entry by (event_at item index)) (is_ok result) (W.sight pass.old)
-        (W.sight pass.new) }
+    ensures tries { Tries P.meld P.pack W.alone (attempt (place_at item index) (entry by (event_at item index))) (is_ok result)
+        (view_of (W.name words.now) (W.sight pass.old)) (view_of (W.name words.now) (W.sight pass.new)) }
     ensures stands { MatchResult result (λ _. slice_get (items item (W.sight pass.new).seen) index ≡ Some item)
         (λ x. slice_get (items item (W.sight pass.new).seen) index ≡ Some x) }
 {

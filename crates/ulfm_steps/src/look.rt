@@ -2,7 +2,7 @@
 // begins the list from the load on that found it; at its end the list is that and no more.
 ghost use Rattle.std.specs.Prelude.{◌≡◌, ◌+◌, ◌<◌, ◌≤◌, [], false, true, vec_capacity, vec_len, if◌then◌else◌};
 ghost use Rattle.ulfm_model.specs.History.{failures};
-ghost use Rattle.ulfm_words.specs.Steps.{IsOf, Goes};
+ghost use Rattle.ulfm_words.specs.Steps.{view_of, IsView, Goes};
 ghost use Rattle.ulfm_steps.specs.Looks.{LookIs, LookTakes};
 
 use std::alloc::Allocator;
@@ -35,11 +35,11 @@ impl Look {
         pass: &mut W::Pass,
         found: &mut Vec<u16, B>,
     )
-        requires of { IsOf P.meld (W.name words.now) (W.sight pass.old) }
+        requires of { IsView P.meld (view_of (W.name words.now) (W.sight pass.old)) }
         requires going { self.old.done ≡ false }
         requires look { LookIs (W.name words.now).limits false found.old.items (W.sight pass.old).seen }
         requires room { (W.name words.now).limits.ranks ≤ vec_capacity found.old }
-        ensures goes { Goes P.meld W.alone false (W.name words.now) 1 (W.sight pass.old) (W.sight pass.new) }
+        ensures goes { Goes P.meld W.alone false 1 (view_of (W.name words.now) (W.sight pass.old)) (view_of (W.name words.now) (W.sight pass.new)) }
         ensures takes { LookTakes false (W.name words.now).limits found.old.items self.new.done found.new.items (W.sight pass.old) (W.sight pass.new) }
         ensures look { LookIs (W.name words.now).limits self.new.done found.new.items (W.sight pass.new).seen }
         ensures further { self.new.done ≡ false → vec_len found.new ≡ vec_len found.old + 1 }
@@ -64,11 +64,12 @@ impl Look {
         found: &mut Vec<u16, B>,
         whole: bool,
     )
-        requires of { IsOf P.meld (W.name words.now) (W.sight pass.old) }
+        requires of { IsView P.meld (view_of (W.name words.now) (W.sight pass.old)) }
         requires going { self.old.done ≡ false }
         requires look { LookIs (W.name words.now).limits false found.old.items (W.sight pass.old).seen }
         requires room { (W.name words.now).limits.ranks ≤ vec_capacity found.old }
-        ensures goes { Goes P.meld W.alone false (W.name words.now) (if whole then (W.name words.now).limits.ranks else 1) (W.sight pass.old) (W.sight pass.new) }
+        ensures goes { Goes P.meld W.alone false (if whole then (W.name words.now).limits.ranks else 1) (view_of (W.name words.now) (W.sight pass.old))
+            (view_of (W.name words.now) (W.sight pass.new)) }
         ensures takes { LookTakes whole (W.name words.now).limits found.old.items self.new.done found.new.items (W.sight pass.old) (W.sight pass.new) }
         ensures look { LookIs (W.name words.now).limits self.new.done found.new.items (W.sight pass.new).seen }
         ensures further { self.new.done ≡ false → vec_len found.new ≡ vec_len found.old + 1 }
@@ -91,11 +92,12 @@ impl Look {
         pass: &mut W::Pass,
         found: &mut Vec<u16, B>,
     )
-        requires of { IsOf P.meld (W.name words.now) (W.sight pass.old) }
+        requires of { IsView P.meld (view_of (W.name words.now) (W.sight pass.old)) }
         requires going { self.done ≡ false }
         requires look { LookIs (W.name words.now).limits false found.old.items (W.sight pass.old).seen }
         requires room { (W.name words.now).limits.ranks ≤ vec_capacity found.old }
-        ensures goes { Goes P.meld W.alone false (W.name words.now) (W.name words.now).limits.ranks (W.sight pass.old) (W.sight pass.new) }
+        ensures goes { Goes P.meld W.alone false (W.name words.now).limits.ranks (view_of (W.name words.now) (W.sight pass.old))
+            (view_of (W.name words.now) (W.sight pass.new)) }
         ensures found { found.new.items ≡ failures (W.sight pass.new).seen }
         ensures room { vec_capacity found.old ≤ vec_capacity found.new }
     {

@@ -2,8 +2,10 @@
 // or before it, stays as it is.
 ghost use Rattle.std.specs.Prelude.{◌≡◌, ◌<◌, ◌≤◌, ◌+◌, ◌++◌, ◌∷◌, [], false, true, length, slice_index};
 ghost use Rattle.std.specs.List.Sorted.{IsStrictlyIncreasing};
-ghost use Rattle.ulfm_words.specs.Steps.{IsOf};
+ghost use Rattle.ulfm_words.specs.Steps.{view_of, IsView};
 ghost use Rattle.ulfm_steps.specs.Marks.{HasMarked, MarksOnce, MarksTake, MarkSteps, MayMarkAll, members_in, IsNext, IsAt};
+ghost use Rattle.ulfm_steps.specs.Among.{among};
+ghost use Rattle.ulfm_steps.specs.Rounds.{round_on};
 
 use crate::group::is_member;
 use std::alloc::Allocator;
@@ -68,7 +70,7 @@ impl MarkAll {
         group: &[u16],
         declared: &[u16],
     )
-        requires of { IsOf P.meld (W.name words.now) (W.sight pass.old) }
+        requires of { IsView P.meld (view_of (W.name words.now) (W.sight pass.old)) }
         requires may { MayMarkAll (W.name words.now).limits (W.sight pass.old).seen self.old.comm self.old.round group.now declared.now }
         requires at { IsAt group.now declared.now self.old.next self.old.known }
         requires more { self.old.next < length declared.now }
@@ -82,8 +84,8 @@ impl MarkAll {
             self.old.next ∷ [] }
         ensures once { MarksOnce W.alone self.old.rank self.old.comm self.old.round (slice_index declared.now self.old.next) (W.sight pass.old).seen
             (W.sight pass.new).seen }
-        ensures marks { MarkSteps P.meld W.alone (W.name words.now) self.old.rank self.old.comm self.old.round (slice_index declared.now self.old.next ∷ [])
-            (W.sight pass.old) (W.sight pass.new) }
+        ensures marks { MarkSteps P.meld W.alone self.old.rank (round_on self.old.comm self.old.round) (slice_index declared.now self.old.next ∷ [])
+            (view_of (W.name words.now) (W.sight pass.old)) (view_of (W.name words.now) (W.sight pass.new)) }
     {
         let rank = declared[self.next];
         self.known += 1;
@@ -105,7 +107,7 @@ impl MarkAll {
         declared: &[u16],
         whole: bool,
     )
-        requires of { IsOf P.meld (W.name words.now) (W.sight pass.old) }
+        requires of { IsView P.meld (view_of (W.name words.now) (W.sight pass.old)) }
         requires may { MayMarkAll (W.name words.now).limits (W.sight pass.old).seen self.old.comm self.old.round group.now declared.now }
         requires at { IsAt group.now declared.now self.old.next self.old.known }
         requires more { self.old.next < length declared.now }
@@ -119,7 +121,8 @@ impl MarkAll {
         ensures once { whole ≡ false
             → MarksOnce W.alone self.old.rank self.old.comm self.old.round (slice_index declared.now self.old.next) (W.sight pass.old).seen
             (W.sight pass.new).seen }
-        ensures marks { HasMarked P.meld W.alone (W.name words.now) self.old group.now declared.now self.new.next (W.sight pass.old) (W.sight pass.new) }
+        ensures marks { HasMarked P.meld W.alone self.old (among group.now declared.now) self.new.next (view_of (W.name words.now) (W.sight pass.old))
+            (view_of (W.name words.now) (W.sight pass.new)) }
     {
         while self.next < declared.len() {
             self.step(words, pass, group, declared);
@@ -138,10 +141,11 @@ impl MarkAll {
         group: &[u16],
         declared: &[u16],
     )
-        requires of { IsOf P.meld (W.name words.now) (W.sight pass.old) }
+        requires of { IsView P.meld (view_of (W.name words.now) (W.sight pass.old)) }
         requires may { MayMarkAll (W.name words.now).limits (W.sight pass.old).seen self.comm self.round group.now declared.now }
         requires at { IsAt group.now declared.now self.next self.known }
-        ensures marks { HasMarked P.meld W.alone (W.name words.now) self group.now declared.now (length declared.now) (W.sight pass.old) (W.sight pass.new) }
+        ensures marks { HasMarked P.meld W.alone self (among group.now declared.now) (length declared.now) (view_of (W.name words.now) (W.sight pass.old))
+            (view_of (W.name words.now) (W.sight pass.new)) }
     {
         if self.next < declared.len() {
             self.advance(words, pass, group, declared, true);

@@ -4,7 +4,7 @@ ghost use Rattle.std.specs.Prelude.{◌≡◌, ◌==◌, ◌<◌, ◌≤◌, ◌
 ghost use Rattle.std.specs.List.Sorted.{IsStrictlyIncreasing};
 ghost use mathlib.Core.List.{IsPrefix};
 ghost use Rattle.ulfm_model.specs.History.{failures};
-ghost use Rattle.ulfm_words.specs.Steps.{IsOf, Goes};
+ghost use Rattle.ulfm_words.specs.Steps.{view_of, IsView, Goes};
 ghost use Rattle.ulfm_steps.specs.ReadsOn.{AtFailure, MayReadOn, ReadOnTakes};
 
 use crate::group::is_member;
@@ -57,12 +57,12 @@ impl ReadOn {
         count: u16,
         seen: &mut Vec<u16, B>,
     )
-        requires of { IsOf P.meld (W.name words.now) (W.sight pass.old) }
+        requires of { IsView P.meld (view_of (W.name words.now) (W.sight pass.old)) }
         requires may { MayReadOn group.now count seen.old.items (failures (W.sight pass.old).seen) }
         requires at { AtFailure group.now count self.old seen.old.items }
         requires more { self.old.found < count }
         requires room { (W.name words.now).limits.ranks ≤ vec_capacity seen.old }
-        ensures goes { Goes P.meld W.alone false (W.name words.now) 1 (W.sight pass.old) (W.sight pass.new) }
+        ensures goes { Goes P.meld W.alone false 1 (view_of (W.name words.now) (W.sight pass.old)) (view_of (W.name words.now) (W.sight pass.new)) }
         ensures takes { ReadOnTakes false (W.name words.now).limits seen.old.items seen.new.items (W.sight pass.old) (W.sight pass.new) }
         ensures at { AtFailure group.now count self.new seen.new.items }
         ensures further { vec_len seen.new ≡ vec_len seen.old + 1 }
@@ -89,12 +89,13 @@ impl ReadOn {
         seen: &mut Vec<u16, B>,
         whole: bool,
     )
-        requires of { IsOf P.meld (W.name words.now) (W.sight pass.old) }
+        requires of { IsView P.meld (view_of (W.name words.now) (W.sight pass.old)) }
         requires may { MayReadOn group.now count seen.old.items (failures (W.sight pass.old).seen) }
         requires at { AtFailure group.now count self.old seen.old.items }
         requires more { self.old.found < count }
         requires room { (W.name words.now).limits.ranks ≤ vec_capacity seen.old }
-        ensures goes { Goes P.meld W.alone false (W.name words.now) (W.name words.now).limits.ranks (W.sight pass.old) (W.sight pass.new) }
+        ensures goes { Goes P.meld W.alone false (W.name words.now).limits.ranks (view_of (W.name words.now) (W.sight pass.old))
+            (view_of (W.name words.now) (W.sight pass.new)) }
         ensures takes { ReadOnTakes whole (W.name words.now).limits seen.old.items seen.new.items (W.sight pass.old) (W.sight pass.new) }
         ensures at { AtFailure group.now count self.new seen.new.items }
         ensures further { (W.sight pass.new).steps + vec_len seen.old ≡ (W.sight pass.old).steps + vec_len seen.new }

@@ -5,8 +5,8 @@ ghost use Rattle.ulfm_model.specs.declared.contribution.Slot.TheVariants.{Given}
 ghost use Rattle.ulfm_model.specs.declared.event.Caller.TheVariants.{Rank as ByRank};
 ghost use Rattle.ulfm_model.specs.declared.event.Event.TheVariants.{Settle as Settled};
 ghost use Rattle.ulfm_model.specs.declared.place.Place.TheVariants.{Slot as SlotAt};
-ghost use Rattle.ulfm_words.specs.Steps.{IsOf};
-ghost use Rattle.ulfm_words.specs.Tries.{Tries, entry};
+ghost use Rattle.ulfm_words.specs.Steps.{view_of, IsView};
+ghost use Rattle.ulfm_words.specs.Tries.{attempt, Tries, entry};
 ghost use Rattle.ulfm_steps.specs.Settles.{MayGive};
 
 use std::alloc::Allocator;
@@ -31,11 +31,11 @@ impl<P: Packed> Settle<P> {
         words: &W,
         pass: &mut W::Pass,
     ) -> Result<(), Slot<P>>
-        requires of { IsOf P.meld (W.name words.now) (W.sight pass.old) }
+        requires of { IsView P.meld (view_of (W.name words.now) (W.sight pass.old)) }
         requires may { MayGive (W.name words.now).limits (W.sight pass.old).seen self.now.comm self.now.round self.now.rank self.now.given }
-        ensures tries { Tries P.meld P.pack W.alone (W.name words.now) (SlotAt self.now.comm self.now.round self.now.rank)
-            (entry (ByRank self.now.rank) (Settled self.now.comm self.now.round self.now.rank self.now.given)) (is_ok result) (W.sight pass.old)
-            (W.sight pass.new) }
+        ensures tries { Tries P.meld P.pack W.alone (attempt (SlotAt self.now.comm self.now.round self.now.rank)
+            (entry (ByRank self.now.rank) (Settled self.now.comm self.now.round self.now.rank self.now.given))) (is_ok result)
+            (view_of (W.name words.now) (W.sight pass.old)) (view_of (W.name words.now) (W.sight pass.new)) }
         ensures stands { MatchResult result (λ _. slot (W.sight pass.new).seen self.now.comm self.now.round self.now.rank ≡ Some (Given self.now.given))
             (λ s. slot (W.sight pass.new).seen self.now.comm self.now.round self.now.rank ≡ Some s) }
     {
@@ -50,10 +50,11 @@ impl<P: Packed> Settle<P> {
         words: &W,
         pass: &mut W::Pass,
     ) -> Result<(), Slot<P>>
-        requires of { IsOf P.meld (W.name words.now) (W.sight pass.old) }
+        requires of { IsView P.meld (view_of (W.name words.now) (W.sight pass.old)) }
         requires may { MayGive (W.name words.now).limits (W.sight pass.old).seen self.comm self.round self.rank self.given }
-        ensures tries { Tries P.meld P.pack W.alone (W.name words.now) (SlotAt self.comm self.round self.rank)
-            (entry (ByRank self.rank) (Settled self.comm self.round self.rank self.given)) (is_ok result) (W.sight pass.old) (W.sight pass.new) }
+        ensures tries { Tries P.meld P.pack W.alone (attempt (SlotAt self.comm self.round self.rank)
+            (entry (ByRank self.rank) (Settled self.comm self.round self.rank self.given))) (is_ok result) (view_of (W.name words.now) (W.sight pass.old))
+            (view_of (W.name words.now) (W.sight pass.new)) }
         ensures stands { MatchResult result (λ _. slot (W.sight pass.new).seen self.comm self.round self.rank ≡ Some (Given self.given))
             (λ s. slot (W.sight pass.new).seen self.comm self.round self.rank ≡ Some s) }
     {

@@ -1,8 +1,8 @@
 // The blocks of a round of a world in one hand: peeks at them, and readings that cache them.
 ghost use Rattle.std.specs.Prelude.{◌≡◌, ◌<◌, length};
 ghost use Rattle.ulfm_model.specs.History.{first_ranks};
-ghost use Rattle.ulfm_words.specs.Steps.{IsOf};
-ghost use Rattle.ulfm_steps.specs.Blocks.{AreOf};
+ghost use Rattle.ulfm_words.specs.Steps.{view_of, IsView};
+ghost use Rattle.ulfm_steps.specs.Blocks.{BothTell};
 
 use crate::counted::{Counted, CountedPass};
 use crate::finished::give;
@@ -42,12 +42,12 @@ fn peek<P: Packed, A: Allocator, W: Words<P, A>>(
     pass: &mut W::Pass,
     group: &[u16],
 ) -> RoundBlocks<P>
-    requires of { IsOf P.meld (W.name words.now) (W.sight pass.old) }
+    requires of { IsView P.meld (view_of (W.name words.now) (W.sight pass.old)) }
     requires group { group.now ≡ first_ranks (W.name words.now).limits.ranks }
     requires some { 0 < length group.now }
     requires rounds { 0 < (W.name words.now).limits.rounds }
-    ensures of { IsOf P.meld (W.name words.now) (W.sight pass.new) }
-    ensures are { AreOf P.meld (W.sight pass.new).seen 0 0 group.now result }
+    ensures of { IsView P.meld (view_of (W.name words.now) (W.sight pass.new)) }
+    ensures are { BothTell P.meld (W.sight pass.new).seen 0 0 group.now result }
 {
     let mut peek = Peek::new(0, 0);
     peek.advance(words, pass, group, true);
@@ -60,11 +60,11 @@ fn read<P: Packed, A: Allocator, W: Words<P, A>>(
     pass: &mut W::Pass,
     group: &[u16],
 ) -> Option<Summary<P>>
-    requires of { IsOf P.meld (W.name words.now) (W.sight pass.old) }
+    requires of { IsView P.meld (view_of (W.name words.now) (W.sight pass.old)) }
     requires group { group.now ≡ first_ranks (W.name words.now).limits.ranks }
     requires some { 0 < length group.now }
     requires rounds { 0 < (W.name words.now).limits.rounds }
-    ensures { IsOf P.meld (W.name words.now) (W.sight pass.new) }
+    ensures { IsView P.meld (view_of (W.name words.now) (W.sight pass.new)) }
 {
     let blocks = peek(words, pass, group);
     let members = group.len() as u16;

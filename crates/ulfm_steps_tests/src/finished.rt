@@ -1,12 +1,13 @@
 // The machines, each run to its end at once.
 ghost use Rattle.std.specs.Prelude.{IfOk, ◌≡◌, ◌<◌, ◌≤◌, vec_capacity};
 ghost use Rattle.ulfm_model.specs.History.{first_ranks};
-ghost use Rattle.ulfm_words.specs.Steps.{IsOf};
+ghost use Rattle.ulfm_words.specs.Steps.{view_of, IsView};
 
 use crate::counted::Counted;
 use crate::world::{THREE, declare};
 use std::alloc::Allocator;
 use std::test::Fail;
+use ulfm_intruder::{Intruder, ReadRound};
 use ulfm_laws::counts::{Acked, Known};
 use ulfm_laws::flag_and::FlagAnd;
 use ulfm_laws::meld::Packed;
@@ -14,7 +15,7 @@ use ulfm_laws::summary::{Body, Summary};
 use ulfm_model::contribution::{Contribution, Offer};
 use ulfm_model::event::{Caller, Entry, Event};
 use ulfm_model::limits::OpenFault;
-use ulfm_steps::{Appended, Intruder, Look, MarkAll, ReadRound, Settle};
+use ulfm_steps::{Appended, Look, MarkAll, Settle};
 use ulfm_words::{OpenWords, PlainWords, Words};
 
 // A rank, which knows of no failure, contributes a flag to the world's first round.
@@ -24,10 +25,10 @@ pub(crate) fn give<P: Packed, A: Allocator, W: Words<P, A>>(
     rank: u16,
     flag: P,
 ) -> bool
-    requires of { IsOf P.meld (W.name words.now) (W.sight pass.old) }
+    requires of { IsView P.meld (view_of (W.name words.now) (W.sight pass.old)) }
     requires there { rank < (W.name words.now).limits.ranks }
     requires rounds { 0 < (W.name words.now).limits.rounds }
-    ensures { IsOf P.meld (W.name words.now) (W.sight pass.new) }
+    ensures { IsView P.meld (view_of (W.name words.now) (W.sight pass.new)) }
 {
     let given = Contribution {
         offer: Offer::Flag(flag),
@@ -51,11 +52,11 @@ fn poll<P: Packed, A: Allocator, W: Words<P, A>, B: Allocator>(
     group: &[u16],
     found: &mut Vec<u16, B>,
 ) -> Option<Summary<P>>
-    requires of { IsOf P.meld (W.name words.now) (W.sight pass.old) }
+    requires of { IsView P.meld (view_of (W.name words.now) (W.sight pass.old)) }
     requires group { group.now ≡ first_ranks (W.name words.now).limits.ranks }
     requires rounds { 0 < (W.name words.now).limits.rounds }
     requires room { (W.name words.now).limits.ranks ≤ vec_capacity found.old }
-    ensures of { IsOf P.meld (W.name words.now) (W.sight pass.new) }
+    ensures of { IsView P.meld (view_of (W.name words.now) (W.sight pass.new)) }
     ensures room { vec_capacity found.old ≤ vec_capacity found.new }
 {
     Look::new(found).finish(words, pass, found);

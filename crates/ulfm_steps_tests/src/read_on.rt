@@ -3,7 +3,7 @@ ghost use Rattle.std.specs.Prelude.{◌≡◌, ◌<◌, ◌≤◌, filter, lengt
 ghost use Rattle.std.specs.List.Sorted.{IsStrictlyIncreasing};
 ghost use mathlib.Core.List.{IsPrefix};
 ghost use Rattle.ulfm_model.specs.History.{failures, has};
-ghost use Rattle.ulfm_words.specs.Steps.{IsOf};
+ghost use Rattle.ulfm_words.specs.Steps.{view_of, IsView};
 
 use crate::counted::Counted;
 use crate::world::declare;
@@ -41,12 +41,12 @@ fn read<P: Packed, A: Allocator, W: Words<P, A>, B: Allocator>(
     seen: &mut Vec<u16, B>,
     whole: bool,
 ) -> usize
-    requires of { IsOf P.meld (W.name words.now) (W.sight pass.old) }
+    requires of { IsView P.meld (view_of (W.name words.now) (W.sight pass.old)) }
     requires rises { IsStrictlyIncreasing group.now }
     requires begins { IsPrefix seen.old.items (failures (W.sight pass.old).seen) }
     requires found { (W.name words.now).limits.ranks ≤ vec_capacity found.old }
     requires seen { (W.name words.now).limits.ranks ≤ vec_capacity seen.old }
-    ensures of { IsOf P.meld (W.name words.now) (W.sight pass.new) }
+    ensures of { IsView P.meld (view_of (W.name words.now) (W.sight pass.new)) }
     ensures begins { IsPrefix seen.new.items (failures (W.sight pass.new).seen) }
     ensures found { vec_capacity found.old ≤ vec_capacity found.new }
     ensures seen { vec_capacity seen.old ≤ vec_capacity seen.new }

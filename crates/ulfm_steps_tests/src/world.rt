@@ -1,6 +1,6 @@
 // A world of three ranks, and the declaration of a rank of any world.
 ghost use Rattle.std.specs.Prelude.{◌<◌};
-ghost use Rattle.ulfm_words.specs.Steps.{IsOf};
+ghost use Rattle.ulfm_words.specs.Steps.{view_of, IsView};
 
 use std::alloc::Allocator;
 use ulfm_laws::meld::Packed;
@@ -21,9 +21,9 @@ pub(crate) fn declare<P: Packed, A: Allocator, W: Words<P, A>>(
     pass: &mut W::Pass,
     rank: u16,
 ) -> Appended
-    requires of { IsOf P.meld (W.name words.now) (W.sight pass.old) }
+    requires of { IsView P.meld (view_of (W.name words.now) (W.sight pass.old)) }
     requires there { rank < (W.name words.now).limits.ranks }
-    ensures { IsOf P.meld (W.name words.now) (W.sight pass.new) }
+    ensures { IsView P.meld (view_of (W.name words.now) (W.sight pass.new)) }
 {
     Append::new(Item::Failure { rank }, Caller::Outside).finish(words, pass)
 }

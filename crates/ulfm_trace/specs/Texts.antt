@@ -4,7 +4,7 @@ use Rattle.ulfm_laws.specs.{Flags.{flag_meld}, declared.flag_and.FlagAnd.{FlagAn
 use Rattle.ulfm_model.specs.{Words.{MayOpen}, declared.limits.Limits.{Limits}}
 use Rattle.ulfm_script.specs.declared.header_kind.HeaderKind.TheVariants.{Trace}
 use Rattle.ulfm_script.specs.{Headers.{header_text}, Scripts.{lines_from, rest_from}}
-use Rattle.ulfm_lines.specs.{Stepped.{TraceState}, Telling.{Tells}}
+use Rattle.ulfm_lines.specs.{Stepped.{TraceState}, Telling.{TextTells}}
 use Rattle.ulfm_trace_model.specs.declared.line.{Why.{Why}, Why.TheVariants.{Text}}
 use Rattle.ulfm_trace_model.specs.Traces.{IsBad, IsLegalTrace, Told, nothing, said_by}
 
@@ -14,7 +14,7 @@ TraceLines = List (Told FlagAnd)
 
 -- a line of a trace, without its newline, tells this
 abbrev pub TellsTold : List ℕ → Told FlagAnd → Type 0
-TellsTold text told = Tells text told.group told.line
+TellsTold text told = TextTells text told.group told.line
 
 -- each line of text tells the line of the trace in its place
 abbrev pub AreTold : List (List ℕ) → TraceLines → Type 0

@@ -1,5 +1,5 @@
 //! The check of a trace's text by the judge of `ulfm_judge`.
-ghost use Rattle.ulfm_judge.specs.Standing.{Stands as StandsFor};
+ghost use Rattle.ulfm_judge.specs.Standing.{JudgeStands};
 ghost use Rattle.ulfm_trace.specs.Checks.{Checks};
 
 use crate::judging::check_by;
@@ -13,7 +13,7 @@ use ulfm_model::Limits;
 use ulfm_trace_model::{Line, Why};
 
 impl<A: Allocator + Copy + Drop> LineJudge<A> for Judge<FlagAnd, A> {
-    ghost Stands = { λ judge now. StandsFor judge now };
+    ghost Stands = { λ judge now. JudgeStands judge now };
 
     fn open(alloc: A, limits: Limits) -> Result<Self, AllocError> {
         Judge::open(alloc, limits)

@@ -2,7 +2,7 @@
 ghost use Rattle.std.specs.Prelude.{IfOk};
 ghost use Rattle.ulfm_script.specs.Buffers.{pending, unread};
 ghost use Rattle.ulfm_lines.specs.Stepped.{TraceState};
-ghost use Rattle.ulfm_trace.specs.Checks.{Checks, ChecksThrough, JudgesLine, Opens, TakesText};
+ghost use Rattle.ulfm_trace.specs.Checks.{Checks, ChecksThrough, JudgesLine, OpensJudge, TakesText};
 
 use crate::line_judge::LineJudge;
 use crate::verdict::{CheckFault, Verdict};
@@ -94,7 +94,7 @@ fn open_judge<J: LineJudge<A>, A: Allocator, R: Read>(
     input: &mut Input<A>,
     line: &mut Vec<u8, A>,
 ) -> Result<Option<J>, CheckFault>
-    ensures { Opens J.Stands (unread R.remaining input.old reader.old) (unread R.remaining input.new reader.new) (pending input.new) result }
+    ensures { OpensJudge J.Stands (unread R.remaining input.old reader.old) (unread R.remaining input.new reader.new) (pending input.new) result }
 {
     match next_line(input, reader, line)? {
         LineEnd::Done => Ok(None),

@@ -5,11 +5,12 @@ use Rattle.std.proofs.Math.Seq.{take-append_seam}
 use Rattle.std.proofs.lemmas.{Bool.{eqb-true}, List.{take-append-drop}}
 use mathlib.Core.List.{IsPrefix}
 use Rattle.ulfm_model.specs.declared.{call.Call.{Call}, event.Caller.{Caller}, limits.Limits.{Limits}, refusal.Refusal.{Refusal}, reply.Reply.{Reply}}
-use Rattle.ulfm_model.specs.Answers.{IsReply, IsSelfFailed, MayOwn, Sees, View, left_by, polled_by, comm_of}
+use Rattle.ulfm_model.specs.Answers.{IsReply, IsSelfFailed, MayOwn, Sees, AtPoint, left_by, polled_by, comm_of}
 use Rattle.ulfm_model.specs.{History.{History, entries_by, failures}, Records.{Record, is_shrink}, Runs.{IsRun, IsSpan, StandsIn}}
+use Rattle.ulfm_model.specs.Records.{moment}
 use Rattle.ulfm_model.proofs.{Histories.{failures_begin}, LeftRuns.{left_keeps}, Lists.{each_always, find_holds}}
 use Rattle.ulfm_trace_model.specs.declared.line.Line.{Line}
-use Rattle.ulfm_trace_model.specs.{Laws.{IsAnswer, IsRanksAnswer}, Traces.{AnswersCall, AnswersRank, IsLegalTrace, MayReply, Traced, Told, Under, call_by, caller_of, found_by, nothing, record_of, said_by, same_caller, taken_in, view_at}}
+use Rattle.ulfm_trace_model.specs.{Laws.{IsAnswer, IsRanksAnswer}, Traces.{AnswersCall, AnswersRank, IsLegalTrace, MayReply, Traced, Told, Under, call_by, caller_of, found_by, nothing, record_in, said_by, same_caller, taken_in, view_at}}
 use Rattle.ulfm_trace_model.proofs.{Callers.{same_is}, Kept.{IsKept, Spans, found_sees, kept_along, kept_nothing}, Parts.{legal_parts}}
 
 -- of a list, the first few are a beginning of the first few more
@@ -53,7 +54,7 @@ module _ {P : Type 0} (meld : P → P → P) (now : Traced P) (kept : IsKept mel
       refl,
     )
 
-    module _ (r : ℕ) (mine : caller_of u ≡ Caller.Rank r) (own : Record) (at : record_of now r ≡ Some own) where
+    module _ (r : ℕ) (mine : caller_of u ≡ Caller.Rank r) (own : Record) (at : record_in now r ≡ Some own) where
       number : own.number ≡ r
       number = eqb-true own.number r (find_holds (λ x. x.number == r) (λ x. Unit {0}) now.records own (each_always (λ x. Unit {0}) (λ x. tt) now.records) at).1
 
@@ -95,11 +96,11 @@ module _ {P : Type 0} (meld : P → P → P) (now : Traced P) (kept : IsKept mel
           subst (λ w. IsPrefix w (failures now.history)) (sym left_is) (failures_begin first now.history (s.rest, s.goes_on)),
         )
 
-        abbrev view : List ℕ → View P
+        abbrev view : List ℕ → AtPoint P
         view l = record { look = l; history = take point now.history; own = u.own }
 
         run_answers : IsFalse own.refused → IsSelfFailed (view_at now u point) own u.asked reply ⊎ IsReply meld now.limits (view_at now u point) own u.asked reply
-            → (run : IsRun meld now.limits false (take u.begun now.history) now.history own u.asked reply left) × (run.span.point ≡ take point now.history)
+            → (run : IsRun meld now.limits false (moment own (take u.begun now.history)) u.asked reply (moment left now.history)) × (run.span.point ≡ take point now.history)
         run_answers in_use answers = (
           record {
             in_use = in_use;
@@ -116,14 +117,14 @@ module _ {P : Type 0} (meld : P → P → P) (now : Traced P) (kept : IsKept mel
           refl,
         )
 
-    rank_answers : (r : ℕ) → caller_of u ≡ Caller.Rank r → (o : Option Record) → record_of now r ≡ o → AnswersRank meld now u point reply o → IsRanksAnswer meld now u point reply o
+    rank_answers : (r : ℕ) → caller_of u ≡ Caller.Rank r → (o : Option Record) → record_in now r ≡ o → AnswersRank meld now u point reply o → IsRanksAnswer meld now u point reply o
     rank_answers r mine None at answers = answers
     rank_answers r mine (Some own) at (inl (refused, reply_is)) = inl (refused, reply_is, left_again r mine own at refused reply_is)
     rank_answers r mine (Some own) at (inr (in_use, looked, answers)) = inr (run_answers r mine own at looked in_use answers)
 
     call_answers : (by : Caller) → caller_of u ≡ by → AnswersCall meld now by u point reply → IsAnswer meld now by u point reply
     call_answers Caller.Outside mine answers = outside_answers mine answers
-    call_answers (Caller.Rank r) mine answers = rank_answers r mine (record_of now r) refl answers
+    call_answers (Caller.Rank r) mine answers = rank_answers r mine (record_in now r) refl answers
 
 pub replies_answered : {P : Type 0} (meld : P → P → P) (limits : Limits) (before rest : List (Told P)) (by : Caller) (point : ℕ) (reply : Reply P) (group : List ℕ)
     → IsLegalTrace meld limits (before ++ record { line = Line.Replied by point (Some reply); group = group } ∷ rest)

@@ -8,7 +8,7 @@ use Rattle.ulfm_model.specs.declared.{call.Call.{Call}, event.Caller.{Caller}, e
 use Rattle.ulfm_model.specs.{Answers.{MayOwn}, History.{History, IsLegal, entries_by, failures}, Records.{Record}, Runs.{StandsIn}}
 use Rattle.ulfm_model.proofs.{Histories.{failures_begin, legal_push}, LeftRuns.{left_keeps}, Lists.{each_push}}
 use Rattle.ulfm_trace_model.specs.declared.line.Line.{Line}
-use Rattle.ulfm_trace_model.specs.Traces.{AreLegalAfter, MayAddBy, MayCome, Told, Traced, Under, after, after_reply, call_by, caller_of, found_by, is_owned, nothing, record_of, records_after, said_by, same_caller, taken_in, with_event}
+use Rattle.ulfm_trace_model.specs.Traces.{AreLegalAfter, MayAddBy, MayCome, Told, Traced, Under, after, after_reply, call_by, caller_of, found_by, is_owned, nothing, record_in, records_after, said_by, same_caller, taken_in, with_event}
 use Rattle.ulfm_trace_model.proofs.Callers.{each_change, same_is}
 
 -- A call under way: the history when it began, what came up to its look, or up to now where it made none, and what came since. It found
@@ -104,7 +104,7 @@ module _ {P : Type 0} (meld : P → P → P) where
       rank_is : (other : ℕ) → caller_of u ≡ Caller.Rank other → other ≡ r
       rank_is other is = cc (is, by)
 
-      refuses : (own other : Record) → record_of now r ≡ Some own → record_of now r ≡ Some other → IsFalse own.refused → IsTrue other.refused → ⊥
+      refuses : (own other : Record) → record_in now r ≡ Some own → record_in now r ≡ Some other → IsFalse own.refused → IsTrue other.refused → ⊥
       refuses own other one two used is = let same : own ≡ other = cc (one, two) in cc (ap (λ (w : Record). w.refused) same, used, is)
 
   -- others' events leave it as it is
@@ -165,12 +165,12 @@ module _ {P : Type 0} (meld : P → P → P) where
       looked (Caller.Rank s) is added r rank =
           let same : added.call ≡ u = cc (added.is_open, ap (call_by now) is, at) in subst (λ (v : Under P). IsTrue (is_some v.look)) same added.looked
 
-      owned : (c : Caller) → by ≡ c → MayAddBy now c event → (r : ℕ) → c ≡ Caller.Rank r → (own : Record) → record_of now r ≡ Some own → MayOwn (found_by now u) own u.asked event
+      owned : (c : Caller) → by ≡ c → MayAddBy now c event → (r : ℕ) → c ≡ Caller.Rank r → (own : Record) → record_in now r ≡ Some own → MayOwn (found_by now u) own u.asked event
       owned Caller.Outside is added r rank own there = absurd (cc rank)
       owned (Caller.Rank s) is added r rank own there =
           let same : added.call ≡ u = cc (added.is_open, ap (call_by now) is, at) in
           let number : s ≡ r = cc rank in
-          let one : added.own ≡ own = cc (added.has_record, subst (λ n. record_of now n ≡ Some own) (sym number) there) in
+          let one : added.own ≡ own = cc (added.has_record, subst (λ n. record_in now n ≡ Some own) (sym number) there) in
           subst (λ (v : Under P). MayOwn (found_by now v) own v.asked event) same (subst (λ o. MayOwn (found_by now added.call) o added.call.asked event) one added.may_own)
 
       go : (b : Bool) → Spans (now.history ++ record { by = by; event = event } ∷ []) now.records (if b then record u { own = u.own ++ event ∷ [] } else u)

@@ -2,8 +2,9 @@
 use Rattle.std.specs.Prelude.{◌≡◌, ◌⊎◌, ℕ, false, List, ◌∷◌, ◌++◌, take, Option, Some, None, IsTrue}
 use Rattle.ulfm_model.specs.declared.{event.Caller.{Caller}, limits.Limits.{Limits}, refusal.Refusal.{Refusal}, reply.Reply.{Reply}}
 use Rattle.ulfm_model.specs.{Answers.{rank_of}, History.{IsLegal}, Records.{Record}, Runs.{IsFailRun, IsRun}}
+use Rattle.ulfm_model.specs.Records.{moment}
 use Rattle.ulfm_trace_model.specs.declared.line.{Line.{Line}, Why.{Why}}
-use Rattle.ulfm_trace_model.specs.Traces.{IsBad, IsLegalTrace, MayCome, Told, Traced, Under, call_by, nothing, record_of, said_by, taken_in}
+use Rattle.ulfm_trace_model.specs.Traces.{IsBad, IsLegalTrace, MayCome, Told, Traced, Under, call_by, nothing, record_in, said_by, taken_in}
 
 -- what the sequential object answers to a rank's call: no such rank; refused again, without a step; or a run with its point there
 abbrev pub IsRanksAnswer : {P : Type 0} → (P → P → P) → Traced P → Under P → ℕ → Reply P → Option Record → Type 0
@@ -11,13 +12,14 @@ IsRanksAnswer meld now u point reply None = reply ≡ Reply.Refused Refusal.NoSu
 IsRanksAnswer meld now u point reply (Some own) =
     let left = taken_in now u point reply own in
     (IsTrue own.refused × (reply ≡ Reply.Refused Refusal.SelfFailed) × (left ≡ own))
-    ⊎ ((run : IsRun meld now.limits false (take u.begun now.history) now.history own u.asked reply left) × (run.span.point ≡ take point now.history))
+    ⊎ ((run : IsRun meld now.limits false (moment own (take u.begun now.history)) u.asked reply (moment left now.history))
+    × (run.span.point ≡ take point now.history))
 
 -- what it answers to a caller's call, which began after so many events, among those of others
 abbrev pub IsAnswer : {P : Type 0} → (P → P → P) → Traced P → Caller → Under P → ℕ → Reply P → Type 0
 IsAnswer meld now Caller.Outside u point reply =
     (run : IsFailRun meld now.limits false (take u.begun now.history) now.history (rank_of u.asked) reply) × (run.span.point ≡ take point now.history)
-IsAnswer meld now (Caller.Rank r) u point reply = IsRanksAnswer meld now u point reply (record_of now r)
+IsAnswer meld now (Caller.Rank r) u point reply = IsRanksAnswer meld now u point reply (record_in now r)
 
 -- each reply of a legal trace is an answer of the sequential object at its point
 abbrev pub RepliesAreAnswers : {P : Type 0} → (P → P → P) → Type 0

@@ -3,7 +3,7 @@ use Rattle.std.specs.{Prelude.{◌≡◌, ◌⊎◌, ℕ, ◌≤◌, ◌==◌, B
 use Rattle.std.specs.Prelude.{List, [], ◌∷◌, ◌++◌, length, filter, find, map, take, unwrap_or, Option, Some, None, is_some}
 use Rattle.ulfm_model.specs.declared.{call.Call.{Call}, event.Caller.{Caller}, event.Event.{Event}, limits.Limits.{Limits}}
 use Rattle.ulfm_model.specs.declared.{refusal.Refusal.{Refusal}, reply.Reply.{Reply}}
-use Rattle.ulfm_model.specs.Answers.{AnswersFail, IsReply, IsSelfFailed, MayOwn, View, comm_of, left_by, rank_of, traits_of}
+use Rattle.ulfm_model.specs.Answers.{AnswersFail, IsReply, IsSelfFailed, MayOwn, AtPoint, comm_of, left_by, rank_of, traits_of}
 use Rattle.ulfm_model.specs.{History.{History, MayFollow, failed, failures, first_ranks, members, says}, Records.{Record, new_record}}
 use Rattle.ulfm_trace_model.specs.declared.line.{Line.{Line}, Why.{Why}}
 
@@ -45,15 +45,15 @@ abbrev pub IsOpen : {P : Type 0} → Traced P → Caller → Type 0
 IsOpen now by = IsTrue (is_some (call_by now by))
 
 -- the record of a rank, where the world has it
-abbrev pub record_of : {P : Type 0} → Traced P → ℕ → Option Record
-record_of now r = find (λ own. own.number == r) now.records
+abbrev pub record_in : {P : Type 0} → Traced P → ℕ → Option Record
+record_in now r = find (λ own. own.number == r) now.records
 
 -- the failures that a call's look found, the first so many; nobody where it made none
 abbrev pub found_by : {P : Type 0} → Traced P → Under P → List ℕ
 found_by now u = take (unwrap_or u.look 0) (failures now.history)
 
 -- what a reply rests on at a point, which is the number of events before it
-abbrev pub view_at : {P : Type 0} → Traced P → Under P → ℕ → View P
+abbrev pub view_at : {P : Type 0} → Traced P → Under P → ℕ → AtPoint P
 view_at now u point = record { look = found_by now u; history = take point now.history; own = u.own }
 
 -- a look is due: the rank's call has made none, and the world has the rank, which wasn't refused for good before
@@ -62,7 +62,7 @@ pub record IsLookDue {P : Type 0} (now : Traced P) (r : ℕ) : Type 0 where
   pub is_open : call_by now (Caller.Rank r) ≡ Some call
   pub first : call.look ≡ None
   pub own : Record
-  pub has_record : record_of now r ≡ Some own
+  pub has_record : record_in now r ≡ Some own
   pub in_use : IsFalse own.refused
 
 -- the event is one that a rank may add: its call's own, after its look
@@ -71,7 +71,7 @@ pub record MayAdd {P : Type 0} (now : Traced P) (r : ℕ) (event : Event P) : Ty
   pub is_open : call_by now (Caller.Rank r) ≡ Some call
   pub looked : IsTrue (is_some call.look)
   pub own : Record
-  pub has_record : record_of now r ≡ Some own
+  pub has_record : record_in now r ≡ Some own
   pub may_own : MayOwn (found_by now call) own call.asked event
 
 -- the event is one that its caller may add; the outside may add any
@@ -96,7 +96,7 @@ AnswersRank meld now u point reply (Some own) =
 -- an answer to a caller's call
 abbrev pub AnswersCall : {P : Type 0} → (P → P → P) → Traced P → Caller → Under P → ℕ → Reply P → Type 0
 AnswersCall meld now Caller.Outside u point reply = AnswersFail now.limits (view_at now u point) (rank_of u.asked) reply
-AnswersCall meld now (Caller.Rank r) u point reply = AnswersRank meld now u point reply (record_of now r)
+AnswersCall meld now (Caller.Rank r) u point reply = AnswersRank meld now u point reply (record_in now r)
 
 -- the reply is an answer to the caller's call at a point between the call's begin and now, and lists the group that it is about
 pub record MayReply {P : Type 0} (meld : P → P → P) (now : Traced P) (by : Caller) (point : ℕ) (group : List ℕ) (reply : Reply P) : Type 0 where

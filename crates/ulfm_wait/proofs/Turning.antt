@@ -8,17 +8,17 @@ use Rattle.ulfm_model.specs.declared.reply.Reply.TheVariants.{Pending, Started}
 use Rattle.ulfm_model.specs.{Answers.{opened}, Records.{Held}}
 use Rattle.ulfm_model.proofs.LeftRuns.{call_number}
 use Rattle.ulfm_words.specs.Steps.{Sight}
-use Rattle.ulfm_comm.specs.{Counts.{Ranked}, Polls.{IsAnswer}}
+use Rattle.ulfm_comm.specs.{Counts.{Ranked}, Polls.{IsNotPending}}
 use Rattle.ulfm_comm.specs.declared.calls.polled.{Polled.{Polled}, Polled.TheVariants.{Pending as StillPending}}
 use Rattle.ulfm_comm.proofs.CallRuns.{called_run}
 use Rattle.ulfm_member.specs.Members.{IsMember, MemberCalls, MemberPolls, Membership}
 use Rattle.ulfm_rounds.specs.Rounds.{Gave}
 use Rattle.ulfm_rounds.proofs.{Staying.{gave_lasts}, Telling.{agree_opened, find_change, pending_holds}}
-use Rattle.ulfm_wait.specs.{Turns.{AgreeGives, AgreeState, Agreeing, Begins, Ends, FutureGives, HasGiven, HasPolled, IsUnderWay, MemberPends, Pends, PendsTimes, StartsAndPolls, TakesTurn, member_of}, Waits.{MemberPollsOn}}
+use Rattle.ulfm_wait.specs.{Turns.{AgreeGives, AgreeState, Agreeing, BeginsAgree, FutureEnds, FutureGives, HasOpenAgree, HasPolled, FutureHolds, MemberPends, Pends, PendsTimes, StartsAndPolls, TakesAgreeTurn, member_of}, Waits.{MemberPollsOn}}
 use Rattle.ulfm_wait.proofs.Waiting.{goes_on, is_answer, member_answered, member_pends, member_refused, member_waits, poll_member, same_words, started_on}
 
 -- what isn't pending is an answer
-answered_if : {P : Type 0} (result : Result (Polled P) Refusal) → (result ≡ Ok StillPending → ⊥) → IfOk result IsAnswer
+answered_if : {P : Type 0} (result : Result (Polled P) Refusal) → (result ≡ Ok StillPending → ⊥) → IfOk result IsNotPending
 answered_if (Ok reply) other = is_answer reply (λ is. other (ap Ok is))
 answered_if (Err refusal) other = tt
 
@@ -27,12 +27,12 @@ module _ {P : Type 0} (meld : P → P → P) (alone : Bool) (c : ℕ) (value : P
   agree_is started = record { comm = c; value = value; started = started }
 
   -- a start and a poll are how it begins
-  pub both_begin : (old new : Membership P) (result : Result (Polled P) Refusal) → StartsAndPolls meld alone (agree_is false) old result new → Begins meld alone (agree_is false) old result new
+  pub both_begin : (old new : Membership P) (result : Result (Polled P) Refusal) → StartsAndPolls meld alone (agree_is false) old result new → BeginsAgree meld alone (agree_is false) old result new
   both_begin old new (Ok reply) both = both
   both_begin old new (Err refusal) both = inr both
 
   -- a turn that was answered is what the future gives
-  pub turn_gives : (started : Bool) (old new : Membership P) (result : Result (Polled P) Refusal) → TakesTurn meld alone (agree_is started) old result new → IfOk result IsAnswer
+  pub turn_gives : (started : Bool) (old new : Membership P) (result : Result (Polled P) Refusal) → TakesAgreeTurn meld alone (agree_is started) old result new → IfOk result IsNotPending
       → AgreeGives meld alone (agree_is started) old result new
   turn_gives true old new result polls answered = member_answered meld alone c old new result polls answered
   turn_gives false old new (Ok reply) both answered =
@@ -42,64 +42,64 @@ module _ {P : Type 0} (meld : P → P → P) (alone : Bool) (c : ℕ) (value : P
       member_waits meld alone c (Agree old.own.number c value) old both.mid new (Err refusal) both.starts (member_answered meld alone c both.mid new (Err refusal) both.polls tt)
 
   -- what the future gives after a pending turn it gave before
-  pub turn_before : (started : Bool) (old mid new : Membership P) (result : Result (Polled P) Refusal) → TakesTurn meld alone (agree_is started) old (Ok StillPending) mid → MemberPollsOn meld alone c mid result new
+  pub turn_before : (started : Bool) (old mid new : Membership P) (result : Result (Polled P) Refusal) → TakesAgreeTurn meld alone (agree_is started) old (Ok StillPending) mid → MemberPollsOn meld alone c mid result new
       → AgreeGives meld alone (agree_is started) old result new
   turn_before true old mid new result pends later = member_pends meld alone c old mid new result pends later
   turn_before false old mid new result both later =
       member_waits meld alone c (Agree old.own.number c value) old both.mid new result both.starts (member_pends meld alone c both.mid mid new result both.polls later)
 
   -- what a turn leaves is a member of the same words
-  pub turn_member : (started : Bool) (old new : Membership P) (result : Result (Polled P) Refusal) → TakesTurn meld alone (agree_is started) old result new → IsMember meld new
+  pub turn_member : (started : Bool) (old new : Membership P) (result : Result (Polled P) Refusal) → TakesAgreeTurn meld alone (agree_is started) old result new → IsMember meld new
   turn_member true old new result polls = poll_member meld alone c old result new polls
   turn_member false old new (Ok reply) both = poll_member meld alone c both.mid (Ok reply) new both.polls
-  turn_member false old new (Err refusal) (inl refused) = same_words meld old.name new refused.words refused.calls.of refused.calls.fits
+  turn_member false old new (Err refusal) (inl refused) = same_words meld old.view.words new refused.words refused.calls.linearizes.of refused.calls.linearizes.fits
   turn_member false old new (Err refusal) (inr both) = poll_member meld alone c both.mid (Err refusal) new both.polls
 
-  pub turn_words : (started : Bool) (old new : Membership P) (result : Result (Polled P) Refusal) → TakesTurn meld alone (agree_is started) old result new → new.name ≡ old.name
+  pub turn_words : (started : Bool) (old new : Membership P) (result : Result (Polled P) Refusal) → TakesAgreeTurn meld alone (agree_is started) old result new → new.view.words ≡ old.view.words
   turn_words true old new result polls = polls.words
   turn_words false old new (Ok reply) both = both.polls.words ∙ both.starts.words
   turn_words false old new (Err refusal) (inl refused) = refused.words
   turn_words false old new (Err refusal) (inr both) = both.polls.words ∙ both.starts.words
 
   -- a member that starts an agree has given its flag
-  starts_given : (old new : Membership P) → MemberCalls meld alone (Agree old.own.number c value) old Started new → HasGiven c value new
+  starts_given : (old new : Membership P) → MemberCalls meld alone (Agree old.own.number c value) old Started new → HasOpenAgree c value new
   starts_given old new starts =
-      let limits = old.name.limits in
-      let call = called_run meld alone old.name (Agree old.own.number c value) old.own old.pass Started new.own new.pass starts.calls in
-      let on = started_on meld alone old.name c (Agree old.own.number c value) old.own old.pass new.own new.pass starts.calls in
-      let opens = agree_opened meld limits alone old.pass.seen new.pass.seen old.own new.own c value on.0 on.1 call in
+      let limits = old.view.words.limits in
+      let call = called_run meld alone old.view.words (Agree old.own.number c value) old.own old.view.pass Started new.own new.view.pass starts.calls in
+      let on = started_on meld alone old.view.words c (Agree old.own.number c value) old.own old.view.pass new.own new.view.pass starts.calls in
+      let opens = agree_opened meld limits alone old.view.pass.seen new.view.pass.seen old.own new.own c value on.0 on.1 call in
       let f : Held → Held = λ y. opened y (Some (OpenAgree y.next_agreement)) in
-      let number = call_number meld limits alone old.pass.seen new.pass.seen old.own (Agree old.own.number c value) Started new.own call in
+      let number = call_number meld limits alone old.view.pass.seen new.view.pass.seen old.own (Agree old.own.number c value) Started new.own call in
       record {
         x = f on.0;
         held = ap (λ h. find (λ y. y.comm == c) h) opens.0 ∙ find_change c f (λ y. refl) old.own.held on.0 on.1;
         round = on.0.next_agreement;
         open_is = refl;
-        gave = subst (λ r. Gave new.pass.seen c on.0.next_agreement r value) (sym number) opens.1;
+        gave = subst (λ r. Gave new.view.pass.seen c on.0.next_agreement r value) (sym number) opens.1;
       }
 
   -- and has still after a pending poll
-  pends_given : (old new : Membership P) → IsMember meld old → HasGiven c value old → MemberPolls meld alone c old (Ok StillPending) new → HasGiven c value new
+  pends_given : (old new : Membership P) → IsMember meld old → HasOpenAgree c value old → MemberPolls meld alone c old (Ok StillPending) new → HasOpenAgree c value new
   pends_given old new is given polls =
-      let limits = old.name.limits in
-      let call = called_run meld alone old.name (Poll old.own.number c) old.own old.pass Pending new.own new.pass polls.polls.run in
-      let same = pending_holds meld limits alone old.pass.seen new.pass.seen old.own new.own c call in
-      let number = call_number meld limits alone old.pass.seen new.pass.seen old.own (Poll old.own.number c) Pending new.own call in
-      let begins = goes_on meld alone old.name c (Poll old.own.number c) old.own old.pass Pending new.own new.pass is.of polls.polls.run in
-      let stays = gave_lasts meld limits old.pass.seen new.pass.seen begins polls.polls.of.legal c given.round old.own.number value given.gave in
+      let limits = old.view.words.limits in
+      let call = called_run meld alone old.view.words (Poll old.own.number c) old.own old.view.pass Pending new.own new.view.pass polls.polls.run in
+      let same = pending_holds meld limits alone old.view.pass.seen new.view.pass.seen old.own new.own c call in
+      let number = call_number meld limits alone old.view.pass.seen new.view.pass.seen old.own (Poll old.own.number c) Pending new.own call in
+      let begins = goes_on meld alone old.view.words c (Poll old.own.number c) old.own old.view.pass Pending new.own new.view.pass is.of polls.polls.run in
+      let stays = gave_lasts meld limits old.view.pass.seen new.view.pass.seen begins polls.polls.of.legal c given.round old.own.number value given.gave in
       record {
         x = given.x;
         held = ap (λ h. find (λ y. y.comm == c) h) same ∙ given.held;
         round = given.round;
         open_is = given.open_is;
-        gave = subst (λ r. Gave new.pass.seen c given.round r value) (sym number) stays;
+        gave = subst (λ r. Gave new.view.pass.seen c given.round r value) (sym number) stays;
       }
 
   -- so after a pending turn
-  pub turn_given : (started : Bool) (old new : Membership P) → IsMember meld old → (IsTrue started → HasGiven c value old) → TakesTurn meld alone (agree_is started) old (Ok StillPending) new → HasGiven c value new
+  pub turn_given : (started : Bool) (old new : Membership P) → IsMember meld old → (IsTrue started → HasOpenAgree c value old) → TakesAgreeTurn meld alone (agree_is started) old (Ok StillPending) new → HasOpenAgree c value new
   turn_given true old new is given polls = pends_given old new is (given refl) polls
   turn_given false old new is given both =
-      pends_given both.mid new (same_words meld old.name both.mid both.starts.words both.starts.calls.of both.starts.calls.fits) (starts_given old both.mid both.starts) both.polls
+      pends_given both.mid new (same_words meld old.view.words both.mid both.starts.words both.starts.calls.linearizes.of both.starts.calls.linearizes.fits) (starts_given old both.mid both.starts) both.polls
 
   -- the future that holds a member
   abbrev holding : Bool → Membership P → AgreeState P
@@ -107,47 +107,47 @@ module _ {P : Type 0} (meld : P → P → P) (alone : Bool) (c : ℕ) (value : P
 
   -- A pending turn: what a poll of the future promises then.
   pub record IsPending (old : AgreeState P) (left : Membership P) : Type 0 where
-    pub way : IsUnderWay meld (agree_is true) left
+    pub way : FutureHolds meld (agree_is true) left
     pub pends : Pends meld alone old (holding true left)
     pub same : (reply : Result (Polled P) Refusal) (rank : Ranked) (pass : Sight P) → FutureGives meld alone (holding true left) reply rank pass → FutureGives meld alone old reply rank pass
 
-  pub turn_pends : (started : Bool) (m left : Membership P) → IsUnderWay meld (agree_is started) m → TakesTurn meld alone (agree_is started) m (Ok StillPending) left → IsPending (holding started m) left
+  pub turn_pends : (started : Bool) (m left : Membership P) → FutureHolds meld (agree_is started) m → TakesAgreeTurn meld alone (agree_is started) m (Ok StillPending) left → IsPending (holding started m) left
   turn_pends started m left way turn =
       let given = turn_given started m left way.is way.given turn in
       let words = turn_words started m left (Ok StillPending) turn in
       record {
         way = record { is = turn_member started m left (Ok StillPending) turn; given = λ is. given };
         pends = record { left = left; turn = turn; given = given; new_is = refl };
-        same = λ reply rank pass gives. turn_before started m left (member_of m.name rank pass) reply turn (subst (λ name. MemberPollsOn meld alone c left reply (member_of name rank pass)) words gives);
+        same = λ reply rank pass gives. turn_before started m left (member_of m.view.words rank pass) reply turn (subst (λ name. MemberPollsOn meld alone c left reply (member_of name rank pass)) words gives);
       }
 
   -- A turn that was answered: so too.
   pub record IsEnding (old : AgreeState P) (reply : Result (Polled P) Refusal) (rank : Ranked) (pass : Sight P) (started : Bool) : Type 0 where
-    pub ends : Ends meld alone old reply rank pass (record { agree = agree_is started; held = None })
+    pub ends : FutureEnds meld alone old reply rank pass (record { agree = agree_is started; held = None })
     pub gives : FutureGives meld alone old reply rank pass
 
   pub turn_ends : (started : Bool) (m : Membership P) (reply : Result (Polled P) Refusal) (rank : Ranked) (pass : Sight P) → (reply ≡ Ok StillPending → ⊥)
-      → TakesTurn meld alone (agree_is started) m reply (member_of m.name rank pass) → IsEnding (holding started m) reply rank pass started
+      → TakesAgreeTurn meld alone (agree_is started) m reply (member_of m.view.words rank pass) → IsEnding (holding started m) reply rank pass started
   turn_ends started m reply rank pass other turn =
       let answered = answered_if reply other in
       record {
         ends = record { answered = answered; turn = turn; new_is = refl };
-        gives = turn_gives started m (member_of m.name rank pass) reply turn answered;
+        gives = turn_gives started m (member_of m.view.words rank pass) reply turn answered;
       }
 
   -- A poll that opened the future, of what it held, the pass and the rank s: what it promises where its turn was pending.
   pub opened_pends : {S : Type 0} (inside : Option S) (member : S → Membership P) (s : S) (started : Bool) (f : AgreeState P) (left : Membership P) (reply : Result (Polled P) Refusal)
-      → record { agree = agree_is started; held = option_map member inside } ≡ f → IfSome inside (λ s. IsUnderWay meld (agree_is started) (member s)) → inside ≡ Some s → reply ≡ Ok StillPending
-      → TakesTurn meld alone (agree_is started) (member s) reply left → IsPending f left
+      → record { agree = agree_is started; held = option_map member inside } ≡ f → IfSome inside (λ s. FutureHolds meld (agree_is started) (member s)) → inside ≡ Some s → reply ≡ Ok StillPending
+      → TakesAgreeTurn meld alone (agree_is started) (member s) reply left → IsPending f left
   opened_pends inside member s started f left reply view way is pending turn =
       let holds : holding started (member s) ≡ f = ap (λ h. record { agree = agree_is started; held = option_map member h }) (sym is) ∙ view in
-      let under = subst (λ h. IfSome h (λ s. IsUnderWay meld (agree_is started) (member s))) is way in
-      subst (λ f. IsPending f left) holds (turn_pends started (member s) left under (subst (λ r. TakesTurn meld alone (agree_is started) (member s) r left) pending turn))
+      let under = subst (λ h. IfSome h (λ s. FutureHolds meld (agree_is started) (member s))) is way in
+      subst (λ f. IsPending f left) holds (turn_pends started (member s) left under (subst (λ r. TakesAgreeTurn meld alone (agree_is started) (member s) r left) pending turn))
 
   -- and where it was answered
   pub opened_ends : {S : Type 0} (inside : Option S) (member : S → Membership P) (s : S) (started : Bool) (f : AgreeState P) (reply : Result (Polled P) Refusal) (rank : Ranked) (pass : Sight P)
       → record { agree = agree_is started; held = option_map member inside } ≡ f → inside ≡ Some s → (reply ≡ Ok StillPending → ⊥)
-      → TakesTurn meld alone (agree_is started) (member s) reply (member_of (member s).name rank pass) → IsEnding f reply rank pass started
+      → TakesAgreeTurn meld alone (agree_is started) (member s) reply (member_of (member s).view.words rank pass) → IsEnding f reply rank pass started
   opened_ends inside member s started f reply rank pass view is other turn =
       let holds : holding started (member s) ≡ f = ap (λ h. record { agree = agree_is started; held = option_map member h }) (sym is) ∙ view in
       subst (λ f. IsEnding f reply rank pass started) holds (turn_ends started (member s) reply rank pass other turn)
@@ -156,10 +156,10 @@ module _ {P : Type 0} (meld : P → P → P) (alone : Bool) (c : ℕ) (value : P
   record IsPolledMore (times : ℕ) (m : Membership P) (new : AgreeState P) : Type 0 where
     pub left : Membership P
     pub polls : MemberPends meld alone c times m left
-    pub given : HasGiven c value left
+    pub given : HasOpenAgree c value left
     pub new_is : new ≡ holding true left
 
-  polls_more : (times : ℕ) (m : Membership P) (new : AgreeState P) → HasGiven c value m → PendsTimes meld alone times (holding true m) new → IsPolledMore times m new
+  polls_more : (times : ℕ) (m : Membership P) (new : AgreeState P) → HasOpenAgree c value m → PendsTimes meld alone times (holding true m) new → IsPolledMore times m new
   polls_more zero m new given is = record { left = m; polls = refl; given = given; new_is = is }
   polls_more (suc times) m new given (mid, pends, rest) =
       let more = polls_more times pends.left new pends.given (subst (λ f. PendsTimes meld alone times f new) pends.new_is rest) in

@@ -5,18 +5,20 @@ use mathlib.Core.List.{IsPrefix}
 use Rattle.ulfm_model.specs.declared.{call.Call.{Call}, call.Call.TheVariants.{Agree, Poll, Shrink}, call.Request.TheVariants.{Agree as OpenAgree, Shrink as OpenShrink}}
 use Rattle.ulfm_model.specs.declared.{refusal.Refusal.{Refusal}, reply.Reply.{Reply}, reply.Reply.TheVariants.{Pending, Refused, Started}}
 use Rattle.ulfm_model.specs.{Answers.{opened}, History.{IsLegal}, Records.{Fits, Held, Record, change_at, held_at}, Runs.{IsCall}, Terms.{comm_of}}
+use Rattle.ulfm_model.specs.Records.{moment}
 use Rattle.ulfm_model.proofs.{LeftRuns.{call_legal, call_number}, Lists.{prefix_trans}}
-use Rattle.ulfm_words.specs.Steps.{IsOf, Name, Sight}
-use Rattle.ulfm_comm.specs.{Calls.{Calls}, Polls.{IsAnswer, PollIs, polled}}
+use Rattle.ulfm_words.specs.Steps.{view_of, IsView, Name, Sight}
+use Rattle.ulfm_comm.specs.{Calls.{Calls}, Polls.{IsNotPending, PollIs, polled}}
 use Rattle.ulfm_comm.specs.declared.calls.polled.{Polled.{Polled}, Polled.TheVariants.{Agreed, Done, Pending as StillPending, Shrunk}}
 use Rattle.ulfm_comm.proofs.CallRuns.{called_run}
+use Rattle.ulfm_comm.specs.Local.{local}
 use Rattle.ulfm_member.specs.Members.{IsMember, MemberCalls, MemberPolls, Membership}
-use Rattle.ulfm_rounds.specs.{Rounds.{IsMadeOf}, Told.{IsEnded}}
+use Rattle.ulfm_rounds.specs.{Rounds.{IsMadeOf}, Told.{IsFinalReply}}
 use Rattle.ulfm_rounds.proofs.{Answered.{answered_on}, Staying.{gave_lasts}, Telling.{agree_opened, agree_tells, find_change, pending_holds, shrink_opened, shrink_tells}}
 use Rattle.ulfm_wait.specs.Waits.{IsPolledOn, MemberAwaits, MemberPollsOn, MemberPollsUntil, MemberRuns, MemberWaits, PollsUntil, TellsAgree, TellsShrink}
 
 -- an answer ends its request
-pub answer_ends : {P : Type 0} (reply : Polled P) → IsAnswer reply → IsEnded (polled reply)
+pub answer_ends : {P : Type 0} (reply : Polled P) → IsNotPending reply → IsFinalReply (polled reply)
 answer_ends StillPending answer = absurd answer
 answer_ends (Agreed value count raised) answer = inl (value, count, raised, refl)
 answer_ends (Shrunk j context size) answer = inr (inl (j, context, size, refl))
@@ -27,33 +29,33 @@ module _ {P : Type 0} (meld : P → P → P) (alone : Bool) (name : Name) (c : �
   pub record IsLast (old : Record) (before : Sight P) (result : Result (Polled P) Refusal) (new : Record) (after : Sight P) : Type 0 where
     pub own : Record
     pub at : Sight P
-    pub of : IsOf meld name at
+    pub of : IsView meld (view_of name at)
     pub fits : Fits meld name.limits at.seen own
     pub number : own.number ≡ old.number
     pub held : own.held ≡ old.held
     pub begins : IsPrefix before.seen at.seen
-    pub answered : IfOk result IsAnswer
-    pub poll : PollIs meld alone name (Poll own.number c) own at result new after
+    pub answered : IfOk result IsNotPending
+    pub poll : PollIs meld alone (Poll own.number c) (local own (view_of name at)) result (local new (view_of name after))
 
   -- a rank started a request, and then polled until one poll was answered
   pub record IsAwaited (asked : Call P) (old : Record) (before : Sight P) (result : Result (Polled P) Refusal) (new : Record) (after : Sight P) : Type 0 where
     pub own : Record
     pub at : Sight P
-    pub starts : Calls meld alone name asked old before Started own at
-    pub polls : IsPolledOn meld alone name c own at result new after
+    pub starts : Calls meld alone asked (local old (view_of name before)) Started (local own (view_of name at))
+    pub polls : IsPolledOn meld alone c (local own (view_of name at)) result (local new (view_of name after))
 
   -- a pending poll comes first
-  pub pends_first : (old mid : Record) (before then : Sight P) (result : Result (Polled P) Refusal) (new : Record) (after : Sight P) → Calls meld alone name (Poll old.number c) old before Pending mid then
-      → IsPolledOn meld alone name c mid then result new after → IsPolledOn meld alone name c old before result new after
+  pub pends_first : (old mid : Record) (before then : Sight P) (result : Result (Polled P) Refusal) (new : Record) (after : Sight P) → Calls meld alone (Poll old.number c) (local old (view_of name before)) Pending (local mid (view_of name then))
+      → IsPolledOn meld alone c (local mid (view_of name then)) result (local new (view_of name after)) → IsPolledOn meld alone c (local old (view_of name before)) result (local new (view_of name after))
   pends_first old mid before then result new after called (n, rest) = (suc n, (mid, then, called, rest))
 
   -- a call goes on from what was seen
-  pub goes_on : (asked : Call P) (old : Record) (before : Sight P) (reply : Reply P) (new : Record) (after : Sight P) → IsOf meld name before → Calls meld alone name asked old before reply new after → IsPrefix before.seen after.seen
+  pub goes_on : (asked : Call P) (old : Record) (before : Sight P) (reply : Reply P) (new : Record) (after : Sight P) → IsView meld (view_of name before) → Calls meld alone asked (local old (view_of name before)) reply (local new (view_of name after)) → IsPrefix before.seen after.seen
   goes_on asked old before reply new after of calls = (call_legal meld name.limits alone before.seen after.seen old asked reply new of.legal (called_run meld alone name asked old before reply new after calls)).0
 
   -- there is a last poll
-  pub last_poll : (n : ℕ) (old : Record) (before : Sight P) (result : Result (Polled P) Refusal) (new : Record) (after : Sight P) → IsOf meld name before → Fits meld name.limits before.seen old
-      → PollsUntil meld alone name c n old before result new after → IsLast old before result new after
+  pub last_poll : (n : ℕ) (old : Record) (before : Sight P) (result : Result (Polled P) Refusal) (new : Record) (after : Sight P) → IsView meld (view_of name before) → Fits meld name.limits before.seen old
+      → PollsUntil meld alone c n (local old (view_of name before)) result (local new (view_of name after)) → IsLast old before result new after
   last_poll zero old before result new after of fits polls = record {
     own = old;
     at = before;
@@ -66,7 +68,7 @@ module _ {P : Type 0} (meld : P → P → P) (alone : Bool) (name : Name) (c : �
     poll = polls.1;
   }
   last_poll (suc n) old before result new after of fits (mid, then, called, rest) =
-      let last = last_poll n mid then result new after called.of called.fits rest in
+      let last = last_poll n mid then result new after called.linearizes.of called.linearizes.fits rest in
       let call = called_run meld alone name (Poll old.number c) old before Pending mid then called in
       record {
         own = last.own;
@@ -81,14 +83,14 @@ module _ {P : Type 0} (meld : P → P → P) (alone : Bool) (name : Name) (c : �
       }
 
   -- the last poll's call, where it was answered
-  last_goes : (own : Record) (at : Sight P) (reply : Polled P) (new : Record) (after : Sight P) → IsOf meld name at → PollIs meld alone name (Poll own.number c) own at (Ok reply) new after → IsPrefix at.seen after.seen × IsLegal meld name.limits after.seen
-  last_goes own at reply new after of called = (goes_on (Poll own.number c) own at (polled reply) new after of called, called.of.legal)
+  last_goes : (own : Record) (at : Sight P) (reply : Polled P) (new : Record) (after : Sight P) → IsView meld (view_of name at) → PollIs meld alone (Poll own.number c) (local own (view_of name at)) (Ok reply) (local new (view_of name after)) → IsPrefix at.seen after.seen × IsLegal meld name.limits after.seen
+  last_goes own at reply new after of called = (goes_on (Poll own.number c) own at (polled reply) new after of called, called.linearizes.of.legal)
 
   -- a start that started is on a communicator that the rank holds
-  pub started_on : (asked : Call P) (old : Record) (before : Sight P) (own : Record) (at : Sight P) → Calls meld alone name asked old before Started own at → (x : Held) × (held_at old (comm_of asked) ≡ Some x)
+  pub started_on : (asked : Call P) (old : Record) (before : Sight P) (own : Record) (at : Sight P) → Calls meld alone asked (local old (view_of name before)) Started (local own (view_of name at)) → (x : Held) × (held_at old (comm_of asked) ≡ Some x)
   started_on asked old before own at calls = go (called_run meld alone name asked old before Started own at calls)
     where
-      go : IsCall meld name.limits alone before.seen at.seen old asked Started own → (x : Held) × (held_at old (comm_of asked) ≡ Some x)
+      go : IsCall meld name.limits alone (moment old before.seen) asked Started (moment own at.seen) → (x : Held) × (held_at old (comm_of asked) ≡ Some x)
       go (inl refused) = absurd (cc (refused.2))
       go (inr run) = let on = answered_on meld name.limits alone before.seen at.seen old asked Started own run (λ refusal is. absurd (cc is)) in (on.x, on.held)
 
@@ -106,7 +108,7 @@ module _ {P : Type 0} (meld : P → P → P) (alone : Bool) (name : Name) (c : �
       let on = started_on (Agree old.number c value) old before awaited.own awaited.at awaited.starts in
       let x = on.0 in
       let opens = agree_opened meld limits alone before.seen awaited.at.seen old awaited.own c value x on.1 starts in
-      let last = last_poll awaited.polls.0 awaited.own awaited.at (Ok reply) new after awaited.starts.of awaited.starts.fits awaited.polls.1 in
+      let last = last_poll awaited.polls.0 awaited.own awaited.at (Ok reply) new after awaited.starts.linearizes.of awaited.starts.linearizes.fits awaited.polls.1 in
       let polls = called_run meld alone name (Poll last.own.number c) last.own last.at (polled reply) new after last.poll in
       let f : Held → Held = λ y. opened y (Some (OpenAgree y.next_agreement)) in
       let there = open_last old awaited.own last.own x f (λ y. refl) on.1 opens.0 last.held in
@@ -127,7 +129,7 @@ module _ {P : Type 0} (meld : P → P → P) (alone : Bool) (name : Name) (c : �
       let starts = called_run meld alone name (Shrink old.number c) old before Started awaited.own awaited.at awaited.starts in
       let on = started_on (Shrink old.number c) old before awaited.own awaited.at awaited.starts in
       let x = on.0 in
-      let last = last_poll awaited.polls.0 awaited.own awaited.at (Ok reply) new after awaited.starts.of awaited.starts.fits awaited.polls.1 in
+      let last = last_poll awaited.polls.0 awaited.own awaited.at (Ok reply) new after awaited.starts.linearizes.of awaited.starts.linearizes.fits awaited.polls.1 in
       let polls = called_run meld alone name (Poll last.own.number c) last.own last.at (polled reply) new after last.poll in
       let f : Held → Held = λ y. opened y (Some (OpenShrink y.next_agreement)) in
       let opens = shrink_opened meld limits alone before.seen awaited.at.seen old awaited.own c starts in
@@ -137,7 +139,7 @@ module _ {P : Type 0} (meld : P → P → P) (alone : Bool) (name : Name) (c : �
       record { x = x; held = on.1; made = subst (λ r. IsMadeOf meld limits after.seen c x.next_agreement r (polled reply)) number told.0 }
 
 -- what isn't pending is an answer
-pub is_answer : {P : Type 0} (reply : Polled P) → (reply ≡ StillPending → ⊥) → IsAnswer reply
+pub is_answer : {P : Type 0} (reply : Polled P) → (reply ≡ StillPending → ⊥) → IsNotPending reply
 is_answer StillPending other = other refl
 is_answer (Agreed value count raised) other = tt
 is_answer (Shrunk j context size) other = tt
@@ -145,35 +147,35 @@ is_answer Done other = tt
 
 module _ {P : Type 0} (meld : P → P → P) where
   -- a member of these words
-  pub same_words : (name : Name) (m : Membership P) → m.name ≡ name → IsOf meld name m.pass → Fits meld name.limits m.pass.seen m.own → IsMember meld m
+  pub same_words : (name : Name) (m : Membership P) → m.view.words ≡ name → IsView meld (view_of name m.view.pass) → Fits meld name.limits m.view.pass.seen m.own → IsMember meld m
   same_words name m same of fits = record {
-    of = subst (λ w. IsOf meld w m.pass) (sym same) of;
-    fits = subst (λ (w : Name). Fits meld w.limits m.pass.seen m.own) (sym same) fits;
+    of = subst (λ w. IsView meld (view_of w m.view.pass)) (sym same) of;
+    fits = subst (λ (w : Name). Fits meld w.limits m.view.pass.seen m.own) (sym same) fits;
   }
 
 module _ {P : Type 0} (meld : P → P → P) (alone : Bool) (c : ℕ) where
   -- polls of a member are polls of its rank with its pass
-  polls_seen : (n : ℕ) (name : Name) (old : Membership P) (result : Result (Polled P) Refusal) (new : Membership P) → old.name ≡ name → MemberPollsUntil meld alone c n old result new
-      → PollsUntil meld alone name c n old.own old.pass result new.own new.pass
-  polls_seen zero name old result new same polls = (polls.0, subst (λ w. PollIs meld alone w (Poll old.own.number c) old.own old.pass result new.own new.pass) same polls.1.polls.run)
+  polls_seen : (n : ℕ) (name : Name) (old : Membership P) (result : Result (Polled P) Refusal) (new : Membership P) → old.view.words ≡ name → MemberPollsUntil meld alone c n old result new
+      → PollsUntil meld alone c n (local old.own (view_of name old.view.pass)) result (local new.own (view_of name new.view.pass))
+  polls_seen zero name old result new same polls = (polls.0, subst (λ w. PollIs meld alone (Poll old.own.number c) (local old.own (view_of w old.view.pass)) result (local new.own (view_of w new.view.pass))) same polls.1.polls.run)
   polls_seen (suc n) name old result new same (mid, pends, rest) =
-      (mid.own, mid.pass, subst (λ w. Calls meld alone w (Poll old.own.number c) old.own old.pass Pending mid.own mid.pass) same pends.polls.run, polls_seen n name mid result new (pends.words ∙ same) rest)
+      (mid.own, mid.view.pass, subst (λ w. Calls meld alone (Poll old.own.number c) (local old.own (view_of w old.view.pass)) Pending (local mid.own (view_of w mid.view.pass))) same pends.polls.run, polls_seen n name mid result new (pends.words ∙ same) rest)
 
   -- and so is a request that was awaited
   awaited_seen : (asked : Call P) (old : Membership P) (result : Result (Polled P) Refusal) (new : Membership P) → MemberAwaits meld alone c asked old result new
-      → IsAwaited meld alone old.name c asked old.own old.pass result new.own new.pass
+      → IsAwaited meld alone old.view.words c asked old.own old.view.pass result new.own new.view.pass
   awaited_seen asked old result new awaits = record {
     own = awaits.mid.own;
-    at = awaits.mid.pass;
+    at = awaits.mid.view.pass;
     starts = awaits.starts.calls;
-    polls = (awaits.polls.0, polls_seen awaits.polls.0 old.name awaits.mid result new awaits.starts.words awaits.polls.1);
+    polls = (awaits.polls.0, polls_seen awaits.polls.0 old.view.words awaits.mid result new awaits.starts.words awaits.polls.1);
   }
 
   -- what polls leave is a member of the same words
   pub poll_member : (old : Membership P) (result : Result (Polled P) Refusal) (new : Membership P) → MemberPolls meld alone c old result new → IsMember meld new
-  poll_member old result new polls = same_words meld old.name new polls.words polls.polls.of polls.polls.fits
+  poll_member old result new polls = same_words meld old.view.words new polls.words polls.polls.of polls.polls.fits
 
-  polled_until : (n : ℕ) (old : Membership P) (result : Result (Polled P) Refusal) (new : Membership P) → MemberPollsUntil meld alone c n old result new → (new.name ≡ old.name) × IsMember meld new
+  polled_until : (n : ℕ) (old : Membership P) (result : Result (Polled P) Refusal) (new : Membership P) → MemberPollsUntil meld alone c n old result new → (new.view.words ≡ old.view.words) × IsMember meld new
   polled_until zero old result new polls = (polls.1.words, poll_member old result new polls.1)
   polled_until (suc n) old result new (mid, pends, rest) = let later = polled_until n mid result new rest in (later.0 ∙ pends.words, later.1)
 
@@ -183,7 +185,7 @@ module _ {P : Type 0} (meld : P → P → P) (alone : Bool) (c : ℕ) where
   member_pends old mid new result pends (n, rest) = (suc n, (mid, pends, rest))
 
   -- and one that isn't pending last
-  pub member_answered : (old new : Membership P) (result : Result (Polled P) Refusal) → MemberPolls meld alone c old result new → IfOk result IsAnswer → MemberPollsOn meld alone c old result new
+  pub member_answered : (old new : Membership P) (result : Result (Polled P) Refusal) → MemberPolls meld alone c old result new → IfOk result IsNotPending → MemberPollsOn meld alone c old result new
   member_answered old new result polls answered = (0, (answered, polls))
 
   awaited_runs : (asked : Call P) (old : Membership P) (result : Result (Polled P) Refusal) (new : Membership P) → MemberAwaits meld alone c asked old result new → MemberRuns meld alone c asked old result new
@@ -204,17 +206,17 @@ module _ {P : Type 0} (meld : P → P → P) (alone : Bool) (c : ℕ) where
   -- so has one whose start was refused
   pub member_refused : (asked : Call P) (old new : Membership P) (refusal : Refusal) → MemberCalls meld alone asked old (Refused refusal) new → MemberWaits meld alone c asked old (Err refusal) new
   member_refused asked old new refusal starts =
-      record { words = starts.words; is = same_words meld old.name new starts.words starts.calls.of starts.calls.fits; run = inl starts }
+      record { words = starts.words; is = same_words meld old.view.words new starts.words starts.calls.linearizes.of starts.calls.linearizes.fits; run = inl starts }
 
   -- what an agree of a member tells
   pub member_tells : (value : P) (old new : Membership P) (result : Result (Polled P) Refusal) → MemberWaits meld alone c (Agree old.own.number c value) old result new
-      → IfOk result (TellsAgree meld old.name.limits new.pass.seen c value old.own)
+      → IfOk result (TellsAgree meld old.view.words.limits new.view.pass.seen c value old.own)
   member_tells value old new (Ok reply) waits =
-      tells_agree meld alone old.name c value old.own old.pass reply new.own new.pass (awaited_seen (Agree old.own.number c value) old (Ok reply) new waits.run)
+      tells_agree meld alone old.view.words c value old.own old.view.pass reply new.own new.view.pass (awaited_seen (Agree old.own.number c value) old (Ok reply) new waits.run)
   member_tells value old new (Err refusal) waits = tt
 
   -- and what a shrink tells
   pub member_made : (old new : Membership P) (result : Result (Polled P) Refusal) → MemberWaits meld alone c (Shrink old.own.number c) old result new
-      → IfOk result (TellsShrink meld old.name.limits new.pass.seen c old.own)
-  member_made old new (Ok reply) waits = tells_shrink meld alone old.name c old.own old.pass reply new.own new.pass (awaited_seen (Shrink old.own.number c) old (Ok reply) new waits.run)
+      → IfOk result (TellsShrink meld old.view.words.limits new.view.pass.seen c old.own)
+  member_made old new (Ok reply) waits = tells_shrink meld alone old.view.words c old.own old.view.pass reply new.own new.view.pass (awaited_seen (Shrink old.own.number c) old (Ok reply) new waits.run)
   member_made old new (Err refusal) waits = tt

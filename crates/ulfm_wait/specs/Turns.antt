@@ -2,8 +2,8 @@
 use Rattle.std.specs.Prelude.{◌≡◌, ◌⊎◌, ℕ, zero, suc, Bool, true, Option, None, Some, IfOk, IsTrue, IsSomeAnd, MatchBool, MatchOption, Result, Ok, Err}
 use Rattle.ulfm_model.specs.declared.{call.Call.{Call}, call.Request.{Request}, refusal.Refusal.{Refusal}, reply.Reply.{Reply}}
 use Rattle.ulfm_model.specs.Records.{Held, held_at}
-use Rattle.ulfm_words.specs.Steps.{Name, Sight}
-use Rattle.ulfm_comm.specs.{Counts.{Ranked}, Polls.{IsAnswer}}
+use Rattle.ulfm_words.specs.Steps.{Name, Sight, view_of}
+use Rattle.ulfm_comm.specs.{Counts.{Ranked}, Polls.{IsNotPending}}
 use Rattle.ulfm_comm.specs.declared.calls.polled.Polled.{Polled}
 use Rattle.ulfm_member.specs.Members.{IsMember, MemberCalls, MemberPolls, Membership}
 use Rattle.ulfm_rounds.specs.Rounds.{Gave}
@@ -22,7 +22,7 @@ pub record AgreeState (P : Type 0) : Type 0 where
 
 -- a rank and a pass of these words, as a member
 abbrev pub member_of : {P : Type 0} → Name → Ranked → Sight P → Membership P
-member_of name rank pass = record { name = name; own = rank.own; last = rank.last; pass = pass }
+member_of name rank pass = record { own = rank.own; last = rank.last; view = view_of name pass }
 
 -- the start of an agree, and then one poll of it
 pub record StartsAndPolls {P : Type 0} (meld : P → P → P) (alone : Bool) (agree : Agreeing P) (old : Membership P) (result : Result (Polled P) Refusal)
@@ -32,36 +32,36 @@ pub record StartsAndPolls {P : Type 0} (meld : P → P → P) (alone : Bool) (ag
   pub polls : MemberPolls meld alone agree.comm mid result new
 
 -- an agree that isn't started begins: it starts and polls once; or it is refused its start, and doesn't poll
-abbrev pub Begins : {P : Type 0} → (P → P → P) → Bool → Agreeing P → Membership P → Result (Polled P) Refusal → Membership P → Type 0
-Begins meld alone agree old (Ok reply) new = StartsAndPolls meld alone agree old (Ok reply) new
-Begins meld alone agree old (Err refusal) new =
+abbrev pub BeginsAgree : {P : Type 0} → (P → P → P) → Bool → Agreeing P → Membership P → Result (Polled P) Refusal → Membership P → Type 0
+BeginsAgree meld alone agree old (Ok reply) new = StartsAndPolls meld alone agree old (Ok reply) new
+BeginsAgree meld alone agree old (Err refusal) new =
     MemberCalls meld alone (Call.Agree old.own.number agree.comm agree.value) old (Reply.Refused refusal) new
     ⊎ StartsAndPolls meld alone agree old (Err refusal) new
 
 -- a turn of an agree: one poll, where it has started; else it begins
-abbrev pub TakesTurn : {P : Type 0} → (P → P → P) → Bool → Agreeing P → Membership P → Result (Polled P) Refusal → Membership P → Type 0
-TakesTurn meld alone agree old result new =
-    MatchBool agree.started (MemberPolls meld alone agree.comm old result new) (Begins meld alone agree old result new)
+abbrev pub TakesAgreeTurn : {P : Type 0} → (P → P → P) → Bool → Agreeing P → Membership P → Result (Polled P) Refusal → Membership P → Type 0
+TakesAgreeTurn meld alone agree old result new =
+    MatchBool agree.started (MemberPolls meld alone agree.comm old result new) (BeginsAgree meld alone agree old result new)
 
 -- the member's agree on communicator c is open in a round, to which it gave its flag
-pub record HasGiven {P : Type 0} (c : ℕ) (value : P) (m : Membership P) : Type 0 where
+pub record HasOpenAgree {P : Type 0} (c : ℕ) (value : P) (m : Membership P) : Type 0 where
   pub x : Held
   pub held : held_at m.own c ≡ Some x
   pub round : ℕ
   pub open_is : x.request ≡ Some (Request.Agree round)
-  pub gave : Gave m.pass.seen c round m.own.number value
+  pub gave : Gave m.view.pass.seen c round m.own.number value
 
 -- what a future holds: a member, and, where the agree has started, one that has given its flag
-pub record IsUnderWay {P : Type 0} (meld : P → P → P) (agree : Agreeing P) (m : Membership P) : Type 0 where
+pub record FutureHolds {P : Type 0} (meld : P → P → P) (agree : Agreeing P) (m : Membership P) : Type 0 where
   pub is : IsMember meld m
-  pub given : IsTrue agree.started → HasGiven agree.comm agree.value m
+  pub given : IsTrue agree.started → HasOpenAgree agree.comm agree.value m
 
 -- A poll of the future that is pending, of a member that it held: it took one turn, whose poll was pending, and holds what the turn
 -- left of that member, which has given its flag. From now on it has started.
 pub record TurnPends {P : Type 0} (meld : P → P → P) (alone : Bool) (old : AgreeState P) (m : Membership P) (new : AgreeState P) : Type 0 where
   pub left : Membership P
-  pub turn : TakesTurn meld alone old.agree m (Ok Polled.Pending) left
-  pub given : HasGiven old.agree.comm old.agree.value left
+  pub turn : TakesAgreeTurn meld alone old.agree m (Ok Polled.Pending) left
+  pub given : HasOpenAgree old.agree.comm old.agree.value left
   pub new_is : new ≡ record { agree = record old.agree { started = true }; held = Some left }
 
 -- a pending poll of the future took one turn; after its output it takes none, and stays as it is
@@ -72,13 +72,13 @@ Pends meld alone old new = MatchOption old.held (new ≡ old) (λ m. TurnPends m
 -- which is handed out.
 pub record TurnEnds {P : Type 0} (meld : P → P → P) (alone : Bool) (old : AgreeState P) (m : Membership P) (result : Result (Polled P) Refusal)
     (left : Membership P) (new : AgreeState P) : Type 0 where
-  pub answered : IfOk result IsAnswer
-  pub turn : TakesTurn meld alone old.agree m result left
+  pub answered : IfOk result IsNotPending
+  pub turn : TakesAgreeTurn meld alone old.agree m result left
   pub new_is : new ≡ record { agree = old.agree; held = None }
 
 -- the poll that gives the output, with the rank and the pass that it hands out
-abbrev pub Ends : {P : Type 0} → (P → P → P) → Bool → AgreeState P → Result (Polled P) Refusal → Ranked → Sight P → AgreeState P → Type 0
-Ends meld alone old result rank pass new = IsSomeAnd old.held (λ m. TurnEnds meld alone old m result (member_of m.name rank pass) new)
+abbrev pub FutureEnds : {P : Type 0} → (P → P → P) → Bool → AgreeState P → Result (Polled P) Refusal → Ranked → Sight P → AgreeState P → Type 0
+FutureEnds meld alone old result rank pass new = IsSomeAnd old.held (λ m. TurnEnds meld alone old m result (member_of m.view.words rank pass) new)
 
 -- what an agree gives from some member on: where it has started, what polls give; else all that a call that waits does
 abbrev pub AgreeGives : {P : Type 0} → (P → P → P) → Bool → Agreeing P → Membership P → Result (Polled P) Refusal → Membership P → Type 0
@@ -88,7 +88,7 @@ AgreeGives meld alone agree old result new =
 
 -- what the future gives: that, of the member that it holds
 abbrev pub FutureGives : {P : Type 0} → (P → P → P) → Bool → AgreeState P → Result (Polled P) Refusal → Ranked → Sight P → Type 0
-FutureGives meld alone f result rank pass = IsSomeAnd f.held (λ m. AgreeGives meld alone f.agree m result (member_of m.name rank pass))
+FutureGives meld alone f result rank pass = IsSomeAnd f.held (λ m. AgreeGives meld alone f.agree m result (member_of m.view.words rank pass))
 
 -- so many polls of the future, one behind the other, each pending
 abbrev pub PendsTimes : {P : Type 0} → (P → P → P) → Bool → ℕ → AgreeState P → AgreeState P → Type 0
@@ -109,5 +109,5 @@ pub record HasPolled {P : Type 0} (meld : P → P → P) (alone : Bool) (times :
   pub starts : MemberCalls meld alone (Call.Agree m.own.number agree.comm agree.value) m Reply.Started mid
   pub left : Membership P
   pub polls : MemberPends meld alone agree.comm times mid left
-  pub given : HasGiven agree.comm agree.value left
+  pub given : HasOpenAgree agree.comm agree.value left
   pub new_is : new ≡ record { agree = record agree { started = true }; held = Some left }

@@ -2,35 +2,35 @@
 use Rattle.std.specs.Prelude.{◌≡◌, ◌⊎◌, ℕ, zero, suc, Bool, Some, IfOk, Result, Ok, Err}
 use Rattle.ulfm_model.specs.declared.{call.Call.{Call}, limits.Limits.{Limits}, refusal.Refusal.{Refusal}, reply.Reply.{Reply}}
 use Rattle.ulfm_model.specs.{History.{History}, Records.{Held, Record, held_at}}
-use Rattle.ulfm_words.specs.Steps.{Name, Sight}
-use Rattle.ulfm_comm.specs.{Calls.{Calls}, Polls.{IsAnswer, PollIs, polled}}
+use Rattle.ulfm_words.specs.Steps.{view_of, Name, Sight}
+use Rattle.ulfm_comm.specs.{Calls.{Calls}, Polls.{IsNotPending, PollIs, polled}}
 use Rattle.ulfm_comm.specs.declared.calls.polled.Polled.{Polled}
+use Rattle.ulfm_comm.specs.Local.{Local, local}
 use Rattle.ulfm_member.specs.Members.{IsMember, MemberCalls, MemberPolls, Membership}
 use Rattle.ulfm_rounds.specs.Rounds.{Gave, IsDecision, IsMadeOf}
 
--- polls of communicator c by a rank and its pass, from its record and what was seen: so many are pending, and then one is answered
-abbrev pub PollsUntil : {P : Type 0} → (P → P → P) → Bool → Name → ℕ → ℕ → Record → Sight P → Result (Polled P) Refusal → Record → Sight P → Type 0
-PollsUntil meld alone name c zero old before result new after =
-    IfOk result IsAnswer × PollIs meld alone name (Call.Poll old.number c) old before result new after
-PollsUntil {P} meld alone name c (suc pending) old before result new after =
-    (mid : Record) × (then : Sight P) × Calls meld alone name (Call.Poll old.number c) old before Reply.Pending mid then
-    × PollsUntil meld alone name c pending mid then result new after
+-- polls of communicator c by a rank, from what it goes by: so many are pending, and then one is answered
+abbrev pub PollsUntil : {P : Type 0} → (P → P → P) → Bool → ℕ → ℕ → Local P → Result (Polled P) Refusal → Local P → Type 0
+PollsUntil meld alone c zero old result new = IfOk result IsNotPending × PollIs meld alone (Call.Poll old.own.number c) old result new
+PollsUntil {P} meld alone c (suc pending) old result new =
+    (mid : Record) × (then : Sight P) × Calls meld alone (Call.Poll old.own.number c) old Reply.Pending (local mid (view_of new.view.words then))
+    × PollsUntil meld alone c pending (local mid (view_of new.view.words then)) result new
 
 -- polls of a rank go on until one is answered
-abbrev pub IsPolledOn : {P : Type 0} → (P → P → P) → Bool → Name → ℕ → Record → Sight P → Result (Polled P) Refusal → Record → Sight P → Type 0
-IsPolledOn meld alone name c old before result new after = (pending : ℕ) × PollsUntil meld alone name c pending old before result new after
+abbrev pub IsPolledOn : {P : Type 0} → (P → P → P) → Bool → ℕ → Local P → Result (Polled P) Refusal → Local P → Type 0
+IsPolledOn meld alone c old result new = (pending : ℕ) × PollsUntil meld alone c pending old result new
 
 -- a rank's call started a request, and then polls of the rank went on until one was answered
-pub record IsAwaited {P : Type 0} (meld : P → P → P) (alone : Bool) (name : Name) (c : ℕ) (asked : Call P) (old : Record) (before : Sight P)
-    (result : Result (Polled P) Refusal) (new : Record) (after : Sight P) : Type 0 where
+pub record IsAwaited {P : Type 0} (meld : P → P → P) (alone : Bool) (c : ℕ) (asked : Call P) (old : Local P) (result : Result (Polled P) Refusal)
+    (new : Local P) : Type 0 where
   pub own : Record
   pub at : Sight P
-  pub starts : Calls meld alone name asked old before Reply.Started own at
-  pub polls : IsPolledOn meld alone name c own at result new after
+  pub starts : Calls meld alone asked old Reply.Started (local own (view_of new.view.words at))
+  pub polls : IsPolledOn meld alone c (local own (view_of new.view.words at)) result new
 
 -- polls of a member on communicator c, each in no more steps than it may make: so many are pending, and then one is answered
 abbrev pub MemberPollsUntil : {P : Type 0} → (P → P → P) → Bool → ℕ → ℕ → Membership P → Result (Polled P) Refusal → Membership P → Type 0
-MemberPollsUntil meld alone c zero old result new = IfOk result IsAnswer × MemberPolls meld alone c old result new
+MemberPollsUntil meld alone c zero old result new = IfOk result IsNotPending × MemberPolls meld alone c old result new
 MemberPollsUntil {P} meld alone c (suc pending) old result new =
     (mid : Membership P) × MemberPolls meld alone c old (Ok Polled.Pending) mid × MemberPollsUntil meld alone c pending mid result new
 
@@ -55,7 +55,7 @@ MemberRuns meld alone c asked old (Err refusal) new =
 -- more steps than they may make.
 pub record MemberWaits {P : Type 0} (meld : P → P → P) (alone : Bool) (c : ℕ) (asked : Call P) (old : Membership P) (result : Result (Polled P) Refusal)
     (new : Membership P) : Type 0 where
-  pub words : new.name ≡ old.name
+  pub words : new.view.words ≡ old.view.words
   pub is : IsMember meld new
   pub run : MemberRuns meld alone c asked old result new
 

@@ -12,13 +12,12 @@ use ulfm_member::Member;
 use ulfm_model::refusal::Refusal;
 use ulfm_words::Words;
 
-/// Contributes a flag to the member's next agreement round of a communicator, and polls until there is a reply, which is never
-/// `Pending`: the flags combined, the size of the failed group and the error, as the round decided them, with this flag among
-/// those combined.
+/// Contributes a flag to the next agreement round of a communicator, and polls until there is a reply, which is never `Pending`. The reply
+/// is what the round decided: the flags combined, this flag among them, the size of the failed group, and whether an error is raised.
 ///
-/// It may wait for as long as some member neither contributes nor is declared. Between two polls it yields to other threads.
-/// A refusal is that of the start, as `Member::iagree`, or of the poll that ended the wait, as `Member::poll`, and leaves what
-/// that leaves.
+/// It may wait for as long as some member of the communicator neither contributes nor is declared failed. Between two polls it yields to
+/// other threads. A refusal is that of the start, as of `Member::iagree`, or of the poll that ended the wait, as of `Member::poll`; after
+/// it the member is as that call leaves it.
 ///
 /// ```
 /// // Rank 1 of two was declared failed before, so nobody is waited for.
@@ -39,7 +38,7 @@ pub fn agree<W, P: Packed, A: Allocator + Copy, R: Wait>(
 where
     W: Words<P, A>,
     ensures waits { MemberWaits P.meld W.alone comm (Agree member.old.own.number comm value) member.old result member.new }
-    ensures tells { IfOk result (TellsAgree P.meld member.old.name.limits member.new.pass.seen comm value member.old.own) }
+    ensures tells { IfOk result (TellsAgree P.meld member.old.view.words.limits member.new.view.pass.seen comm value member.old.own) }
 {
     match member.iagree(comm, value) {
         Ok(()) => poll_on(rt, member, comm),
@@ -48,11 +47,11 @@ where
 }
 
 /// Starts a shrink of a communicator, and polls until there is a reply, which is never `Pending`: the new communicator, its
-/// context id, 0 to 31, and its size. The member holds it from then on.
+/// context id, 0 to 31, and its size. The calling rank holds the new communicator from then on.
 ///
-/// It may wait for as long as some member neither starts a shrink nor is declared, and yields between two polls. A refusal is
-/// that of the start, as `Member::ishrink`, or of the poll that ended the wait, as `Member::poll`, and leaves what that leaves:
-/// after `OutOfMemory` of a poll the request is open as before, and may be polled.
+/// It may wait for as long as some member of the communicator neither starts a shrink nor is declared failed, and yields between two polls.
+/// A refusal is that of the start, as of `Member::ishrink`, or of the poll that ended the wait, as of `Member::poll`; after it the member is
+/// as that call leaves it. So after `OutOfMemory` of a poll the request is open as before, and may be polled.
 ///
 /// ```
 /// // Rank 1 of two was declared failed before, and is left out.
@@ -72,7 +71,7 @@ pub fn shrink<W, P: Packed, A: Allocator + Copy, R: Wait>(
 where
     W: Words<P, A>,
     ensures waits { MemberWaits P.meld W.alone comm (Shrink member.old.own.number comm) member.old result member.new }
-    ensures tells { IfOk result (TellsShrink P.meld member.old.name.limits member.new.pass.seen comm member.old.own) }
+    ensures tells { IfOk result (TellsShrink P.meld member.old.view.words.limits member.new.view.pass.seen comm member.old.own) }
 {
     match member.ishrink(comm) {
         Ok(()) => poll_on(rt, member, comm),
@@ -80,12 +79,12 @@ where
     }
 }
 
-/// Arrives in the member's next barrier round of a communicator, and polls until there is a reply, which is never `Pending`:
-/// `Done`, where all members have arrived.
+/// Arrives in the next barrier round of a communicator, and polls until there is a reply, which is never `Pending`: `Done`, where all
+/// members of the communicator have arrived.
 ///
-/// It may wait for as long as some member neither arrives nor is declared and the communicator isn't revoked, and yields
-/// between two polls. A refusal is that of the start, as `Member::ibarrier`, or of the poll that ended the wait, as
-/// `Member::poll`, and leaves what that leaves.
+/// It may wait for as long as some member of the communicator neither arrives nor is declared failed, and the communicator isn't revoked. It
+/// yields between two polls. A refusal is that of the start, as of `Member::ibarrier`, or of the poll that ended the wait, as of
+/// `Member::poll`; after it the member is as that call leaves it.
 ///
 /// ```
 /// // Rank 1 of two was declared failed before, and can't arrive any more.

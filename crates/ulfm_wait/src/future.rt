@@ -4,9 +4,9 @@ ghost use Rattle.futures.specs.Task.{Covers, Keeps};
 ghost use Rattle.futures.specs.Poll.{IfReady, OnPending};
 ghost use Rattle.ulfm_model.specs.Records.{Fits};
 ghost use Rattle.ulfm_model.specs.declared.call.Call.TheVariants.{Agree};
-ghost use Rattle.ulfm_words.specs.Steps.{IsOf};
+ghost use Rattle.ulfm_words.specs.Steps.{view_of, IsView};
 ghost use Rattle.ulfm_comm.specs.declared.calls.polled.Polled.TheVariants.{Pending as StillPending};
-ghost use Rattle.ulfm_wait.specs.Turns.{Ends, FutureGives, Pends, TakesTurn, member_of};
+ghost use Rattle.ulfm_wait.specs.Turns.{FutureEnds, FutureGives, Pends, TakesAgreeTurn, member_of};
 ghost use Rattle.ulfm_wait.specs.Waits.{MemberWaits, TellsAgree};
 
 use futures::Future;
@@ -18,14 +18,15 @@ use ulfm_laws::meld::Packed;
 use ulfm_model::refusal::Refusal;
 use ulfm_words::Words;
 
-/// An agree that starts at its first poll, and polls its rank once at that and at each later one. Its output is the pass, the
-/// rank and the reply, which is never `Pending`; a refusal is that of the start or of the last poll.
+/// An agree as a future. When it is first polled it starts the agree; then, as at each later poll of the future, it calls `Rank::poll`
+/// once. Its output is the pass, the rank and the reply, which is never `Pending`; a refusal is that of the start or of the last poll.
 ///
-/// Where its first poll is pending, the rank has contributed its flag, which others see from then on, also where the future
-/// is dropped. While it is pending it keeps the rank and the pass, and wakes its own waker, so that an executor polls it
-/// again; so it does too when it is polled after its output. Its first poll makes the steps of `Rank::iagree` and
-/// `Rank::poll`, each later one those of `Rank::poll`; before the first it makes none, and none after its output. It may be
-/// polled at any time, and no return is promised.
+/// Once its first poll was pending, the rank has contributed its flag. Others see that from then on, even if the future is dropped. A
+/// pending future keeps the rank and the pass, and wakes the waker that it was polled with, so that an executor polls it again. One that is
+/// polled after its output is pending too, and wakes that waker.
+///
+/// The first poll makes the atomic steps of `Rank::iagree` and `Rank::poll`, each later one those of `Rank::poll`. Before its first poll the
+/// future makes none, and none after its output. It may be polled at any time. That it ever has an output isn't promised.
 #[derive(Drop)]
 pub struct AgreeFuture<'a, W: Words<P, A>, P: Packed, A: Allocator> {
     world: &'a World<W, P, A>,
@@ -38,7 +39,7 @@ pub struct AgreeFuture<'a, W: Words<P, A>, P: Packed, A: Allocator> {
 
 impl<'a, W: Words<P, A>, P: Packed, A: Allocator> Model for AgreeFuture<'a, W, P, A> {
     ghost use Rattle.std.specs.Prelude.{IfSome, option_map};
-    ghost use Rattle.ulfm_wait.specs.Turns.{AgreeState, IsUnderWay, member_of};
+    ghost use Rattle.ulfm_wait.specs.Turns.{AgreeState, FutureHolds, member_of};
 
     ghost Value = { AgreeState P };
 
@@ -47,12 +48,12 @@ impl<'a, W: Words<P, A>, P: Packed, A: Allocator> Model for AgreeFuture<'a, W, P
       held = option_map (λ s. member_of (W.name f.world.now.words) s.1 (W.sight s.0)) f.held;
     } };
 
-    ghost invariant = { λ f. IfSome f.held (λ s. IsUnderWay P.meld (record { comm = f.comm; value = f.value; started = f.started })
+    ghost invariant = { λ f. IfSome f.held (λ s. FutureHolds P.meld (record { comm = f.comm; value = f.value; started = f.started })
         (member_of (W.name f.world.now.words) s.1 (W.sight s.0))) };
 }
 
 impl<'a, W: Words<P, A>, P: Packed, A: Allocator + Copy> AgreeFuture<'a, W, P, A> {
-    /// The future of an agree on a flag, over a pass of this world's words which has seen what the rank has.
+    /// The future of an agree on a flag, by this rank and over this pass, which is of the world's words and has seen what the rank has.
     ///
     /// ```
     /// let (world, rank, pass) = member.into_parts();
@@ -74,7 +75,7 @@ impl<'a, W: Words<P, A>, P: Packed, A: Allocator + Copy> AgreeFuture<'a, W, P, A
         comm: u16,
         value: P,
     ) -> AgreeFuture<'a, W, P, A>
-        requires of { IsOf P.meld (W.name world.now.words) (W.sight pass) }
+        requires of { IsView P.meld (view_of (W.name world.now.words) (W.sight pass)) }
         requires fits { Fits P.meld (W.name world.now.words).limits (W.sight pass).seen rank.own }
         ensures fresh { result ≡ record {
           agree = record { comm = comm; value = value; started = false };
@@ -107,7 +108,7 @@ impl<'a, W: Words<P, A>, P: Packed, A: Allocator + Copy> Future for AgreeFuture<
         cx: &mut Context<'_>,
     ) -> Poll<(W::Pass, Rank<P, A>, Result<Polled<P>, Refusal>)>
         ensures pends { OnPending result (Pends P.meld W.alone self.old self.new) }
-        ensures ends { IfReady result (λ out. Ends P.meld W.alone self.old out.2 out.1 (W.sight out.0) self.new) }
+        ensures ends { IfReady result (λ out. FutureEnds P.meld W.alone self.old out.2 out.1 (W.sight out.0) self.new) }
         ensures woken { OnPending result (cx.new.is_woken ≡ true) }
         ensures asleep { IfReady result (λ _. cx.new ≡ cx.old) }
         ensures value { IfReady result (⟦<AgreeFuture<'a, W, P, A> as Future>⟧.gives self.old) }
@@ -160,9 +161,9 @@ fn step<W: Words<P, A>, P: Packed, A: Allocator + Copy>(
     value: P,
     started: bool,
 ) -> Result<Polled<P>, Refusal>
-    requires of { IsOf P.meld (W.name world.now.words) (W.sight pass.old) }
+    requires of { IsView P.meld (view_of (W.name world.now.words) (W.sight pass.old)) }
     requires fits { Fits P.meld (W.name world.now.words).limits (W.sight pass.old).seen rank.old.own }
-    ensures { TakesTurn P.meld W.alone (record { comm = comm; value = value; started = started })
+    ensures { TakesAgreeTurn P.meld W.alone (record { comm = comm; value = value; started = started })
         (member_of (W.name world.now.words) rank.old (W.sight pass.old)) result (member_of (W.name world.now.words) rank.new (W.sight pass.new)) }
 {
     if started {

@@ -1,6 +1,7 @@
-//! Calls that wait, of a member of a world: each starts a request and polls until it is answered. And an agree as a future.
+//! Blocking calls, of a `Member` of a world: each starts a request and polls until it is answered. And an agree as a future.
 //!
-//! No return is promised: a call that waits goes on for as long as some member neither takes part nor is declared failed.
+//! That they return isn't promised: a blocking call goes on for as long as some member of the communicator neither takes part nor is declared
+//! failed.
 #![tactic(auto)]
 
 pub mod blocking;

@@ -8,6 +8,7 @@ use Rattle.ulfm_model.proofs.Blocks.{one_block}
 use Rattle.ulfm_words.specs.declared.{plain.Setting.{Setting}, step.Last.{Last}}
 use Rattle.ulfm_words.specs.{Blocks.{Caches, LoadsBlock}, Pass.{AreStood, IsTied, block_key, cached_by, caches_in, entries, last_of, sight_of}, Steps.{Sight}}
 use Rattle.ulfm_words.proofs.{Standing.{at_block, block_key_lt, cached_found, cached_nothing, cached_set, caches_loaded, caches_set, now_has, stood_found, stood_later, stood_set}, Growing.{prefix_self}, Telling.{last_of-push}, Trails.{did_none}}
+use Rattle.ulfm_words.specs.Steps.{view_of}
 
 any_default : (xs : List ℕ) (i d e : ℕ) → i < length xs → get_or xs i d ≡ get_or xs i e
 any_default [] i d e lt = absurd (omega (arith, lt))
@@ -58,9 +59,9 @@ module _ {P : Type 0} (meld : P → P → P) (pack : P → ℕ) (unpack : ℕ �
     pub peek_stood : AreStood meld pack limits (entries unpack limits ws ms) bs ts'
     peek_stood = (known (either v)).3
 
-    pub peek_tells : LoadsBlock meld pack true old.name b v old (sight_of unpack limits ws ms ts')
+    pub peek_tells : LoadsBlock meld pack true b v (view_of old.name old) (view_of old.name (sight_of unpack limits ws ms ts'))
     peek_tells =
-        subst (λ (o : Sight P). LoadsBlock meld pack true o.name b v o (sight_of unpack limits ws ms ts')) shown (record {
+        subst (λ (o : Sight P). LoadsBlock meld pack true b v (view_of o.name o) (view_of o.name (sight_of unpack limits ws ms ts'))) shown (record {
           of = record { name_is = refl; may_open = tied.may_open; legal = tied.legal };
           did = did_none true (entries unpack limits ws ms);
           cached = (known (either v)).0;
@@ -90,9 +91,9 @@ module _ {P : Type 0} (meld : P → P → P) (pack : P → ℕ) (unpack : ℕ �
     same_word (inl none) some = absurd (some none)
     same_word (inr one) some = one_block meld pack limits.ranks (entries unpack limits ws ms) b v w one block
 
-    pub lost_tells : v ≢ 0 → Caches meld true old.name b w old (Err v) (sight_of unpack limits ws ms ts')
+    pub lost_tells : v ≢ 0 → Caches meld true b w (view_of old.name old) (Err v) (view_of old.name (sight_of unpack limits ws ms ts'))
     lost_tells some =
-        subst (λ (o : Sight P). Caches meld true o.name b w o (Err v) (sight_of unpack limits ws ms ts')) shown (record {
+        subst (λ (o : Sight P). Caches meld true b w (view_of o.name o) (Err v) (view_of o.name (sight_of unpack limits ws ms ts'))) shown (record {
           of = record { name_is = refl; may_open = tied.may_open; legal = tied.legal };
           did = did_none true (entries unpack limits ws ms);
           cached = (b ∷ [], sym more);
@@ -106,10 +107,10 @@ module _ {P : Type 0} (meld : P → P → P) (pack : P → ℕ) (unpack : ℕ �
     pub won_stood : AreStood meld pack limits (entries unpack limits ws ms) (slice_set bs i w) ts'
     won_stood = subst (λ n. AreStood meld pack limits (entries unpack limits ws ms) (slice_set bs n w) ts') (sym at) (stood_set meld pack limits (entries unpack limits ws ms) bs ts ts' b w here block more stood)
 
-    pub won_tells : v ≡ 0 → Caches meld true old.name b w old (Ok tt) (sight_of unpack limits ws ms ts')
+    pub won_tells : v ≡ 0 → Caches meld true b w (view_of old.name old) (Ok tt) (view_of old.name (sight_of unpack limits ws ms ts'))
     won_tells none =
         let stamped : ts' ≡ ts ++ at_block b 0 false ∷ [] = is ∙ ap (λ n. ts ++ at_block b n false ∷ []) none in
-        subst (λ (o : Sight P). Caches meld true o.name b w o (Ok tt) (sight_of unpack limits ws ms ts')) shown (record {
+        subst (λ (o : Sight P). Caches meld true b w (view_of o.name o) (Ok tt) (view_of o.name (sight_of unpack limits ws ms ts'))) shown (record {
           of = record { name_is = refl; may_open = tied.may_open; legal = tied.legal };
           did = did_none true (entries unpack limits ws ms);
           cached = (b ∷ [], sym more);

@@ -13,7 +13,7 @@ use Rattle.std.proofs.lemmas.Nat.{div-mul-add, mod-mul-add, mul-add-lt}
 use Rattle.ulfm_model.specs.declared.{limits.Limits.{Limits}, place.Place.{Place}}
 use Rattle.ulfm_model.specs.Words.{MayOpen, size_of}
 use Rattle.ulfm_words.specs.declared.row.Seat.TheVariants.{Cell, Head}
-use Rattle.ulfm_words.specs.{Places.{key_in}, Rows.{AreLines, HasSeat, IsRow, cells_of, heads_of, is_made, lines_of, row_of, word_in}}
+use Rattle.ulfm_words.specs.{Places.{key_in}, Rows.{AreLines, HasSeat, IsRow, cells_of, heads_of, is_made_line, lines_of, row_of, word_in}}
 use Rattle.ulfm_words.proofs.Keys.{row_size}
 
 split : (ranks cell : ℕ) → cell ≡ cell / ranks * ranks + cell % ranks
@@ -58,7 +58,7 @@ read_cell ranks starts words line rank line_lt rank_lt =
 -- lines of which none was made
 pub lines_new : (ranks n room : ℕ) → 0 < ranks → (n + 1) * ranks ≤ room → (n + 1) * ranks < 4294967296 → AreLines ranks (replicate n 0) (replicate ranks 0) room
 lines_new ranks n room some fits few =
-    let none : count_by is_made (replicate n 0) ≡ 0 = omega (arith, sum_by-replicate (λ x. cond (is_made x) 1 0) n 0) in
+    let none : count_by is_made_line (replicate n 0) ≡ 0 = omega (arith, sum_by-replicate (λ x. cond (is_made_line x) 1 0) n 0) in
     let long : length (replicate {A = ℕ} n 0) ≡ n = length-replicate {A = ℕ} n 0 in
     record {
       some = some;
@@ -76,8 +76,8 @@ cells_new ranks n =
     cells_are ranks (replicate n 0) (replicate ranks 0) (replicate (n * ranks) 0) (length-replicate {A = ℕ} (n * ranks) 0 ∙ ap (λ k. k * ranks) (sym (length-replicate {A = ℕ} n 0))) (λ cell lt.
     zeros ranks (slice_index (replicate n 0) (cell / ranks) + cell % ranks) ∙ sym (zeros (n * ranks) cell))
 
-count_more : (starts : List ℕ) (i n : ℕ) → i < length starts → slice_index starts i ≡ 0 → n ≢ 0 → count_by is_made (slice_set starts i n) ≡ count_by is_made starts + 1
-count_more starts i n lt none some = go (count_by is_made (slice_set starts i n)) (count_by is_made starts) (get_or starts i 0) (sum_by-set (λ x. cond (is_made x) 1 0) starts i n 0 lt) none
+count_more : (starts : List ℕ) (i n : ℕ) → i < length starts → slice_index starts i ≡ 0 → n ≢ 0 → count_by is_made_line (slice_set starts i n) ≡ count_by is_made_line starts + 1
+count_more starts i n lt none some = go (count_by is_made_line (slice_set starts i n)) (count_by is_made_line starts) (get_or starts i 0) (sum_by-set (λ x. cond (is_made_line x) 1 0) starts i n 0 lt) none
   where
     go : (a b x : ℕ) → a + cond (not (x == 0)) 1 0 ≡ b + cond (not (n == 0)) 1 0 → x ≡ 0 → a ≡ b + 1
     go a b x e z = grind (arith, common_steps)
@@ -91,9 +91,9 @@ more_room ranks starts words a b are more =
 pub room_left : (ranks : ℕ) (starts words : List ℕ) (room i : ℕ) → AreLines ranks starts words room → i < length starts → slice_index starts i ≡ 0 → (length words + ranks ≤ room) × (length words + ranks < 4294967296)
 room_left ranks starts words room i are lt none =
     let one_more = count_more starts i 1 lt none (λ e. absurd (omega (arith, e))) in
-    let most = count_by-le-length is_made (slice_set starts i 1) in
-    let fewer : count_by is_made starts + 1 ≤ length starts = omega (arith, one_more, most, length-set starts i 1) in
-    let filled : (count_by is_made starts + 1) * ranks ≤ length starts * ranks = mul-le-mul_right ranks fewer in
+    let most = count_by-le-length is_made_line (slice_set starts i 1) in
+    let fewer : count_by is_made_line starts + 1 ≤ length starts = omega (arith, one_more, most, length-set starts i 1) in
+    let filled : (count_by is_made_line starts + 1) * ranks ≤ length starts * ranks = mul-le-mul_right ranks fewer in
     (omega (arith, filled, are.made, are.room), omega (arith, filled, are.made, are.few))
 
 -- words that were filled up with a line of words that are 0
@@ -173,7 +173,7 @@ module _ (ranks : ℕ) (starts words : List ℕ) (room : ℕ) (are : AreLines ra
   pub lines_more : AreLines ranks (slice_set starts i (length words)) (words ++ replicate ranks 0) room
   lines_more =
       let lines : length (slice_set starts i (length words)) ≡ length starts = length-set starts i (length words) in
-      let count : count_by is_made (slice_set starts i (length words)) ≡ count_by is_made starts + 1 = count_more starts i (length words) lt none (λ z. absurd (omega (arith, z, some))) in
+      let count : count_by is_made_line (slice_set starts i (length words)) ≡ count_by is_made_line starts + 1 = count_more starts i (length words) lt none (λ z. absurd (omega (arith, z, some))) in
       record {
         some = are.some;
         zeros = λ k small. kept k (omega (arith, small, first)) ∙ are.zeros k small;

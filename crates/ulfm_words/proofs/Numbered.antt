@@ -2,7 +2,7 @@
 use Rattle.std.proofs.Common.{◌≡◌, ◌≢◌, ℕ, zero, suc, ◌+◌, ◌-◌, ◌/◌, ◌%◌, List, [], ◌∷◌, ◌++◌, length, take, Option, Some, None, slice_get, refl, ap, sym, ◌∙◌, subst, arith}
 use Rattle.std.specs.Option.{option_map_or}
 use Rattle.ulfm_model.specs.declared.{contribution.Slot.{Slot}, contribution.Slot.TheVariants.{Given, Mark as Marked}, event.Caller.{Caller}, event.Entry.{Entry}, event.Event.TheVariants.{Fail, Settle, Mark, Arrive, Revoke, Spawn}, limits.Limits.{Limits}, place.Place.{Place}, place.Place.TheVariants.{List as ListAt, Comm as CommAt, Revoked as RevokedAt, Slot as SlotAt, Arrival as ArrivalAt}}
-use Rattle.ulfm_model.specs.{History.{History, IsLegal, failures}, Laws.{Sets}, Words.{place_of, word_at, word_of}}
+use Rattle.ulfm_model.specs.{History.{History, IsLegal, failures}, Laws.{SetsWord}, Words.{place_of, word_at, word_of}}
 use Rattle.ulfm_model.proofs.{OnlyMarks.{same_index}, Spawned.{failures_distinct}, WordRules.{has_words}}
 use Rattle.ulfm_words.specs.{Entries.{entry_by, entry_of, put_if}, Pass.{IsNth}, Slots.{slot_in}}
 use Rattle.ulfm_words.specs.declared.step.Step.{Step}
@@ -44,7 +44,7 @@ module _ {P : Type 0} (meld : P → P → P) (pack : P → ℕ) (unpack : ℕ �
   pub nth_step : (i : ℕ) (s : Step) (e : Entry P) → slice_get h i ≡ Some e → entry_of unpack s ≡ Some e → s.word ≢ 0 → word_at pack h s.place ≡ s.word → IsNth pack unpack h i s
   nth_step i s e at is some here =
       let rest = split_at h i e at in
-      let sets : Sets h (place_of (take i h) e.event) e = record { before = take i h; rest = rest.0; stands = rest.1; place_is = refl } in
+      let sets : SetsWord h (place_of (take i h) e.event) e = record { before = take i h; rest = rest.0; stands = rest.1; place_is = refl } in
       let set = (has_words pack meld limits h legal).set (place_of (take i h) e.event) e sets in
       let there = place_set s.place s.word s.by e (take i h) is some here set in
       record { entry = e; stands = at; is_entry = is; place = there; word = sym here ∙ (ap (word_at pack h) there ∙ set) }

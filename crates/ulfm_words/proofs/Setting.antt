@@ -4,7 +4,7 @@ use Rattle.ulfm_model.specs.declared.{contribution.Slot.{Slot}, contribution.Slo
 use Rattle.ulfm_model.specs.{History.{History, has_arrived, is_revoked, slot}, Words.{place_of, slot_word, word_of}}
 use Rattle.ulfm_model.proofs.WordRules.{word_some}
 use Rattle.ulfm_words.specs.declared.step.Step.{Step}
-use Rattle.ulfm_words.specs.{Entries.{entry_by, entry_of, put_if, put_of}, Steps.{IsAdded, MaySet, Wins}, Tries.{MayDeclare, MayPut, MayMake, MayCome, MayEnd, entry}}
+use Rattle.ulfm_words.specs.{Entries.{entry_by, entry_of, put_if, put_of}, Steps.{IsAdded, MaySet, Wins}, Tries.{MayDeclare, MayPut, MayMake, MayArrive, MayEnd, entry}}
 use Rattle.ulfm_words.proofs.{Reading.{nothing, unlisted, not_made}, SlotWords.{slot_back}}
 
 -- the parts of a communicator's word
@@ -30,7 +30,7 @@ module _ {P : Type 0} (meld : P → P → P) (pack : P → ℕ) (unpack : ℕ �
         legal = λ more begins legal none. (may more begins legal (not_made meld pack limits more j 0 (sym none) refl), refl);
       }
 
-  pub may_come : (c k r : ℕ) → MayCome meld limits seen c k r → MaySet meld pack unpack limits seen (record { place = ArrivalAt c k r; word = 1; by = by })
+  pub may_come : (c k r : ℕ) → MayArrive meld limits seen c k r → MaySet meld pack unpack limits seen (record { place = ArrivalAt c k r; word = 1; by = by })
   may_come c k r may =
       record { entry = entry by (Arrive c k r); is_entry = refl; word = refl; legal = λ more begins legal none. (may more begins legal (not_true (has_arrived more c k r) none), refl) }
     where

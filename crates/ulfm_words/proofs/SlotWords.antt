@@ -6,7 +6,7 @@ use Rattle.ulfm_laws.specs.{declared.counts.Known.{Known}, declared.counts.Acked
 use Rattle.ulfm_model.specs.declared.{contribution.Contribution.{Contribution}, contribution.MarkCount.{MarkCount}, contribution.Offer.{Offer}, contribution.Offer.TheVariants.{Flag, Ctx}, contribution.Slot.{Slot}, contribution.Slot.TheVariants.{Given, Mark as Marked}}
 use Rattle.ulfm_model.specs.Words.{packed, slot_word}
 use Rattle.ulfm_model.proofs.Lists.{is_some_of}
-use Rattle.ulfm_words.specs.Slots.{tag_in, known_in, acked_in, payload_in, IsMarkWord, IsGivenWord, IsSlotWord, IsFlag, IsFlagOffer, IsExact, HaveOneWord, is_formed, is_mark_word, are_counts, mark_if, given_if, given_of, mask_of, flag_of, tagged, slot_in}
+use Rattle.ulfm_words.specs.Slots.{tag_in, known_in, acked_in, payload_in, IsMarkWord, IsGivenWord, IsSlotWord, IsFlag, IsFlagOffer, IsExact, HaveOneWord, is_formed, is_mark_word, are_counts, mark_if, given_if, given_of, mask_of, flag_offer, tagged, slot_in}
 
 -- the parts of a word are those that it was made of
 
@@ -87,7 +87,7 @@ module _ {P : Type 0} (unpack : ℕ → Option P) where
   offered : (w : ℕ) (g : Contribution P) (offer : Offer P) → g.offer ≡ offer → OfferIn w offer → w < 2 ^ 57 → g.known.count ≡ known_in w → g.acked.count ≡ acked_in w → tagged unpack w (tag_in w) ≡ Some (Given g)
   offered w g (Flag flag) is there last known acked =
       let counts = counts_are (known_in w) (acked_in w) (omega (arith, g.within, known, acked)) (omega (arith, g.known.in_range, known)) in
-      let read : given_of (known_in w) (acked_in w) (flag_of (unpack (payload_in w))) ≡ Some (Given g) = ap (λ (o : Option P). given_of (known_in w) (acked_in w) (flag_of o)) there.1 ∙ given_is (Flag flag) g (known_in w) (acked_in w) (are_counts (known_in w) (acked_in w)) refl counts is known acked in
+      let read : given_of (known_in w) (acked_in w) (flag_offer (unpack (payload_in w))) ≡ Some (Given g) = ap (λ (o : Option P). given_of (known_in w) (acked_in w) (flag_offer o)) there.1 ∙ given_is (Flag flag) g (known_in w) (acked_in w) (are_counts (known_in w) (acked_in w)) refl counts is known acked in
       ap (λ t. tagged unpack w t) there.0 ∙ read
   offered w g (Ctx mask) is there last known acked =
       let counts = counts_are (known_in w) (acked_in w) (omega (arith, g.within, known, acked)) (omega (arith, g.known.in_range, known)) in
@@ -115,7 +115,7 @@ module _ {P : Type 0} (unpack : ℕ → Option P) where
   given_sound w s offer true is there e = subst (Reads w) (some_is _ s e) (refl, refl, there)
   given_sound w s offer false is there e = absurd cc
 
-  flag_sound : (w : ℕ) (s : Slot P) (o : Option P) → unpack (payload_in w) ≡ o → tag_in w ≡ 1 → given_of (known_in w) (acked_in w) (flag_of o) ≡ Some s → Reads w s
+  flag_sound : (w : ℕ) (s : Slot P) (o : Option P) → unpack (payload_in w) ≡ o → tag_in w ≡ 1 → given_of (known_in w) (acked_in w) (flag_offer o) ≡ Some s → Reads w s
   flag_sound w s None is tag e = absurd cc
   flag_sound w s (Some flag) is tag e = given_sound w s (Flag flag) (are_counts (known_in w) (acked_in w)) refl (tag, is) e
 

@@ -7,6 +7,7 @@ use Rattle.ulfm_words.specs.declared.{plain.Setting.{Setting}, step.Last.{Last},
 use Rattle.ulfm_words.specs.{Entries.{entry_of}, Pass.{cached_by, caches_in, entries, last_of, sight_of, IsTied}, Places.{IsWithin, key_in}, Steps.{Sight, Loads, Sets}}
 use mathlib.Core.List.{IsPrefix}
 use Rattle.ulfm_words.proofs.{Standing.{cached_place, caches_place}, Trails.{did_none}}
+use Rattle.ulfm_words.specs.Steps.{coding, view_of}
 
 pub last_of-push : (xs : List (Last × Bool)) (x : Last × Bool) → last_of (xs ++ x ∷ []) ≡ Some x.0
 last_of-push [] x = refl
@@ -29,11 +30,11 @@ module _ {P : Type 0} (meld : P → P → P) (pack : P → ℕ) (unpack : ℕ �
 
   pub loads_from : (old : Sight P) (ws : List ℕ) (ms : List Setting) (cap : ℕ) (ts ts' : List (Last × Bool)) (p : Place) (w : ℕ) → sight_of unpack limits ws ms ts ≡ old → IsTied meld pack unpack limits ws ms cap
       → IsWithin old.name.limits p → w ≡ slice_index ws (key_in limits p) → ts' ≡ ts ++ made p w true ∷ []
-      → Loads meld pack true old.name p old (sight_of unpack limits ws ms ts') × (w ≡ word_at pack (entries unpack limits ws ms) p)
+      → Loads meld pack true p (view_of old.name old) (view_of old.name (sight_of unpack limits ws ms ts')) × (w ≡ word_at pack (entries unpack limits ws ms) p)
   loads_from old ws ms cap ts ts' p w e tied within at is =
       let h = entries unpack limits ws ms in
       let word : w ≡ word_at pack h p = at ∙ tied.same p (within_is old ws ms ts p e within) in (
-        subst (λ (o : Sight P). Loads meld pack true o.name p o (sight_of unpack limits ws ms ts')) e (record {
+        subst (λ (o : Sight P). Loads meld pack true p (view_of o.name o) (view_of o.name (sight_of unpack limits ws ms ts'))) e (record {
           of = record { name_is = refl; may_open = tied.may_open; legal = tied.legal };
           did = did_none true h;
           cached = cached_same ts ts' p w true is;
@@ -45,10 +46,10 @@ module _ {P : Type 0} (meld : P → P → P) (pack : P → ℕ) (unpack : ℕ �
       )
 
   pub sets_lost : (old : Sight P) (ws : List ℕ) (ms : List Setting) (cap : ℕ) (ts ts' : List (Last × Bool)) (s : Step) (w : ℕ) → sight_of unpack limits ws ms ts ≡ old → IsTied meld pack unpack limits ws ms cap
-      → IsWithin old.name.limits s.place → w ≡ slice_index ws (key_in limits s.place) → w ≢ 0 → ts' ≡ ts ++ made s.place w false ∷ [] → Sets meld pack unpack true old.name s old (Err w) (sight_of unpack limits ws ms ts')
+      → IsWithin old.name.limits s.place → w ≡ slice_index ws (key_in limits s.place) → w ≢ 0 → ts' ≡ ts ++ made s.place w false ∷ [] → Sets meld (coding pack unpack) true s (view_of old.name old) (Err w) (view_of old.name (sight_of unpack limits ws ms ts'))
   sets_lost old ws ms cap ts ts' s w e tied within at some is =
       let h = entries unpack limits ws ms in
-      subst (λ (o : Sight P). Sets meld pack unpack true o.name s o (Err w) (sight_of unpack limits ws ms ts')) e (record {
+      subst (λ (o : Sight P). Sets meld (coding pack unpack) true s (view_of o.name o) (Err w) (view_of o.name (sight_of unpack limits ws ms ts'))) e (record {
         of = record { name_is = refl; may_open = tied.may_open; legal = tied.legal };
         outcome = record { some = omega (arith, some); stands = sym (at ∙ tied.same s.place (within_is old ws ms ts s.place e within)); did = did_none true h };
         cached = cached_same ts ts' s.place w false is;
@@ -59,11 +60,11 @@ module _ {P : Type 0} (meld : P → P → P) (pack : P → ℕ) (unpack : ℕ �
 
   pub sets_won : (old : Sight P) (ws ws' : List ℕ) (ms ms' : List Setting) (cap' : ℕ) (ts ts' : List (Last × Bool)) (s : Step) (w : ℕ) → sight_of unpack limits ws ms ts ≡ old → IsTied meld pack unpack limits ws' ms' cap'
       → IsWithin old.name.limits s.place → (entry : Entry P) → entry_of unpack s ≡ Some entry → entries unpack limits ws' ms' ≡ entries unpack limits ws ms ++ entry ∷ []
-      → slice_index ws' (key_in limits s.place) ≡ s.word → w ≡ 0 → ts' ≡ ts ++ made s.place w false ∷ [] → Sets meld pack unpack true old.name s old (Ok tt) (sight_of unpack limits ws' ms' ts')
+      → slice_index ws' (key_in limits s.place) ≡ s.word → w ≡ 0 → ts' ≡ ts ++ made s.place w false ∷ [] → Sets meld (coding pack unpack) true s (view_of old.name old) (Ok tt) (view_of old.name (sight_of unpack limits ws' ms' ts'))
   sets_won old ws ws' ms ms' cap' ts ts' s w e tied within entry is_entry added set none is =
       let h = entries unpack limits ws ms in
       let stamped : ts' ≡ ts ++ made s.place 0 false ∷ [] = is ∙ ap (λ n. ts ++ made s.place n false ∷ []) none in
-      subst (λ (o : Sight P). Sets meld pack unpack true o.name s o (Ok tt) (sight_of unpack limits ws' ms' ts')) e (record {
+      subst (λ (o : Sight P). Sets meld (coding pack unpack) true s (view_of o.name o) (Ok tt) (view_of o.name (sight_of unpack limits ws' ms' ts'))) e (record {
         of = record { name_is = refl; may_open = tied.may_open; legal = tied.legal };
         outcome = record {
           entry = entry;

@@ -1,11 +1,13 @@
 -- Blocks' words: which summary each stands for, where plain ones stand, and what each step on them does.
 use Rattle.std.specs.Prelude.{◌≡◌, ◌≢◌, ℕ, ◌+◌, ◌%◌, ◌^◌, ◌<◌, ◌≤◌, Bool, true, false, List, ◌∷◌, [], Option, Some, Result, MatchResult}
 use mathlib.Core.List.{IsPrefix}
-use Rattle.ulfm_laws.specs.declared.{summary.Body.{Body}, summary.Body.TheVariants.{Unit as Nothing, Flag as OfFlags, Ctx as OfIds, Clash}, summary.Summary.{Summary}}
+use Rattle.ulfm_laws.specs.declared.{summary.Body.{Body}, summary.Body.TheVariants.{Unit as Nothing, Flag as OfFlags, Ctx as OfIds, Clash}}
+use Rattle.ulfm_laws.specs.declared.summary.Summary.{Summary}
 use Rattle.ulfm_model.specs.declared.{block.Block.{Block}, contribution.Slot.{Slot}}
-use Rattle.ulfm_model.specs.{Blocks.{IsCached, IsSide, IsSummed, block_of, block_word, has_block}, History.{Exists, History, members}, Laws.{all_of}, Runs.{Did}}
+use Rattle.ulfm_model.specs.{Blocks.{IsCached, IsSide, IsSummed, block_of, block_word, has_block}, History.{Exists, History, members}, Laws.{all_of}}
+use Rattle.ulfm_model.specs.Runs.{Did}
 use Rattle.ulfm_words.specs.declared.{step.Site.{Site}}
-use Rattle.ulfm_words.specs.{Slots.{IsExact, acked_in, known_in, payload_in, tag_in}, Steps.{IsOf, Name, Sight, found}}
+use Rattle.ulfm_words.specs.{Slots.{IsExact, acked_in, known_in, payload_in, tag_in}, Steps.{IsView, View, found}}
 
 -- the body with this tag and this payload
 abbrev pub IsBodyOf : {P : Type 0} → (ℕ → Option P) → ℕ → ℕ → Body P → Type 0
@@ -55,43 +57,43 @@ BlocksHaveOneWord {P} pack unpack =
     → ((other : Summary P) → IsBlockWordOf unpack w other → other ≡ all) × ((IsFlagBody all.body → IsExact pack unpack) → block_word pack all ≡ w)
 
 -- one atomic load of a block's word: 0 where the block isn't among those that are set, or the word of its settled members
-pub record LoadsBlock {P : Type 0} (meld : P → P → P) (pack : P → ℕ) (alone : Bool) (name : Name) (block : Block) (word : ℕ) (old new : Sight P) : Type 0 where
-  pub of : IsOf meld name new
-  pub did : Did alone [] old.seen new.seen
-  pub cached : IsPrefix old.cached new.cached
-  pub caches : new.caches ≡ old.caches
-  pub steps : new.steps ≡ old.steps + 1
-  pub last : new.last ≡ Some (record { at = Site.Block block; word = word; load = true })
-  pub stands : IsCached meld pack name.limits.ranks new.seen block word
-  pub unset : word ≡ 0 → has_block new.cached block ≡ false
-  pub set : word ≢ 0 → has_block new.cached block ≡ true
+pub record LoadsBlock {P : Type 0} (meld : P → P → P) (pack : P → ℕ) (alone : Bool) (block : Block) (word : ℕ) (old new : View P) : Type 0 where
+  pub of : IsView meld new
+  pub did : Did alone [] old.pass.seen new.pass.seen
+  pub cached : IsPrefix old.pass.cached new.pass.cached
+  pub caches : new.pass.caches ≡ old.pass.caches
+  pub steps : new.pass.steps ≡ old.pass.steps + 1
+  pub last : new.pass.last ≡ Some (record { at = Site.Block block; word = word; load = true })
+  pub stands : IsCached meld pack new.words.limits.ranks new.pass.seen block word
+  pub unset : word ≡ 0 → has_block new.pass.cached block ≡ false
+  pub set : word ≢ 0 → has_block new.pass.cached block ≡ true
 
 -- one compare-exchange of a block's word from 0: the block is set afterwards, by this step or with the same word before
-pub record Caches {P : Type 0} (meld : P → P → P) (alone : Bool) (name : Name) (block : Block) (word : ℕ) (old : Sight P) (result : Result (Unit {0}) ℕ)
-    (new : Sight P) : Type 0 where
-  pub of : IsOf meld name new
-  pub did : Did alone [] old.seen new.seen
-  pub cached : IsPrefix old.cached new.cached
-  pub caches : new.caches ≡ old.caches + 1
-  pub steps : new.steps ≡ old.steps + 1
-  pub last : new.last ≡ Some (record { at = Site.Block block; word = found result; load = false })
-  pub set : has_block new.cached block ≡ true
-  pub stood : MatchResult result (λ _. has_block old.cached block ≡ false) (λ w. w ≡ word)
+pub record Caches {P : Type 0} (meld : P → P → P) (alone : Bool) (block : Block) (word : ℕ) (old : View P) (result : Result (Unit {0}) ℕ) (new : View P)
+    : Type 0 where
+  pub of : IsView meld new
+  pub did : Did alone [] old.pass.seen new.pass.seen
+  pub cached : IsPrefix old.pass.cached new.pass.cached
+  pub caches : new.pass.caches ≡ old.pass.caches + 1
+  pub steps : new.pass.steps ≡ old.pass.steps + 1
+  pub last : new.pass.last ≡ Some (record { at = Site.Block block; word = found result; load = false })
+  pub set : has_block new.pass.cached block ≡ true
+  pub stood : MatchResult result (λ _. has_block old.pass.cached block ≡ false) (λ w. w ≡ word)
 
 -- the round has the block, and this is what its members say together, each of whom is settled
-pub record Says {P : Type 0} (meld : P → P → P) (ranks : ℕ) (h : History P) (b : Block) (all : Summary P) : Type 0 where
+pub record BlockSays {P : Type 0} (meld : P → P → P) (ranks : ℕ) (h : History P) (b : Block) (all : Summary P) : Type 0 where
   pub exists : Exists h b.comm
   pub side : IsSide b.side (members ranks h b.comm)
   pub summed : IsSummed meld h b.comm b.round (block_of b.side (members ranks h b.comm)) all
 
 -- one atomic load of a block, and whether it is set
-pub record Peeks {P : Type 0} (meld : P → P → P) (alone : Bool) (name : Name) (block : Block) (set : Bool) (old new : Sight P) : Type 0 where
-  pub of : IsOf meld name new
-  pub did : Did alone [] old.seen new.seen
-  pub cached : IsPrefix old.cached new.cached
-  pub caches : new.caches ≡ old.caches
-  pub steps : new.steps ≡ old.steps + 1
+pub record Peeks {P : Type 0} (meld : P → P → P) (alone : Bool) (block : Block) (set : Bool) (old new : View P) : Type 0 where
+  pub of : IsView meld new
+  pub did : Did alone [] old.pass.seen new.pass.seen
+  pub cached : IsPrefix old.pass.cached new.pass.cached
+  pub caches : new.pass.caches ≡ old.pass.caches
+  pub steps : new.pass.steps ≡ old.pass.steps + 1
   pub word : ℕ
-  pub last : new.last ≡ Some (record { at = Site.Block block; word = word; load = true })
+  pub last : new.pass.last ≡ Some (record { at = Site.Block block; word = word; load = true })
   pub unset : set ≡ false → word ≡ 0
-  pub known : has_block new.cached block ≡ set
+  pub known : has_block new.pass.cached block ≡ set

@@ -27,15 +27,15 @@ abbrev pub row_of : ℕ → List ℕ → List ℕ → List ℕ → List ℕ
 row_of ranks heads starts words = heads ++ cells_of ranks starts words
 
 -- a line was made, by where it begins
-abbrev pub is_made : ℕ → Bool
-is_made start = not (start == 0)
+abbrev pub is_made_line : ℕ → Bool
+is_made_line start = not (start == 0)
 
 -- The words that stand first are never set: they stand for each line that wasn't made. Each line that was has words of its own.
 -- There is room for all, and their places are small.
 pub record AreLines (ranks : ℕ) (starts words : List ℕ) (capacity : ℕ) : Type 0 where
   pub some : 0 < ranks
   pub zeros : (i : ℕ) → i < ranks → slice_index words i ≡ 0
-  pub made : length words ≡ (count_by is_made starts + 1) * ranks
+  pub made : length words ≡ (count_by is_made_line starts + 1) * ranks
   pub below : (i : ℕ) → slice_index starts i + ranks ≤ length words
   pub own : (i j r s : ℕ) → r < ranks → s < ranks → slice_index starts i + r ≡ slice_index starts j + s → slice_index starts i ≢ 0 → i ≡ j
   pub past : (i : ℕ) → slice_index starts i ≢ 0 → ranks ≤ slice_index starts i

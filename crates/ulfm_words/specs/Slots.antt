@@ -103,15 +103,15 @@ given_of known acked (Some offer) = given_if offer known acked (are_counts known
 abbrev pub mask_of : ℕ → CtxMask
 mask_of payload = record { bits = payload % 2 ^ 32; fits = mod-lt payload (lit< tt) }
 
-abbrev pub flag_of : {P : Type 0} → Option P → Option (Offer P)
-flag_of None = None
-flag_of (Some flag) = Some (Flag flag)
+abbrev pub flag_offer : {P : Type 0} → Option P → Option (Offer P)
+flag_offer None = None
+flag_offer (Some flag) = Some (Flag flag)
 
 -- what a word of this tag stands for
 abbrev pub tagged : {P : Type 0} → (ℕ → Option P) → ℕ → ℕ → Option (Slot P)
 tagged unpack w tag =
     if tag == 0 then mark_if w (is_mark_word w) refl
-    else (if tag == 1 then given_of (known_in w) (acked_in w) (flag_of (unpack (payload_in w)))
+    else (if tag == 1 then given_of (known_in w) (acked_in w) (flag_offer (unpack (payload_in w)))
     else (if tag == 2 then given_of (known_in w) (acked_in w) (Some (Ctx (mask_of (payload_in w)))) else None))
 
 -- the slot that has this word

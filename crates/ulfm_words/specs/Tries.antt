@@ -6,17 +6,25 @@ use Rattle.ulfm_model.specs.declared.{event.Event.TheVariants.{Fail, Arrive, Rev
 use Rattle.ulfm_model.specs.{History.{History, IsLegal, MayFollow, MaySpawn, failures, has_arrived, is_revoked, slot}, Runs.{Did}, Words.{word_at}}
 use Rattle.ulfm_model.specs.Terms.{made_at}
 use Rattle.ulfm_words.specs.declared.step.Site.{Site}
-use Rattle.ulfm_words.specs.{Entries.{put_of}, Steps.{IsAdded, IsOf, Name, Sight}}
+use Rattle.ulfm_words.specs.{Entries.{put_of}, Steps.{IsAdded, IsView, View}}
+
+-- what an exchange is for: this event, whose word it would set at this place
+pub record Attempt (P : Type 0) : Type 0 where
+  pub place : Place
+  pub entry : Entry P
+
+abbrev pub attempt : {P : Type 0} → Place → Entry P → Attempt P
+attempt place entry = record { place = place; entry = entry }
 
 -- one exchange: the event came, or others' events alone
-pub record Tries {P : Type 0} (meld : P → P → P) (pack : P → ℕ) (alone : Bool) (name : Name) (place : Place) (entry : Entry P) (won : Bool) (old new : Sight P)
-    : Type 0 where
-  pub of : IsOf meld name new
-  pub outcome : MatchBool won (IsAdded alone entry old.seen new.seen) (Did alone [] old.seen new.seen)
-  pub cached : IsPrefix old.cached new.cached
-  pub caches : new.caches ≡ old.caches
-  pub steps : new.steps ≡ old.steps + 1
-  pub last : new.last ≡ Some (record { at = Site.Place place; word = if won then 0 else word_at pack new.seen place; load = false })
+pub record Tries {P : Type 0} (meld : P → P → P) (pack : P → ℕ) (alone : Bool) (try : Attempt P) (won : Bool) (old new : View P) : Type 0 where
+  pub of : IsView meld new
+  pub outcome : MatchBool won (IsAdded alone try.entry old.pass.seen new.pass.seen) (Did alone [] old.pass.seen new.pass.seen)
+  pub cached : IsPrefix old.pass.cached new.pass.cached
+  pub caches : new.pass.caches ≡ old.pass.caches
+  pub steps : new.pass.steps ≡ old.pass.steps + 1
+  pub last : new.pass.last
+      ≡ Some (record { at = Site.Place try.place; word = if won then 0 else word_at pack new.pass.seen try.place; load = false })
 
 abbrev pub entry : {P : Type 0} → Caller → Event P → Entry P
 entry by event = record { by = by; event = event }
@@ -38,8 +46,8 @@ MayMake {P} meld limits seen j c k =
     (more : History P) → IsPrefix seen more → IsLegal meld limits more → made_at more j ≡ None → MaySpawn meld limits more j c k
 
 -- .. while the member hasn't arrived, it may
-abbrev pub MayCome : {P : Type 0} → (P → P → P) → Limits → History P → ℕ → ℕ → ℕ → Type 0
-MayCome {P} meld limits seen c k r =
+abbrev pub MayArrive : {P : Type 0} → (P → P → P) → Limits → History P → ℕ → ℕ → ℕ → Type 0
+MayArrive {P} meld limits seen c k r =
     (more : History P) → IsPrefix seen more → IsLegal meld limits more → has_arrived more c k r ≡ false → MayFollow meld limits more (Arrive c k r)
 
 -- .. while the communicator isn't revoked, it may be

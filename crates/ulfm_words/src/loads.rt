@@ -6,9 +6,9 @@ ghost use Rattle.ulfm_model.specs.Laws.{summary_of};
 ghost use Rattle.ulfm_model.specs.declared.contribution.Slot.{Slot};
 ghost use Rattle.ulfm_model.specs.Terms.{made_at};
 ghost use Rattle.ulfm_model.specs.declared.place.Place.TheVariants.{List as ListAt, Comm as CommAt, Revoked as RevokedAt, Slot as SlotAt, Arrival as ArrivalAt};
-ghost use Rattle.ulfm_words.specs.Blocks.{Peeks, Says};
+ghost use Rattle.ulfm_words.specs.Blocks.{Peeks, BlockSays};
 ghost use Rattle.ulfm_words.specs.Places.{IsCell, IsWithin};
-ghost use Rattle.ulfm_words.specs.Steps.{IsOf, Loads};
+ghost use Rattle.ulfm_words.specs.Steps.{view_of, IsView, Loads};
 
 use crate::summaries::said_in;
 use crate::words::Words;
@@ -25,9 +25,9 @@ pub fn load_failure<P: Packed, A: Allocator, W: Words<P, A>>(
     pass: &mut W::Pass,
     index: u16,
 ) -> Option<u16>
-    requires of { IsOf P.meld (W.name words.now) (W.sight pass.old) }
+    requires of { IsView P.meld (view_of (W.name words.now) (W.sight pass.old)) }
     requires within { index < (W.name words.now).limits.ranks }
-    ensures loads { Loads P.meld P.pack W.alone (W.name words.now) (ListAt index) (W.sight pass.old) (W.sight pass.new) }
+    ensures loads { Loads P.meld P.pack W.alone (ListAt index) (view_of (W.name words.now) (W.sight pass.old)) (view_of (W.name words.now) (W.sight pass.new)) }
     ensures rank { result ≡ slice_get (failures (W.sight pass.new).seen) index }
     ensures below { IfSome result (λ r. r < (W.name words.now).limits.ranks) }
 {
@@ -47,9 +47,10 @@ pub fn load_summary<P: Packed, A: Allocator, W: Words<P, A>>(
     round: u16,
     rank: u16,
 ) -> Option<Summary<P>>
-    requires of { IsOf P.meld (W.name words.now) (W.sight pass.old) }
+    requires of { IsView P.meld (view_of (W.name words.now) (W.sight pass.old)) }
     requires within { IsCell (W.name words.now).limits comm round rank }
-    ensures loads { Loads P.meld P.pack W.alone (W.name words.now) (SlotAt comm round rank) (W.sight pass.old) (W.sight pass.new) }
+    ensures loads { Loads P.meld P.pack W.alone (SlotAt comm round rank) (view_of (W.name words.now) (W.sight pass.old))
+        (view_of (W.name words.now) (W.sight pass.new)) }
     ensures summary { MatchOption result (slot (W.sight pass.new).seen comm round rank ≡ None) (λ all. (s : Slot P)
         × (slot (W.sight pass.new).seen comm round rank ≡ Some s) × (all ≡ summary_of s)) }
 {
@@ -67,9 +68,9 @@ pub fn load_comm<P: Packed, A: Allocator, W: Words<P, A>>(
     pass: &mut W::Pass,
     comm: u16,
 ) -> Option<(u16, u16)>
-    requires of { IsOf P.meld (W.name words.now) (W.sight pass.old) }
+    requires of { IsView P.meld (view_of (W.name words.now) (W.sight pass.old)) }
     requires within { IsWithin (W.name words.now).limits (CommAt comm) }
-    ensures loads { Loads P.meld P.pack W.alone (W.name words.now) (CommAt comm) (W.sight pass.old) (W.sight pass.new) }
+    ensures loads { Loads P.meld P.pack W.alone (CommAt comm) (view_of (W.name words.now) (W.sight pass.old)) (view_of (W.name words.now) (W.sight pass.new)) }
     ensures made { result ≡ made_at (W.sight pass.new).seen comm }
 {
     let word = words.load(pass, Place::Comm { comm });
@@ -85,9 +86,9 @@ pub fn load_revocation<P: Packed, A: Allocator, W: Words<P, A>>(
     pass: &mut W::Pass,
     comm: u16,
 ) -> bool
-    requires of { IsOf P.meld (W.name words.now) (W.sight pass.old) }
+    requires of { IsView P.meld (view_of (W.name words.now) (W.sight pass.old)) }
     requires within { comm < (W.name words.now).limits.comms }
-    ensures loads { Loads P.meld P.pack W.alone (W.name words.now) (RevokedAt comm) (W.sight pass.old) (W.sight pass.new) }
+    ensures loads { Loads P.meld P.pack W.alone (RevokedAt comm) (view_of (W.name words.now) (W.sight pass.old)) (view_of (W.name words.now) (W.sight pass.new)) }
     ensures revoked { result ≡ is_revoked (W.sight pass.new).seen comm }
 {
     words.load(pass, Place::Revoked { comm }) != 0
@@ -101,9 +102,10 @@ pub fn load_arrival<P: Packed, A: Allocator, W: Words<P, A>>(
     round: u16,
     rank: u16,
 ) -> bool
-    requires of { IsOf P.meld (W.name words.now) (W.sight pass.old) }
+    requires of { IsView P.meld (view_of (W.name words.now) (W.sight pass.old)) }
     requires within { IsCell (W.name words.now).limits comm round rank }
-    ensures loads { Loads P.meld P.pack W.alone (W.name words.now) (ArrivalAt comm round rank) (W.sight pass.old) (W.sight pass.new) }
+    ensures loads { Loads P.meld P.pack W.alone (ArrivalAt comm round rank) (view_of (W.name words.now) (W.sight pass.old))
+        (view_of (W.name words.now) (W.sight pass.new)) }
     ensures arrived { result ≡ has_arrived (W.sight pass.new).seen comm round rank }
 {
     words.load(pass, Place::Arrival { comm, round, rank }) != 0
@@ -116,10 +118,10 @@ pub fn load_said<P: Packed, A: Allocator, W: Words<P, A>>(
     pass: &mut W::Pass,
     block: Block,
 ) -> Option<Summary<P>>
-    requires of { IsOf P.meld (W.name words.now) (W.sight pass.old) }
+    requires of { IsView P.meld (view_of (W.name words.now) (W.sight pass.old)) }
     requires within { IsBlockWithin (W.name words.now).limits block }
-    ensures peeks { Peeks P.meld W.alone (W.name words.now) block (is_some result) (W.sight pass.old) (W.sight pass.new) }
-    ensures said { IfSome result (Says P.meld (W.name words.now).limits.ranks (W.sight pass.new).seen block) }
+    ensures peeks { Peeks P.meld W.alone block (is_some result) (view_of (W.name words.now) (W.sight pass.old)) (view_of (W.name words.now) (W.sight pass.new)) }
+    ensures said { IfSome result (BlockSays P.meld (W.name words.now).limits.ranks (W.sight pass.new).seen block) }
 {
     let word = words.load_block(pass, block);
     if word == 0 {

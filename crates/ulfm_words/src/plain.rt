@@ -5,7 +5,7 @@ ghost use Rattle.ulfm_model.specs.Words.{IsUnfit, MayOpen, word_at};
 ghost use Rattle.ulfm_words.specs.Blocks.{Caches, LoadsBlock};
 ghost use Rattle.ulfm_words.specs.Pass.{IsNth, plain_name};
 ghost use Rattle.ulfm_words.specs.Places.{IsWithin};
-ghost use Rattle.ulfm_words.specs.Steps.{IsOf, IsNew, Loads, MaySet, Sets};
+ghost use Rattle.ulfm_words.specs.Steps.{coding, view_of, IsView, IsNew, Loads, MaySet, Sets};
 
 use crate::row::Row;
 use crate::step::{Last, Site, Step};
@@ -192,7 +192,7 @@ impl<P: Packed, A: Allocator + Copy> PlainPass<P, A> {
     /// Words that are all 0. All memory that later steps need is taken here.
     pub fn new(alloc: A, limits: Limits) -> Result<PlainPass<P, A>, AllocError>
         requires { MayOpen limits }
-        ensures { IfOk result (λ p. IsNew P.meld (plain_name limits) p) }
+        ensures { IfOk result (λ p. IsNew P.meld (view_of (plain_name limits) p)) }
     {
         let row = Row::new(alloc, limits)?;
         let journal = Vec::with_capacity(alloc, limits.size() as usize)?;
@@ -247,7 +247,7 @@ impl<P: Packed, A: Allocator + Copy> PlainPass<P, A> {
 
     /// What was seen is legal. It does nothing.
     pub fn known_legal(&self)
-        ensures { IsOf P.meld self.now.name self.now }
+        ensures { IsView P.meld (view_of self.now.name self.now) }
     {
         let _ = &self.row;
     }
@@ -256,7 +256,7 @@ impl<P: Packed, A: Allocator + Copy> PlainPass<P, A> {
     #[inline(always)]
     pub fn load(&mut self, place: Place) -> u64
         requires { IsWithin self.old.name.limits place }
-        ensures loads { Loads P.meld P.pack true self.old.name place self.old self.new }
+        ensures loads { Loads P.meld P.pack true place (view_of self.old.name self.old) (view_of self.old.name self.new) }
         ensures word { result ≡ word_at P.pack self.new.seen place }
     {
         let word = self.row.get(place);
@@ -271,7 +271,7 @@ impl<P: Packed, A: Allocator + Copy> PlainPass<P, A> {
     pub fn set_once(&mut self, step: Step) -> Result<(), u64>
         requires within { IsWithin self.old.name.limits step.place }
         requires may { MaySet P.meld P.pack P.unpack self.old.name.limits self.old.seen step }
-        ensures { Sets P.meld P.pack P.unpack true self.old.name step self.old result self.new }
+        ensures { Sets P.meld (coding P.pack P.unpack) true step (view_of self.old.name self.old) result (view_of self.old.name self.new) }
     {
         let place = step.place;
         let word = self.row.set_once(place, step.word);
@@ -288,9 +288,9 @@ impl<P: Packed, A: Allocator + Copy> PlainPass<P, A> {
     /// The word of a block.
     #[inline(always)]
     pub fn load_block(&mut self, block: Block) -> u64
-        requires of { IsOf P.meld self.old.name self.old }
+        requires of { IsView P.meld (view_of self.old.name self.old) }
         requires within { IsBlockWithin self.old.name.limits block }
-        ensures { LoadsBlock P.meld P.pack true self.old.name block result self.old self.new }
+        ensures { LoadsBlock P.meld P.pack true block result (view_of self.old.name self.old) (view_of self.old.name self.new) }
     {
         let stood = self.blocks[self.row.block_index(block)];
         let at = Site::Block(block);
@@ -309,10 +309,10 @@ impl<P: Packed, A: Allocator + Copy> PlainPass<P, A> {
     /// Sets a block's word that is 0, or gives the word that stands. It takes no memory.
     #[inline(always)]
     pub fn cache(&mut self, block: Block, word: u64) -> Result<(), u64>
-        requires of { IsOf P.meld self.old.name self.old }
+        requires of { IsView P.meld (view_of self.old.name self.old) }
         requires within { IsBlockWithin self.old.name.limits block }
         requires may { IsBlock P.meld P.pack self.old.name.limits.ranks self.old.seen block word }
-        ensures { Caches P.meld true self.old.name block word self.old result self.new }
+        ensures { Caches P.meld true block word (view_of self.old.name self.old) result (view_of self.old.name self.new) }
     {
         let index = self.row.block_index(block);
         let stood = self.blocks[index];

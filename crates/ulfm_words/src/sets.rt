@@ -8,8 +8,8 @@ ghost use Rattle.ulfm_model.specs.declared.contribution.Slot.{Slot};
 ghost use Rattle.ulfm_words.specs.Entries.{put_of};
 ghost use Rattle.ulfm_words.specs.Places.{IsCell, IsWithin};
 ghost use Rattle.ulfm_words.specs.Slots.{slot_in};
-ghost use Rattle.ulfm_words.specs.Steps.{IsOf};
-ghost use Rattle.ulfm_words.specs.Tries.{Tries, entry, MayDeclare, MayPut, MayMake, MayCome, MayEnd};
+ghost use Rattle.ulfm_words.specs.Steps.{view_of, IsView};
+ghost use Rattle.ulfm_words.specs.Tries.{attempt, Tries, entry, MayDeclare, MayPut, MayMake, MayArrive, MayEnd};
 
 use crate::step::Step;
 use crate::summaries::{read_slot, slot_word};
@@ -28,10 +28,11 @@ pub fn set_failure<P: Packed, A: Allocator, W: Words<P, A>>(
     index: u16,
     rank: u16,
 ) -> Result<(), u16>
-    requires of { IsOf P.meld (W.name words.now) (W.sight pass.old) }
+    requires of { IsView P.meld (view_of (W.name words.now) (W.sight pass.old)) }
     requires within { index < (W.name words.now).limits.ranks }
     requires may { MayDeclare P.meld (W.name words.now).limits (W.sight pass.old).seen index rank }
-    ensures tries { Tries P.meld P.pack W.alone (W.name words.now) (ListAt index) (entry by (Fail rank)) (is_ok result) (W.sight pass.old) (W.sight pass.new) }
+    ensures tries { Tries P.meld P.pack W.alone (attempt (ListAt index) (entry by (Fail rank))) (is_ok result) (view_of (W.name words.now) (W.sight pass.old))
+        (view_of (W.name words.now) (W.sight pass.new)) }
     ensures stands { MatchResult result (λ _. slice_get (failures (W.sight pass.new).seen) index ≡ Some rank)
         (λ r. slice_get (failures (W.sight pass.new).seen) index ≡ Some r) }
 {
@@ -57,11 +58,11 @@ fn try_slot<P: Packed, A: Allocator, W: Words<P, A>>(
     rank: u16,
     put: Slot<P>,
 ) -> Result<(), u64>
-    requires of { IsOf P.meld (W.name words.now) (W.sight pass.old) }
+    requires of { IsView P.meld (view_of (W.name words.now) (W.sight pass.old)) }
     requires within { IsCell (W.name words.now).limits comm round rank }
     requires may { MayPut P.meld (W.name words.now).limits (W.sight pass.old).seen comm round rank put }
-    ensures tries { Tries P.meld P.pack W.alone (W.name words.now) (SlotAt comm round rank) (entry by (put_of comm round rank put)) (is_ok result)
-        (W.sight pass.old) (W.sight pass.new) }
+    ensures tries { Tries P.meld P.pack W.alone (attempt (SlotAt comm round rank) (entry by (put_of comm round rank put))) (is_ok result)
+        (view_of (W.name words.now) (W.sight pass.old)) (view_of (W.name words.now) (W.sight pass.new)) }
     ensures stands { MatchResult result (λ _. slot (W.sight pass.new).seen comm round rank ≡ Some put) (λ word. (s : Slot P) × (slot_in P.unpack word ≡ Some s)
         × (slot (W.sight pass.new).seen comm round rank ≡ Some s)) }
 {
@@ -86,11 +87,11 @@ pub fn set_slot<P: Packed, A: Allocator, W: Words<P, A>>(
     rank: u16,
     put: Slot<P>,
 ) -> Result<(), Slot<P>>
-    requires of { IsOf P.meld (W.name words.now) (W.sight pass.old) }
+    requires of { IsView P.meld (view_of (W.name words.now) (W.sight pass.old)) }
     requires within { IsCell (W.name words.now).limits comm round rank }
     requires may { MayPut P.meld (W.name words.now).limits (W.sight pass.old).seen comm round rank put }
-    ensures tries { Tries P.meld P.pack W.alone (W.name words.now) (SlotAt comm round rank) (entry by (put_of comm round rank put)) (is_ok result)
-        (W.sight pass.old) (W.sight pass.new) }
+    ensures tries { Tries P.meld P.pack W.alone (attempt (SlotAt comm round rank) (entry by (put_of comm round rank put))) (is_ok result)
+        (view_of (W.name words.now) (W.sight pass.old)) (view_of (W.name words.now) (W.sight pass.new)) }
     ensures stands { MatchResult result (λ _. slot (W.sight pass.new).seen comm round rank ≡ Some put)
         (λ s. slot (W.sight pass.new).seen comm round rank ≡ Some s) }
 {
@@ -111,11 +112,11 @@ pub fn put_slot<P: Packed, A: Allocator, W: Words<P, A>>(
     rank: u16,
     put: Slot<P>,
 ) -> bool
-    requires of { IsOf P.meld (W.name words.now) (W.sight pass.old) }
+    requires of { IsView P.meld (view_of (W.name words.now) (W.sight pass.old)) }
     requires within { IsCell (W.name words.now).limits comm round rank }
     requires may { MayPut P.meld (W.name words.now).limits (W.sight pass.old).seen comm round rank put }
-    ensures tries { Tries P.meld P.pack W.alone (W.name words.now) (SlotAt comm round rank) (entry by (put_of comm round rank put)) result (W.sight pass.old)
-        (W.sight pass.new) }
+    ensures tries { Tries P.meld P.pack W.alone (attempt (SlotAt comm round rank) (entry by (put_of comm round rank put))) result
+        (view_of (W.name words.now) (W.sight pass.old)) (view_of (W.name words.now) (W.sight pass.new)) }
     ensures stands { MatchBool result (slot (W.sight pass.new).seen comm round rank ≡ Some put) ((s : Slot P)
         × (slot (W.sight pass.new).seen comm round rank ≡ Some s)) }
 {
@@ -134,12 +135,12 @@ pub fn set_comm<P: Packed, A: Allocator, W: Words<P, A>>(
     parent: u16,
     round: u16,
 ) -> Result<(), (u16, u16)>
-    requires of { IsOf P.meld (W.name words.now) (W.sight pass.old) }
+    requires of { IsView P.meld (view_of (W.name words.now) (W.sight pass.old)) }
     requires within { IsWithin (W.name words.now).limits (CommAt comm) }
     requires round { round < (W.name words.now).limits.rounds }
     requires may { MayMake P.meld (W.name words.now).limits (W.sight pass.old).seen comm parent round }
-    ensures tries { Tries P.meld P.pack W.alone (W.name words.now) (CommAt comm) (entry by (Spawn comm parent round)) (is_ok result) (W.sight pass.old)
-        (W.sight pass.new) }
+    ensures tries { Tries P.meld P.pack W.alone (attempt (CommAt comm) (entry by (Spawn comm parent round))) (is_ok result)
+        (view_of (W.name words.now) (W.sight pass.old)) (view_of (W.name words.now) (W.sight pass.new)) }
     ensures stands { MatchResult result (λ _. made_at (W.sight pass.new).seen comm ≡ Some (parent, round))
         (λ m. made_at (W.sight pass.new).seen comm ≡ Some m) }
 {
@@ -163,11 +164,11 @@ pub fn set_arrival<P: Packed, A: Allocator, W: Words<P, A>>(
     round: u16,
     rank: u16,
 ) -> bool
-    requires of { IsOf P.meld (W.name words.now) (W.sight pass.old) }
+    requires of { IsView P.meld (view_of (W.name words.now) (W.sight pass.old)) }
     requires within { IsCell (W.name words.now).limits comm round rank }
-    requires may { MayCome P.meld (W.name words.now).limits (W.sight pass.old).seen comm round rank }
-    ensures tries { Tries P.meld P.pack W.alone (W.name words.now) (ArrivalAt comm round rank) (entry by (Arrive comm round rank)) result (W.sight pass.old)
-        (W.sight pass.new) }
+    requires may { MayArrive P.meld (W.name words.now).limits (W.sight pass.old).seen comm round rank }
+    ensures tries { Tries P.meld P.pack W.alone (attempt (ArrivalAt comm round rank) (entry by (Arrive comm round rank))) result
+        (view_of (W.name words.now) (W.sight pass.old)) (view_of (W.name words.now) (W.sight pass.new)) }
     ensures stands { IsTrue (has_arrived (W.sight pass.new).seen comm round rank) }
 {
     let arrival = Step {
@@ -185,10 +186,11 @@ pub fn set_revocation<P: Packed, A: Allocator, W: Words<P, A>>(
     by: Caller,
     comm: u16,
 ) -> bool
-    requires of { IsOf P.meld (W.name words.now) (W.sight pass.old) }
+    requires of { IsView P.meld (view_of (W.name words.now) (W.sight pass.old)) }
     requires within { comm < (W.name words.now).limits.comms }
     requires may { MayEnd P.meld (W.name words.now).limits (W.sight pass.old).seen comm }
-    ensures tries { Tries P.meld P.pack W.alone (W.name words.now) (RevokedAt comm) (entry by (Revoke comm)) result (W.sight pass.old) (W.sight pass.new) }
+    ensures tries { Tries P.meld P.pack W.alone (attempt (RevokedAt comm) (entry by (Revoke comm))) result (view_of (W.name words.now) (W.sight pass.old))
+        (view_of (W.name words.now) (W.sight pass.new)) }
     ensures stands { IsTrue (is_revoked (W.sight pass.new).seen comm) }
 {
     let revocation = Step {

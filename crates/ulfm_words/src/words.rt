@@ -4,7 +4,7 @@ ghost use Rattle.ulfm_model.specs.Words.{MayOpen};
 ghost use Rattle.ulfm_model.specs.Words.{word_at};
 ghost use Rattle.ulfm_words.specs.Blocks.{Caches, LoadsBlock};
 ghost use Rattle.ulfm_words.specs.Places.{IsWithin};
-ghost use Rattle.ulfm_words.specs.Steps.{Name, Sight, Heard, IsOf, IsNew, Loads, MaySet, Sets, Tells, Learns};
+ghost use Rattle.ulfm_words.specs.Steps.{coding, view_of, Name, Sight, Heard, IsView, IsNew, Loads, MaySet, Sets, Tells, Learns};
 
 use crate::step::Step;
 use std::alloc::{AllocError, Allocator};
@@ -34,31 +34,31 @@ pub trait Words<P: Packed, A: Allocator> {
 
     /// One atomic load: the word that stands in what is then seen, 0 where no event of it sets the place.
     fn load(&self, pass: &mut Self::Pass, place: Place) -> u64
-        requires of { IsOf P.meld (name self.now) (sight pass.old) }
+        requires of { IsView P.meld (view_of (name self.now) (sight pass.old)) }
         requires within { IsWithin (name self.now).limits place }
-        ensures loads { Loads P.meld P.pack alone (name self.now) place (sight pass.old) (sight pass.new) }
+        ensures loads { Loads P.meld P.pack alone place (view_of (name self.now) (sight pass.old)) (view_of (name self.now) (sight pass.new)) }
         ensures word { result ≡ word_at P.pack (sight pass.new).seen place };
 
     /// One compare-exchange from 0: the step's event comes once, or the word that stands is given.
     fn set_once(&self, pass: &mut Self::Pass, step: Step) -> Result<(), u64>
-        requires of { IsOf P.meld (name self.now) (sight pass.old) }
+        requires of { IsView P.meld (view_of (name self.now) (sight pass.old)) }
         requires within { IsWithin (name self.now).limits step.place }
         requires may { MaySet P.meld P.pack P.unpack (name self.now).limits (sight pass.old).seen step }
-        ensures { Sets P.meld P.pack P.unpack alone (name self.now) step (sight pass.old) result (sight pass.new) };
+        ensures { Sets P.meld (coding P.pack P.unpack) alone step (view_of (name self.now) (sight pass.old)) result (view_of (name self.now) (sight pass.new)) };
 
     /// One atomic load of a block's word: 0, or the word of what its members say, each of which is settled.
     fn load_block(&self, pass: &mut Self::Pass, block: Block) -> u64
-        requires of { IsOf P.meld (name self.now) (sight pass.old) }
+        requires of { IsView P.meld (view_of (name self.now) (sight pass.old)) }
         requires within { IsBlockWithin (name self.now).limits block }
-        ensures { LoadsBlock P.meld P.pack alone (name self.now) block result (sight pass.old) (sight pass.new) };
+        ensures { LoadsBlock P.meld P.pack alone block result (view_of (name self.now) (sight pass.old)) (view_of (name self.now) (sight pass.new)) };
 
     /// One compare-exchange of a block's word from 0, to that of its settled members. No event comes of it, and whoever loses
     /// finds the same word.
     fn cache(&self, pass: &mut Self::Pass, block: Block, word: u64) -> Result<(), u64>
-        requires of { IsOf P.meld (name self.now) (sight pass.old) }
+        requires of { IsView P.meld (view_of (name self.now) (sight pass.old)) }
         requires within { IsBlockWithin (name self.now).limits block }
         requires may { IsBlock P.meld P.pack (name self.now).limits.ranks (sight pass.old).seen block word }
-        ensures { Caches P.meld alone (name self.now) block word (sight pass.old) result (sight pass.new) };
+        ensures { Caches P.meld alone block word (view_of (name self.now) (sight pass.old)) result (view_of (name self.now) (sight pass.new)) };
 
     /// How many atomic steps a pass has made, modulo 2^64. It is no step.
     fn steps_made(&self, pass: &Self::Pass) -> u64
@@ -67,7 +67,7 @@ pub trait Words<P: Packed, A: Allocator> {
     /// What a pass of these words has seen is legal. It does nothing.
     fn known_legal(&self, pass: &Self::Pass)
         requires { (sight pass.now).name ≡ name self.now }
-        ensures { IsOf P.meld (name self.now) (sight pass.now) };
+        ensures { IsView P.meld (view_of (name self.now) (sight pass.now)) };
 }
 
 /// Words as those know them who open worlds: passes are made of them, and what one pass has seen is told by it and learned by
@@ -83,16 +83,17 @@ pub trait OpenWords<P: Packed, A: Allocator>: Words<P, A> {
 
     /// A pass that has seen nothing.
     fn pass(&self, alloc: A) -> Result<Self::Pass, AllocError>
-        ensures { IfOk result (λ p. IsNew P.meld (Self.name self.now) (Self.sight p)) };
+        ensures { IfOk result (λ p. IsNew P.meld (view_of (Self.name self.now) (Self.sight p))) };
 
     /// What this pass has seen, to be handed to another.
     fn told(&self, pass: &Self::Pass) -> Self::Told
-        requires of { IsOf P.meld (Self.name self.now) (Self.sight pass.now) }
-        ensures { Tells tells_all (Self.name self.now) (Self.sight pass.now) (heard result) };
+        requires of { IsView P.meld (view_of (Self.name self.now) (Self.sight pass.now)) }
+        ensures { Tells tells_all (view_of (Self.name self.now) (Self.sight pass.now)) (heard result) };
 
     /// From now on the pass has seen what was told, too.
     fn learn(&self, pass: &mut Self::Pass, told: &Self::Told)
-        requires of { IsOf P.meld (Self.name self.now) (Self.sight pass.old) }
+        requires of { IsView P.meld (view_of (Self.name self.now) (Self.sight pass.old)) }
         requires told { (heard told.now).name ≡ Self.name self.now }
-        ensures { Learns P.meld Self.alone (Self.name self.now) (heard told.now) (Self.sight pass.old) (Self.sight pass.new) };
+        ensures { Learns P.meld Self.alone (heard told.now) (view_of (Self.name self.now) (Self.sight pass.old))
+            (view_of (Self.name self.now) (Self.sight pass.new)) };
 }

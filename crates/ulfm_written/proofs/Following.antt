@@ -8,12 +8,12 @@ use Rattle.ulfm_model.specs.declared.reply.Reply.TheVariants as reply
 use Rattle.ulfm_model.specs.Answers.{traits_of}
 use Rattle.ulfm_model.proofs.Lists.{each_append}
 use Rattle.ulfm_script.specs.declared.line_kind.{LineKind.{LineKind}, LineKind.TheVariants.{Lines, Long}}
-use Rattle.ulfm_script.specs.Scripts.{Asked, Language, asked_by, asked_last, asked_then, item_at}
+use Rattle.ulfm_script.specs.Scripts.{Parsed, Language, asked_by, asked_last, asked_then, item_at}
 use Rattle.ulfm_script.specs.declared.header_kind.HeaderKind.TheVariants.{Steps}
 use Rattle.ulfm_script.proofs.ScriptLemmas.{before_last}
 use Rattle.ulfm_trace_model.specs.declared.{line.Line.{Line}, step_line.StepLine.TheVariants.{Before, Called, Failed, Finished, Stepped}}
 use Rattle.ulfm_trace_model.specs.{Follows.{AreOf, Follows, IsAtOnce, IsPiece, fail_event, is_of, is_reply}, Traces.{Told, said_by}}
-use Rattle.ulfm_lines.specs.{LineTexts.{TraceLine}, StepLines.{ScriptStep, step_line_of}, Stepped.{IsStep, TraceState}}
+use Rattle.ulfm_lines.specs.{LineTexts.{TraceLine}, StepLines.{ScriptStep, step_line_of}, Stepped.{IsSpelledStep, TraceState}}
 use Rattle.ulfm_lines.proofs.StepsSpelled.{steps_found}
 use Rattle.ulfm_written.specs.Calls.{AllFit, CalledFits, calls_in, calls_of}
 
@@ -67,7 +67,7 @@ OneAtMost piece = AllFit piece × (calls_in piece ≤ 1)
 none_at_most : (piece : List (Told FlagAnd)) → AllFit piece × (calls_in piece ≡ 0) → OneAtMost piece
 none_at_most piece none = let zero = none.1 in (none.0, omega (arith, zero))
 
-pub piece_begins : (now : TraceState) (step : ScriptStep) (piece : List (Told FlagAnd)) → IsStep step → IsPiece now step piece → OneAtMost piece
+pub piece_begins : (now : TraceState) (step : ScriptStep) (piece : List (Told FlagAnd)) → IsSpelledStep step → IsPiece now step piece → OneAtMost piece
 piece_begins now (Called asked) piece spelled is =
     let rest = at_once asked is.0 is.2 in
     let zero = rest.1 in
@@ -81,7 +81,7 @@ piece_begins now (Failed r) piece spelled is =
     subst OneAtMost (sym is.2) (((codes "fail " ++ decimal r, (spelled.1.0, refl)), rest.0), omega (arith, zero))
 
 -- a trace that follows a script
-pub follows_begins : (now : TraceState) (lines : List ScriptStep) (trace : List (Told FlagAnd)) → AllByRecursion IsStep lines → Follows now lines trace → AllFit trace × (calls_in trace ≤ length lines)
+pub follows_begins : (now : TraceState) (lines : List ScriptStep) (trace : List (Told FlagAnd)) → AllByRecursion IsSpelledStep lines → Follows now lines trace → AllFit trace × (calls_in trace ≤ length lines)
 follows_begins now [] trace steps is = subst (λ (t : List (Told FlagAnd)). AllFit t × (calls_in t ≤ 0)) (sym is) (tt, omega arith)
 follows_begins now (line ∷ lines) trace steps is =
     let one = piece_begins now line is.0 steps.0 is.3 in
@@ -106,18 +106,18 @@ module _ (Prints : Limits → List ScriptStep → List ℕ → Type 0) (Finds : 
 
   -- what lines ask for up to their first fault are steps, and with the header there are at most 100,000
   pub lines_spell : (number : ℕ) (lines : List (List ℕ)) (rest : List ℕ)
-      → AllByRecursion IsStep (asked_by (StepLanguage Prints Finds) number lines rest).items × (length (asked_by (StepLanguage Prints Finds) number lines rest).items ≤ 100001 - number)
+      → AllByRecursion IsSpelledStep (asked_by (StepLanguage Prints Finds) number lines rest).items × (length (asked_by (StepLanguage Prints Finds) number lines rest).items ≤ 100001 - number)
   lines_spell number [] rest = go rest
     where
-      go : (rest : List ℕ) → AllByRecursion IsStep (asked_last {X = ScriptStep} number rest).items × (length (asked_last {X = ScriptStep} number rest).items ≤ 100001 - number)
+      go : (rest : List ℕ) → AllByRecursion IsSpelledStep (asked_last {X = ScriptStep} number rest).items × (length (asked_last {X = ScriptStep} number rest).items ≤ 100001 - number)
       go [] = (tt, omega arith)
       go (x ∷ xs) = (tt, omega arith)
   lines_spell number (line ∷ lines) rest =
       go (item_at (StepLanguage Prints Finds) number line) refl (asked_by (StepLanguage Prints Finds) (number + 1) lines rest) (lines_spell (number + 1) lines rest)
     where
-      go : (read : Result ScriptStep LineKind) → item_at (StepLanguage Prints Finds) number line ≡ read → (more : Asked ScriptStep)
-          → AllByRecursion IsStep more.items × (length more.items ≤ 100001 - (number + 1))
-          → AllByRecursion IsStep (asked_then number read more).items × (length (asked_then number read more).items ≤ 100001 - number)
+      go : (read : Result ScriptStep LineKind) → item_at (StepLanguage Prints Finds) number line ≡ read → (more : Parsed ScriptStep)
+          → AllByRecursion IsSpelledStep more.items × (length more.items ≤ 100001 - (number + 1))
+          → AllByRecursion IsSpelledStep (asked_then number read more).items × (length (asked_then number read more).items ≤ 100001 - number)
       go (Err kind) is more behind = (tt, omega arith)
       go (Ok step) is more behind =
           let few = behind.1 in

@@ -10,7 +10,7 @@ use Rattle.ulfm_model.specs.{History.{History, IsLegal, first_ranks, has}, Recor
 use Rattle.ulfm_model.proofs.{Histories.{legal_push}, LeftRuns.{call_fits, left_keeps}, LeftSound.{new_fits}, Lists.{all_has, each_filter, each_from, each_push, find_holds}, Stable.{fits_stays}}
 use Rattle.ulfm_script.specs.Spelling.{IsSpelled}
 use Rattle.ulfm_trace_model.specs.declared.line.Line.{Line}
-use Rattle.ulfm_trace_model.specs.{Laws.{IsAnswer, IsRanksAnswer}, Traces.{MayCome, Under, after, after_reply, call_by, caller_of, found_by, is_owned, nothing, record_of, records_after, same_caller, taken_in, with_event}}
+use Rattle.ulfm_trace_model.specs.{Laws.{IsAnswer, IsRanksAnswer}, Traces.{MayCome, Under, after, after_reply, call_by, caller_of, found_by, is_owned, nothing, record_in, records_after, same_caller, taken_in, with_event}}
 use Rattle.ulfm_trace_model.proofs.{Callers.{each_change, same_is}, Kept.{find_other_record}}
 use Rattle.ulfm_written.specs.Calls.{CalledFits}
 use Rattle.ulfm_lines.specs.{LineTexts.{TraceEvent, TraceLine}, Stepped.{TraceState}}
@@ -51,7 +51,7 @@ under now by u kept at =
     record { begun = here.0; mine = same_is (caller_of u) by here.1 }
 
 -- what a reply leaves of the record of the rank whose call it answers
-pub left_fits : (now : TraceState) (r : ℕ) (u : Under FlagAnd) (point : ℕ) (reply : Reply FlagAnd) → Keeps now → IsUnder now (Caller.Rank r) u → (own : Record) → record_of now r ≡ Some own
+pub left_fits : (now : TraceState) (r : ℕ) (u : Under FlagAnd) (point : ℕ) (reply : Reply FlagAnd) → Keeps now → IsUnder now (Caller.Rank r) u → (own : Record) → record_in now r ≡ Some own
     → IsAnswer flag_meld now (Caller.Rank r) u point reply → Fits flag_meld now.limits now.history (taken_in now u point reply own)
 left_fits now r u point reply kept is own at answer = go (subst (IsRanksAnswer flag_meld now u point reply) at answer)
   where

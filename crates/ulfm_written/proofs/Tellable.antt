@@ -19,7 +19,7 @@ use Rattle.ulfm_words.specs.Places.{IsCell}
 use Rattle.ulfm_words.proofs.Ranks.{failures_le, members_below, place_within, spawns_below}
 use Rattle.ulfm_script.specs.{Calls.{ScriptCall}, Spelling.{IsSpelled}}
 use Rattle.ulfm_trace_model.specs.declared.line.Line.{Line}
-use Rattle.ulfm_trace_model.specs.{Laws.{IsAnswer}, Traces.{AnswersCall, AnswersRank, MayCome, Under, call_by, found_by, listed, record_of, taken_in, view_at}}
+use Rattle.ulfm_trace_model.specs.{Laws.{IsAnswer}, Traces.{AnswersCall, AnswersRank, MayCome, Under, call_by, found_by, listed, record_in, taken_in, view_at}}
 use Rattle.ulfm_lines.specs.{LineTexts.{TraceEvent, TraceLine}, Stepped.{TraceState}, Telling.{AreRanks, CallerFits, EventFits, LineFits, PlaceFits, ReplyFits}}
 use Rattle.ulfm_written.specs.Calls.{CalledFits}
 use Rattle.ulfm_written.proofs.{Lasting.{IsAnswered, IsUnder, Keeps, left_fits, under}, Sizes.{events_few}}
@@ -256,7 +256,7 @@ module _ (now : TraceState) (wide : MayOpen now.limits) (kept : Keeps now) where
 
     -- a rank's reply
     by_refusal : (own : Record) (told : Reply FlagAnd) (held : Option Held) (one : Option Refusal) → ((x : Held) → held ≡ Some x → x.acked ≤ 1024) → refusal_on own held u.asked ≡ one
-        → Fits flag_meld now.limits now.history (left_of own told) → RepliesBy flag_meld now.limits (view_at now u point) own held u.asked told one → CanTell told
+        → Fits flag_meld now.limits now.history (left_of own told) → RepliesBy (λ x. Replies flag_meld now.limits (view_at now u point) own x u.asked told) told held one → CanTell told
     by_refusal own told held (Some one) few is left by = refuses told one by (refused_not_memory own held u.asked one is)
     by_refusal own told (Some x) None few is left by = replies own x u.asked told refl (few x refl) left by
     by_refusal own told None None few is left by = absurd by
@@ -271,7 +271,7 @@ module _ (now : TraceState) (wide : MayOpen now.limits) (kept : Keeps now) where
             let acked = (held_fits flag_meld now.limits now.history own (comm_of u.asked) x fits at).0.acked in
             let all = failed_few now.limits wide now.history kept.legal x.comm in omega (arith, acked, all)
 
-    rank_answers : (r : ℕ) (told : Reply FlagAnd) (o : Option Record) → record_of now r ≡ o → IsUnder now (Caller.Rank r) u → IsAnswer flag_meld now (Caller.Rank r) u point told
+    rank_answers : (r : ℕ) (told : Reply FlagAnd) (o : Option Record) → record_in now r ≡ o → IsUnder now (Caller.Rank r) u → IsAnswer flag_meld now (Caller.Rank r) u point told
         → AnswersRank flag_meld now u point told o → CanTell told
     rank_answers r told None at is answer answers = refuses told refusal.NoSuchRank answers (λ e. cc e)
     rank_answers r told (Some own) at is answer (inl again) = refuses told refusal.SelfFailed again.1 (λ e. cc e)
@@ -284,7 +284,7 @@ module _ (now : TraceState) (wide : MayOpen now.limits) (kept : Keeps now) where
 
     call_answers : (by : Caller) (told : Reply FlagAnd) → IsUnder now by u → IsAnswer flag_meld now by u point told → AnswersCall flag_meld now by u point told → CanTell told
     call_answers Caller.Outside told is answer answers = outside_answers told answers
-    call_answers (Caller.Rank r) told is answer answers = rank_answers r told (record_of now r) refl is answer answers
+    call_answers (Caller.Rank r) told is answer answers = rank_answers r told (record_in now r) refl is answer answers
 
   -- a line that may come can be told
   pub line_tells : (group : List ℕ) (line : TraceLine) → MayCome flag_meld now group line → CalledFits line → IsAnswered now line → IsTellable group line

@@ -7,12 +7,12 @@ use Rattle.ulfm_model.specs.declared.limits.Limits.{Limits}
 use Rattle.ulfm_model.specs.{History.{IsLegal}, Words.{MayOpen, size_of}}
 use Rattle.ulfm_model.proofs.Lists.{each_append}
 use Rattle.ulfm_script.specs.declared.{header_kind.HeaderKind.TheVariants.{Steps, Trace}, line_kind.LineKind.{LineKind}, line_kind.LineKind.TheVariants.{Limits as BadLimits, Long}}
-use Rattle.ulfm_script.specs.{Written.{Begins}, Ends.{EndsAlone, FindsFault, PrintsAll, PrintsSome, RunEnd, Known, PrintsFrom, RunsAll}, Headers.{form_from, header_of, header_text, is_up_to, may_open}, Scripts.{Language, Script, asked_by, header_at, lines_from, no_lines, rest_from, script_by, script_of, with_header}, Words.{word_of}}
+use Rattle.ulfm_script.specs.{Written.{IsBeginning}, Ends.{EndsAlone, FindsFault, PrintsAll, PrintsSome, RunEnd, KnownText, PrintsFrom, RunsAll}, Headers.{form_from, header_of, header_text, is_up_to, may_open}, Scripts.{Language, Script, asked_by, header_at, lines_from, no_lines, rest_from, script_by, script_of, with_header}, Words.{first_word}}
 use Rattle.ulfm_script.proofs.{ScriptLemmas.{lines_step, rest_step}, WordLemmas.{step_found}}
 use Rattle.ulfm_trace_model.specs.declared.{line.Line.{Line}, step_line.StepLine.TheVariants.{Failed}}
 use Rattle.ulfm_trace_model.specs.{Traces.{AreLegalAfter, IsLegalTrace, MayCome, Told, after, nothing, said_by}}
 use Rattle.ulfm_trace_model.proofs.{Answered.{replies_answered}, Kept.{kept_along, kept_nothing as nothing_kept, limits_stay}, Parts.{legal_parts, said_append}}
-use Rattle.ulfm_lines.specs.{LineTexts.{TraceLine, line_text, lines_text}, StepLines.{ScriptStep}, Stepped.{IsStep, TraceState}, Telling.{Tells}}
+use Rattle.ulfm_lines.specs.{LineTexts.{TraceLine, line_text, lines_text}, StepLines.{ScriptStep}, Stepped.{IsSpelledStep, TraceState}, Telling.{TextTells}}
 use Rattle.ulfm_lines.proofs.ReadLemmas.{printed_told}
 use Rattle.ulfm_step_script.specs.{FailingScripts.{failing_scripts, FailsAfter, FailsSomewhere, FindsOpenBehind, LeavesDue, RunsFailing}, StepScripts.{FindsOpenCall, PrintsTrace, RunsSteps, trace_text}}
 use Rattle.ulfm_trace.specs.{Checks.{Checks}, Texts.{AreTold, IsFirstBad, IsLegalText, TraceLines}}
@@ -68,10 +68,10 @@ text_same group (Line.Replied by point told) = refl
 text_short : (group : List ℕ) (line : TraceLine) → IsTellable group line → Short 8192 (line_text group line)
 text_short group line is = subst (Short 8192) (text_same group line) (line_short (told_group group line) line is.fits is.few)
 
-text_tells : (group : List ℕ) (line : TraceLine) → IsTellable group line → Tells (line_text group line) (told_group group line) line
+text_tells : (group : List ℕ) (line : TraceLine) → IsTellable group line → TextTells (line_text group line) (told_group group line) line
 text_tells group line is =
     let short = line_short (told_group group line) line is.fits is.few in
-    subst (λ (t : List ℕ). Tells t (told_group group line) line) (text_same group line) (printed_told (told_group group line) line is.fits short.few)
+    subst (λ (t : List ℕ). TextTells t (told_group group line) line) (text_same group line) (printed_told (told_group group line) line is.fits short.few)
 
 texts_tell : (trace : TraceLines) → AllTellable trace → AreTold (texts trace) (map listing trace)
 texts_tell [] all = tt
@@ -134,7 +134,7 @@ legal_text limits wide trace legal fits few =
 found_legal : (text : List ℕ) → IsLegalText text → IsFoundLegal text
 found_legal text legal = record { legal = legal; only = only }
   where
-    only : (left : Known) (verdict : Verdict) → Checks (Some text) left (Ok verdict) → verdict ≡ Legal
+    only : (left : KnownText) (verdict : Verdict) → Checks (Some text) left (Ok verdict) → verdict ≡ Legal
     only left Legal checks = refl
     only left (Illegal line why) checks =
         let bad : IsFirstBad text line why = subst (λ (t : List ℕ). IsFirstBad t line why) checks.2.1 checks.2.2 in
@@ -176,14 +176,14 @@ opened false x y is = absurd (cc is)
 header_opens : (line : List ℕ) (limits : Limits) → header_of Steps line ≡ Ok limits → MayOpen limits
 unfolding header_of
 header_opens line limits is =
-    let a = step_found (form_from Steps (word_of line)) (λ l. if may_open l then Ok l else Err BadLimits) limits is in
+    let a = step_found (form_from Steps (first_word line)) (λ l. if may_open l then Ok l else Err BadLimits) limits is in
     let both = opened (may_open a.0) a.0 limits a.2 in
     subst MayOpen both.1 (opens_if a.0 both.0)
 
 -- the items of a script of steps in a world of these limits
 pub record Spells (limits : Limits) (items : List ScriptStep) : Type 0 where
   wide : MayOpen limits
-  steps : AllByRecursion IsStep items
+  steps : AllByRecursion IsSpelledStep items
   few : length items ≤ 99999
 
 -- each of both parts is one
@@ -192,13 +192,13 @@ each_parts Q [] ys all = (tt, all)
 each_parts Q (x ∷ xs) ys all = let more = each_parts Q xs ys all.1 in ((all.0, more.0), more.1)
 
 -- and so are the first of them
-first_spell : (limits : Limits) (first items : List ScriptStep) → Begins first items → Spells limits items → Spells limits first
+first_spell : (limits : Limits) (first items : List ScriptStep) → IsBeginning first items → Spells limits items → Spells limits first
 first_spell limits first items begins spells =
     let all = spells.few in
     let size : length first + length begins.0 ≡ length items = sym (length-append first begins.0) ∙ ap length begins.1 in
     record {
       wide = spells.wide;
-      steps = (each_parts IsStep first begins.0 (subst (AllByRecursion IsStep) (sym begins.1) spells.steps)).0;
+      steps = (each_parts IsSpelledStep first begins.0 (subst (AllByRecursion IsSpelledStep) (sym begins.1) spells.steps)).0;
       few = omega (arith, all, size);
     }
 
@@ -268,7 +268,7 @@ module _ (Prints : Limits → List ScriptStep → List ℕ → Type 0) (Finds : 
   scripts = StepLanguage Prints Finds
 
   -- what the first items of a text print
-  first_legal : (text : List ℕ) (o : Option Limits) (first : List ScriptStep) (out : List ℕ) → (script_of scripts text).limits ≡ o → Begins first (script_of scripts text).items
+  first_legal : (text : List ℕ) (o : Option Limits) (first : List ScriptStep) (out : List ℕ) → (script_of scripts text).limits ≡ o → IsBeginning first (script_of scripts text).items
       → PrintsFrom scripts o first out → IsNoneOrLegal out
   first_legal text None first out is begins printed = inl printed
   first_legal text (Some limits) first out is begins printed =
@@ -284,7 +284,7 @@ module _ (Prints : Limits → List ScriptStep → List ℕ → Type 0) (Finds : 
   some_legal text out (inr some) = first_legal text (script_of scripts text).limits some.0 out refl some.1 some.2
 
   -- what a run has written
-  pub ended_legal : (known left old new : Known) (ended : RunEnd) → EndsAlone scripts known left old new ended → WroteLegal old new ended
+  pub ended_legal : (known left old new : KnownText) (ended : RunEnd) → EndsAlone scripts known left old new ended → WroteLegal old new ended
   ended_legal known left old new (Ok done) ends =
       let run : RunsAll scripts known None (Appends old new) = ends.2.0 in
       let is = text_opens Prints Finds run.text run.faults in
@@ -300,7 +300,7 @@ module _ (Prints : Limits → List ScriptStep → List ℕ → Type 0) (Finds : 
   ended_legal known left old new (Err fault.Read) ends = let stops = ends.2.0 in (stops.out, stops.told, all_legal stops.lines stops.out stops.printed)
   ended_legal known left old new (Err fault.Write) ends = let stops = ends.2 in (stops.out, stops.told, some_legal stops.text stops.out stops.printed)
 
-pub written_legal : (known left old new : Known) (ended : RunEnd) → RunsSteps known left old new ended → WroteLegal old new ended
+pub written_legal : (known left old new : KnownText) (ended : RunEnd) → RunsSteps known left old new ended → WroteLegal old new ended
 written_legal = ended_legal PrintsTrace FindsOpenCall trace_legal
 
 -- a declaration in between begins one call more
@@ -332,7 +332,7 @@ after_legal at r number limits items out lt spells failed =
     found_legal out (subst IsLegalText (sym failed.out_is) legal)
 
 -- what a run to its end has written in which a rank was declared in between
-pub failing_legal : (at rank number : ℕ) (known old new : Known) → rank < 1024 → RunsFailing at rank number known old new → GotLegal old new
+pub failing_legal : (at rank number : ℕ) (known old new : KnownText) → rank < 1024 → RunsFailing at rank number known old new → GotLegal old new
 failing_legal at rank number known old new lt run =
     let limits_are : (script_of failing_scripts run.text).limits ≡ Some run.limits = ap (λ (s : Script ScriptStep). s.limits) run.script_is in
     let items_are : (script_of failing_scripts run.text).items ≡ run.items = ap (λ (s : Script ScriptStep). s.items) run.script_is in
@@ -340,7 +340,7 @@ failing_legal at rank number known old new lt run =
     (run.out, run.told, after_legal at rank number run.limits run.items run.out lt spells run.has_run)
 
 -- and what any such run has written
-pub failing_ended_legal : (known left old new : Known) (ended : RunEnd) → EndsAlone failing_scripts known left old new ended → WroteLegal old new ended
+pub failing_ended_legal : (known left old new : KnownText) (ended : RunEnd) → EndsAlone failing_scripts known left old new ended → WroteLegal old new ended
 failing_ended_legal =
     ended_legal FailsSomewhere FindsOpenBehind
     (λ limits items out spells printed. after_legal printed.0 printed.1 printed.2 limits items out printed.3 spells printed.4)

@@ -6,7 +6,7 @@ use std::alloc::{AllocError, Global};
 use std::sync::Wait;
 use std::test::Fail;
 use std::thread::Threads;
-use ulfm_devices::{Failing, Taken};
+use ulfm_devices::{FailureMode, LimitedWriter};
 
 /// What a race of these words writes and tells, and its status; nothing is read.
 fn raced<T: Threads + Wait + Sync>(
@@ -167,8 +167,8 @@ fn bad_races(rt: HostRuntime) -> Result<(), Fail> {
 #[test]
 fn races_that_fail(rt: HostRuntime) -> Result<(), Fail> {
     let words = ["ulfm", "race", "--ranks", "2", "--rounds", "1"];
-    for how in [Failing::ByNothing, Failing::AtFlush] {
-        let mut output = Taken::new(rt.alloc(), 10_000, 1, how);
+    for how in [FailureMode::ByNothing, FailureMode::AtFlush] {
+        let mut output = LimitedWriter::new(rt.alloc(), 10_000, 1, how);
         let mut input = b"".as_slice();
         let (errors, status) = told(&rt, rt.alloc(), &words, &mut input, &mut output);
         assert_eq!(rt; errors.as_slice(), b"ulfm: write failed\n".as_slice());

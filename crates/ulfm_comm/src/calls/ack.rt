@@ -1,9 +1,10 @@
 ghost use Rattle.ulfm_model.specs.Records.{Fits};
 ghost use Rattle.ulfm_model.specs.declared.call.Call.TheVariants.{Ack as Asked};
 ghost use Rattle.ulfm_model.specs.declared.reply.Reply.TheVariants.{Acked as Answered};
-ghost use Rattle.ulfm_words.specs.Steps.{IsOf};
+ghost use Rattle.ulfm_words.specs.Steps.{view_of, IsView};
 ghost use Rattle.ulfm_comm.specs.Calls.{Calls, reply_of};
 ghost use Rattle.ulfm_comm.specs.Counts.{TakesSteps};
+ghost use Rattle.ulfm_comm.specs.Local.{local};
 
 use crate::calls::replies::acked;
 use crate::rank::Rank;
@@ -15,11 +16,11 @@ use ulfm_model::refusal::Refusal;
 use ulfm_words::Words;
 
 impl<P: Packed, A: Allocator + Copy> Rank<P, A> {
-    /// Acknowledges the first `count` failures of a communicator that are known, or all that are known where `count` is
-    /// greater: how many are acknowledged now, earlier calls included. It makes the steps of a look (ULFM: Communicator
+    /// Acknowledges the first `count` known failures of a communicator, or all that are known where `count` is greater. It gives how many
+    /// are acknowledged now, earlier calls included. It makes the steps of a look, which `Rank` explains (ULFM: Communicator
     /// Functions, `MPI_COMM_ACK_FAILED`).
     ///
-    /// `SelfFailed` where the rank is declared, `NoSuchComm` where it doesn't hold the communicator.
+    /// `SelfFailed` where the rank is declared failed, `NoSuchComm` where it doesn't hold the communicator.
     ///
     /// ```
     /// // Rank 1 was declared failed before.
@@ -34,12 +35,12 @@ impl<P: Packed, A: Allocator + Copy> Rank<P, A> {
         comm: u16,
         count: u16,
     ) -> Result<u16, Refusal>
-        requires of { IsOf P.meld (W.name world.now.words) (W.sight pass.old) }
+        requires of { IsView P.meld (view_of (W.name world.now.words) (W.sight pass.old)) }
         requires fits { Fits P.meld (W.name world.now.words).limits (W.sight pass.old).seen self.old.own }
-        ensures calls { Calls P.meld W.alone (W.name world.now.words) (Asked self.old.own.number comm count) self.old.own (W.sight pass.old)
-            (reply_of Answered result) self.new.own (W.sight pass.new) }
-        ensures steps { TakesSteps {P = P} (W.name world.now.words).limits (Asked self.old.own.number comm count) self.old.own (W.sight pass.old)
-            self.new.own self.new.last (W.sight pass.new) }
+        ensures calls { Calls P.meld W.alone (Asked self.old.own.number comm count) (local self.old.own (view_of (W.name world.now.words) (W.sight pass.old)))
+            (reply_of Answered result) (local self.new.own (view_of (W.name world.now.words) (W.sight pass.new))) }
+        ensures steps { TakesSteps {P = P} (Asked self.old.own.number comm count) (local self.old.own (view_of (W.name world.now.words) (W.sight pass.old)))
+            self.new.last (local self.new.own (view_of (W.name world.now.words) (W.sight pass.new))) }
     {
         let rank = self.number();
         acked(self.call(world, pass, Call::Ack { rank, comm, count }))

@@ -1,9 +1,10 @@
 ghost use Rattle.ulfm_model.specs.Records.{Fits};
 ghost use Rattle.ulfm_model.specs.declared.call.Call.TheVariants.{Barrier as Asked};
 ghost use Rattle.ulfm_model.specs.declared.reply.Reply.TheVariants.{Started};
-ghost use Rattle.ulfm_words.specs.Steps.{IsOf};
+ghost use Rattle.ulfm_words.specs.Steps.{view_of, IsView};
 ghost use Rattle.ulfm_comm.specs.Calls.{Calls, reply_of};
 ghost use Rattle.ulfm_comm.specs.Counts.{TakesSteps};
+ghost use Rattle.ulfm_comm.specs.Local.{local};
 
 use crate::calls::replies::started;
 use crate::rank::Rank;
@@ -15,13 +16,13 @@ use ulfm_model::refusal::Refusal;
 use ulfm_words::Words;
 
 impl<P: Packed, A: Allocator + Copy> Rank<P, A> {
-    /// Starts a barrier, in the rank's next barrier round of the communicator, which are counted apart from its agreement
-    /// rounds: the rank has arrived. From then on the request is open, until a poll ends it. That a communicator is revoked
-    /// doesn't keep a barrier from starting; its poll says so. It makes the steps of a look and one more.
+    /// Starts a barrier, in the rank's next barrier round of the communicator: the rank has arrived. Barrier rounds are counted apart
+    /// from agreement rounds. From then on the request is open, until a poll ends it. A barrier starts on a revoked communicator too; its
+    /// poll then says that it is revoked. It makes the steps of a look (see `Rank`) and one more.
     ///
-    /// `SelfFailed` where the rank is declared, `NoSuchComm` where it doesn't hold the communicator, `Busy` where a request
-    /// is open on it, `RoundsUsedUp` where no round is left. Then `Twice` where the rank has arrived in this round before.
-    /// After a refusal no request was started.
+    /// `SelfFailed` where the rank is declared failed, `NoSuchComm` where it doesn't hold the communicator, `Busy` where a request
+    /// is open on it, `RoundsUsedUp` where no round is left. After these `Twice` where the rank has arrived in this round
+    /// before. A refusal starts no request.
     ///
     /// ```
     /// rank.ibarrier(&world, &mut pass, 0)?;
@@ -35,12 +36,12 @@ impl<P: Packed, A: Allocator + Copy> Rank<P, A> {
         pass: &mut W::Pass,
         comm: u16,
     ) -> Result<(), Refusal>
-        requires of { IsOf P.meld (W.name world.now.words) (W.sight pass.old) }
+        requires of { IsView P.meld (view_of (W.name world.now.words) (W.sight pass.old)) }
         requires fits { Fits P.meld (W.name world.now.words).limits (W.sight pass.old).seen self.old.own }
-        ensures calls { Calls P.meld W.alone (W.name world.now.words) (Asked self.old.own.number comm) self.old.own (W.sight pass.old)
-            (reply_of (λ _. Started) result) self.new.own (W.sight pass.new) }
-        ensures steps { TakesSteps {P = P} (W.name world.now.words).limits (Asked self.old.own.number comm) self.old.own (W.sight pass.old)
-            self.new.own self.new.last (W.sight pass.new) }
+        ensures calls { Calls P.meld W.alone (Asked self.old.own.number comm) (local self.old.own (view_of (W.name world.now.words) (W.sight pass.old)))
+            (reply_of (λ _. Started) result) (local self.new.own (view_of (W.name world.now.words) (W.sight pass.new))) }
+        ensures steps { TakesSteps {P = P} (Asked self.old.own.number comm) (local self.old.own (view_of (W.name world.now.words) (W.sight pass.old)))
+            self.new.last (local self.new.own (view_of (W.name world.now.words) (W.sight pass.new))) }
     {
         let rank = self.number();
         started(self.call(world, pass, Call::Barrier { rank, comm }))

@@ -1,4 +1,4 @@
-ghost use Rattle.ulfm_words.specs.Steps.{IsOf};
+ghost use Rattle.ulfm_words.specs.Steps.{view_of, IsView};
 ghost use Rattle.ulfm_comm.specs.Calls.{reply_of};
 ghost use Rattle.ulfm_comm.specs.Fails.{Fails, declared};
 
@@ -14,8 +14,8 @@ impl<W, P: Packed, A: Allocator + Copy> World<W, P, A>
 where
     W: Words<P, A>,
 {
-    /// Declares a rank failed, in the name of the outside: true where this call declared it, false where it had been
-    /// declared before. Where the world has N ranks, it makes 2N steps at most.
+    /// Declares a rank failed, for good, as the outside (a failure detector) and not as a call of any rank: true where this call declared
+    /// it, false where it had been declared before. Where the world has N ranks, it makes 2N atomic steps at most.
     ///
     /// `NoSuchRank` where the world doesn't have the rank.
     ///
@@ -25,8 +25,9 @@ where
     /// assert!(rt; world.fail(&mut pass, 2) == Err(Refusal::NoSuchRank));
     /// ```
     pub fn fail(&self, pass: &mut W::Pass, rank: u16) -> Result<bool, Refusal>
-        requires of { IsOf P.meld (W.name self.now.words) (W.sight pass.old) }
-        ensures { Fails P.meld W.alone (W.name self.now.words) rank (W.sight pass.old) (reply_of declared result) (W.sight pass.new) }
+        requires of { IsView P.meld (view_of (W.name self.now.words) (W.sight pass.old)) }
+        ensures { Fails P.meld W.alone rank (view_of (W.name self.now.words) (W.sight pass.old)) (reply_of declared result)
+            (view_of (W.name self.now.words) (W.sight pass.new)) }
     {
         if rank >= self.words.limits().ranks {
             return Err(Refusal::NoSuchRank);

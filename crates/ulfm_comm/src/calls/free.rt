@@ -1,9 +1,10 @@
 ghost use Rattle.ulfm_model.specs.Records.{Fits};
 ghost use Rattle.ulfm_model.specs.declared.call.Call.TheVariants.{Free as Asked};
 ghost use Rattle.ulfm_model.specs.declared.reply.Reply.TheVariants.{Freed};
-ghost use Rattle.ulfm_words.specs.Steps.{IsOf};
+ghost use Rattle.ulfm_words.specs.Steps.{view_of, IsView};
 ghost use Rattle.ulfm_comm.specs.Calls.{Calls, reply_of};
 ghost use Rattle.ulfm_comm.specs.Counts.{TakesSteps};
+ghost use Rattle.ulfm_comm.specs.Local.{local};
 
 use crate::calls::replies::freed;
 use crate::rank::Rank;
@@ -16,10 +17,10 @@ use ulfm_words::Words;
 
 impl<P: Packed, A: Allocator + Copy> Rank<P, A> {
     /// Gives a communicator back: the rank doesn't hold it any more, and its context id is free at this rank. In MPI all
-    /// members call `MPI_COMM_FREE` together; here each rank drops its own, and the others' stay as they are. It makes the
-    /// steps of a look.
+    /// members call `MPI_COMM_FREE` together; here each rank gives back its own, and other ranks hold the communicator as before. It
+    /// makes the steps of a look (see `Rank`).
     ///
-    /// `SelfFailed` where the rank is declared, `NoSuchComm` where it doesn't hold the communicator, `WorldKept` where it is
+    /// `SelfFailed` where the rank is declared failed, `NoSuchComm` where it doesn't hold the communicator, `WorldKept` where it is
     /// the world's own, `Busy` where a request is open on it.
     ///
     /// ```
@@ -37,12 +38,12 @@ impl<P: Packed, A: Allocator + Copy> Rank<P, A> {
         pass: &mut W::Pass,
         comm: u16,
     ) -> Result<(), Refusal>
-        requires of { IsOf P.meld (W.name world.now.words) (W.sight pass.old) }
+        requires of { IsView P.meld (view_of (W.name world.now.words) (W.sight pass.old)) }
         requires fits { Fits P.meld (W.name world.now.words).limits (W.sight pass.old).seen self.old.own }
-        ensures calls { Calls P.meld W.alone (W.name world.now.words) (Asked self.old.own.number comm) self.old.own (W.sight pass.old)
-            (reply_of (λ _. Freed) result) self.new.own (W.sight pass.new) }
-        ensures steps { TakesSteps {P = P} (W.name world.now.words).limits (Asked self.old.own.number comm) self.old.own (W.sight pass.old)
-            self.new.own self.new.last (W.sight pass.new) }
+        ensures calls { Calls P.meld W.alone (Asked self.old.own.number comm) (local self.old.own (view_of (W.name world.now.words) (W.sight pass.old)))
+            (reply_of (λ _. Freed) result) (local self.new.own (view_of (W.name world.now.words) (W.sight pass.new))) }
+        ensures steps { TakesSteps {P = P} (Asked self.old.own.number comm) (local self.old.own (view_of (W.name world.now.words) (W.sight pass.old)))
+            self.new.last (local self.new.own (view_of (W.name world.now.words) (W.sight pass.new))) }
     {
         let rank = self.number();
         freed(self.call(world, pass, Call::Free { rank, comm }))

@@ -2,9 +2,10 @@ ghost use Rattle.std.specs.Prelude.{◌≡◌, ◌<◌, Err, IfOk, OnErr, length
 ghost use Rattle.ulfm_model.specs.Records.{Fits};
 ghost use Rattle.ulfm_model.specs.History.{failed};
 ghost use Rattle.ulfm_model.specs.declared.{call.Call.TheVariants.{GetFailed as Asked}, refusal.Refusal.TheVariants.{OutOfMemory as NoMemory}};
-ghost use Rattle.ulfm_words.specs.Steps.{IsOf};
+ghost use Rattle.ulfm_words.specs.Steps.{view_of, IsView};
 ghost use Rattle.ulfm_comm.specs.Calls.{Gets};
 ghost use Rattle.ulfm_comm.specs.Counts.{TakesSteps};
+ghost use Rattle.ulfm_comm.specs.Local.{local};
 
 use crate::calls::replies::counted;
 use crate::groups::{make_room, put_in};
@@ -18,10 +19,10 @@ use ulfm_words::Words;
 
 impl<P: Packed, A: Allocator + Copy> Rank<P, A> {
     /// Puts the failed group of a communicator into a vector, in the order of the declarations: the members that are
-    /// known to have failed. What the vector held is dropped. It makes the steps of a look (ULFM: Communicator Functions,
-    /// `MPI_COMM_GET_FAILED`).
+    /// known to have failed. What the vector held is dropped. It makes the steps of a look, which `Rank` explains (ULFM: Communicator
+    /// Functions, `MPI_COMM_GET_FAILED`).
     ///
-    /// `SelfFailed` where the rank is declared, `NoSuchComm` where it doesn't hold the communicator, `OutOfMemory` where
+    /// `SelfFailed` where the rank is declared failed, `NoSuchComm` where it doesn't hold the communicator, `OutOfMemory` where
     /// the vector has less room than the group has ranks and its growth is refused. After a refusal the vector is as it was.
     ///
     /// ```
@@ -38,15 +39,15 @@ impl<P: Packed, A: Allocator + Copy> Rank<P, A> {
         comm: u16,
         found: &mut Vec<u16, B>,
     ) -> Result<(), Refusal>
-        requires of { IsOf P.meld (W.name world.now.words) (W.sight pass.old) }
+        requires of { IsView P.meld (view_of (W.name world.now.words) (W.sight pass.old)) }
         requires fits { Fits P.meld (W.name world.now.words).limits (W.sight pass.old).seen self.old.own }
-        ensures gets { Gets P.meld W.alone (W.name world.now.words) (Asked self.old.own.number comm) self.old.own (W.sight pass.old)
-            (length found.new.items) result self.new.own (W.sight pass.new) }
+        ensures gets { Gets P.meld W.alone (Asked self.old.own.number comm) (local self.old.own (view_of (W.name world.now.words) (W.sight pass.old)))
+            (length found.new.items) result (local self.new.own (view_of (W.name world.now.words) (W.sight pass.new))) }
         ensures group { IfOk result (λ _. found.new.items ≡ failed (W.name world.now.words).limits.ranks (W.sight pass.new).seen comm) }
         ensures kept { OnErr result (found.new.items ≡ found.old.items) }
         ensures memory { result ≡ Err NoMemory → vec_capacity found.old < length (failed (W.name world.now.words).limits.ranks (W.sight pass.new).seen comm) }
-        ensures steps { TakesSteps {P = P} (W.name world.now.words).limits (Asked self.old.own.number comm) self.old.own (W.sight pass.old)
-            self.new.own self.new.last (W.sight pass.new) }
+        ensures steps { TakesSteps {P = P} (Asked self.old.own.number comm) (local self.old.own (view_of (W.name world.now.words) (W.sight pass.old)))
+            self.new.last (local self.new.own (view_of (W.name world.now.words) (W.sight pass.new))) }
     {
         let rank = self.number();
         counted(self.call(world, pass, Call::GetFailed { rank, comm }))?;

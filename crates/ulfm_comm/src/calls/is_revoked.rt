@@ -1,9 +1,10 @@
 ghost use Rattle.ulfm_model.specs.Records.{Fits};
 ghost use Rattle.ulfm_model.specs.declared.call.Call.TheVariants.{IsRevoked as Asked};
 ghost use Rattle.ulfm_model.specs.declared.reply.Reply.TheVariants.{Standing};
-ghost use Rattle.ulfm_words.specs.Steps.{IsOf};
+ghost use Rattle.ulfm_words.specs.Steps.{view_of, IsView};
 ghost use Rattle.ulfm_comm.specs.Calls.{Calls, reply_of};
 ghost use Rattle.ulfm_comm.specs.Counts.{TakesSteps};
+ghost use Rattle.ulfm_comm.specs.Local.{local};
 
 use crate::calls::replies::standing;
 use crate::rank::Rank;
@@ -15,10 +16,10 @@ use ulfm_model::refusal::Refusal;
 use ulfm_words::Words;
 
 impl<P: Packed, A: Allocator + Copy> Rank<P, A> {
-    /// Whether a communicator is revoked, as its own load finds it. It makes the steps of a look and one more (ULFM:
-    /// Communicator Functions, `MPI_COMM_IS_REVOKED`).
+    /// Whether a communicator is revoked, when this call loads the communicator's word of revocation. It makes the steps of a look (see
+    /// `Rank`) and one more (ULFM: Communicator Functions, `MPI_COMM_IS_REVOKED`).
     ///
-    /// `SelfFailed` where the rank is declared, `NoSuchComm` where it doesn't hold the communicator.
+    /// `SelfFailed` where the rank is declared failed, `NoSuchComm` where it doesn't hold the communicator.
     ///
     /// ```
     /// assert!(rt; rank.is_revoked(&world, &mut pass, 0) == Ok(false));
@@ -32,12 +33,12 @@ impl<P: Packed, A: Allocator + Copy> Rank<P, A> {
         pass: &mut W::Pass,
         comm: u16,
     ) -> Result<bool, Refusal>
-        requires of { IsOf P.meld (W.name world.now.words) (W.sight pass.old) }
+        requires of { IsView P.meld (view_of (W.name world.now.words) (W.sight pass.old)) }
         requires fits { Fits P.meld (W.name world.now.words).limits (W.sight pass.old).seen self.old.own }
-        ensures calls { Calls P.meld W.alone (W.name world.now.words) (Asked self.old.own.number comm) self.old.own (W.sight pass.old)
-            (reply_of Standing result) self.new.own (W.sight pass.new) }
-        ensures steps { TakesSteps {P = P} (W.name world.now.words).limits (Asked self.old.own.number comm) self.old.own (W.sight pass.old)
-            self.new.own self.new.last (W.sight pass.new) }
+        ensures calls { Calls P.meld W.alone (Asked self.old.own.number comm) (local self.old.own (view_of (W.name world.now.words) (W.sight pass.old)))
+            (reply_of Standing result) (local self.new.own (view_of (W.name world.now.words) (W.sight pass.new))) }
+        ensures steps { TakesSteps {P = P} (Asked self.old.own.number comm) (local self.old.own (view_of (W.name world.now.words) (W.sight pass.old)))
+            self.new.last (local self.new.own (view_of (W.name world.now.words) (W.sight pass.new))) }
     {
         let rank = self.number();
         standing(self.call(world, pass, Call::IsRevoked { rank, comm }))

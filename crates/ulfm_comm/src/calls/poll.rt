@@ -1,9 +1,10 @@
 ghost use Rattle.std.specs.Prelude.{IfOk};
 ghost use Rattle.ulfm_model.specs.Records.{Fits};
 ghost use Rattle.ulfm_model.specs.declared.call.Call.TheVariants.{Poll as Asked};
-ghost use Rattle.ulfm_words.specs.Steps.{IsOf};
+ghost use Rattle.ulfm_words.specs.Steps.{view_of, IsView};
 ghost use Rattle.ulfm_comm.specs.Polls.{Polls, EndsIn};
 ghost use Rattle.ulfm_comm.specs.Counts.{TakesSteps};
+ghost use Rattle.ulfm_comm.specs.Local.{local};
 
 use crate::calls::polled::Polled;
 use crate::calls::replies::polled;
@@ -16,29 +17,28 @@ use ulfm_model::refusal::Refusal;
 use ulfm_words::Words;
 
 impl<P: Packed, A: Allocator + Copy> Rank<P, A> {
-    /// Asks for the reply to the open request on a communicator, an agree, a shrink or a barrier. For an agree or a shrink each
-    /// member that is known to have failed, and hasn't contributed, is marked: it is left out. Then the round is read, in the
-    /// order of the members. Where somebody is missing who isn't known to have failed, it is pending, and the request stays
-    /// open. Else the round is decided, for all who poll alike (ULFM: Communicator Functions, `MPI_COMM_AGREE`,
+    /// Asks for the reply to the open request on a communicator, an agree, a shrink or a barrier. The poll of an agree or a shrink marks
+    /// each member that is known to have failed and hasn't contributed: a mark takes the member's place in the round, so that it is left
+    /// out. Then it reads what the members' places say. Where somebody is missing who isn't known to have failed, the reply is pending,
+    /// and the request stays open. Else the round is decided, for all who poll alike (ULFM: Communicator Functions, `MPI_COMM_AGREE`,
     /// `MPI_COMM_SHRINK`).
     ///
-    /// An agree ends with the flags combined, the size of the failed group and the error. A shrink ends with a new
-    /// communicator, which the rank holds from then on: it has the members of the old one, in their order, but for the
-    /// failed group that was decided, and the lowest context id that all contributors had free. For a shrink the rank reads
-    /// on in the list of failures, as far as the decision's failed group reaches, and then goes through the list of
-    /// communicators.
+    /// An agree ends with the flags combined, the size of the failed group, and whether an error is raised. A shrink ends with a new
+    /// communicator, which the rank holds from then on. That has the members of the old one, in their order, without the failed group
+    /// that was decided, and the lowest context id that all contributors had free. For a shrink the rank reads on in the list of
+    /// failures, as far as the decision's failed group reaches, and then goes through the list of communicators.
     ///
-    /// Of a barrier the arrivals are read, first of the members that are known to have failed, in the order of their failures,
-    /// and then of the others, in the members' order, up to the first who is missing; and last whether the communicator is
-    /// revoked. It ends where all have arrived, also where some of them have failed since. Where somebody is missing, but
-    /// nobody who is known to have failed, it is pending (ULFM: Communicator Functions, `MPI_COMM_REVOKE`).
+    /// The poll of a barrier reads the arrivals up to the first who is missing: first of the members that are known to have failed, in
+    /// the order of the declarations, and then of the others, in the members' order. Last it reads whether the communicator is revoked.
+    /// The barrier ends where all have arrived, also where some of them have failed since. Where somebody is missing, but nobody who is
+    /// known to have failed, the reply is pending (ULFM: Communicator Functions, `MPI_COMM_REVOKE`).
     ///
-    /// `SelfFailed` where the rank is declared, `NoSuchComm` where it doesn't hold the communicator, `Idle` where no request
+    /// `SelfFailed` where the rank is declared failed, `NoSuchComm` where it doesn't hold the communicator, `Idle` where no request
     /// is open on it. `Mismatch` where some agreed and others shrank in one round; it ends the request. For a shrink, then:
     /// `NoContext` where no id is free at all contributors; `SelfFailed` where the rank is in the failed group that was
-    /// decided; `OutOfMemory` where memory for the new communicator is refused; `NoRoom` where all communicators that there
-    /// may be were made. `NoContext` and `NoRoom` end the request. After `OutOfMemory` it is open as before, and the poll may
-    /// be made again. For a barrier: `IsRevoked` where the communicator is revoked, whoever has arrived; `ProcFailed` where it
+    /// decided; `OutOfMemory` where memory for the new communicator is refused; `NoRoom` where as many communicators
+    /// as the world may have were made. `NoContext` and `NoRoom` end the request. After `OutOfMemory` it is open as before, and may be
+    /// polled again. For a barrier: `IsRevoked` where the communicator is revoked, whoever has arrived; `ProcFailed` where it
     /// isn't, and a member that is known to have failed is missing. Both end the request.
     ///
     /// With N ranks, of which the rank has seen v declared, n members and M communicators, the poll of an agree makes
@@ -62,13 +62,14 @@ impl<P: Packed, A: Allocator + Copy> Rank<P, A> {
         pass: &mut W::Pass,
         comm: u16,
     ) -> Result<Polled<P>, Refusal>
-        requires of { IsOf P.meld (W.name world.now.words) (W.sight pass.old) }
+        requires of { IsView P.meld (view_of (W.name world.now.words) (W.sight pass.old)) }
         requires fits { Fits P.meld (W.name world.now.words).limits (W.sight pass.old).seen self.old.own }
-        ensures calls { Polls P.meld W.alone (W.name world.now.words) (Asked self.old.own.number comm) self.old.own (W.sight pass.old) result self.new.own
-            (W.sight pass.new) }
-        ensures pending { IfOk result (EndsIn P.meld W.alone (W.name world.now.words) comm self.old.own (W.sight pass.old) self.new.own (W.sight pass.new)) }
-        ensures steps { TakesSteps {P = P} (W.name world.now.words).limits (Asked self.old.own.number comm) self.old.own (W.sight pass.old)
-            self.new.own self.new.last (W.sight pass.new) }
+        ensures calls { Polls P.meld W.alone (Asked self.old.own.number comm) (local self.old.own (view_of (W.name world.now.words) (W.sight pass.old))) result
+            (local self.new.own (view_of (W.name world.now.words) (W.sight pass.new))) }
+        ensures pending { IfOk result (EndsIn P.meld W.alone comm (local self.old.own (view_of (W.name world.now.words) (W.sight pass.old)))
+            (local self.new.own (view_of (W.name world.now.words) (W.sight pass.new)))) }
+        ensures steps { TakesSteps {P = P} (Asked self.old.own.number comm) (local self.old.own (view_of (W.name world.now.words) (W.sight pass.old)))
+            self.new.last (local self.new.own (view_of (W.name world.now.words) (W.sight pass.new))) }
     {
         let rank = self.number();
         polled(self.call(world, pass, Call::Poll { rank, comm }))

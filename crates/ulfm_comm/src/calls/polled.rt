@@ -3,7 +3,7 @@
 pub enum Polled<P> {
     /// The request stays open: somebody who isn't known to have failed is missing.
     Pending,
-    /// What an agree decided: the flags combined, the size of the failed group, and whether an error is raised: some
+    /// What an agree decided: the flags combined, the size of the failed group, and whether an error is raised, that is, some
     /// contributor had not acknowledged all of that group before its call.
     Agreed { value: P, failed: u16, raised: bool },
     /// What a shrink made: the new communicator, which the rank holds from now on, its context id, 0 to 31, and how many

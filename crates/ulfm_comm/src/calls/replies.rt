@@ -3,7 +3,7 @@ ghost use Rattle.std.specs.Prelude.{◌≡◌};
 ghost use Rattle.ulfm_model.specs.declared.reply.Reply.TheVariants.{Started, FailedGroup, Acked, Freed, Refused, Standing};
 ghost use Rattle.ulfm_comm.specs.Calls.{reply_of};
 ghost use Rattle.ulfm_comm.specs.Polls.{polled};
-ghost use Rattle.ulfm_comm.specs.Replies.{Answers, Kind};
+ghost use Rattle.ulfm_comm.specs.Replies.{IsOfKind, Kind};
 ghost use Rattle.ulfm_comm.specs.Revokes.{revoked};
 
 use crate::calls::polled::Polled;
@@ -24,7 +24,7 @@ fn refusal_in<P>(reply: Reply<P>) -> Refusal
 
 // That of a start.
 pub(crate) fn started<P>(reply: Reply<P>) -> Result<(), Refusal>
-    requires { Answers Kind.Starts reply }
+    requires { IsOfKind Kind.Starts reply }
     ensures { reply_of (λ _. Started) result ≡ reply }
 {
     match reply {
@@ -35,7 +35,7 @@ pub(crate) fn started<P>(reply: Reply<P>) -> Result<(), Refusal>
 
 // That of a query of the failed group: how many ranks it has.
 pub(crate) fn counted<P>(reply: Reply<P>) -> Result<u16, Refusal>
-    requires { Answers Kind.Counts reply }
+    requires { IsOfKind Kind.Counts reply }
     ensures { reply_of FailedGroup result ≡ reply }
 {
     match reply {
@@ -46,7 +46,7 @@ pub(crate) fn counted<P>(reply: Reply<P>) -> Result<u16, Refusal>
 
 // That of an acknowledgement: how many failures are acknowledged now.
 pub(crate) fn acked<P>(reply: Reply<P>) -> Result<u16, Refusal>
-    requires { Answers Kind.Acknowledges reply }
+    requires { IsOfKind Kind.Acknowledges reply }
     ensures { reply_of Acked result ≡ reply }
 {
     match reply {
@@ -57,7 +57,7 @@ pub(crate) fn acked<P>(reply: Reply<P>) -> Result<u16, Refusal>
 
 // That of a communicator given back.
 pub(crate) fn freed<P>(reply: Reply<P>) -> Result<(), Refusal>
-    requires { Answers Kind.Frees reply }
+    requires { IsOfKind Kind.Frees reply }
     ensures { reply_of (λ _. Freed) result ≡ reply }
 {
     match reply {
@@ -68,7 +68,7 @@ pub(crate) fn freed<P>(reply: Reply<P>) -> Result<(), Refusal>
 
 // That of a revocation: whether it was this call's.
 pub(crate) fn revoked<P>(reply: Reply<P>) -> Result<bool, Refusal>
-    requires { Answers Kind.Revokes reply }
+    requires { IsOfKind Kind.Revokes reply }
     ensures { reply_of revoked result ≡ reply }
 {
     match reply {
@@ -80,7 +80,7 @@ pub(crate) fn revoked<P>(reply: Reply<P>) -> Result<bool, Refusal>
 
 // Whether a communicator is revoked.
 pub(crate) fn standing<P>(reply: Reply<P>) -> Result<bool, Refusal>
-    requires { Answers Kind.Asks reply }
+    requires { IsOfKind Kind.Asks reply }
     ensures { reply_of Standing result ≡ reply }
 {
     match reply {
@@ -91,7 +91,7 @@ pub(crate) fn standing<P>(reply: Reply<P>) -> Result<bool, Refusal>
 
 // That of a poll.
 pub(crate) fn polled<P>(reply: Reply<P>) -> Result<Polled<P>, Refusal>
-    requires { Answers Kind.Polls reply }
+    requires { IsOfKind Kind.Polls reply }
     ensures { reply_of polled result ≡ reply }
 {
     match reply {

@@ -8,10 +8,14 @@ ghost use Rattle.ulfm_comm.specs.StepsLeft.{FewerLeft, after_peek, after_round, 
 ghost use Rattle.ulfm_comm.specs.{AlsoLeft.{also_after_round, also_in}, Known.{KnowsIn}};
 ghost use Rattle.ulfm_comm.specs.declared.phases.phase.Next.TheVariants.{Goes as NextGoes};
 ghost use Rattle.ulfm_comm.specs.declared.phases.phase.Phase.TheVariants.{Marking as AtMarking, Peeking as AtPeeking, Reading as AtReading};
-ghost use Rattle.ulfm_words.specs.Steps.{IsOf, Sight};
+ghost use Rattle.ulfm_comm.specs.Local.{local};
+ghost use Rattle.ulfm_comm.specs.Requests.{agreeing};
+ghost use Rattle.ulfm_comm.specs.Phase.{under_way};
+ghost use Rattle.ulfm_comm.specs.Step.{coming};
+ghost use Rattle.ulfm_words.specs.Steps.{view_of, IsView, Sight};
 
 use crate::phases::phase::{Next, Phase};
-use crate::rank::RankRecord;
+use crate::rank::LocalState;
 use crate::world::World;
 use std::alloc::Allocator;
 use ulfm_laws::meld::Packed;
@@ -22,7 +26,7 @@ use ulfm_model::reply::Reply;
 use ulfm_steps::{Found, MarkAll, Peek, ReadBlocks, RoundBlocks};
 use ulfm_words::Words;
 
-impl<P: Packed, A: Allocator> RankRecord<P, A> {
+impl<P: Packed, A: Allocator> LocalState<P, A> {
     // The exchange of a declared member's place, or of all that are left.
     #[inline(always)]
     pub(crate) fn go_marking<W: Words<P, A>>(
@@ -35,11 +39,13 @@ impl<P: Packed, A: Allocator> RankRecord<P, A> {
         shrinks: bool,
         whole: bool,
     ) -> Next<P>
-        requires of { IsOf P.meld (W.name world.now.words) (W.sight pass.old) }
+        requires of { IsView P.meld (view_of (W.name world.now.words) (W.sight pass.old)) }
         requires stands { (group : List ℕ)
-            × StillStands P.meld (W.name world.now.words) asked.now (AtMarking marks blocks shrinks) group self.now (W.sight pass.old) }
-        ensures { (group : List ℕ) → TakesTurn P.meld W.alone whole (W.name world.now.words) asked.now (AtMarking marks blocks shrinks) group self.now
-            (W.sight pass.old) result group self.now (W.sight pass.new) }
+            × StillStands P.meld (under_way asked.now (AtMarking marks blocks shrinks) group)
+            (local self.now (view_of (W.name world.now.words) (W.sight pass.old))) }
+        ensures { (group : List ℕ) → TakesTurn P.meld W.alone whole (under_way asked.now (AtMarking marks blocks shrinks) group)
+            (local self.now (view_of (W.name world.now.words) (W.sight pass.old))) (coming result group)
+            (local self.now (view_of (W.name world.now.words) (W.sight pass.new))) }
     {
         let x = self.held_comm(comm_of(asked));
         let seen = self.failures();
@@ -69,17 +75,20 @@ impl<P: Packed, A: Allocator> RankRecord<P, A> {
         peek: Peek<P>,
         shrinks: bool,
     ) -> Phase<P>
-        requires of { IsOf P.meld (W.name world.now.words) (W.sight pass.now) }
+        requires of { IsView P.meld (view_of (W.name world.now.words) (W.sight pass.now)) }
         requires peeked { (old : Record) × (before : Sight P)
-            × HasPeeked P.meld false (W.name world.now.words) asked.now shrinks peek old before self.now (W.sight pass.now) }
+            × HasPeeked P.meld false asked.now shrinks peek (local old (view_of (W.name world.now.words) before))
+            (local self.now (view_of (W.name world.now.words) (W.sight pass.now))) }
         ensures further { left result < 7 }
         ensures past { is_looking result ≡ false }
         ensures nearer { steps_left (W.name world.now.words).limits self.now asked.now result
             ≤ after_peek (W.name world.now.words).limits self.now asked.now shrinks }
         ensures knows { (cached : List Block) → KnowsIn self.now asked.now cached (AtPeeking peek shrinks) → KnowsIn self.now asked.now cached result }
         ensures turns { (group : List ℕ) (alone : Bool) (old : Record) (before : Sight P)
-            → HasPeeked P.meld alone (W.name world.now.words) asked.now shrinks peek old before self.now (W.sight pass.now)
-            → NextIs P.meld alone (W.name world.now.words) asked.now old before (NextGoes result) group self.now (W.sight pass.now) }
+            → HasPeeked P.meld alone asked.now shrinks peek (local old (view_of (W.name world.now.words) before))
+            (local self.now (view_of (W.name world.now.words) (W.sight pass.now)))
+            → NextIs P.meld alone asked.now (local old (view_of (W.name world.now.words) before)) (NextGoes result) group
+            (local self.now (view_of (W.name world.now.words) (W.sight pass.now))) }
     {
         let comm = comm_of(asked);
         let x = self.held_comm(comm);
@@ -101,7 +110,7 @@ impl<P: Packed, A: Allocator> RankRecord<P, A> {
     }
 }
 
-impl<P: Packed, A: Allocator + Copy> RankRecord<P, A> {
+impl<P: Packed, A: Allocator + Copy> LocalState<P, A> {
     // The load of a block, or of all that are left. Where all are set, they say what was decided.
     #[inline(always)]
     pub(crate) fn go_peeking<W: Words<P, A>>(
@@ -114,10 +123,12 @@ impl<P: Packed, A: Allocator + Copy> RankRecord<P, A> {
         whole: bool,
         group: &mut Vec<u16, A>,
     ) -> Next<P>
-        requires of { IsOf P.meld (W.name world.now.words) (W.sight pass.old) }
-        requires stands { StillStands P.meld (W.name world.now.words) asked.now (AtPeeking peek shrinks) group.old.items self.old (W.sight pass.old) }
-        ensures { TakesTurn P.meld W.alone whole (W.name world.now.words) asked.now (AtPeeking peek shrinks) group.old.items self.old (W.sight pass.old)
-            result group.new.items self.new (W.sight pass.new) }
+        requires of { IsView P.meld (view_of (W.name world.now.words) (W.sight pass.old)) }
+        requires stands { StillStands P.meld (under_way asked.now (AtPeeking peek shrinks) group.old.items)
+            (local self.old (view_of (W.name world.now.words) (W.sight pass.old))) }
+        ensures { TakesTurn P.meld W.alone whole (under_way asked.now (AtPeeking peek shrinks) group.old.items)
+            (local self.old (view_of (W.name world.now.words) (W.sight pass.old))) (coming result group.new.items)
+            (local self.new (view_of (W.name world.now.words) (W.sight pass.new))) }
     {
         let x = self.held_comm(comm_of(asked));
         let mut peek = peek;
@@ -144,10 +155,12 @@ impl<P: Packed, A: Allocator + Copy> RankRecord<P, A> {
         whole: bool,
         group: &mut Vec<u16, A>,
     ) -> Next<P>
-        requires of { IsOf P.meld (W.name world.now.words) (W.sight pass.old) }
-        requires stands { StillStands P.meld (W.name world.now.words) asked.now (AtReading reading shrinks) group.old.items self.old (W.sight pass.old) }
-        ensures { TakesTurn P.meld W.alone whole (W.name world.now.words) asked.now (AtReading reading shrinks) group.old.items self.old (W.sight pass.old)
-            result group.new.items self.new (W.sight pass.new) }
+        requires of { IsView P.meld (view_of (W.name world.now.words) (W.sight pass.old)) }
+        requires stands { StillStands P.meld (under_way asked.now (AtReading reading shrinks) group.old.items)
+            (local self.old (view_of (W.name world.now.words) (W.sight pass.old))) }
+        ensures { TakesTurn P.meld W.alone whole (under_way asked.now (AtReading reading shrinks) group.old.items)
+            (local self.old (view_of (W.name world.now.words) (W.sight pass.old))) (coming result group.new.items)
+            (local self.new (view_of (W.name world.now.words) (W.sight pass.new))) }
     {
         let x = self.held_comm(comm_of(asked));
         let mut reading = reading;
@@ -171,9 +184,10 @@ impl<P: Packed, A: Allocator + Copy> RankRecord<P, A> {
         shrinks: bool,
         group: &mut Vec<u16, A>,
     ) -> Next<P>
-        requires of { IsOf P.meld (W.name world.now.words) (W.sight pass.now) }
+        requires of { IsView P.meld (view_of (W.name world.now.words) (W.sight pass.now)) }
         requires read { (old : Record) × (before : Sight P)
-            × HasReadAll P.meld false (W.name world.now.words) asked.now shrinks round all old before self.old (W.sight pass.now) }
+            × HasReadAll P.meld false asked.now (agreeing shrinks round) all (local old (view_of (W.name world.now.words) before))
+            (local self.old (view_of (W.name world.now.words) (W.sight pass.now))) }
         ensures further { NextBelow 5 result }
         ensures sees { self.new.seen ≡ self.old.seen }
         ensures past { IsPast result }
@@ -181,8 +195,10 @@ impl<P: Packed, A: Allocator + Copy> RankRecord<P, A> {
             result }
         ensures also { also_in (W.name world.now.words).limits self.new asked.now result ≤ also_after_round (W.name world.now.words).limits shrinks }
         ensures turns { (alone : Bool) (old : Record) (before : Sight P)
-            → HasReadAll P.meld alone (W.name world.now.words) asked.now shrinks round all old before self.old (W.sight pass.now)
-            → NextIs P.meld alone (W.name world.now.words) asked.now old before result group.new.items self.new (W.sight pass.now) }
+            → HasReadAll P.meld alone asked.now (agreeing shrinks round) all (local old (view_of (W.name world.now.words) before))
+            (local self.old (view_of (W.name world.now.words) (W.sight pass.now)))
+            → NextIs P.meld alone asked.now (local old (view_of (W.name world.now.words) before)) result group.new.items
+            (local self.new (view_of (W.name world.now.words) (W.sight pass.now))) }
     {
         if shrinks {
             return self.shrunk(world, pass, asked, round, all, group);

@@ -2,10 +2,14 @@
 ghost use Rattle.std.specs.Prelude.{ℕ, List};
 ghost use Rattle.ulfm_comm.specs.{Missing.{AnswersMissing, FindsMissing, FoundNow}, Phase.{StillStands}, Step.{EndsTurn, TakesTurn}};
 ghost use Rattle.ulfm_comm.specs.declared.phases.phase.Phase.TheVariants.{Waiting as AtWaiting, Checking as AtChecking};
-ghost use Rattle.ulfm_words.specs.Steps.{IsOf};
+ghost use Rattle.ulfm_comm.specs.Local.{local};
+ghost use Rattle.ulfm_comm.specs.Missing.{midway};
+ghost use Rattle.ulfm_comm.specs.Phase.{under_way};
+ghost use Rattle.ulfm_comm.specs.Step.{coming};
+ghost use Rattle.ulfm_words.specs.Steps.{view_of, IsView};
 
 use crate::phases::phase::{Next, Phase};
-use crate::rank::RankRecord;
+use crate::rank::LocalState;
 use crate::world::World;
 use std::alloc::Allocator;
 use ulfm_laws::meld::Packed;
@@ -15,7 +19,7 @@ use ulfm_model::reply::Reply;
 use ulfm_steps::{Arrivals, Missing};
 use ulfm_words::{Words, load_revocation};
 
-impl<P: Packed, A: Allocator> RankRecord<P, A> {
+impl<P: Packed, A: Allocator> LocalState<P, A> {
     // The load of a member's arrival, or of all that are left, up to the first who is missing.
     #[inline(always)]
     pub(crate) fn go_waiting<W: Words<P, A>>(
@@ -26,13 +30,16 @@ impl<P: Packed, A: Allocator> RankRecord<P, A> {
         arrivals: Arrivals,
         whole: bool,
     ) -> Next<P>
-        requires of { IsOf P.meld (W.name world.now.words) (W.sight pass.old) }
-        requires stands { (group : List ℕ) × StillStands P.meld (W.name world.now.words) asked.now (AtWaiting arrivals) group self.now (W.sight pass.old) }
-        ensures turn { (group : List ℕ) → TakesTurn P.meld W.alone whole (W.name world.now.words) asked.now (AtWaiting arrivals) group self.now
-            (W.sight pass.old) result group self.now (W.sight pass.new) }
-        ensures checks { (group : List ℕ) → FoundNow (FindsMissing P.meld W.alone (W.name world.now.words)
-            (record { doing = record { asked = asked.now; phase = AtWaiting arrivals; group = group }; own = self.now; pass = W.sight pass.old }) self.now
-            (W.sight pass.new)) (AtWaiting arrivals) result }
+        requires of { IsView P.meld (view_of (W.name world.now.words) (W.sight pass.old)) }
+        requires stands { (group : List ℕ) × StillStands P.meld (under_way asked.now (AtWaiting arrivals) group)
+            (local self.now (view_of (W.name world.now.words) (W.sight pass.old))) }
+        ensures turn { (group : List ℕ) → TakesTurn P.meld W.alone whole (under_way asked.now (AtWaiting arrivals) group)
+            (local self.now (view_of (W.name world.now.words) (W.sight pass.old))) (coming result group)
+            (local self.now (view_of (W.name world.now.words) (W.sight pass.new))) }
+        ensures checks { (group : List ℕ) → FoundNow
+            (FindsMissing P.meld W.alone (midway (under_way asked.now (AtWaiting arrivals) group)
+            (local self.now (view_of (W.name world.now.words) (W.sight pass.old)))) (local self.now (view_of (W.name world.now.words) (W.sight pass.new))))
+            (AtWaiting arrivals) result }
     {
         let x = self.held_comm(comm_of(asked));
         let mut arrivals = arrivals;
@@ -51,12 +58,13 @@ impl<P: Packed, A: Allocator> RankRecord<P, A> {
         asked: &Call<P>,
         missing: Missing,
     ) -> Reply<P>
-        requires of { IsOf P.meld (W.name world.now.words) (W.sight pass.old) }
-        requires stands { (group : List ℕ) × StillStands P.meld (W.name world.now.words) asked.now (AtChecking missing) group self.old (W.sight pass.old) }
-        ensures turn { EndsTurn P.meld W.alone (W.name world.now.words) asked.now (AtChecking missing) self.old (W.sight pass.old) result self.new
-            (W.sight pass.new) }
-        ensures early { (group : List ℕ) → AnswersMissing P.meld W.alone (W.name world.now.words)
-            (record { doing = record { asked = asked.now; phase = AtChecking missing; group = group }; own = self.old; pass = W.sight pass.old }) self.new
+        requires of { IsView P.meld (view_of (W.name world.now.words) (W.sight pass.old)) }
+        requires stands { (group : List ℕ) × StillStands P.meld (under_way asked.now (AtChecking missing) group)
+            (local self.old (view_of (W.name world.now.words) (W.sight pass.old))) }
+        ensures turn { EndsTurn P.meld W.alone asked.now (AtChecking missing) (local self.old (view_of (W.name world.now.words) (W.sight pass.old))) result
+            (local self.new (view_of (W.name world.now.words) (W.sight pass.new))) }
+        ensures early { (group : List ℕ) → AnswersMissing P.meld W.alone (midway (under_way asked.now (AtChecking missing) group)
+            (local self.old (view_of (W.name world.now.words) (W.sight pass.old)))) self.new
             missing result }
     {
         let comm = comm_of(asked);

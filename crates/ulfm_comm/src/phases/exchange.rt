@@ -5,12 +5,14 @@ ghost use Rattle.ulfm_model.specs.{Terms.{comm_of}, History.{has}, Records.{Fits
 ghost use Rattle.ulfm_record.specs.Kept.{HasNext};
 ghost use Rattle.ulfm_comm.specs.{Phase.{StillStands}, Exchange.{Settles, start_leaves, start_result}, Step.{EndsTurn}};
 ghost use Rattle.ulfm_comm.specs.declared.phases.phase.Phase.TheVariants.{Settling as AtSettling, Arriving as AtArriving, Revoking as AtRevoking};
-ghost use Rattle.ulfm_words.specs.Steps.{IsOf};
+ghost use Rattle.ulfm_comm.specs.Local.{local};
+ghost use Rattle.ulfm_comm.specs.Phase.{under_way};
+ghost use Rattle.ulfm_words.specs.Steps.{view_of, IsView};
 ghost use Rattle.ulfm_model.specs.declared.place.Place.TheVariants.{Slot as SlotAt};
 ghost use Rattle.ulfm_steps.specs.Turns.{IsOneStep};
 
 use crate::groups::count_in;
-use crate::rank::RankRecord;
+use crate::rank::LocalState;
 use crate::world::World;
 use std::alloc::Allocator;
 use ulfm_laws::counts::{Acked, Known};
@@ -40,7 +42,7 @@ fn contribution<P: Packed>(offer: Offer<P>, known: usize, acked: u16) -> Contrib
     }
 }
 
-impl<P: Packed, A: Allocator> RankRecord<P, A> {
+impl<P: Packed, A: Allocator> LocalState<P, A> {
     // The exchange of an agree or of a shrink: the rank contributes to its next agreement round.
     #[inline(always)]
     pub(crate) fn go_settling<W: Words<P, A>>(
@@ -51,11 +53,11 @@ impl<P: Packed, A: Allocator> RankRecord<P, A> {
         request: Request,
         offer: Offer<P>,
     ) -> Reply<P>
-        requires of { IsOf P.meld (W.name world.now.words) (W.sight pass.old) }
+        requires of { IsView P.meld (view_of (W.name world.now.words) (W.sight pass.old)) }
         requires stands { (group : List ℕ)
-            × StillStands P.meld (W.name world.now.words) asked.now (AtSettling request offer) group self.old (W.sight pass.old) }
-        ensures { EndsTurn P.meld W.alone (W.name world.now.words) asked.now (AtSettling request offer) self.old (W.sight pass.old) result self.new
-            (W.sight pass.new) }
+            × StillStands P.meld (under_way asked.now (AtSettling request offer) group) (local self.old (view_of (W.name world.now.words) (W.sight pass.old))) }
+        ensures { EndsTurn P.meld W.alone asked.now (AtSettling request offer) (local self.old (view_of (W.name world.now.words) (W.sight pass.old))) result
+            (local self.new (view_of (W.name world.now.words) (W.sight pass.new))) }
     {
         let x = self.held_comm(comm_of(asked));
         let settled = self.contribute(world, pass, x, offer);
@@ -74,9 +76,11 @@ impl<P: Packed, A: Allocator> RankRecord<P, A> {
         asked: &Call<P>,
         round: u16,
     ) -> Reply<P>
-        requires of { IsOf P.meld (W.name world.now.words) (W.sight pass.old) }
-        requires stands { (group : List ℕ) × StillStands P.meld (W.name world.now.words) asked.now (AtArriving round) group self.old (W.sight pass.old) }
-        ensures { EndsTurn P.meld W.alone (W.name world.now.words) asked.now (AtArriving round) self.old (W.sight pass.old) result self.new (W.sight pass.new) }
+        requires of { IsView P.meld (view_of (W.name world.now.words) (W.sight pass.old)) }
+        requires stands { (group : List ℕ) × StillStands P.meld (under_way asked.now (AtArriving round) group)
+            (local self.old (view_of (W.name world.now.words) (W.sight pass.old))) }
+        ensures { EndsTurn P.meld W.alone asked.now (AtArriving round) (local self.old (view_of (W.name world.now.words) (W.sight pass.old))) result
+            (local self.new (view_of (W.name world.now.words) (W.sight pass.new))) }
     {
         let comm = comm_of(asked);
         let number = self.number();
@@ -96,9 +100,11 @@ impl<P: Packed, A: Allocator> RankRecord<P, A> {
         pass: &mut W::Pass,
         asked: &Call<P>,
     ) -> Reply<P>
-        requires of { IsOf P.meld (W.name world.now.words) (W.sight pass.old) }
-        requires stands { (group : List ℕ) × StillStands P.meld (W.name world.now.words) asked.now AtRevoking group self.now (W.sight pass.old) }
-        ensures { EndsTurn P.meld W.alone (W.name world.now.words) asked.now AtRevoking self.now (W.sight pass.old) result self.now (W.sight pass.new) }
+        requires of { IsView P.meld (view_of (W.name world.now.words) (W.sight pass.old)) }
+        requires stands { (group : List ℕ) × StillStands P.meld (under_way asked.now AtRevoking group)
+            (local self.now (view_of (W.name world.now.words) (W.sight pass.old))) }
+        ensures { EndsTurn P.meld W.alone asked.now AtRevoking (local self.now (view_of (W.name world.now.words) (W.sight pass.old))) result
+            (local self.now (view_of (W.name world.now.words) (W.sight pass.new))) }
     {
         let by = Caller::Rank(self.number());
         if set_revocation(&world.words, pass, by, comm_of(asked)) {
@@ -117,12 +123,12 @@ impl<P: Packed, A: Allocator> RankRecord<P, A> {
         x: &HeldComm<A>,
         offer: Offer<P>,
     ) -> Result<(), Slot<P>>
-        requires of { IsOf P.meld (W.name world.now.words) (W.sight pass.old) }
+        requires of { IsView P.meld (view_of (W.name world.now.words) (W.sight pass.old)) }
         requires fits { Fits P.meld (W.name world.now.words).limits (W.sight pass.old).seen self.now }
         requires held { held_at self.now x.now.comm ≡ Some x.now }
         requires acked { x.now.acked ≤ length (filter (has x.now.group) self.now.seen) }
         requires room { x.now.next_agreement < (W.name world.now.words).limits.rounds }
-        ensures of { IsOf P.meld (W.name world.now.words) (W.sight pass.new) }
+        ensures of { IsView P.meld (view_of (W.name world.now.words) (W.sight pass.new)) }
         ensures cached { IsPrefix (W.sight pass.old).cached (W.sight pass.new).cached }
         ensures caches { (W.sight pass.new).caches ≡ (W.sight pass.old).caches }
         ensures one { IsOneStep (SlotAt x.now.comm x.now.next_agreement self.now.number) false (W.sight pass.old) (W.sight pass.new) }

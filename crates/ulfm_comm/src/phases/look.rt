@@ -6,11 +6,14 @@ ghost use Rattle.ulfm_comm.specs.{StepsLeft.{FewerLeft, steps_left, with_look}, 
 ghost use Rattle.ulfm_comm.specs.{AlsoLeft.{AlsoFollows}, Known.{KnowsNext}, Requests.{agreement}};
 ghost use Rattle.ulfm_comm.specs.declared.phases.phase.Next.TheVariants.{Goes as NextGoes};
 ghost use Rattle.ulfm_comm.specs.declared.phases.phase.Phase.TheVariants.{Begun as AtBegun, Looking as AtLooking};
-ghost use Rattle.ulfm_words.specs.Steps.{IsOf};
+ghost use Rattle.ulfm_comm.specs.Local.{local};
+ghost use Rattle.ulfm_comm.specs.Phase.{under_way};
+ghost use Rattle.ulfm_comm.specs.Step.{coming};
+ghost use Rattle.ulfm_words.specs.Steps.{view_of, IsView};
 
 use crate::groups::count_in;
 use crate::phases::phase::{Next, Phase};
-use crate::rank::RankRecord;
+use crate::rank::LocalState;
 use crate::world::World;
 use std::alloc::Allocator;
 use ulfm_laws::meld::Packed;
@@ -55,7 +58,7 @@ fn agreement(request: Option<Request>) -> Option<(u16, bool)>
     }
 }
 
-impl<P: Packed, A: Allocator> RankRecord<P, A> {
+impl<P: Packed, A: Allocator> LocalState<P, A> {
     // The first load of the list of failures, behind what was seen, or the whole look.
     #[inline(always)]
     pub(crate) fn go_begun<W: Words<P, A>>(
@@ -65,10 +68,12 @@ impl<P: Packed, A: Allocator> RankRecord<P, A> {
         asked: &Call<P>,
         whole: bool,
     ) -> Next<P>
-        requires of { IsOf P.meld (W.name world.now.words) (W.sight pass.old) }
-        requires stands { (group : List ℕ) × StillStands P.meld (W.name world.now.words) asked.now AtBegun group self.old (W.sight pass.old) }
-        ensures turn { (group : List ℕ) → TakesTurn P.meld W.alone whole (W.name world.now.words) asked.now AtBegun group self.old (W.sight pass.old) result
-            group self.new (W.sight pass.new) }
+        requires of { IsView P.meld (view_of (W.name world.now.words) (W.sight pass.old)) }
+        requires stands { (group : List ℕ) × StillStands P.meld (under_way asked.now AtBegun group)
+            (local self.old (view_of (W.name world.now.words) (W.sight pass.old))) }
+        ensures turn { (group : List ℕ) → TakesTurn P.meld W.alone whole (under_way asked.now AtBegun group)
+            (local self.old (view_of (W.name world.now.words) (W.sight pass.old))) (coming result group)
+            (local self.new (view_of (W.name world.now.words) (W.sight pass.new))) }
         ensures past { whole ≡ true → IsPast result }
     {
         self.resume();
@@ -84,10 +89,12 @@ impl<P: Packed, A: Allocator> RankRecord<P, A> {
         asked: &Call<P>,
         whole: bool,
     ) -> Next<P>
-        requires of { IsOf P.meld (W.name world.now.words) (W.sight pass.old) }
-        requires stands { (group : List ℕ) × StillStands P.meld (W.name world.now.words) asked.now AtLooking group self.old (W.sight pass.old) }
-        ensures turn { (group : List ℕ) → TakesTurn P.meld W.alone whole (W.name world.now.words) asked.now AtLooking group self.old (W.sight pass.old) result
-            group self.new (W.sight pass.new) }
+        requires of { IsView P.meld (view_of (W.name world.now.words) (W.sight pass.old)) }
+        requires stands { (group : List ℕ) × StillStands P.meld (under_way asked.now AtLooking group)
+            (local self.old (view_of (W.name world.now.words) (W.sight pass.old))) }
+        ensures turn { (group : List ℕ) → TakesTurn P.meld W.alone whole (under_way asked.now AtLooking group)
+            (local self.old (view_of (W.name world.now.words) (W.sight pass.old))) (coming result group)
+            (local self.new (view_of (W.name world.now.words) (W.sight pass.new))) }
         ensures past { whole ≡ true → IsPast result }
     {
         if !self.look_on(&world.words, pass, whole) {
@@ -107,13 +114,13 @@ impl<P: Packed, A: Allocator> RankRecord<P, A> {
         pass: &W::Pass,
         asked: &Call<P>,
     ) -> Next<P>
-        requires of { IsOf P.meld (W.name world.now.words) (W.sight pass.now) }
-        requires just { HasJustLooked P.meld (W.name world.now.words) asked.now self.old (W.sight pass.now) }
+        requires of { IsView P.meld (view_of (W.name world.now.words) (W.sight pass.now)) }
+        requires just { HasJustLooked P.meld asked.now (local self.old (view_of (W.name world.now.words) (W.sight pass.now))) }
         ensures further { IsFurther AtLooking result }
         ensures nearer { FewerLeft (with_look (W.name world.now.words).limits self.old asked.now) (W.name world.now.words).limits self.new asked.now result }
         ensures also { AlsoFollows (W.name world.now.words).limits asked.now self.old result self.new }
         ensures knows { (cached : List Block) → KnowsNext self.old asked.now cached result }
-        ensures turns { FollowsLook P.meld (W.name world.now.words) asked.now self.old (W.sight pass.now) result self.new }
+        ensures turns { FollowsLook P.meld asked.now (local self.old (view_of (W.name world.now.words) (W.sight pass.now))) result self.new }
     {
         let Some(x) = self.held(comm_of(asked)) else {
             return Next::Ends(Reply::Refused(Refusal::NoSuchComm));
@@ -132,13 +139,13 @@ impl<P: Packed, A: Allocator> RankRecord<P, A> {
         asked: &Call<P>,
     ) -> Next<P>
         requires passes { Passes self.old asked.now }
-        requires of { IsOf P.meld (W.name world.now.words) (W.sight pass.now) }
-        requires just { HasJustLooked P.meld (W.name world.now.words) asked.now self.old (W.sight pass.now) }
+        requires of { IsView P.meld (view_of (W.name world.now.words) (W.sight pass.now)) }
+        requires just { HasJustLooked P.meld asked.now (local self.old (view_of (W.name world.now.words) (W.sight pass.now))) }
         ensures further { IsFurther AtLooking result }
         ensures nearer { FewerLeft (with_look (W.name world.now.words).limits self.old asked.now) (W.name world.now.words).limits self.new asked.now result }
         ensures also { AlsoFollows (W.name world.now.words).limits asked.now self.old result self.new }
         ensures knows { (cached : List Block) → KnowsNext self.old asked.now cached result }
-        ensures turns { FollowsLook P.meld (W.name world.now.words) asked.now self.old (W.sight pass.now) result self.new }
+        ensures turns { FollowsLook P.meld asked.now (local self.old (view_of (W.name world.now.words) (W.sight pass.now))) result self.new }
     {
         let x = self.held_comm(comm_of(asked));
         match *asked {
@@ -186,15 +193,15 @@ impl<P: Packed, A: Allocator> RankRecord<P, A> {
         pass: &W::Pass,
         asked: &Call<P>,
     ) -> Phase<P>
-        requires of { IsOf P.meld (W.name world.now.words) (W.sight pass.now) }
-        requires just { HasJustLooked P.meld (W.name world.now.words) asked.now self.now (W.sight pass.now) }
+        requires of { IsView P.meld (view_of (W.name world.now.words) (W.sight pass.now)) }
+        requires just { HasJustLooked P.meld asked.now (local self.now (view_of (W.name world.now.words) (W.sight pass.now))) }
         requires passes { Passes self.now asked.now }
         requires polls { (rank : ℕ) × (comm : ℕ) × (asked.now ≡ PollAsked rank comm) }
         ensures further { left result < 8 }
         ensures nearer { steps_left (W.name world.now.words).limits self.now asked.now result < with_look (W.name world.now.words).limits self.now asked.now }
         ensures also { AlsoFollows (W.name world.now.words).limits asked.now self.now (NextGoes result) self.now }
         ensures knows { (cached : List Block) → KnowsNext self.now asked.now cached (NextGoes result) }
-        ensures turns { FollowsLook P.meld (W.name world.now.words) asked.now self.now (W.sight pass.now) (NextGoes result) self.now }
+        ensures turns { FollowsLook P.meld asked.now (local self.now (view_of (W.name world.now.words) (W.sight pass.now))) (NextGoes result) self.now }
     {
         let comm = comm_of(asked);
         let x = self.held_comm(comm);

@@ -4,11 +4,15 @@ ghost use Rattle.ulfm_model.specs.{Records.{Record}, Terms.{comm_of}};
 ghost use Rattle.ulfm_comm.specs.{Spawning.{HadMemory, HasReached}, Agreement.{HasReadAll}, Phase.{IsMaking, IsPast, NextBelow, NextIs, StillStands}};
 ghost use Rattle.ulfm_comm.specs.{StepsLeft.{FewerLeft, after_round}, AlsoLeft.{also_after_round, also_in}, Step.{TakesTurn}};
 ghost use Rattle.ulfm_comm.specs.declared.phases.phase.Phase.TheVariants.{ReadingOn as AtReadingOn, Spawning as AtSpawning};
-ghost use Rattle.ulfm_words.specs.Steps.{IsOf, Sight};
+ghost use Rattle.ulfm_comm.specs.Local.{local};
+ghost use Rattle.ulfm_comm.specs.Requests.{agreeing};
+ghost use Rattle.ulfm_comm.specs.Phase.{under_way};
+ghost use Rattle.ulfm_comm.specs.Step.{coming};
+ghost use Rattle.ulfm_words.specs.Steps.{view_of, IsView, Sight};
 ghost use Rattle.ulfm_steps.specs.declared.append.Appended.TheVariants.{Found as IsFound, Full as IsFull, Won as IsWon};
 
 use crate::phases::phase::{Made, Next, Phase};
-use crate::rank::RankRecord;
+use crate::rank::LocalState;
 use crate::world::World;
 use std::alloc::Allocator;
 use ulfm_laws::meld::Packed;
@@ -44,7 +48,7 @@ pub(crate) fn place_in(end: Appended) -> Option<u16>
     }
 }
 
-impl<P: Packed, A: Allocator + Copy> RankRecord<P, A> {
+impl<P: Packed, A: Allocator + Copy> LocalState<P, A> {
     // What comes next where a shrink's round says this.
     pub(crate) fn shrunk<W: Words<P, A>>(
         &mut self,
@@ -55,17 +59,20 @@ impl<P: Packed, A: Allocator + Copy> RankRecord<P, A> {
         all: Summary<P>,
         group: &mut Vec<u16, A>,
     ) -> Next<P>
-        requires of { IsOf P.meld (W.name world.now.words) (W.sight pass.now) }
+        requires of { IsView P.meld (view_of (W.name world.now.words) (W.sight pass.now)) }
         requires read { (old : Record) × (before : Sight P)
-            × HasReadAll P.meld false (W.name world.now.words) asked.now true round all old before self.old (W.sight pass.now) }
+            × HasReadAll P.meld false asked.now (agreeing true round) all (local old (view_of (W.name world.now.words) before))
+            (local self.old (view_of (W.name world.now.words) (W.sight pass.now))) }
         ensures further { NextBelow 5 result }
         ensures sees { self.new.seen ≡ self.old.seen }
         ensures past { IsPast result }
         ensures nearer { FewerLeft (after_round (W.name world.now.words).limits self.old true + 1) (W.name world.now.words).limits self.new asked.now result }
         ensures also { also_in (W.name world.now.words).limits self.new asked.now result ≤ also_after_round (W.name world.now.words).limits true }
         ensures turns { (alone : Bool) (old : Record) (before : Sight P)
-            → HasReadAll P.meld alone (W.name world.now.words) asked.now true round all old before self.old (W.sight pass.now)
-            → NextIs P.meld alone (W.name world.now.words) asked.now old before result group.new.items self.new (W.sight pass.now) }
+            → HasReadAll P.meld alone asked.now (agreeing true round) all (local old (view_of (W.name world.now.words) before))
+            (local self.old (view_of (W.name world.now.words) (W.sight pass.now)))
+            → NextIs P.meld alone asked.now (local old (view_of (W.name world.now.words) before)) result group.new.items
+            (local self.new (view_of (W.name world.now.words) (W.sight pass.now))) }
     {
         let comm = comm_of(asked);
         let Body::Ctx(mask) = all.body else {
@@ -98,10 +105,12 @@ impl<P: Packed, A: Allocator + Copy> RankRecord<P, A> {
         whole: bool,
         group: &mut Vec<u16, A>,
     ) -> Next<P>
-        requires of { IsOf P.meld (W.name world.now.words) (W.sight pass.old) }
-        requires stands { StillStands P.meld (W.name world.now.words) asked.now (AtReadingOn on made) group.old.items self.old (W.sight pass.old) }
-        ensures { TakesTurn P.meld W.alone whole (W.name world.now.words) asked.now (AtReadingOn on made) group.old.items self.old (W.sight pass.old) result
-            group.new.items self.new (W.sight pass.new) }
+        requires of { IsView P.meld (view_of (W.name world.now.words) (W.sight pass.old)) }
+        requires stands { StillStands P.meld (under_way asked.now (AtReadingOn on made) group.old.items)
+            (local self.old (view_of (W.name world.now.words) (W.sight pass.old))) }
+        ensures { TakesTurn P.meld W.alone whole (under_way asked.now (AtReadingOn on made) group.old.items)
+            (local self.old (view_of (W.name world.now.words) (W.sight pass.old))) (coming result group.new.items)
+            (local self.new (view_of (W.name world.now.words) (W.sight pass.new))) }
     {
         let mut on = on;
         self.read_on(
@@ -128,9 +137,10 @@ impl<P: Packed, A: Allocator + Copy> RankRecord<P, A> {
         made: Made,
         group: &mut Vec<u16, A>,
     ) -> Next<P>
-        requires of { IsOf P.meld (W.name world.now.words) (W.sight pass.now) }
+        requires of { IsView P.meld (view_of (W.name world.now.words) (W.sight pass.now)) }
         requires reached { (old : Record) × (before : Sight P)
-            × HasReached P.meld false (W.name world.now.words) asked.now made reach old before self.old (W.sight pass.now) }
+            × HasReached P.meld false asked.now made reach (local old (view_of (W.name world.now.words) before))
+            (local self.old (view_of (W.name world.now.words) (W.sight pass.now))) }
         ensures further { NextBelow 4 result }
         ensures sees { self.new.seen ≡ self.old.seen }
         ensures past { IsPast result }
@@ -138,8 +148,10 @@ impl<P: Packed, A: Allocator + Copy> RankRecord<P, A> {
         ensures memory { HadMemory asked.now reach self.old result group.new.items }
         ensures nearer { FewerLeft (2 * ((W.name world.now.words).limits.comms - 1) + 1) (W.name world.now.words).limits self.new asked.now result }
         ensures turns { (alone : Bool) (old : Record) (before : Sight P)
-            → HasReached P.meld alone (W.name world.now.words) asked.now made reach old before self.old (W.sight pass.now)
-            → NextIs P.meld alone (W.name world.now.words) asked.now old before result group.new.items self.new (W.sight pass.now) }
+            → HasReached P.meld alone asked.now made reach (local old (view_of (W.name world.now.words) before))
+            (local self.old (view_of (W.name world.now.words) (W.sight pass.now)))
+            → NextIs P.meld alone asked.now (local old (view_of (W.name world.now.words) before)) result group.new.items
+            (local self.new (view_of (W.name world.now.words) (W.sight pass.now))) }
     {
         let number = self.number();
         if has_rank(&self.failures()[..reach], number) {
@@ -177,10 +189,12 @@ impl<P: Packed, A: Allocator + Copy> RankRecord<P, A> {
         whole: bool,
         group: &mut Vec<u16, A>,
     ) -> Next<P>
-        requires of { IsOf P.meld (W.name world.now.words) (W.sight pass.old) }
-        requires stands { StillStands P.meld (W.name world.now.words) asked.now (AtSpawning append context reach) group.old.items self.old (W.sight pass.old) }
-        ensures { TakesTurn P.meld W.alone whole (W.name world.now.words) asked.now (AtSpawning append context reach) group.old.items self.old
-            (W.sight pass.old) result group.new.items self.new (W.sight pass.new) }
+        requires of { IsView P.meld (view_of (W.name world.now.words) (W.sight pass.old)) }
+        requires stands { StillStands P.meld (under_way asked.now (AtSpawning append context reach) group.old.items)
+            (local self.old (view_of (W.name world.now.words) (W.sight pass.old))) }
+        ensures { TakesTurn P.meld W.alone whole (under_way asked.now (AtSpawning append context reach) group.old.items)
+            (local self.old (view_of (W.name world.now.words) (W.sight pass.old))) (coming result group.new.items)
+            (local self.new (view_of (W.name world.now.words) (W.sight pass.new))) }
     {
         let comm = comm_of(asked);
         let mut append = append;

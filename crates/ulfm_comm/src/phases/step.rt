@@ -5,14 +5,16 @@ ghost use Rattle.ulfm_model.specs.declared.{refusal.Refusal.TheVariants.{SelfFai
 ghost use Rattle.ulfm_model.specs.{Answers.{traits_of}, Records.{Fits, Record}};
 ghost use Rattle.ulfm_comm.specs.{Begins.{loads_again}, Bound.{also_bound, step_bound}, AlsoLeft.{also_left}, Counts.{CountsStep, MakesSteps, TakesSteps}};
 ghost use Rattle.ulfm_comm.specs.{StepsLeft.{Spends, steps_left}, Step.{RunsOn, TakesTurn, Stepped}, Calls.{EndsReply}, Polls.{PendsIn}};
-ghost use Rattle.ulfm_comm.specs.Phase.{Answered, is_looking, next_of, Stands, StillStands, Waits};
-ghost use Rattle.ulfm_comm.specs.Missing.{AnsweredNow, AnswersMissing, FindsMissing, FoundNow};
-ghost use Rattle.ulfm_words.specs.Steps.{IsOf, Name, Sight};
+ghost use Rattle.ulfm_comm.specs.Phase.{under_way, Answered, is_looking, next_of, Stands, StillStands, Waits};
+ghost use Rattle.ulfm_comm.specs.Missing.{midway, AnsweredNow, AnswersMissing, FindsMissing, FoundNow};
+ghost use Rattle.ulfm_words.specs.Steps.{view_of, IsView, Name, Sight};
 ghost use Rattle.ulfm_comm.specs.declared.phases.phase.Next.TheVariants.{Ends as NextEnds};
 ghost use Rattle.ulfm_comm.specs.declared.phases.phase.Phase.TheVariants.{Begun as AtBegun, Over as AtOver};
+ghost use Rattle.ulfm_comm.specs.Local.{local};
+ghost use Rattle.ulfm_comm.specs.Step.{coming};
 
 use crate::phases::phase::{Doing, Next, Phase, Way};
-use crate::rank::{Rank, RankRecord};
+use crate::rank::{LocalState, Rank};
 use crate::world::World;
 use std::alloc::Allocator;
 use std::mem;
@@ -22,7 +24,7 @@ use ulfm_model::refusal::Refusal;
 use ulfm_model::reply::Reply;
 use ulfm_words::{Words, load_revocation};
 
-impl<P: Packed, A: Allocator + Copy> RankRecord<P, A> {
+impl<P: Packed, A: Allocator + Copy> LocalState<P, A> {
     // What a call does first.
     fn first(&self) -> Phase<P>
         ensures { result ≡ (if self.now.refused then AtOver else AtBegun) }
@@ -38,8 +40,8 @@ impl<P: Packed, A: Allocator + Copy> RankRecord<P, A> {
         requires { (traits_of asked).by ≡ OfRank self.now.number }
         ensures asked { result.asked ≡ asked }
         ensures first { result.phase ≡ (if self.now.refused then AtOver else AtBegun) }
-        ensures stands { (alone : Bool) (name : Name) (before : Sight P) → IsOf P.meld name before → Fits P.meld name.limits before.seen self.now
-            → Stands P.meld alone name self.now before result self.now before }
+        ensures stands { (alone : Bool) (name : Name) (before : Sight P) → IsView P.meld (view_of name before) → Fits P.meld name.limits before.seen self.now
+            → Stands P.meld alone (local self.now (view_of name before)) result (local self.now (view_of name before)) }
         ensures bounded { steps_left self.now.limits self.now asked result.phase ≤ step_bound self.now.limits self.now asked + loads_again self.now }
         ensures also { also_left self.now.limits self.now asked result.phase ≤ also_bound self.now.limits self.now asked 0 + loads_again self.now }
     {
@@ -61,16 +63,19 @@ impl<P: Packed, A: Allocator + Copy> RankRecord<P, A> {
         group: &mut Vec<u16, A>,
         whole: bool,
     ) -> Next<P>
-        requires of { IsOf P.meld (W.name world.now.words) (W.sight pass.old) }
-        requires stands { StillStands P.meld (W.name world.now.words) asked.now phase group.old.items self.old (W.sight pass.old) }
-        ensures turn { TakesTurn P.meld W.alone whole (W.name world.now.words) asked.now phase group.old.items self.old (W.sight pass.old) result
-            group.new.items self.new (W.sight pass.new) }
+        requires of { IsView P.meld (view_of (W.name world.now.words) (W.sight pass.old)) }
+        requires stands { StillStands P.meld (under_way asked.now phase group.old.items) (local self.old (view_of (W.name world.now.words) (W.sight pass.old))) }
+        ensures turn { TakesTurn P.meld W.alone whole (under_way asked.now phase group.old.items)
+            (local self.old (view_of (W.name world.now.words) (W.sight pass.old))) (coming result group.new.items)
+            (local self.new (view_of (W.name world.now.words) (W.sight pass.new))) }
         ensures over { phase ≡ AtOver → (result ≡ NextEnds (Refused SelfFailed)) × (self.new ≡ self.old) }
-        ensures checks { FoundNow (FindsMissing P.meld W.alone (W.name world.now.words)
-            (record { doing = record { asked = asked.now; phase = phase; group = group.old.items }; own = self.old; pass = W.sight pass.old }) self.new
-            (W.sight pass.new)) phase result }
-        ensures early { AnsweredNow (AnswersMissing P.meld W.alone (W.name world.now.words)
-            (record { doing = record { asked = asked.now; phase = phase; group = group.old.items }; own = self.old; pass = W.sight pass.old }) self.new)
+        ensures checks { FoundNow
+            (FindsMissing P.meld W.alone (midway (under_way asked.now phase group.old.items)
+            (local self.old (view_of (W.name world.now.words) (W.sight pass.old)))) (local self.new (view_of (W.name world.now.words) (W.sight pass.new))))
+            phase result }
+        ensures early { AnsweredNow
+            (AnswersMissing P.meld W.alone (midway (under_way asked.now phase group.old.items)
+            (local self.old (view_of (W.name world.now.words) (W.sight pass.old)))) self.new)
             phase result }
     {
         match phase {
@@ -119,17 +124,21 @@ impl<P: Packed, A: Allocator + Copy> RankRecord<P, A> {
         pass: &mut W::Pass,
         doing: &mut Way<P, A>,
     ) -> Option<Reply<P>>
-        requires of { IsOf P.meld (W.name world.now.words) (W.sight pass.old) }
+        requires of { IsView P.meld (view_of (W.name world.now.words) (W.sight pass.old)) }
         requires stood { (old : Record) × (before : Sight P) × (stood : Sight P)
-            × Stands P.meld false (W.name world.now.words) old before doing.old self.old stood × Waits false stood (W.sight pass.old) }
+            × Stands P.meld false (local old (view_of (W.name world.now.words) before)) doing.old (local self.old (view_of (W.name world.now.words) stood))
+            × Waits false stood (W.sight pass.old) }
         ensures asked { doing.new.asked ≡ doing.old.asked }
         ensures ended { OnSome result (doing.new.phase ≡ AtOver) }
-        ensures stepped { Stepped P.meld W.alone (W.name world.now.words) doing.old self.old (W.sight pass.old) (next_of result doing.new.phase) self.new
-            (W.sight pass.new) }
+        ensures stepped { Stepped P.meld W.alone doing.old (local self.old (view_of (W.name world.now.words) (W.sight pass.old)))
+            (next_of result doing.new.phase) (local self.new (view_of (W.name world.now.words) (W.sight pass.new))) }
         ensures stands { (alone : Bool) → (IsTrue alone → IsTrue W.alone) → (old : Record) → (before : Sight P) → (stood : Sight P)
-            → Stands P.meld alone (W.name world.now.words) old before doing.old self.old stood → Waits alone stood (W.sight pass.old)
-            → MatchOption result (Stands P.meld alone (W.name world.now.words) old before doing.new self.new (W.sight pass.new))
-            (λ reply. Answered P.meld alone (W.name world.now.words) doing.old.asked old before reply self.new (W.sight pass.new)) }
+            → Stands P.meld alone (local old (view_of (W.name world.now.words) before)) doing.old (local self.old (view_of (W.name world.now.words) stood))
+            → Waits alone stood (W.sight pass.old)
+            → MatchOption result (Stands P.meld alone (local old (view_of (W.name world.now.words) before)) doing.new
+            (local self.new (view_of (W.name world.now.words) (W.sight pass.new))))
+            (λ reply. Answered P.meld alone doing.old.asked (local old (view_of (W.name world.now.words) before)) reply
+            (local self.new (view_of (W.name world.now.words) (W.sight pass.new)))) }
         ensures spends { Spends (steps_left (W.name world.now.words).limits self.old doing.old.asked doing.old.phase) (W.name world.now.words).limits self.new
             doing.old.asked (next_of result doing.new.phase) (W.sight pass.old) (W.sight pass.new) }
     {
@@ -151,11 +160,13 @@ impl<P: Packed, A: Allocator + Copy> RankRecord<P, A> {
         pass: &mut W::Pass,
         asked: Call<P>,
     ) -> Reply<P>
-        requires of { IsOf P.meld (W.name world.now.words) (W.sight pass.old) }
+        requires of { IsView P.meld (view_of (W.name world.now.words) (W.sight pass.old)) }
         requires fits { Fits P.meld (W.name world.now.words).limits (W.sight pass.old).seen self.old }
         requires mine { (traits_of asked).by ≡ OfRank self.old.number }
-        ensures ends { EndsReply P.meld W.alone (W.name world.now.words) asked self.old (W.sight pass.old) result self.new (W.sight pass.new) }
-        ensures pending { PendsIn P.meld W.alone (W.name world.now.words) asked self.old (W.sight pass.old) result self.new (W.sight pass.new) }
+        ensures ends { EndsReply P.meld W.alone asked (local self.old (view_of (W.name world.now.words) (W.sight pass.old))) result
+            (local self.new (view_of (W.name world.now.words) (W.sight pass.new))) }
+        ensures pending { PendsIn P.meld W.alone asked (local self.old (view_of (W.name world.now.words) (W.sight pass.old))) result
+            (local self.new (view_of (W.name world.now.words) (W.sight pass.new))) }
         ensures steps { MakesSteps (W.name world.now.words).limits asked self.old (W.sight pass.old) self.new (W.sight pass.new) }
     {
         if self.is_refused() {
@@ -181,10 +192,11 @@ impl<P: Packed, A: Allocator + Copy> RankRecord<P, A> {
         asked: &Call<P>,
         mut phase: Phase<P>,
     ) -> Reply<P>
-        requires of { IsOf P.meld (W.name world.now.words) (W.sight pass.old) }
-        requires stands { StillStands P.meld (W.name world.now.words) asked.now phase [] self.old (W.sight pass.old) }
+        requires of { IsView P.meld (view_of (W.name world.now.words) (W.sight pass.old)) }
+        requires stands { StillStands P.meld (under_way asked.now phase []) (local self.old (view_of (W.name world.now.words) (W.sight pass.old))) }
         requires past { is_looking phase ≡ false }
-        ensures { RunsOn P.meld W.alone (W.name world.now.words) asked.now phase self.old (W.sight pass.old) result self.new (W.sight pass.new) }
+        ensures { RunsOn P.meld W.alone asked.now phase (local self.old (view_of (W.name world.now.words) (W.sight pass.old))) result
+            (local self.new (view_of (W.name world.now.words) (W.sight pass.new))) }
     {
         let mut group = Vec::new(self.allocator());
         loop {
@@ -213,8 +225,9 @@ impl<P: Packed, A: Allocator + Copy> Rank<P, A> {
         requires { (traits_of asked).by ≡ OfRank self.now.own.number }
         ensures asked { result.way.asked ≡ asked }
         ensures first { result.way.phase ≡ (if self.now.own.refused then AtOver else AtBegun) }
-        ensures stands { (alone : Bool) (name : Name) (before : Sight P) → IsOf P.meld name before → Fits P.meld name.limits before.seen self.now.own
-            → Stands P.meld alone name self.now.own before result.way self.now.own before }
+        ensures stands { (alone : Bool) (name : Name) (before : Sight P) → IsView P.meld (view_of name before) → Fits P.meld name.limits before.seen
+            self.now.own
+            → Stands P.meld alone (local self.now.own (view_of name before)) result.way (local self.now.own (view_of name before)) }
         ensures bounded { steps_left self.now.own.limits self.now.own asked result.way.phase
             ≤ step_bound self.now.own.limits self.now.own asked + loads_again self.now.own }
         ensures also { also_left self.now.own.limits self.now.own asked result.way.phase
@@ -247,17 +260,21 @@ impl<P: Packed, A: Allocator + Copy> Rank<P, A> {
         pass: &mut W::Pass,
         doing: &mut Doing<P, A>,
     ) -> Option<Reply<P>>
-        requires of { IsOf P.meld (W.name world.now.words) (W.sight pass.old) }
+        requires of { IsView P.meld (view_of (W.name world.now.words) (W.sight pass.old)) }
         requires stood { (old : Record) × (before : Sight P) × (stood : Sight P)
-            × Stands P.meld false (W.name world.now.words) old before doing.old.way self.old.own stood × Waits false stood (W.sight pass.old) }
+            × Stands P.meld false (local old (view_of (W.name world.now.words) before)) doing.old.way
+            (local self.old.own (view_of (W.name world.now.words) stood)) × Waits false stood (W.sight pass.old) }
         ensures asked { doing.new.way.asked ≡ doing.old.way.asked }
         ensures ended { OnSome result (doing.new.way.phase ≡ AtOver) }
-        ensures stepped { Stepped P.meld W.alone (W.name world.now.words) doing.old.way self.old.own (W.sight pass.old)
-            (next_of result doing.new.way.phase) self.new.own (W.sight pass.new) }
+        ensures stepped { Stepped P.meld W.alone doing.old.way (local self.old.own (view_of (W.name world.now.words) (W.sight pass.old)))
+            (next_of result doing.new.way.phase) (local self.new.own (view_of (W.name world.now.words) (W.sight pass.new))) }
         ensures stands { (alone : Bool) → (IsTrue alone → IsTrue W.alone) → (old : Record) → (before : Sight P) → (stood : Sight P)
-            → Stands P.meld alone (W.name world.now.words) old before doing.old.way self.old.own stood → Waits alone stood (W.sight pass.old)
-            → MatchOption result (Stands P.meld alone (W.name world.now.words) old before doing.new.way self.new.own (W.sight pass.new))
-            (λ reply. Answered P.meld alone (W.name world.now.words) doing.old.way.asked old before reply self.new.own (W.sight pass.new)) }
+            → Stands P.meld alone (local old (view_of (W.name world.now.words) before)) doing.old.way
+            (local self.old.own (view_of (W.name world.now.words) stood)) → Waits alone stood (W.sight pass.old)
+            → MatchOption result (Stands P.meld alone (local old (view_of (W.name world.now.words) before)) doing.new.way
+            (local self.new.own (view_of (W.name world.now.words) (W.sight pass.new))))
+            (λ reply. Answered P.meld alone doing.old.way.asked (local old (view_of (W.name world.now.words) before)) reply
+            (local self.new.own (view_of (W.name world.now.words) (W.sight pass.new)))) }
         ensures made { CountsStep (W.name world.now.words).limits doing.old self.old.own (next_of result doing.new.way.phase) doing.new.made self.new.own }
         ensures last { MatchOption result (self.new.last ≡ self.old.last) (λ _. self.new.last ≡ doing.new.made) }
     {
@@ -269,20 +286,33 @@ impl<P: Packed, A: Allocator + Copy> Rank<P, A> {
         Some(reply)
     }
 
-    // A whole call. How many steps it makes is noted.
+    /// A whole call, by its name: any of this rank, which is any but a declaration. It is what the method for that call makes, and answers
+    /// with the reply in words of the sequential object. That to `Call::GetFailed` is the number of the failed, without the group.
+    ///
+    /// ```
+    /// let asked = Call::Revoke {
+    ///     rank: rank.number(),
+    ///     comm: 0,
+    /// };
+    /// assert!(rt; rank.call(&world, &mut pass, asked) == Reply::Revoked);
+    /// assert!(rt; rank.call(&world, &mut pass, asked) == Reply::AlreadyRevoked);
+    /// ```
     #[inline(never)]
-    pub(crate) fn call<W: Words<P, A>>(
+    pub fn call<W: Words<P, A>>(
         &mut self,
         world: &World<W, P, A>,
         pass: &mut W::Pass,
         asked: Call<P>,
     ) -> Reply<P>
-        requires of { IsOf P.meld (W.name world.now.words) (W.sight pass.old) }
+        requires of { IsView P.meld (view_of (W.name world.now.words) (W.sight pass.old)) }
         requires fits { Fits P.meld (W.name world.now.words).limits (W.sight pass.old).seen self.old.own }
         requires mine { (traits_of asked).by ≡ OfRank self.old.own.number }
-        ensures ends { EndsReply P.meld W.alone (W.name world.now.words) asked self.old.own (W.sight pass.old) result self.new.own (W.sight pass.new) }
-        ensures pending { PendsIn P.meld W.alone (W.name world.now.words) asked self.old.own (W.sight pass.old) result self.new.own (W.sight pass.new) }
-        ensures steps { TakesSteps (W.name world.now.words).limits asked self.old.own (W.sight pass.old) self.new.own self.new.last (W.sight pass.new) }
+        ensures ends { EndsReply P.meld W.alone asked (local self.old.own (view_of (W.name world.now.words) (W.sight pass.old))) result
+            (local self.new.own (view_of (W.name world.now.words) (W.sight pass.new))) }
+        ensures pending { PendsIn P.meld W.alone asked (local self.old.own (view_of (W.name world.now.words) (W.sight pass.old))) result
+            (local self.new.own (view_of (W.name world.now.words) (W.sight pass.new))) }
+        ensures steps { TakesSteps asked (local self.old.own (view_of (W.name world.now.words) (W.sight pass.old))) self.new.last
+            (local self.new.own (view_of (W.name world.now.words) (W.sight pass.new))) }
     {
         let before = world.words.steps_made(pass);
         let reply = self.own.call(world, pass, asked);

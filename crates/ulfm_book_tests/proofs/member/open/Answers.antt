@@ -6,6 +6,6 @@ use Rattle.ulfm_book_tests.proofs.member.open.Goals as goal
 pub returns : goal.returns
 returns g c =
     let outside = c.in_ok-outside.outside in
-    let named = sym c.in_ok-outside.ensures.outside.of.name_is in
-    each_from (IsNewMember g.P.Meld.meld c.in_ok-words.words) (λ m. m.name ≡ outside.name) (λ m is. is.name_is ∙ named)
+    let named = sym c.in_ok-outside.ensures.outside.words in
+    each_from (IsNewMember g.P.Meld.meld c.in_ok-words.words) (λ m. m.view.words ≡ outside.words) (λ m is. is.name_is ∙ named)
     c.in_ok-outside.members.items c.in_ok-outside.ensures.members

@@ -6,9 +6,9 @@ use Rattle.ulfm_book_tests.proofs.revoking.arrive_others.Goals.{then-number-ne-R
 
 pub loop-member-preserved : goal.loop-member-preserved
 loop-member-preserved g c =
-    let name = c.args.outside.now.name in
-    let left = subst (AllByRecursion (λ m. m.name ≡ name)) c.in-Some.ensures.steps.0 c.loop-member.invariant.1 in
-    let same : c.if-number-ne-REVOKER.member.name ≡ c.in-Some.member.name =
-    elim c.if-number-ne-REVOKER.branch [ then-number-ne-REVOKER+else-assert_eq w ↦ ap (λ m. m.name) w.member-is ∙ w.ibarrier.ensures.words | else-number-ne-REVOKER w ↦ ap (λ m. m.name) w.member-is ] in
-    let all = each_push (λ m. m.name ≡ name) c.loop-member.ready.items c.if-number-ne-REVOKER.member c.loop-member.invariant.2 (same ∙ left.0) in
-    (refl, left.1, subst (AllByRecursion (λ m. m.name ≡ name)) (sym c.in_ok-push.ensures.items) all)
+    let name = c.args.outside.now.words in
+    let left = subst (AllByRecursion (λ m. m.view.words ≡ name)) c.in-Some.ensures.steps.0 c.loop-member.invariant.1 in
+    let same : c.if-number-ne-REVOKER.member.view.words ≡ c.in-Some.member.view.words =
+    elim c.if-number-ne-REVOKER.branch [ then-number-ne-REVOKER+else-assert_eq w ↦ ap (λ m. m.view.words) w.member-is ∙ w.ibarrier.ensures.words | else-number-ne-REVOKER w ↦ ap (λ m. m.view.words) w.member-is ] in
+    let all = each_push (λ m. m.view.words ≡ name) c.loop-member.ready.items c.if-number-ne-REVOKER.member c.loop-member.invariant.2 (same ∙ left.0) in
+    (refl, left.1, subst (AllByRecursion (λ m. m.view.words ≡ name)) (sym c.in_ok-push.ensures.items) all)

@@ -4,4 +4,4 @@ use Rattle.ulfm_book_tests.proofs.revoking.arrive_others.Given as goal
 
 abbrev pub invariant-loop-member : goal.invariant-loop-member
 invariant-loop-member g l =
-    (l.outside ≡ l.fn.outside) × AllByRecursion (λ m. m.name ≡ l.outside.name) l.member-iterator.rest.items × AllByRecursion (λ m. m.name ≡ l.outside.name) l.ready.items
+    (l.outside ≡ l.fn.outside) × AllByRecursion (λ m. m.view.words ≡ l.outside.words) l.member-iterator.rest.items × AllByRecursion (λ m. m.view.words ≡ l.outside.words) l.ready.items

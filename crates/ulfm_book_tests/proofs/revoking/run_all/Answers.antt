@@ -4,5 +4,5 @@ use Rattle.ulfm_book_tests.proofs.revoking.run_all.Goals as goal
 
 pub returns : goal.returns
 returns g c =
-    let name = c.args.outside.now.name in
-    jobs_give _ _ (λ m. m.name ≡ name) (λ d. d.1.name ≡ name) (λ job r named call. search rules) c.map_vec.result c.args.all c.map_vec.ensures.len c.map_vec.ensures.each c.requires
+    let name = c.args.outside.now.words in
+    jobs_give _ _ (λ m. m.view.words ≡ name) (λ d. d.1.view.words ≡ name) (λ job r named call. search rules) c.map_vec.result c.args.all c.map_vec.ensures.len c.map_vec.ensures.each c.requires

@@ -4,9 +4,10 @@ use Rattle.ulfm_model.specs.declared.{event.Event.{Event}, refusal.Refusal.{Refu
 use Rattle.ulfm_model.specs.{History.{failures}, Records.{Record}}
 use Rattle.ulfm_record.specs.{declared.record.RankRecord.{RankRecord}, Kept.{record_of}}
 use Rattle.ulfm_record.proofs.Places.{find_no_place, find_place}
-use Rattle.ulfm_trace_model.specs.Traces.{found_by, record_of as record_at}
+use Rattle.ulfm_trace_model.specs.Traces.{record_in, view_at}
 use Rattle.ulfm_judge.proofs.{Answering.{started_fits}, Leaving.{may_leave, no_record, on_test}, Seeing.{seen_same}}
-use Rattle.ulfm_judge.specs.{Seen.{Seen, seen_of}, Telling.{seen_at}, Kept.{traced_of, under_of}, ReplyTests.{looked_test, rank_test, refused_test}}
+use Rattle.ulfm_judge.specs.CallsAt.{CallAt, call_of}
+use Rattle.ulfm_judge.specs.{Seen.{Seen}, Telling.{seen_at}, Kept.{traced_of, under_of}, ReplyTests.{looked_test, rank_test, refused_test}}
 use Rattle.ulfm_judge.proofs.closing.answers_rank.Goals as goal
 
 pub returns-in_default-clause-told : goal.returns-in_default-clause-told
@@ -22,8 +23,8 @@ returns-then-own-clause-told g c = λ h tells.
     let old = record_of c.args.limits c.index-records-j.result in
     let test = rank_test g.P.Meld.meld g.P.Packed.pack now u c.args.point c.args.reply.now in
     let at = find_place (record_of c.args.limits) (λ (x : Record). x.number == c.args.rank) c.args.records.now c.in-Some.j c.index-records-j.result (sym c.place_of_rank.ensures.at ∙ c.in-Some.is) in
-    let found : record_at now c.args.rank ≡ Some old = at ∙ ap (λ (x : RankRecord g.row.A.Denot). Some (record_of c.args.limits x)) (sym c.index-records-j.is) in
-    let other = is_some u.look && looked_test g.P.Meld.meld g.P.Packed.pack c.args.limits (found_by now u) (seen_of c.args.limits.ranks (take c.args.point h)) u.own old u.asked c.args.reply.now in
+    let found : record_in now c.args.rank ≡ Some old = at ∙ ap (λ (x : RankRecord g.row.A.Denot). Some (record_of c.args.limits x)) (sym c.index-records-j.is) in
+    let other = is_some u.look && looked_test g.P.Meld.meld g.P.Packed.pack (call_of c.args.limits (view_at now u c.args.point) old) u.asked c.args.reply.now in
     c.is_refused-then-own.ensures ∙ sym (ap test found ∙ ap (λ (b : Bool). if b then refused_test Refusal.SelfFailed c.args.reply.now else other) c.if-own.true)
 
 pub returns-in_default-look-clause-told : goal.returns-in_default-look-clause-told
@@ -33,8 +34,9 @@ returns-in_default-look-clause-told g c = λ h tells.
     let old = record_of c.args.limits c.index-records-j.result in
     let test = rank_test g.P.Meld.meld g.P.Packed.pack now u c.args.point c.args.reply.now in
     let at = find_place (record_of c.args.limits) (λ (x : Record). x.number == c.args.rank) c.args.records.now c.in-Some.j c.index-records-j.result (sym c.place_of_rank.ensures.at ∙ c.in-Some.is) in
-    let found : record_at now c.args.rank ≡ Some old = at ∙ ap (λ (x : RankRecord g.row.A.Denot). Some (record_of c.args.limits x)) (sym c.index-records-j.is) in
-    let looked = λ (l : Option ℕ). is_some l && looked_test g.P.Meld.meld g.P.Packed.pack c.args.limits (take (unwrap_or l 0) (failures h)) (seen_of c.args.limits.ranks (take c.args.point h)) u.own old u.asked c.args.reply.now in
+    let found : record_in now c.args.rank ≡ Some old = at ∙ ap (λ (x : RankRecord g.row.A.Denot). Some (record_of c.args.limits x)) (sym c.index-records-j.is) in
+    let told = call_of c.args.limits (view_at now u c.args.point) old in
+    let looked = λ (l : Option ℕ). is_some l && looked_test g.P.Meld.meld g.P.Packed.pack (record told { look = take (unwrap_or l 0) (failures h) }) u.asked c.args.reply.now in
     sym (ap test found ∙ (ap (λ (b : Bool). if b then refused_test Refusal.SelfFailed c.args.reply.now else looked u.look) c.if-own.false ∙ ap looked c.in_default-look.is))
 
 pub returns-clause-told : goal.returns-clause-told
@@ -44,14 +46,15 @@ returns-clause-told g c = λ h tells.
     let old = record_of c.args.limits c.index-records-j.result in
     let test = rank_test g.P.Meld.meld g.P.Packed.pack now u c.args.point c.args.reply.now in
     let at = find_place (record_of c.args.limits) (λ (x : Record). x.number == c.args.rank) c.args.records.now c.in-Some.j c.index-records-j.result (sym c.place_of_rank.ensures.at ∙ c.in-Some.is) in
-    let found : record_at now c.args.rank ≡ Some old = at ∙ ap (λ (x : RankRecord g.row.A.Denot). Some (record_of c.args.limits x)) (sym c.index-records-j.is) in
-    let looked = λ (l : Option ℕ). is_some l && looked_test g.P.Meld.meld g.P.Packed.pack c.args.limits (take (unwrap_or l 0) (failures h)) (seen_of c.args.limits.ranks (take c.args.point h)) u.own old u.asked c.args.reply.now in
+    let found : record_in now c.args.rank ≡ Some old = at ∙ ap (λ (x : RankRecord g.row.A.Denot). Some (record_of c.args.limits x)) (sym c.index-records-j.is) in
+    let told = call_of c.args.limits (view_at now u c.args.point) old in
+    let looked = λ (l : Option ℕ). is_some l && looked_test g.P.Meld.meld g.P.Packed.pack (record told { look = take (unwrap_or l 0) (failures h) }) u.asked c.args.reply.now in
     let is = ap test found ∙ (ap (λ (b : Bool). if b then refused_test Refusal.SelfFailed c.args.reply.now else looked u.look) c.if-own.false ∙ ap looked c.in-Some-look.is) in
     let look = c.first_of-look.ensures ∙ ap (take c.in-Some-look.count) (c.deref.ensures.value ∙ tells.failures.0) in
-    let same : looked_test g.P.Meld.meld g.P.Packed.pack c.args.limits c.first_of-look.result.now (seen_at c.args.numbers.now c.args.point) c.deref-2.result.now old u.asked c.args.reply.now
-    ≡ looked_test g.P.Meld.meld g.P.Packed.pack c.args.limits (take c.in-Some-look.count (failures h)) (seen_of c.args.limits.ranks (take c.args.point h)) u.own old u.asked c.args.reply.now =
-    ap₂ (λ (xs : List ℕ) (s : Seen g.row.P.Denot). looked_test g.P.Meld.meld g.P.Packed.pack c.args.limits xs s c.deref-2.result.now old u.asked c.args.reply.now) look (seen_same c.args.limits.ranks c.args.numbers.now h tells c.args.point)
-    ∙ ap (λ (own : List (Event g.row.P.Denot)). looked_test g.P.Meld.meld g.P.Packed.pack c.args.limits (take c.in-Some-look.count (failures h)) (seen_of c.args.limits.ranks (take c.args.point h)) own old u.asked c.args.reply.now) c.deref-2.ensures.value in
+    let asked = λ (call : CallAt g.row.P.Denot). looked_test g.P.Meld.meld g.P.Packed.pack call u.asked c.args.reply.now in
+    let same =
+    ap₂ (λ (xs : List ℕ) (s : Seen g.row.P.Denot). asked (record told { look = xs; seen = s; own = c.deref-2.result.now })) look (seen_same c.args.limits.ranks c.args.numbers.now h tells c.args.point)
+    ∙ ap (λ (own : List (Event g.row.P.Denot)). asked (record told { look = take c.in-Some-look.count (failures h); own = own })) c.deref-2.ensures.value in
     subst (λ t. IfOk c.is_answer.result (λ b. b ≡ t)) (same ∙ sym is) c.is_answer.ensures
 
 pub returns-in_default-clause-fits : goal.returns-in_default-clause-fits
@@ -72,5 +75,6 @@ returns-clause-fits g c = λ may.
     let old = record_of c.args.limits c.index-records-j.result in
     let at = find_place (record_of c.args.limits) (λ (x : Record). x.number == c.args.rank) c.args.records.now c.in-Some.j c.index-records-j.result (sym c.place_of_rank.ensures.at ∙ c.in-Some.is) in
     let found = at ∙ ap (λ (x : RankRecord g.row.A.Denot). Some (record_of c.args.limits x)) (sym c.index-records-j.is) in
+    let call : CallAt g.row.P.Denot = record { limits = c.args.limits; caller = old; look = c.first_of-look.result.now; seen = seen_at c.args.numbers.now c.args.point; own = c.deref-2.result.now } in
     on_test c.is_answer.result _ _ (λ is. may_leave (traced_of c.args.limits [] c.args.records.now []) c.args.rank u c.args.reply.now old found
-    (started_fits g.P.Meld.meld g.P.Packed.pack c.args.limits c.first_of-look.result.now (seen_at c.args.numbers.now c.args.point) c.deref-2.result.now old u.asked c.args.reply.now may.in_range.rounds is)) c.is_answer.ensures
+    (started_fits g.P.Meld.meld g.P.Packed.pack call u.asked c.args.reply.now may.in_range.rounds is)) c.is_answer.ensures

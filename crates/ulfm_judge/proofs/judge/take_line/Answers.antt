@@ -1,7 +1,7 @@
 use Rattle.std.proofs.Common.{List, sym, subst, ◌∙◌}
 use Rattle.std.specs.Prelude.{IfOk}
 use Rattle.ulfm_trace_model.specs.{declared.line.Line.{Line}, Traces.{Takes, Under}}
-use Rattle.ulfm_judge.specs.{declared.calls.OpenCall.{OpenCall}, Kept.{GoesWith, traced_of}, Telling.{Goes}}
+use Rattle.ulfm_judge.specs.{declared.calls.OpenCall.{OpenCall}, Kept.{GoesWith, traced_of}, Telling.{TellsSome}}
 use Rattle.ulfm_judge.proofs.Leaving.{goes_on, written}
 use Rattle.ulfm_judge.proofs.judge.take_line.Goals as goal
 
@@ -33,7 +33,7 @@ returns-in-Happened-clause-taken g c = λ h us tells are.
     rw c.in-Happened.is
     (subst (λ (kept : List (OpenCall g.row.P.Denot g.row.A.Denot)).
     IfOk c.happen_told.result
-    (Goes limits c.happen_told.new.numbers records kept (Takes g.P.Meld.meld (traced_of limits h records us) c.args.group.now (Line.Happened c.in-Happened.by c.in-Happened.event))))
+    (TellsSome limits c.happen_told.new.numbers records kept (Takes g.P.Meld.meld (traced_of limits h records us) c.args.group.now (Line.Happened c.in-Happened.by c.in-Happened.event))))
     (sym (written c.args.calls.now.len c.happen_told.new.calls calls (c.happen_told.auto.calls ∙ c.deref_mut-in-Happened.ensures.len)))
     (happened h us c.args.group.now tells are))
 

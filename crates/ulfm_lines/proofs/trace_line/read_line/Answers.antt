@@ -1,6 +1,6 @@
 use Rattle.std.proofs.Common.{◌≡◌, ◌≤◌, ◌∙◌, length, Some, ap, sym, subst, arith}
 use Rattle.ulfm_script.specs.Words.{rest_at}
-use Rattle.ulfm_lines.specs.{LineReading.{line_listing}, LineTexts.{TraceLine}, Telling.{Tells}}
+use Rattle.ulfm_lines.specs.{LineReading.{line_listing}, LineTexts.{TraceLine}, Telling.{TextTells}}
 use Rattle.ulfm_lines.proofs.ReadLemmas.{few_read, found_read, no_head, none_read, only_read}
 use Rattle.ulfm_lines.proofs.trace_line.read_line.Goals as goal
 
@@ -22,7 +22,7 @@ returns-else-not-branch-clause-found g c =
     let short : length c.args.line.now ≤ 8192 = omega (arith, c.if-line-gt-LONGEST.false) in
     let size : c.len.result ≡ length c.read_ranks.new.group.items = omega (arith, c.len.ensures, c.read_ranks.new.group.ok.0) in
     let is : c.listing.result ≡ line_listing (length c.read_ranks.new.group.items) c.in-Ok.head = c.listing.ensures ∙ ap (λ n. line_listing n c.in-Ok.head) size in
-    subst (Tells c.args.line.now c.read_ranks.new.group.items) (sym is)
+    subst (TextTells c.args.line.now c.read_ranks.new.group.items) (sym is)
     (found_read c.args.line.now c.read_ranks.new.group.items c.in-Ok.head (rest_at c.in-Ok.ranks) c.in_ok-read_ranks-in-Ok.field-0 c.if-not-branch.false c.in-Ok.ensures c.in_ok-read_ranks-in-Ok.ensures short)
 
 pub returns-else-not-branch-clause-only : goal.returns-else-not-branch-clause-only

@@ -8,7 +8,7 @@ learn-requires g c = c.told.ensures.name_is ∙ (c.poll-answer.ensures.words ∙
 pub returns-clause-second : goal.returns-clause-second
 returns-clause-second g c = record {
   told = g.W.OpenWords.heard c.told.result;
-  tells = c.told.ensures;
+  is_told = c.told.ensures;
   mid = c.learn.new.self;
   learns = c.learn.ensures;
   polls = c.poll.ensures;

@@ -4,7 +4,7 @@ use Rattle.std.specs.Arc.{arc_value}
 use Rattle.std.specs.List.{AllByRecursion}
 use Rattle.ulfm_model.specs.Records.{Fits}
 use Rattle.ulfm_model.proofs.Lists.{each_push}
-use Rattle.ulfm_words.specs.Steps.{IsNew}
+use Rattle.ulfm_words.specs.Steps.{view_of, IsNew}
 use Rattle.ulfm_comm.specs.Counts.{Ranked, records_of}
 use Rattle.ulfm_member.specs.Members.{IsMember, IsNewMember}
 use Rattle.ulfm_member.proofs.Opening.{all_made, one_member_more}
@@ -16,10 +16,10 @@ new-requires g c =
     let name = g.W.Words.name (arc_value c.args.world.now).words in
     let own = c.in-Some.rank.own in
     let pass = g.W.Words.sight c.in_ok-pass.pass in
-    let new = subst (λ world. IsNew meld (g.W.Words.name world.words) pass) c.deref.ensures c.in_ok-pass.ensures in
+    let new = subst (λ world. IsNew meld (view_of (g.W.Words.name world.words) pass)) c.deref.ensures c.in_ok-pass.ensures in
     let left = subst (λ rs. AllByRecursion (Fits meld name.limits []) (records_of rs)) c.in-Some.ensures.steps.0 c.loop-rank.invariant.2 in
     let fits = subst (λ seen. Fits meld name.limits seen own) (sym new.seen) left.0 in
-    subst (λ world. IsMember meld (record { name = g.W.Words.name world.words; own = own; last = c.in-Some.rank.last; pass = pass })) (sym c.in_ok-try_clone.ensures)
+    subst (λ world. IsMember meld (record { own = own; last = c.in-Some.rank.last; view = view_of (g.W.Words.name world.words) pass })) (sym c.in_ok-try_clone.ensures)
     (record { of = new.of; fits = fits })
 
 pub loop-rank-preserved : goal.loop-rank-preserved
@@ -30,9 +30,9 @@ loop-rank-preserved g c =
     let all = c.loop-rank.all.items in
     let member = c.new.result in
     let rest = records_of c.next.new.self.rest.items in
-    let new = subst (λ world. IsNew meld (g.W.Words.name world.words) pass) c.deref.ensures c.in_ok-pass.ensures in
+    let new = subst (λ world. IsNew meld (view_of (g.W.Words.name world.words) pass)) c.deref.ensures c.in_ok-pass.ensures in
     let none = subst (AllByRecursion (λ (r : Ranked). r.last ≡ 0)) c.in-Some.ensures.steps.0 c.loop-rank.invariant.3 in
-    let is_new = subst (IsNewMember meld name) (sym c.new.ensures) (record { name_is = ap (λ world. g.W.Words.name world.words) c.in_ok-try_clone.ensures; new = new; last = none.0 }) in
+    let is_new = subst (IsNewMember meld name) (sym c.new.ensures) (record { name_is = ap (λ world. g.W.Words.name world.words) c.in_ok-try_clone.ensures; new = subst (λ world. IsNew meld (view_of (g.W.Words.name world.words) pass)) (sym c.in_ok-try_clone.ensures) new; last = none.0 }) in
     let left = subst (λ rs. AllByRecursion (Fits meld name.limits []) (records_of rs)) c.in-Some.ensures.steps.0 c.loop-rank.invariant.2 in
     let in_order =
     one_member_more all member rest ∙ (ap (λ x. map (λ m. m.own) all ++ x.own ∷ rest) c.new.ensures

@@ -1,7 +1,7 @@
 use Rattle.std.proofs.Common.{◌≡◌, ℕ, ◌+◌, ◌<◌, ◌≤◌, map, length, vec_capacity, vec_len, Some, None}
 use mathlib.Core.List.{IsPrefix}
 use Rattle.ulfm_laws.specs.Flags.{flag_meld}
-use Rattle.ulfm_words.specs.Steps.{IsOf}
+use Rattle.ulfm_words.specs.Steps.{view_of, IsView}
 use Rattle.ulfm_race.specs.declared.plan.RaceFault.{RaceFault}
 use Rattle.ulfm_race.specs.Races.{EndsFor, IsEnded, IsGathered, IsStarted, Numbered, StartIs, WasLet}
 use Rattle.ulfm_race.proofs.gather.hear_all.Given as goal
@@ -16,7 +16,7 @@ invariant-loop-one g l =
     × (l.gate ≡ l.fn.gate)
     × (l.plan ≡ plan)
     × (l.gathered.plan ≡ plan)
-    × IsOf flag_meld name l.outside
+    × IsView flag_meld (view_of name l.outside)
     × IsPrefix l.fn.outside.seen l.outside.seen
     × (vec_capacity l.gathered.replies ≡ plan.ranks)
     × ((fault : RaceFault) → l.gathered.fault ≡ Some fault → EndsFor plan (g.G.Gate.may_say l.fn.gate) fault)

@@ -51,7 +51,7 @@ returns-clause-works g c =
     let start = member_of name c.args.rank c.args.pass in
     let ended = member_of name c.take_turns-ended.new.worker.rank c.take_turns-ended.new.worker.pass in
     let stops = c.is_stopped.ensures in
-    let declares : IsTrue c.is_stopped.result → Declares name number ended.pass c.declare.new.pass = λ stopped. subst (λ n. Declares name n ended.pass c.declare.new.pass) c.number-number.ensures (c.declare.ensures.once stopped) in
+    let declares : IsTrue c.is_stopped.result → Declares name number ended.view.pass c.declare.new.pass = λ stopped. subst (λ n. Declares name n ended.view.pass c.declare.new.pass) c.number-number.ensures (c.declare.ensures.once stopped) in
     let failed = λ (f : RaceFault) (met : c.fault_in-fault.result ≡ Some f). some_holds (λ fault. c.take_turns-ended.result ≡ Err fault) c.fault_in-fault.result f c.fault_in-fault.ensures.some met in
     record {
       ended = ended;

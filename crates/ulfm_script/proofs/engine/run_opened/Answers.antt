@@ -1,6 +1,6 @@
 use Rattle.std.proofs.Common.{arith}
 use Rattle.ulfm_script.specs.Buffers.{pending, unread, waiting}
-use Rattle.ulfm_script.specs.Ends.{IsOpened, Known}
+use Rattle.ulfm_script.specs.Ends.{IsOpened, KnownText}
 use Rattle.ulfm_script.proofs.RunLemmas.{ended_by_read, ended_cut, ended_done, ended_first, ended_line, goes_first, goes_on, handed_on}
 use Rattle.ulfm_script.proofs.engine.run_opened.Goals as goal
 
@@ -75,7 +75,7 @@ returns-in_err-run_line g c =
       ended_line m.lang (m.HasRun plan c.lines.machine) (m.HasRun plan c.run_line.new.machine) known (unread k c.lines.input c.lines.reader)
           (k c.read_line.new.reader) (w c.args.writer.now) (w c.lines.writer) (w c.run_line.new.writer) (waiting c.lines.output)
           (waiting c.run_line.new.output) (pending c.read_line.new.self) e.0 c.deref.result.now c.read_line.new.line.items c.lines.number fault i
-          e.1 e.3 c.deref.ensures.value e.2 (c.in_err-run_line.ensures plan i.limits i.items i.out i.has_run),
+          e.1 e.3 c.deref.ensures.value e.2 (c.in_err-run_line.ensures plan i.ran i.has_run),
       tt,
     )
 
@@ -85,12 +85,12 @@ lines-preserved g c =
     let w = g.W.Write.contents in
     let m = g.M.Interpreter in
     let e = rw c.in-Newline.is at c.in_ok-read_line.ensures in
-    let on = λ (plan : g.row.M-Plan.Denot) (known : Known) (opened : IsOpened m.lang (m.HasRun plan c.args.machine.now) known (unread k c.args.input.now c.args.reader.now) (m.text c.args.machine.now)).
+    let on = λ (plan : g.row.M-Plan.Denot) (known : KnownText) (opened : IsOpened m.lang (m.HasRun plan c.args.machine.now) known (unread k c.args.input.now c.args.reader.now) (m.text c.args.machine.now)).
     let i = c.lines.invariant.1 plan known opened in
     goes_on m.lang (m.HasRun plan c.lines.machine) (m.HasRun plan c.run_line.new.machine) known (unread k c.lines.input c.lines.reader)
     (unread k c.read_line.new.self c.read_line.new.reader) (w c.args.writer.now) (w c.lines.writer) (w c.run_line.new.writer)
     (waiting c.lines.output) (waiting c.run_line.new.output) e.0 c.deref.result.now c.read_line.new.line.items c.lines.number i
     (g.met.M.Interpreter.prints plan c.run_line.new.machine) e.1 e.3 c.deref.ensures.value e.2
-    (c.in_ok-run_line.ensures plan i.limits i.items i.out i.has_run) in
+    (c.in_ok-run_line.ensures plan i.ran i.has_run) in
     let first = c.requires.opened in
     ((on first.0 first.1 first.2).0, λ plan known opened. (on plan known opened).1)

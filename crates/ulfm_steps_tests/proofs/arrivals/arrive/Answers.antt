@@ -1,4 +1,4 @@
-use Rattle.ulfm_steps.proofs.Welcome.{world_place}
+use Rattle.ulfm_steps.proofs.Coming.{world_place}
 use Rattle.ulfm_steps_tests.proofs.arrivals.arrive.Goals as goal
 
 pub set_arrival-requires-clause-may : goal.set_arrival-requires-clause-may

@@ -1,12 +1,12 @@
 use Rattle.std.proofs.Common.{◌≡◌, Option, Some, None, is_some, false, ℕ, List}
 use Rattle.ulfm_laws.specs.declared.summary.Summary.{Summary}
 use Rattle.ulfm_model.specs.History.{History}
-use Rattle.ulfm_steps.specs.Blocks.{Tells}
+use Rattle.ulfm_steps.specs.Blocks.{MembersTell}
 use Rattle.ulfm_steps.proofs.Reading.{world_round}
 use Rattle.ulfm_steps_tests.proofs.blocks.peek.Goals as goal
 
 -- nothing is known of a block that isn't
-tells_none : {P : Type 0} (meld : P → P → P) (h : History P) (group : List ℕ) (said : Option (Summary P)) → is_some said ≡ false → Tells meld h 0 0 group said
+tells_none : {P : Type 0} (meld : P → P → P) (h : History P) (group : List ℕ) (said : Option (Summary P)) → is_some said ≡ false → MembersTell meld h 0 0 group said
 tells_none meld h group None none = tt
 tells_none meld h group (Some all) none = absurd (cc none)
 

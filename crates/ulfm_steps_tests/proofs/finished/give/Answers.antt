@@ -1,5 +1,5 @@
 use Rattle.std.proofs.Common.{arith}
-use Rattle.ulfm_steps.proofs.Welcome.{world_place}
+use Rattle.ulfm_steps.proofs.Coming.{world_place}
 use Rattle.ulfm_steps_tests.proofs.finished.give.Goals as goal
 
 pub finish-requires-clause-may : goal.finish-requires-clause-may

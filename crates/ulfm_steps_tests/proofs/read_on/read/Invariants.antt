@@ -1,12 +1,12 @@
 use Rattle.std.proofs.Common.{◌-◌, ◌≤◌, vec_capacity, vec_len}
 use Rattle.ulfm_model.specs.History.{failures}
-use Rattle.ulfm_words.specs.Steps.{IsOf}
+use Rattle.ulfm_words.specs.Steps.{view_of, IsView}
 use Rattle.ulfm_steps.specs.ReadsOn.{AtFailure, MayReadOn}
 use Rattle.ulfm_steps_tests.proofs.read_on.read.Given as goal
 
 abbrev pub invariant-loop-on : goal.invariant-loop-on
 invariant-loop-on g l = record {
-  of : IsOf g.P.Meld.meld (g.W.Words.name l.words) (g.W.Words.sight l.pass);
+  of : IsView g.P.Meld.meld (view_of (g.W.Words.name l.words) (g.W.Words.sight l.pass));
   may : MayReadOn l.group l.asked l.seen.items (failures (g.W.Words.sight l.pass).seen);
   at : AtFailure l.group l.asked l.on l.seen.items;
   room : (g.W.Words.name l.words).limits.ranks ≤ vec_capacity l.seen;

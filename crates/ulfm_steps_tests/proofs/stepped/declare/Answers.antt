@@ -1,6 +1,6 @@
 use Rattle.std.proofs.Common.{arith}
 use Rattle.ulfm_words.proofs.Trails.{did_prefix}
-use Rattle.ulfm_steps.proofs.{Appending.{append_stays}, Welcome.{may_fail}}
+use Rattle.ulfm_steps.proofs.{Appending.{append_stays}, Coming.{may_fail}}
 use Rattle.ulfm_steps_tests.proofs.stepped.declare.Goals as goal
 
 pub loop-end-init : goal.loop-end-init

@@ -1,11 +1,11 @@
 use Rattle.std.proofs.Common.{◌<◌}
-use Rattle.ulfm_words.specs.Steps.{IsOf}
+use Rattle.ulfm_words.specs.Steps.{view_of, IsView}
 use Rattle.ulfm_steps.specs.Appends.{HasRound, MayAppend, Passed, room, turns_left}
 use Rattle.ulfm_steps_tests.proofs.stepped.declare.Given as goal
 
 abbrev pub invariant-loop-end : goal.invariant-loop-end
 invariant-loop-end g l = record {
-  of : IsOf g.P.Meld.meld (g.W.Words.name l.words) (g.W.Words.sight l.pass);
+  of : IsView g.P.Meld.meld (view_of (g.W.Words.name l.words) (g.W.Words.sight l.pass));
   may : MayAppend g.P.Meld.meld (g.W.Words.name l.words).limits (g.W.Words.sight l.pass).seen l.append.item;
   round : HasRound (g.W.Words.name l.words).limits l.append.item;
   passed : Passed (g.W.Words.sight l.pass).seen l.append.item l.append.index;

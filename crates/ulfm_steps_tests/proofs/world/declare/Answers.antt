@@ -1,4 +1,4 @@
-use Rattle.ulfm_steps.proofs.Welcome.{may_fail}
+use Rattle.ulfm_steps.proofs.Coming.{may_fail}
 use Rattle.ulfm_steps_tests.proofs.world.declare.Goals as goal
 
 pub finish-requires-clause-may : goal.finish-requires-clause-may

@@ -1,6 +1,6 @@
 use Rattle.std.proofs.Common.{◌≡◌, sym, ◌∙◌, ap, subst}
 use Rattle.ulfm_model.specs.Blocks.{IsBlock, IsBlockWithin}
-use Rattle.ulfm_book.specs.{Logs.{history_in, limits_in}, Rules.{book_of, word_named}, Seats.{block_seat}}
+use Rattle.ulfm_book.specs.{Logs.{history_in, limits_in}, Rules.{book_of, word_named}, Layout.{block_offset}}
 use Rattle.ulfm_book.proofs.{Caching.{add_block_moves}, Telling.{cache_lost_tells, cache_won_tells}}
 use Rattle.ulfm_book.proofs.pass.BookPass.cache.Goals as goal
 
@@ -8,8 +8,8 @@ pub compare_exchange-stood-requires : goal.compare_exchange-stood-requires
 compare_exchange-stood-requires g c =
     let seen = c.self.inside.seen in
     let block = c.args.block in
-    let word : c.args.word.now ≡ word_named seen.book (block_seat (limits_in seen.log) block) =
-    subst (λ s. c.args.word.now ≡ word_named (book_of s.name) (block_seat s.name.limits block)) (sym c.self.view_is) c.requires.word in
+    let word : c.args.word.now ≡ word_named seen.book (block_offset (limits_in seen.log) block) =
+    subst (λ s. c.args.word.now ≡ word_named (book_of s.name) (block_offset s.name.limits block)) (sym c.self.view_is) c.requires.word in
     let within : IsBlockWithin (limits_in seen.log) block = subst (λ s. IsBlockWithin s.name.limits block) (sym c.self.view_is) c.requires.within in
     let may : IsBlock g.P.Meld.meld g.P.Packed.pack (limits_in seen.log).ranks (history_in seen.log) block c.args.said =
     subst (λ s. IsBlock g.P.Meld.meld g.P.Packed.pack s.name.limits.ranks s.seen block c.args.said) (sym c.self.view_is) c.requires.may in

@@ -1,14 +1,14 @@
 use Rattle.std.proofs.Common.{◌≡◌, sym, ap, subst}
 use Rattle.ulfm_words.specs.Places.{IsWithin}
-use Rattle.ulfm_book.specs.{Logs.{limits_in}, Rules.{book_of, word_named}, Seats.{seat_in}}
+use Rattle.ulfm_book.specs.{Logs.{limits_in}, Rules.{book_of, word_named}, Layout.{place_offset}}
 use Rattle.ulfm_book.proofs.{Moving.{look_moves}, Telling.{load_tells}}
 use Rattle.ulfm_book.proofs.pass.BookPass.load.Goals as goal
 
 pub load-found-requires : goal.load-found-requires
 load-found-requires g c =
     let seen = c.self.inside.seen in
-    let word : c.args.word.now ≡ word_named seen.book (seat_in (limits_in seen.log) c.args.place) =
-    subst (λ s. c.args.word.now ≡ word_named (book_of s.name) (seat_in s.name.limits c.args.place)) (sym c.self.view_is) c.requires.word in
+    let word : c.args.word.now ≡ word_named seen.book (place_offset (limits_in seen.log) c.args.place) =
+    subst (λ s. c.args.word.now ≡ word_named (book_of s.name) (place_offset s.name.limits c.args.place)) (sym c.self.view_is) c.requires.word in
     let within : IsWithin (limits_in seen.log) c.args.place = subst (λ s. IsWithin s.name.limits c.args.place) (sym c.self.view_is) c.requires.within in (
       ap (λ w. w.tracked) word,
       sym (ap (λ w. w.book) word),

@@ -1,14 +1,14 @@
 use Rattle.std.proofs.Common.{◌≡◌, sym, ap, subst}
 use Rattle.ulfm_model.specs.Blocks.{IsBlockWithin}
-use Rattle.ulfm_book.specs.{Logs.{limits_in}, Rules.{book_of, word_named}, Seats.{block_seat}}
+use Rattle.ulfm_book.specs.{Logs.{limits_in}, Rules.{book_of, word_named}, Layout.{block_offset}}
 use Rattle.ulfm_book.proofs.{Caching.{look_block_moves}, Telling.{load_block_tells}}
 use Rattle.ulfm_book.proofs.pass.BookPass.load_block.Goals as goal
 
 pub load-found-requires : goal.load-found-requires
 load-found-requires g c =
     let seen = c.self.inside.seen in
-    let word : c.args.word.now ≡ word_named seen.book (block_seat (limits_in seen.log) c.args.block) =
-    subst (λ s. c.args.word.now ≡ word_named (book_of s.name) (block_seat s.name.limits c.args.block)) (sym c.self.view_is) c.requires.word in
+    let word : c.args.word.now ≡ word_named seen.book (block_offset (limits_in seen.log) c.args.block) =
+    subst (λ s. c.args.word.now ≡ word_named (book_of s.name) (block_offset s.name.limits c.args.block)) (sym c.self.view_is) c.requires.word in
     let within : IsBlockWithin (limits_in seen.log) c.args.block = subst (λ s. IsBlockWithin s.name.limits c.args.block) (sym c.self.view_is) c.requires.within in (
       ap (λ w. w.tracked) word,
       sym (ap (λ w. w.book) word),

@@ -1,6 +1,6 @@
 use Rattle.std.proofs.Common.{◌≡◌, sym, ◌∙◌, ap, subst}
 use Rattle.ulfm_words.specs.{Places.{IsWithin}, Steps.{MaySet}}
-use Rattle.ulfm_book.specs.{declared.line.Line.TheVariants.{Made}, Logs.{history_in, limits_in, line_of}, Rules.{book_of, word_named}, Seats.{seat_in}}
+use Rattle.ulfm_book.specs.{declared.line.Line.TheVariants.{Made}, Logs.{history_in, limits_in, line_of}, Rules.{book_of, word_named}, Layout.{place_offset}}
 use Rattle.ulfm_book.proofs.{Moving.{add_moves}, Telling.{lost_tells, won_tells}}
 use Rattle.ulfm_book.proofs.pass.BookPass.set_once.Goals as goal
 
@@ -8,8 +8,8 @@ pub compare_exchange-found-requires : goal.compare_exchange-found-requires
 compare_exchange-found-requires g c =
     let seen = c.self.inside.seen in
     let place = c.args.step.place in
-    let word : c.args.word.now ≡ word_named seen.book (seat_in (limits_in seen.log) place) =
-    subst (λ s. c.args.word.now ≡ word_named (book_of s.name) (seat_in s.name.limits place)) (sym c.self.view_is) c.requires.word in
+    let word : c.args.word.now ≡ word_named seen.book (place_offset (limits_in seen.log) place) =
+    subst (λ s. c.args.word.now ≡ word_named (book_of s.name) (place_offset s.name.limits place)) (sym c.self.view_is) c.requires.word in
     let within : IsWithin (limits_in seen.log) place = subst (λ s. IsWithin s.name.limits place) (sym c.self.view_is) c.requires.within in
     let may : MaySet g.P.Meld.meld g.P.Packed.pack g.P.Packed.unpack (limits_in seen.log) (history_in seen.log) c.args.step =
     subst (λ s. MaySet g.P.Meld.meld g.P.Packed.pack g.P.Packed.unpack s.name.limits s.seen c.args.step) (sym c.self.view_is) c.requires.may in

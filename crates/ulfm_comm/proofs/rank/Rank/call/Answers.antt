@@ -3,6 +3,8 @@ use Rattle.ulfm_model.specs.Records.{Fits}
 use Rattle.ulfm_comm.specs.{Counts.{MakesSteps, Ranked}, Polls.{PendsIn}}
 use Rattle.ulfm_comm.proofs.Counts.{made_exact, made_small}
 use Rattle.ulfm_comm.proofs.rank.Rank.call.Goals as goal
+use Rattle.ulfm_comm.specs.Local.{local}
+use Rattle.ulfm_words.specs.Steps.{view_of}
 
 pub overflow_cast-self : goal.overflow_cast-self
 overflow_cast-self g c =
@@ -20,7 +22,7 @@ returns-clause-pending g c =
     let name = g.W.Words.name c.args.world.now.words in
     let before = g.W.Words.sight c.args.pass.now in
     let after = g.W.Words.sight c.call-reply.new.pass in
-    subst (λ (r : Ranked). PendsIn g.P.Meld.meld g.W.Words.alone name c.args.asked r.own before c.call-reply.result c.call-reply.new.self after) c.self.view_is
+    subst (λ (r : Ranked). PendsIn g.P.Meld.meld g.W.Words.alone c.args.asked (local r.own (view_of name before)) c.call-reply.result (local c.call-reply.new.self (view_of name after))) c.self.view_is
     c.call-reply.ensures.pending
 
 pub returns-clause-steps : goal.returns-clause-steps

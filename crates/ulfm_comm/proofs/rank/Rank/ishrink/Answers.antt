@@ -4,6 +4,8 @@ use Rattle.ulfm_model.specs.declared.reply.Reply.TheVariants.{Started}
 use Rattle.ulfm_comm.specs.Calls.{EndsReply, reply_of}
 use Rattle.ulfm_comm.proofs.{CallRuns.{called_run}, Excludes.{start_excludes}, Typed.{ends_calls}}
 use Rattle.ulfm_comm.proofs.rank.Rank.ishrink.Goals as goal
+use Rattle.ulfm_comm.specs.Local.{local}
+use Rattle.ulfm_words.specs.Steps.{view_of}
 
 pub returns-clause-excludes : goal.returns-clause-excludes
 returns-clause-excludes g c =
@@ -11,7 +13,7 @@ returns-clause-excludes g c =
     let before = g.W.Words.sight c.args.pass.now in
     let after = g.W.Words.sight c.call.new.pass in
     let asked = call.Shrink c.number-rank.result c.args.comm in
-    let ends = subst (λ r. EndsReply g.P.Meld.meld g.W.Words.alone name asked c.args.self.now.own before r c.call.new.self.own after)
+    let ends = subst (λ r. EndsReply g.P.Meld.meld g.W.Words.alone asked (local c.args.self.now.own (view_of name before)) r (local c.call.new.self.own (view_of name after)))
     (sym c.started.ensures) c.call.ensures.ends in
     start_excludes g.P.Meld.meld name.limits g.W.Words.alone before.seen after.seen c.args.self.now.own c.number-rank.result c.args.comm c.started.result
     c.call.new.self.own c.requires.fits

@@ -1,21 +1,22 @@
 use Rattle.std.proofs.Common.{◌≡◌, Bool, ap, refl, sym, ◌∙◌, subst, false}
 use Rattle.ulfm_model.specs.Records.{Record}
-use Rattle.ulfm_words.specs.Steps.{Name, Sight}
+use Rattle.ulfm_words.specs.Steps.{view_of, Name, Sight}
 use Rattle.ulfm_comm.specs.{Counts.{Counted, Ranked}, Phase.{Answered, Stands, UnderWay}, Step.{Stepped}}
 use Rattle.ulfm_comm.specs.declared.phases.phase.Next.{Next}
 use Rattle.ulfm_comm.proofs.rank.Rank.step.Goals as goal
+use Rattle.ulfm_comm.specs.Local.{local}
 
 -- the call and its rank, behind equal names
 module _ {P : Type 0} (meld : P → P → P) (name : Name) (was is : UnderWay P) (way : was ≡ is) (own same : Record) (record_is : own ≡ same) where
-  still_stands : (alone : Bool) (old : Record) (before now : Sight P) → Stands meld alone name old before is same now
-      → Stands meld alone name old before was own now
-  still_stands alone old before now u = subst (λ w. Stands meld alone name old before w own now) (sym way)
-      (subst (λ o. Stands meld alone name old before is o now) (sym record_is) u)
+  still_stands : (alone : Bool) (old : Record) (before now : Sight P) → Stands meld alone (local old (view_of name before)) is (local same (view_of name now))
+      → Stands meld alone (local old (view_of name before)) was (local own (view_of name now))
+  still_stands alone old before now u = subst (λ w. Stands meld alone (local old (view_of name before)) w (local own (view_of name now))) (sym way)
+      (subst (λ o. Stands meld alone (local old (view_of name before)) is (local o (view_of name now))) (sym record_is) u)
 
-  has_stepped : (quiet : Bool) (now : Sight P) (next : Next P) (new : Record) (after : Sight P) → Stepped meld quiet name was own now next new after
-      → Stepped meld quiet name is same now next new after
-  has_stepped quiet now next new after stepped = subst (λ w. Stepped meld quiet name w same now next new after) way
-      (subst (λ o. Stepped meld quiet name was o now next new after) record_is stepped)
+  has_stepped : (quiet : Bool) (now : Sight P) (next : Next P) (new : Record) (after : Sight P) → Stepped meld quiet was (local own (view_of name now)) next (local new (view_of name after))
+      → Stepped meld quiet is (local same (view_of name now)) next (local new (view_of name after))
+  has_stepped quiet now next new after stepped = subst (λ w. Stepped meld quiet w (local same (view_of name now)) next (local new (view_of name after))) way
+      (subst (λ o. Stepped meld quiet was (local o (view_of name now)) next (local new (view_of name after))) record_is stepped)
 
 pub step-requires-clause-of : goal.step-requires-clause-of
 step-requires-clause-of g c = c.requires.of
@@ -75,8 +76,7 @@ returns-clause-stands g c =
     let way = ap (λ (d : Counted g.row.P.Denot). d.way) c.doing.view_is ∙ c.count.ensures.way in
     let own = ap (λ (r : Ranked). r.own) c.self.view_is in
     λ alone only old before stood u waits.
-    subst (λ (w : UnderWay g.row.P.Denot). Answered g.P.Meld.meld alone (g.W.Words.name c.args.world.now.words) w.asked old before c.in-Some.reply
-    c.step.new.self (g.W.Words.sight c.step.new.pass)) way
+    subst (λ (w : UnderWay g.row.P.Denot). Answered g.P.Meld.meld alone w.asked (local old (view_of (g.W.Words.name c.args.world.now.words) before)) c.in-Some.reply (local c.step.new.self (view_of (g.W.Words.name c.args.world.now.words) (g.W.Words.sight c.step.new.pass)))) way
     (c.in-Some.ensures.stands alone only old before stood
     (still_stands g.P.Meld.meld (g.W.Words.name c.args.world.now.words) c.doing.inside.way c.args.doing.now.way way c.self.inside.own c.args.self.now.own own
     alone old before stood u) waits)

@@ -1,6 +1,6 @@
 use Rattle.std.proofs.Common.{◌≡◌, ◌<◌, refl, ap, sym, subst, arith}
 use Rattle.ulfm_steps.specs.{Appends.{MayAppend}}
-use Rattle.ulfm_steps.proofs.Welcome.{may_fail}
+use Rattle.ulfm_steps.proofs.Coming.{may_fail}
 use Rattle.ulfm_comm.proofs.Failing.{fail_found, fail_full, fail_missing, fail_won}
 use Rattle.ulfm_comm.proofs.world.World.fail.Goals as goal
 use Rattle.ulfm_comm.proofs.world.World.fail.Goals.{After-finish}

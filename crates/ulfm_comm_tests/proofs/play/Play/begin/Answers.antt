@@ -1,6 +1,6 @@
 use Rattle.std.proofs.Common.{arith}
 use Rattle.ulfm_comm.proofs.AmongOthers.{waits_none}
-use Rattle.ulfm_comm_tests.specs.Seats.{Sits}
+use Rattle.ulfm_comm_tests.specs.Playing.{Plays}
 use Rattle.ulfm_comm_tests.proofs.Seats.{each_at, play_next}
 use Rattle.ulfm_comm_tests.proofs.play.Play.begin.Goals as goal
 
@@ -8,7 +8,7 @@ pub begin-requires-clause-sits : goal.begin-requires-clause-sits
 begin-requires-clause-sits g c =
     let name = g.W.Words.name c.self.inside.world.words in
     rw c.index_mut.ensures.value
-    (each_at (Sits g.P.Meld.meld name (g.W.Words.sight c.self.inside.pass)) c.self.inside.seats.items c.args.rank _ c.self.invariant.sits (omega (arith, c.if-rank-len.false, c.len.ensures)))
+    (each_at (Plays g.P.Meld.meld name (g.W.Words.sight c.self.inside.pass)) c.self.inside.seats.items c.args.rank _ c.self.invariant.sits (omega (arith, c.if-rank-len.false, c.len.ensures)))
 
 pub invariant_of-self : goal.invariant_of-self
 invariant_of-self g c =

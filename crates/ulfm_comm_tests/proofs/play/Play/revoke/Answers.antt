@@ -1,5 +1,5 @@
 use Rattle.std.proofs.Common.{arith}
-use Rattle.ulfm_comm_tests.specs.Seats.{Sits}
+use Rattle.ulfm_comm_tests.specs.Playing.{Plays}
 use Rattle.ulfm_comm_tests.proofs.Seats.{each_at, play_next}
 use Rattle.ulfm_comm_tests.proofs.play.Play.revoke.Goals as goal
 
@@ -7,7 +7,7 @@ pub revoke-requires-clause-sits : goal.revoke-requires-clause-sits
 revoke-requires-clause-sits g c =
     let name = g.W.Words.name c.self.inside.world.words in
     rw c.index_mut.ensures.value
-    (each_at (Sits g.P.Meld.meld name (g.W.Words.sight c.self.inside.pass)) c.self.inside.seats.items c.args.rank _ c.self.invariant.sits (omega (arith, c.if-rank-len.false, c.len.ensures)))
+    (each_at (Plays g.P.Meld.meld name (g.W.Words.sight c.self.inside.pass)) c.self.inside.seats.items c.args.rank _ c.self.invariant.sits (omega (arith, c.if-rank-len.false, c.len.ensures)))
 
 pub invariant_of-self : goal.invariant_of-self
 invariant_of-self g c =

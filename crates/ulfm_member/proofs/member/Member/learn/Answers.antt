@@ -2,6 +2,7 @@ use Rattle.std.proofs.Common.{[], subst, sym}
 use Rattle.ulfm_model.specs.Records.{Fits}
 use Rattle.ulfm_model.proofs.Stable.{fits_stays}
 use Rattle.ulfm_words.proofs.Trails.{did_prefix}
+use Rattle.ulfm_words.specs.Steps.{view_of}
 use Rattle.ulfm_member.specs.Members.{IsMember}
 use Rattle.ulfm_member.proofs.member.Member.learn.Goals as goal
 
@@ -15,5 +16,5 @@ invariant_of-self g c =
     let fits = subst (λ world. Fits meld (g.W.Words.name world.words).limits before own) (sym c.deref.ensures) c.self.invariant.fits in
     let begins = did_prefix g.W.Words.alone [] before pass.seen c.learn.ensures.did in
     let after = fits_stays meld limits before pass.seen own begins c.learn.ensures.of.legal fits in
-    subst (λ world. IsMember meld (record { name = g.W.Words.name world.words; own = own; last = c.self.inside.rank.last; pass = pass })) c.deref.ensures
+    subst (λ world. IsMember meld (record { own = own; last = c.self.inside.rank.last; view = view_of (g.W.Words.name world.words) pass })) c.deref.ensures
     (record { of = c.learn.ensures.of; fits = after })

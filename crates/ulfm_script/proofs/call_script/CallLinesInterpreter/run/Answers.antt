@@ -5,9 +5,9 @@ use Rattle.ulfm_script.proofs.call_script.CallLinesInterpreter.run.Goals as goal
 
 pub returns-in_ok-answer-in-Ok : goal.returns-in_ok-answer-in-Ok
 returns-in_ok-answer-in-Ok g c =
-    λ plan limits calls out ran. (
+    λ plan before ran. (
       c.in-Ok.call,
       sym c.in-Ok.ensures.exact,
-      prints_on (new_state limits) (g.M.Machine.state c.args.self.now.machine) (g.M.Machine.state c.answer.new.machine) calls c.in-Ok.call out
+      prints_on (new_state before.limits) (g.M.Machine.state c.args.self.now.machine) (g.M.Machine.state c.answer.new.machine) before.items c.in-Ok.call before.out
           c.answer.new.text.items ran c.in_ok-answer-in-Ok.ensures,
     )

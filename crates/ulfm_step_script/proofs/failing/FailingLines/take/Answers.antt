@@ -2,6 +2,7 @@ use Rattle.std.proofs.Common.{None, Some, refl}
 use Rattle.ulfm_lines.specs.declared.step_machine.Reach.{Reach}
 use Rattle.ulfm_trace_model.specs.declared.step_line.StepLine.TheVariants.{Before, Finished, Stepped}
 use Rattle.ulfm_trace_model.specs.Traces.{nothing, said_by}
+use Rattle.ulfm_step_script.specs.FailingScripts.{state_of}
 use Rattle.ulfm_step_script.proofs.Far.{comes_all, comes_before, comes_stepped, counts_called, counts_failed}
 use Rattle.ulfm_step_script.proofs.FailLemmas.{called_events, failed_events, took_other, walk_step}
 use Rattle.ulfm_step_script.proofs.failing.FailingLines.take.Goals as goal
@@ -9,47 +10,42 @@ use Rattle.ulfm_step_script.proofs.failing.FailingLines.take.Goals as goal
 pub returns-in-Called-clause-told : goal.returns-in-Called-clause-told
 returns-in-Called-clause-told g c = λ limits trace rest at.
     let m = g.M.StepMachine.Stands in
-    let was = c.args.self.now in
-    took_other (m was.machine) (m c.run.new.self) limits was.plan was.waits was.made trace rest at c.args.step.now
-    (rw c.in-Called.is (λ piece is. called_events (said_by (nothing limits) trace) c.in-Called.field-0 piece is)) was.teller.text.items c.run.new.teller.text.items c.run.result
+    took_other (state_of m c.args.self.now) (m c.run.new.self) limits trace rest at c.args.step.now
+    (rw c.in-Called.is (λ piece is. called_events (said_by (nothing limits) trace) c.in-Called.field-0 piece is)) c.run.new.teller.text.items c.run.result
     (c.run.ensures.tells (said_by (nothing limits) trace) at.stands.says)
 
 pub returns-in-Failed-clause-told : goal.returns-in-Failed-clause-told
 returns-in-Failed-clause-told g c = λ limits trace rest at.
     let m = g.M.StepMachine.Stands in
-    let was = c.args.self.now in
-    took_other (m was.machine) (m c.run-in-Failed.new.self) limits was.plan was.waits was.made trace rest at c.args.step.now
-    (rw c.in-Failed.is (λ piece is. failed_events (said_by (nothing limits) trace) c.in-Failed.rank piece is)) was.teller.text.items c.run-in-Failed.new.teller.text.items c.run-in-Failed.result
+    took_other (state_of m c.args.self.now) (m c.run-in-Failed.new.self) limits trace rest at c.args.step.now
+    (rw c.in-Failed.is (λ piece is. failed_events (said_by (nothing limits) trace) c.in-Failed.rank piece is)) c.run-in-Failed.new.teller.text.items c.run-in-Failed.result
     (c.run-in-Failed.ensures.tells (said_by (nothing limits) trace) at.stands.says)
 
 pub returns-in_ok-walk-in-Stepped-clause-told : goal.returns-in_ok-walk-in-Stepped-clause-told
 returns-in_ok-walk-in-Stepped-clause-told g c = λ limits trace rest at.
-    let after = c.walk.new.self in
-    let was = c.args.self.now in
+    let m = g.M.StepMachine.Stands in
     let reach : Reach = record { most = Some c.in-Stepped.count; name = None } in
     let w = c.in_ok-walk-in-Stepped.ensures.told limits trace rest at.stands in
     rw c.in-Stepped.is
-    (walk_step (g.M.StepMachine.Stands after.machine) limits was.plan after.waits after.made trace rest c.in-Stepped.rank reach was.teller.text.items after.teller.text.items
+    (walk_step (state_of m c.args.self.now) (state_of m c.walk.new.self) limits trace rest c.in-Stepped.rank reach
     (Stepped c.in-Stepped.rank c.in-Stepped.count) w (w.taken.by, w.taken.few c.in-Stepped.count refl))
 
 pub returns-in_ok-walk-in-Before-clause-told : goal.returns-in_ok-walk-in-Before-clause-told
 returns-in_ok-walk-in-Before-clause-told g c = λ limits trace rest at.
-    let after = c.walk-in-Before.new.self in
-    let was = c.args.self.now in
+    let m = g.M.StepMachine.Stands in
     let reach : Reach = record { most = None; name = Some c.in-Before.name } in
     let w = c.in_ok-walk-in-Before.ensures.told limits trace rest at.stands in
     rw c.in-Before.is
-    (walk_step (g.M.StepMachine.Stands after.machine) limits was.plan after.waits after.made trace rest c.in-Before.rank reach was.teller.text.items after.teller.text.items
+    (walk_step (state_of m c.args.self.now) (state_of m c.walk-in-Before.new.self) limits trace rest c.in-Before.rank reach
     (Before c.in-Before.rank c.in-Before.name) w (w.taken.by, w.taken.before c.in-Before.name refl))
 
 pub returns-in_ok-walk-in-Finished-clause-told : goal.returns-in_ok-walk-in-Finished-clause-told
 returns-in_ok-walk-in-Finished-clause-told g c = λ limits trace rest at.
-    let after = c.walk-in-Finished.new.self in
-    let was = c.args.self.now in
+    let m = g.M.StepMachine.Stands in
     let reach : Reach = record { most = None; name = None } in
     let w = c.in_ok-walk-in-Finished.ensures.told limits trace rest at.stands in
     rw c.in-Finished.is
-    (walk_step (g.M.StepMachine.Stands after.machine) limits was.plan after.waits after.made trace rest c.in-Finished.rank reach was.teller.text.items after.teller.text.items
+    (walk_step (state_of m c.args.self.now) (state_of m c.walk-in-Finished.new.self) limits trace rest c.in-Finished.rank reach
     (Finished c.in-Finished.rank) w (w.taken.by, w.taken.ends refl))
 
 pub returns-in_ok-walk-in-Stepped-clause-far : goal.returns-in_ok-walk-in-Stepped-clause-far

@@ -1,11 +1,13 @@
-use Rattle.std.proofs.Common.{[]}
+use Rattle.std.proofs.Common.{[], true}
+use Rattle.ulfm_step_script.specs.FailingScripts.{EngineState, state_of}
 use Rattle.ulfm_step_script.proofs.FailLemmas.{has_opened, stands_first}
 use Rattle.ulfm_step_script.proofs.failing.FailingLinesInterpreter.open.Goals as goal
 
 pub returns : goal.returns
 returns g c =
     let m = g.M.StepMachine.Stands in
-    let after = c.declare.new.self in
-    has_opened (m after.machine) c.args.limits c.args.plan after.plan after.waits after.made c.in_ok-declare.field-0 c.in_ok-teller.teller.text.items
-    after.teller.text.items c.declare.ensures.plan c.in_ok-teller.ensures
-    (c.in_ok-declare.ensures.told c.args.limits [] [] (stands_first (m c.in_ok-machine.machine) c.args.limits c.args.plan c.in_ok-machine.ensures))
+    let said = m c.in_ok-machine.machine in
+    let text = c.in_ok-teller.teller.text.items in
+    let old : EngineState = record { Says = said; plan = c.args.plan; waits = true; made = 0; text = text } in
+    has_opened c.args.plan old (state_of m c.declare.new.self) c.args.limits c.in_ok-declare.field-0 c.declare.ensures.plan c.in_ok-teller.ensures
+    (c.in_ok-declare.ensures.told c.args.limits [] [] (stands_first said c.args.limits c.args.plan text c.in_ok-machine.ensures))

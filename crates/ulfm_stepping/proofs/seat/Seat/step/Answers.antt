@@ -2,7 +2,7 @@ use Rattle.std.proofs.Common.{◌≡◌, length, None, Option, Some, refl, ap, s
 use Rattle.ulfm_model.specs.declared.{reply.Reply.{Reply}}
 use Rattle.ulfm_words.specs.Pass.{plain_name}
 use Rattle.ulfm_comm.specs.Phase.{UnderWay, is_checking, is_looking}
-use Rattle.ulfm_stepping.specs.{Seats.{PollsShrink, Seated, Sits, TellsPiece, has_looked, way_in}, Stepping.{point_of}}
+use Rattle.ulfm_stepping.specs.{Seats.{CallPollsShrink, Seated, Sits, TellsPiece, has_looked, way_in}, Stepping.{point_of}}
 use Rattle.ulfm_stepping.proofs.Sitting.{ReadsEvent, ends, goes, look_end, look_fits, memory_is, memory_lacks, polls_shrink}
 use Rattle.ulfm_stepping.proofs.seat.Seat.step.Goals as goal
 use Rattle.ulfm_stepping.proofs.seat.Seat.step.Goals.{After-lacks_memory, After-event_at-event, After-point_of-point}
@@ -64,6 +64,6 @@ pub returns-then-lacks_memory-clause-memory : goal.returns-then-lacks_memory-cla
 returns-then-lacks_memory-clause-memory g c =
     let at = (goal.at.returns-then-lacks_memory-clause-memory g c).After-lacks_memory in
     let lacks = memory_lacks c.step-reply.result (sym c.lacks_memory.ensures ∙ c.if-lacks_memory.true) in
-    subst (λ (s : Seated g.row.P.Denot). PollsShrink s.own s.call) (sym (seat_is g at))
+    subst (λ (s : Seated g.row.P.Denot). CallPollsShrink s.own s.call) (sym (seat_is g at))
     (polls_shrink g.P.Meld.meld (plain_name c.args.world.now.words.limits) c.args.pass.now c.step-reply.new.pass c.self.inside.rank.own c.step-reply.new.self.own c.self.inside.found c.in-Some.doing.way c.step-reply.new.doing.way c.step-reply.result
     c.step-reply.ensures.stands lacks.0 lacks.1 lacks.2 c.requires.sits.0 (sits_is g at))

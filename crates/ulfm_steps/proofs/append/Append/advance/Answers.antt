@@ -1,8 +1,8 @@
 use Rattle.std.proofs.Common.{◌≡◌, ◌*◌, not, false, None, [], subst, ap, sym, ◌∙◌, arith}
 use Rattle.ulfm_model.proofs.Lists.{none_of, prefix_trans}
-use Rattle.ulfm_words.specs.Steps.{Goes}
+use Rattle.ulfm_words.specs.Steps.{view_of, Goes}
 use Rattle.ulfm_words.proofs.Trails.{did_prefix, did_wait}
-use Rattle.ulfm_steps.specs.{Appends.{place_at, room, turns_left}, Turns.{Takes, left_without}, declared.append.Append.{Append}}
+use Rattle.ulfm_steps.specs.{Appends.{place_at, room, turns_left}, Turns.{TakesFirst, left_without}, declared.append.Append.{Append}}
 use Rattle.ulfm_steps.proofs.{Appending.{append_stays, appends_next, turns_most, turns_some}, Turning.{takes_on}}
 use Rattle.ulfm_steps.proofs.append.Append.advance.Goals as goal
 use Rattle.ulfm_steps.proofs.append.Append.advance.Goals.{After-step-end}
@@ -29,7 +29,7 @@ loop-end-preserved g c =
     let inv = c.loop-end.invariant in
     let e = c.step-end.ensures in
     let going : c.step-end.result ≡ None = none_of c.step-end.result (sym c.is_some.ensures ∙ c.if-is_some.false) in
-    let went : Goes g.P.Meld.meld g.W.Words.alone false name 1 (g.W.Words.sight c.loop-end.pass) (g.W.Words.sight c.step-end.new.pass) = rw going at e.goes in
+    let went : Goes g.P.Meld.meld g.W.Words.alone false 1 (view_of name (g.W.Words.sight c.loop-end.pass)) (view_of name (g.W.Words.sight c.step-end.new.pass)) = rw going at e.goes in
     let passed = rw going at e.passed in
     let within = rw going at e.within in
     let turns = (rw going at e.takes).turns in
@@ -59,4 +59,4 @@ returns-then-not-whole-clause-takes g c =
     takes_on c.args.whole (place_at first.item first.index) (place_at a.item a.index) (not first.empty) (not a.empty) (turns_left (room first.item limits) first) (turns_left (room a.item limits) a)
     (left_without c.step-end.result (turns_left (room first.item limits) c.step-end.new.self)) (g.W.Words.sight c.args.pass.now) (g.W.Words.sight c.loop-end.pass) (g.W.Words.sight c.step-end.new.pass)
     (λ single. let same = inv.turn single in (sym (inv.first single), ap (λ (x : Append). place_at x.item x.index) same, ap (λ (x : Append). not x.empty) same)) inv.onward inv.steps
-    (subst (λ i. Takes false (place_at a.item a.index) (not a.empty) (turns_left (room a.item limits) a) (left_without c.step-end.result (turns_left (room i limits) c.step-end.new.self)) (g.W.Words.sight c.loop-end.pass) (g.W.Words.sight c.step-end.new.pass)) inv.item c.step-end.ensures.takes)
+    (subst (λ i. TakesFirst false (place_at a.item a.index) (not a.empty) (turns_left (room a.item limits) a) (left_without c.step-end.result (turns_left (room i limits) c.step-end.new.self)) (g.W.Words.sight c.loop-end.pass) (g.W.Words.sight c.step-end.new.pass)) inv.item c.step-end.ensures.takes)

@@ -1,7 +1,7 @@
 use Rattle.std.proofs.Common.{◌≡◌, ◌+◌, ◌<◌, ◌≤◌, [], false}
 use mathlib.Core.List.{IsPrefix}
 use Rattle.ulfm_model.specs.Runs.{Did}
-use Rattle.ulfm_words.specs.Steps.{IsOf}
+use Rattle.ulfm_words.specs.Steps.{view_of, IsView}
 use Rattle.ulfm_steps.specs.Appends.{MayAppend, Passed, room, turns_left}
 use Rattle.ulfm_steps.proofs.append.Append.advance.Given as goal
 
@@ -9,7 +9,7 @@ abbrev pub invariant-loop-end : goal.invariant-loop-end
 invariant-loop-end g l = record {
   item : l.self.item ≡ l.initial.self.item;
   by : l.self.by ≡ l.initial.self.by;
-  of : IsOf g.P.Meld.meld (g.W.Words.name l.words) (g.W.Words.sight l.pass);
+  of : IsView g.P.Meld.meld (view_of (g.W.Words.name l.words) (g.W.Words.sight l.pass));
   did : Did g.W.Words.alone [] (g.W.Words.sight l.initial.pass).seen (g.W.Words.sight l.pass).seen;
   cached : IsPrefix (g.W.Words.sight l.initial.pass).cached (g.W.Words.sight l.pass).cached;
   caches : (g.W.Words.sight l.pass).caches ≡ (g.W.Words.sight l.initial.pass).caches;

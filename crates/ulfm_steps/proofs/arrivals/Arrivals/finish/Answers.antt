@@ -1,9 +1,9 @@
 use Rattle.std.proofs.Common.{◌≡◌, ◌⊎◌, inl, inr, ℕ, ◌-◌, ◌<◌, ◌≤◌, true, false, [], filter, length, ap, sym, ◌∙◌, subst, arith}
 use Rattle.std.specs.List.{list_all}
 use Rattle.ulfm_model.specs.History.{has, has_arrived}
-use Rattle.ulfm_words.specs.Steps.{Goes}
+use Rattle.ulfm_words.specs.Steps.{view_of, Goes}
 use Rattle.ulfm_words.proofs.Trails.{did_prefix}
-use Rattle.ulfm_steps.specs.Arriving.{IsAsked, IsWithin, asked_before, asked_of, in_order}
+use Rattle.ulfm_steps.specs.Arriving.{IsAsked, IsPosition, asked_before, asked_members, in_order}
 use Rattle.ulfm_steps.proofs.{Arriving.{arrivals_stay, asked_fewer, asked_left, asked_within, declared_came, declared_missing, listed_few, nobody_is, others_first, others_missing, turned_off, turned_on}, Reading.{round_stays}, Turning.{goes_none, goes_then}}
 use Rattle.ulfm_steps.proofs.arrivals.Arrivals.finish.Goals as goal
 use Rattle.ulfm_steps.proofs.arrivals.Arrivals.finish.Goals.{Joined-not-self, then-not-self+else-not-arrived_from, else-not-self}
@@ -11,7 +11,7 @@ use Rattle.ulfm_steps.proofs.arrivals.Arrivals.finish.Goals.{Joined-not-self, th
 pub arrived_from-requires-clause-within : goal.arrived_from-requires-clause-within
 arrived_from-requires-clause-within g c =
     let a = c.args.self in
-    subst (λ b. IsWithin c.args.group.now c.args.declared.now b a.next) (turned_off a.others c.if-not-self.true) (asked_within c.args.group.now c.args.declared.now a.others a.next c.requires.at.asked)
+    subst (λ b. IsPosition c.args.group.now c.args.declared.now b a.next) (turned_off a.others c.if-not-self.true) (asked_within c.args.group.now c.args.declared.now a.others a.next c.requires.at.asked)
 
 pub arrived_from-requires-clause-before : goal.arrived_from-requires-clause-before
 arrived_from-requires-clause-before g c =
@@ -55,13 +55,13 @@ listed g c =
     ]
 
 -- where the others are begun with
-begins : (g : _) (c : Joined-not-self g) → IsWithin c.args.group.now c.args.declared.now true c.if-not-self.start
+begins : (g : _) (c : Joined-not-self g) → IsPosition c.args.group.now c.args.declared.now true c.if-not-self.start
 begins g c =
     let a = c.args.self in
     elim c.if-not-self.branch [
       | then-not-self+else-not-arrived_from w ↦ rw w.start-is (omega arith)
       | else-not-self w ↦
-          rw w.start-is (subst (λ b. IsWithin c.args.group.now c.args.declared.now b a.next) (turned_on a.others w.if-not-self.false) (asked_within c.args.group.now c.args.declared.now a.others a.next c.requires.at.asked))
+          rw w.start-is (subst (λ b. IsPosition c.args.group.now c.args.declared.now b a.next) (turned_on a.others w.if-not-self.false) (asked_within c.args.group.now c.args.declared.now a.others a.next c.requires.at.asked))
     ]
 
 -- all before have arrived
@@ -89,7 +89,7 @@ passed g c =
       | then-not-self+else-not-arrived_from w ↦
           let off = turned_off a.others w.if-not-self.true in
           let fewer = asked_fewer group declared a.others a.next c.requires.at.asked in
-          let all = ap (λ b. length (asked_of group declared b)) off in
+          let all = ap (λ b. length (asked_members group declared b)) off in
           rw w.start-is (omega (arith, fewer, all, ap length (others_first group declared)))
       | else-not-self w ↦ let same = ap (λ b. length (asked_before group declared b a.next)) (turned_on a.others w.if-not-self.false) in rw w.start-is (omega (arith, same))
     ]
@@ -109,8 +109,7 @@ left g c =
 
 -- one load was made for each in between, at most
 went : (g : _) (c : Joined-not-self g)
-    → Goes g.P.Meld.meld g.W.Words.alone false (g.W.Words.name c.args.words.now) (length (asked_before c.args.group.now c.args.declared.now true c.if-not-self.start) - length (asked_before c.args.group.now c.args.declared.now c.args.self.others c.args.self.next))
-    (g.W.Words.sight c.args.pass.now) (g.W.Words.sight c.if-not-self.pass)
+    → Goes g.P.Meld.meld g.W.Words.alone false (length (asked_before c.args.group.now c.args.declared.now true c.if-not-self.start) - length (asked_before c.args.group.now c.args.declared.now c.args.self.others c.args.self.next)) (view_of (g.W.Words.name c.args.words.now) (g.W.Words.sight c.args.pass.now)) (view_of (g.W.Words.name c.args.words.now) (g.W.Words.sight c.if-not-self.pass))
 went g c =
     let a = c.args.self in
     let group = c.args.group.now in

@@ -3,7 +3,7 @@ use Rattle.std.specs.List.{list_all}
 use Rattle.ulfm_model.specs.History.{has_arrived}
 use Rattle.ulfm_model.specs.declared.place.Place.TheVariants.{Arrival as ArrivalAt}
 use Rattle.ulfm_words.proofs.Trails.{did_prefix}
-use Rattle.ulfm_steps.specs.{Arriving.{AtArrival, MissingAre, arrivals_left, asked_before, rank_at}, Turns.{Takes}}
+use Rattle.ulfm_steps.specs.{Arriving.{AtArrival, MissingAre, arrivals_left, asked_before, rank_at}, Turns.{TakesFirst}}
 use Rattle.ulfm_steps.specs.declared.arrivals.Missing.TheVariants.{Others, Declared}
 use Rattle.ulfm_steps.proofs.{Arriving.{arrived_further, asked_left, asked_member, asked_next, at_arrival_next, at_arrival_stays, missing_found, nobody_missing}, Groups.{round_rises}, Reading.{member_within}, Turning.{takes_load}}
 use Rattle.ulfm_steps.proofs.arrivals.Arrivals.step.Goals as goal
@@ -82,7 +82,7 @@ returns-clause-are g c =
 
 -- it is one step, after which fewer are left
 took : (g : _) (c : After-load_arrival g) (after : ℕ) → after + 1 ≤ arrivals_left c.args.group.now c.args.declared.now c.args.self.now
-    → Takes false (ArrivalAt c.args.self.now.comm c.args.self.now.round (rank_at c.args.group.now c.args.declared.now c.args.self.now.others c.args.self.now.next)) true (arrivals_left c.args.group.now c.args.declared.now c.args.self.now) after (g.W.Words.sight c.args.pass.now) (g.W.Words.sight c.load_arrival.new.pass)
+    → TakesFirst false (ArrivalAt c.args.self.now.comm c.args.self.now.round (rank_at c.args.group.now c.args.declared.now c.args.self.now.others c.args.self.now.next)) true (arrivals_left c.args.group.now c.args.declared.now c.args.self.now) after (g.W.Words.sight c.args.pass.now) (g.W.Words.sight c.load_arrival.new.pass)
 took g c after fewer =
     let a = c.args.self.now in
     takes_load g.P.Meld.meld g.P.Packed.pack g.W.Words.alone (g.W.Words.name c.args.words.now) (ArrivalAt a.comm a.round c.if-self.rank) (g.W.Words.sight c.args.pass.now) (g.W.Words.sight c.load_arrival.new.pass)

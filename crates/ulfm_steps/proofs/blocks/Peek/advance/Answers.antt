@@ -1,4 +1,4 @@
-use Rattle.std.proofs.Common.{[], ◌∙◌, arith, rules}
+use Rattle.std.proofs.Common.{[], ◌∙◌, arith, refl, rules}
 use Rattle.ulfm_model.specs.declared.block.Side.TheVariants.{Back}
 use Rattle.ulfm_model.proofs.{Blocks.{has_block_stays}, Lists.{prefix_trans}}
 use Rattle.ulfm_words.proofs.Trails.{did_prefix, did_wait}
@@ -32,7 +32,7 @@ returns g c =
         cached = prefix_trans _ _ _ first.goes.cached then.goes.cached;
         caches = then.goes.caches ∙ first.goes.caches;
         onward = omega (arith, first.goes.onward, then.goes.onward);
-        steps = omega (arith, first.goes.steps, then.goes.steps);
+        steps = omega (arith, (first.takes.one refl).steps, (then.takes.one refl).steps);
       };
       takes = search rules;
       comm = search rules;

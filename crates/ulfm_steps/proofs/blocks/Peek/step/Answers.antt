@@ -2,7 +2,7 @@ use Rattle.std.proofs.Common.{◌≡◌, ◌∙◌, subst, sym, arith, true, is_
 use Rattle.ulfm_model.specs.{Blocks.{block_of, has_block}, declared.block.Side.{Side}, declared.block.Side.TheVariants.{Front, Back}}
 use Rattle.ulfm_model.proofs.Blocks.{has_block_stays}
 use Rattle.ulfm_words.proofs.Trails.{did_prefix}
-use Rattle.ulfm_steps.specs.Blocks.{AreOf, Tells, block_at}
+use Rattle.ulfm_steps.specs.Blocks.{BothTell, MembersTell, block_at}
 use Rattle.ulfm_steps.proofs.{InBlocks.{are_later, few_members, told_of, within_of}, KnownBlocks.{set_back, set_front}, Reading.{round_stays}}
 use Rattle.ulfm_steps.proofs.blocks.Peek.step.Goals as goal
 use Rattle.ulfm_steps.proofs.blocks.Peek.step.Goals.{After-load_said-said}
@@ -18,18 +18,18 @@ overflow_cast-group g c =
 
 -- what the block says, whichever it is
 told : (g : _) (c : After-load_said-said g) (side : Side) → c.args.self.now.side ≡ side
-    → Tells g.P.Meld.meld (g.W.Words.sight c.load_said-said.new.pass).seen c.args.self.now.comm c.args.self.now.round (block_of side c.args.group.now) c.load_said-said.result
+    → MembersTell g.P.Meld.meld (g.W.Words.sight c.load_said-said.new.pass).seen c.args.self.now.comm c.args.self.now.round (block_of side c.args.group.now) c.load_said-said.result
 told g c side is =
     let limits = (g.W.Words.name c.args.words.now).limits in
     let old = (g.W.Words.sight c.args.pass.now).seen in
     let new = (g.W.Words.sight c.load_said-said.new.pass).seen in
     let r = c.args.self.now in
     let round = round_stays limits old new r.comm r.round c.args.group.now (did_prefix g.W.Words.alone _ old new c.load_said-said.ensures.peeks.did) c.requires.round in
-    subst (λ s. Tells g.P.Meld.meld new r.comm r.round (block_of s c.args.group.now) c.load_said-said.result) is
+    subst (λ s. MembersTell g.P.Meld.meld new r.comm r.round (block_of s c.args.group.now) c.load_said-said.result) is
     (told_of g.P.Meld.meld limits new r.comm r.round r.side c.args.group.now c.load_said-said.result round c.load_said-said.ensures.said)
 
 -- .. and what was known before is known
-later : (g : _) (c : After-load_said-said g) → AreOf g.P.Meld.meld (g.W.Words.sight c.load_said-said.new.pass).seen c.args.self.now.comm c.args.self.now.round c.args.group.now c.args.self.now.blocks
+later : (g : _) (c : After-load_said-said g) → BothTell g.P.Meld.meld (g.W.Words.sight c.load_said-said.new.pass).seen c.args.self.now.comm c.args.self.now.round c.args.group.now c.args.self.now.blocks
 later g c =
     let old = (g.W.Words.sight c.args.pass.now).seen in
     let new = (g.W.Words.sight c.load_said-said.new.pass).seen in

@@ -22,7 +22,7 @@ returns-then-not-whole g c =
         cached = prefix_trans _ _ _ inv.cached e.goes.cached;
         caches = refl;
         onward = omega (arith, inv.onward, e.goes.onward);
-        steps = omega (arith, inv.steps, e.goes.steps, most);
+        steps = omega (arith, inv.steps, e.takes.turns, most);
       };
       takes =
           takes_on_at c.args.whole (site_of group first) (site_of group r) (nat_lt first.read first.width) (nat_lt r.read r.width) (blocks_left (length group) first) (blocks_left (length group) r)

@@ -1,8 +1,9 @@
 use Rattle.std.proofs.Common.{◌≡◌, ℕ, ◌+◌, ◌-◌, ◌≤◌, ◌∙◌, refl, length, ap, subst, sym, arith, false, true, is_some, nat_lt}
 use Rattle.ulfm_model.proofs.Summed.{summed_none}
-use Rattle.ulfm_words.specs.Steps.{Goes}
+use Rattle.ulfm_words.specs.Steps.{view_of, Goes}
 use Rattle.ulfm_words.proofs.Trails.{did_prefix}
-use Rattle.ulfm_steps.specs.{Blocks.{AreOf, AreSet, Tells, blocks_left, is_whole, site_of}, Turns.{TakesAt}}
+use Rattle.ulfm_steps.specs.Blocks.{reads_most}
+use Rattle.ulfm_steps.specs.{Blocks.{BothTell, AreSet, MembersTell, blocks_left, is_whole, site_of}, Turns.{TakesAt}}
 use Rattle.ulfm_steps.proofs.InBlocks.{apart_lt, are_with, few_members, is_block, known_with, next_by, next_cost, takes_cache, within_of}
 use Rattle.ulfm_steps.proofs.KnownBlocks.{all_known, set_known}
 use Rattle.ulfm_steps.proofs.blocks.ReadBlocks.cache.Goals as goal
@@ -31,14 +32,14 @@ blocks_are g c =
       | in-Back w ↦ w.self-is ∙ ap (λ s. record r { blocks = known_with r.blocks s r.all }) (sym w.in-Back.is)
     ]
 
-known : (g : _) (c : Joined-self g) → AreOf g.P.Meld.meld (g.W.Words.sight c.cache.new.pass).seen c.args.self.now.comm c.args.self.now.round c.args.group.now (known_with c.args.self.now.blocks c.args.self.now.side c.args.self.now.all)
+known : (g : _) (c : Joined-self g) → BothTell g.P.Meld.meld (g.W.Words.sight c.cache.new.pass).seen c.args.self.now.comm c.args.self.now.round c.args.group.now (known_with c.args.self.now.blocks c.args.self.now.side c.args.self.now.all)
 known g c =
     let old = (g.W.Words.sight c.args.pass.now).seen in
     let new = (g.W.Words.sight c.cache.new.pass).seen in
     are_with g.P.Meld.meld old new c.args.group.now c.args.self.now (did_prefix g.W.Words.alone _ old new c.cache.ensures.did) c.requires.may.at c.requires.all
 
 -- it is one step, which makes no event
-went : (g : _) (c : Joined-self g) → Goes g.P.Meld.meld g.W.Words.alone true (g.W.Words.name c.args.words.now) 1 (g.W.Words.sight c.args.pass.now) (g.W.Words.sight c.cache.new.pass)
+went : (g : _) (c : Joined-self g) → Goes g.P.Meld.meld g.W.Words.alone true (reads_most (length c.args.group.now)) (view_of (g.W.Words.name c.args.words.now) (g.W.Words.sight c.args.pass.now)) (view_of (g.W.Words.name c.args.words.now) (g.W.Words.sight c.cache.new.pass))
 went g c = let e = c.cache.ensures in record { of = e.of; did = e.did; cached = e.cached; caches = refl; onward = omega (arith, e.steps); steps = omega (arith, e.steps) }
 
 took : (g : _) (c : Joined-self g) (after : ℕ) → after + 1 ≤ blocks_left (length c.args.group.now) c.args.self.now
@@ -69,7 +70,7 @@ returns-in-Some g c =
       takes = took g at 0 (omega arith);
       comm = ap (λ x. x.comm) is;
       round = ap (λ x. x.round) is;
-      tells = rw is (subst (Tells meld new r.comm r.round group) c.in-Some.is tells);
+      tells = rw is (subst (MembersTell meld new r.comm r.round group) c.in-Some.is tells);
       sets = λ are.
           let whole : is_whole (known_with r.blocks r.side r.all) (length group) ≡ true = subst (λ b. is_whole b (length group) ≡ true) (ap (λ x. x.blocks) is) (sym c.all.ensures.whole ∙ ap is_some c.in-Some.is) in
           rw is (all_known (g.W.Words.sight c.cache.new.pass).cached r.comm r.round group (known_with r.blocks r.side r.all) (known_set g at are) whole);

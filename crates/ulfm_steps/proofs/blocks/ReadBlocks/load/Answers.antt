@@ -3,8 +3,9 @@ use Rattle.std.specs.Prelude.{length}
 use Rattle.ulfm_laws.specs.Summaries.{summary_meld}
 use Rattle.ulfm_model.specs.{Blocks.{block_of}, Laws.{summary_of}, declared.{place.Place.TheVariants.{Slot as SlotAt}}}
 use Rattle.ulfm_model.proofs.Summed.{summed_later, summed_push}
-use Rattle.ulfm_words.specs.Steps.{Goes}
+use Rattle.ulfm_words.specs.Steps.{view_of, Goes}
 use Rattle.ulfm_words.proofs.Trails.{did_prefix}
+use Rattle.ulfm_steps.specs.Blocks.{reads_most}
 use Rattle.ulfm_steps.specs.{Blocks.{blocks_left, site_of}, Turns.{TakesAt}}
 use Rattle.ulfm_steps.proofs.{InBlocks.{are_later, block_index, block_length, few_members, rank_is, rank_within, takes_member}, KnownBlocks.{set_later}, Reading.{has_at, member_within, missing_at, take_one_more}, Turning.{takes_load}}
 use Rattle.ulfm_steps.proofs.blocks.ReadBlocks.load.Goals as goal
@@ -44,7 +45,7 @@ takes g c after fewer =
     (takes_load g.P.Meld.meld g.P.Packed.pack g.W.Words.alone (g.W.Words.name c.args.words.now) _ old new _ before after c.load_summary.ensures.loads (ap (λ x. SlotAt r.comm r.round x) (rank_is g.P.Meld.meld old.seen c.args.group.now r c.requires.may.at)) fewer)
 
 -- .. which makes no event
-went : (g : _) (c : After-load_summary g) → Goes g.P.Meld.meld g.W.Words.alone true (g.W.Words.name c.args.words.now) 1 (g.W.Words.sight c.args.pass.now) (g.W.Words.sight c.load_summary.new.pass)
+went : (g : _) (c : After-load_summary g) → Goes g.P.Meld.meld g.W.Words.alone true (reads_most (length c.args.group.now)) (view_of (g.W.Words.name c.args.words.now) (g.W.Words.sight c.args.pass.now)) (view_of (g.W.Words.name c.args.words.now) (g.W.Words.sight c.load_summary.new.pass))
 went g c = let l = c.load_summary.ensures.loads in record { of = l.of; did = l.did; cached = l.cached; caches = refl; onward = omega (arith, l.steps); steps = omega (arith, l.steps) }
 
 pub returns-in-None : goal.returns-in-None

@@ -1,11 +1,13 @@
 use Rattle.std.proofs.Common.{◌≡◌, false, refl, ◌∙◌, arith}
 use Rattle.ulfm_words.proofs.Trails.{did_prefix}
+use Rattle.ulfm_words.specs.Steps.{view_of}
 use Rattle.ulfm_model.specs.declared.place.Place.TheVariants.{Slot as SlotAt}
 use Rattle.std.specs.List.{slice_index}
 use Rattle.ulfm_steps.specs.{Marks.{HasMarked}, Turns.{IsOneStep}}
 use Rattle.ulfm_steps.proofs.Marking.{marked_none, marked_push, marks_turn, may_stays}
 use Rattle.ulfm_steps.proofs.mark_all.MarkAll.advance.Goals as goal
 use Rattle.ulfm_steps.proofs.mark_all.MarkAll.advance.Goals.{After-step}
+use Rattle.ulfm_steps.specs.Among.{among}
 
 pub loop-self-init : goal.loop-self-init
 loop-self-init g c =
@@ -24,7 +26,7 @@ loop-self-init g c =
     }
 
 -- one more was marked
-marked : (g : _) (c : After-step g) → HasMarked g.P.Meld.meld g.W.Words.alone (g.W.Words.name c.args.words.now) c.args.self.now c.args.group.now c.args.declared.now c.step.new.self.next (g.W.Words.sight c.args.pass.now) (g.W.Words.sight c.step.new.pass)
+marked : (g : _) (c : After-step g) → HasMarked g.P.Meld.meld g.W.Words.alone c.args.self.now (among c.args.group.now c.args.declared.now) c.step.new.self.next (view_of (g.W.Words.name c.args.words.now) (g.W.Words.sight c.args.pass.now)) (view_of (g.W.Words.name c.args.words.now) (g.W.Words.sight c.step.new.pass))
 marked g c =
     let inv = c.loop-self.invariant in
     let e = c.step.ensures in

@@ -7,6 +7,7 @@ use Rattle.ulfm_words.specs.{Pass.{AreStood, IsTied, cached_by, entries, sight_o
 use Rattle.ulfm_words.proofs.{Growing.{prefix_self}, Keys.{key_lt}, Standing.{cached_place, stood_later}, Telling.{sets_lost, sets_won, within_is}, Tied.{tied_set, entries-set, count-set}}
 use Rattle.ulfm_words.proofs.plain.PlainPass.set_once.Goals as goal
 use Rattle.ulfm_words.proofs.plain.PlainPass.set_once.Goals.{After-push}
+use Rattle.ulfm_words.specs.Steps.{coding, view_of}
 
 pub returns-then-word-ne0 : goal.returns-then-word-ne0
 returns-then-word-ne0 g c =
@@ -14,7 +15,7 @@ returns-then-word-ne0 g c =
     let unpack = g.P.Packed.unpack in
     let js = c.self.inside.journal.items in
     let row_is : c.set_once-word.new.self ≡ row = ap₂ (λ limits words. let r : Filled = record { limits = limits; words = words } in r) c.set_once-word.ensures.limits (c.set_once-word.ensures.kept c.if-word-ne0.true) in
-    subst (λ (r : Filled). Sets g.P.Meld.meld g.P.Packed.pack unpack true c.args.self.now.name c.args.step c.args.self.now (Err c.set_once-word.result) (sight_of unpack r.limits r.words js c.and-self-inside.result.log.items)) (sym row_is)
+    subst (λ (r : Filled). Sets g.P.Meld.meld (coding g.P.Packed.pack unpack) true c.args.step (view_of c.args.self.now.name c.args.self.now) (Err c.set_once-word.result) (view_of c.args.self.now.name (sight_of unpack r.limits r.words js c.and-self-inside.result.log.items))) (sym row_is)
     (sets_lost g.P.Meld.meld g.P.Packed.pack unpack row.limits c.args.self.now row.words js (vec_capacity c.self.inside.journal) c.self.inside.trail.log.items c.and-self-inside.result.log.items c.args.step c.set_once-word.result
     c.self.view_is c.self.invariant.0 c.requires.within c.set_once-word.ensures.stood c.if-word-ne0.true c.and-self-inside.ensures)
 
@@ -101,6 +102,6 @@ returns g c =
     let key = key_in limits c.args.step.place in
     let may = may_in g at in
     let set : slice_index (slice_set ws key c.args.step.word) key ≡ c.args.step.word = get_or-set_same ws key c.args.step.word 0 (below g at) in
-    subst (λ (r : Filled). Sets g.P.Meld.meld g.P.Packed.pack unpack true c.args.self.now.name c.args.step c.args.self.now (Ok tt) (sight_of unpack r.limits r.words c.push.new.self.items c.and-self-inside.result.log.items)) (sym (row_is g at))
+    subst (λ (r : Filled). Sets g.P.Meld.meld (coding g.P.Packed.pack unpack) true c.args.step (view_of c.args.self.now.name c.args.self.now) (Ok tt) (view_of c.args.self.now.name (sight_of unpack r.limits r.words c.push.new.self.items c.and-self-inside.result.log.items))) (sym (row_is g at))
     (sets_won g.P.Meld.meld g.P.Packed.pack unpack limits c.args.self.now ws (slice_set ws key c.args.step.word) js c.push.new.self.items (vec_capacity c.push.new.self) c.self.inside.trail.log.items c.and-self-inside.result.log.items c.args.step c.set_once-word.result
     c.self.view_is (tied g at) c.requires.within may.entry may.is_entry (added g at) set c.if-word-ne0.false c.and-self-inside.ensures)

@@ -1,0 +1,130 @@
+use Rattle.std.proofs.Common.{rules, ◌≡◌, false, length, ap, sym, ◌∙◌, arith}
+use Rattle.ulfm_model.specs.Records.{Held, held_at}
+use Rattle.ulfm_comm.proofs.Agreement.{marking_any, marking_few, marking_goes, marking_may_on, marking_reads, marking_unknown}
+use Rattle.ulfm_comm.proofs.StepsLeft.{marks_read}
+use Rattle.ulfm_comm.proofs.StepAdds.{adds_marked}
+use Rattle.ulfm_steps.specs.Blocks.{AreSet}
+use Rattle.ulfm_steps.proofs.KnownBlocks.{set_later}
+use Rattle.ulfm_comm.specs.Step.{Adds}
+use Rattle.std.proofs.Common.{Option}
+use Rattle.ulfm_model.specs.declared.reply.Reply.{Reply}
+use Rattle.ulfm_comm.proofs.rank.LocalState.go_marking.Goals as goal
+use Rattle.ulfm_comm.proofs.rank.LocalState.go_marking.Goals.{After-advance, After-deref, After-len-members}
+
+-- the members that the code reads
+members : (g : _) (c : After-deref g) → c.deref.result.now ≡ c.held_comm-x.result.now.group
+members g c = c.deref.ensures.value ∙ ap (λ (y : Held). y.group) c.x.view_is
+
+pub advance-requires-clause-may : goal.advance-requires-clause-may
+advance-requires-clause-may g c =
+    let stands = c.requires.stands.1 in
+    marking_may_on g.P.Meld.meld (g.W.Words.name c.args.world.now.words) c.args.asked.now c.args.marks c.args.blocks c.args.shrinks c.requires.stands.0
+    c.args.self.now (g.W.Words.sight c.args.pass.now) c.requires.of
+    c.held_comm-x.result.now c.comm_of.result c.held_comm-x.ensures c.comm_of.ensures c.deref.result.now c.failures-seen.result.now
+    (members g (goal.at.advance-requires-clause-may g c).After-deref) c.failures-seen.ensures false stands.0 stands.1 stands.2
+
+-- what its exchange adds
+adds : (g : _) (c : After-advance g) (reply : Option (Reply g.row.P.Denot)) → c.args.whole ≡ false
+    → Adds g.W.Words.alone c.args.self.now.seen c.args.self.now c.args.asked.now reply (g.W.Words.sight c.args.pass.now).seen
+    (g.W.Words.sight c.advance.new.pass).seen
+adds g c reply not =
+    let s = c.requires.stands in
+    let now = (g.W.Words.sight c.args.pass.now).seen in
+    let after = (g.W.Words.sight c.advance.new.pass).seen in
+    adds_marked g.P.Meld.meld g.W.Words.alone (g.W.Words.name c.args.world.now.words) c.args.asked.now c.args.marks c.args.blocks c.args.shrinks s.0 s.1.0 s.1.1
+    c.args.self.now (g.W.Words.sight c.args.pass.now) after c.requires.of s.1.2 reply
+    (rw (← c.failures-seen.ensures) (c.advance.ensures.once not))
+
+-- what it knows of blocks it still knows
+later : (g : _) (c : After-advance g) → AreSet (g.W.Words.sight c.args.pass.now).cached c.args.marks.comm c.args.marks.round c.args.blocks
+    → AreSet (g.W.Words.sight c.advance.new.pass).cached c.args.marks.comm c.args.marks.round c.args.blocks
+later g c known = set_later (g.W.Words.sight c.args.pass.now).cached (g.W.Words.sight c.advance.new.pass).cached c.args.marks.comm c.args.marks.round
+    c.args.blocks c.advance.ensures.marks.marks.cached known
+
+pub returns-then-marks-seen : goal.returns-then-marks-seen
+returns-then-marks-seen g c =
+    λ group.
+    record {
+      walks = search rules;
+      caches = λ none. c.advance.ensures.marks.marks.caches;
+      named = search rules;
+      nearer = search rules;
+      spends = search rules;
+      also = λ never. absurd never;
+      further = search rules;
+      adds = adds g (goal.at.returns-then-marks-seen g c).After-advance _;
+      sees = search rules;
+      looks = λ at. absurd (cc at);
+      knows = λ known. rw (c.advance.ensures.comm, c.advance.ensures.round) (later g (goal.at.returns-then-marks-seen g c).After-advance known);
+      leads = search rules;
+      turns = λ alone only old before stands.
+          marking_goes g.P.Meld.meld (g.W.Words.name c.args.world.now.words) c.args.asked.now c.args.marks c.args.blocks c.args.shrinks group c.args.self.now
+          (g.W.Words.sight c.args.pass.now) c.requires.of
+          c.held_comm-x.result.now c.comm_of.result c.held_comm-x.ensures c.comm_of.ensures c.deref.result.now c.failures-seen.result.now
+          (members g (goal.at.returns-then-marks-seen g c).After-deref) c.failures-seen.ensures alone old before stands
+          g.W.Words.alone only (g.W.Words.sight c.advance.new.pass) c.advance.new.self c.advance.ensures.rank c.advance.ensures.comm c.advance.ensures.round
+          c.advance.ensures.at c.advance.ensures.marks c.if-marks-seen.true;
+    }
+
+-- .. and their number
+length_is : (g : _) (c : After-len-members g) → c.len-members.result ≡ length c.deref.result.now
+length_is g c = c.len-members.ensures ∙ sym c.deref.ensures.len
+
+pub overflow_cast-members : goal.overflow_cast-members
+overflow_cast-members g c =
+    let stood = c.requires.stands in
+    let stands = stood.1 in
+    let few = marking_few g.P.Meld.meld (g.W.Words.name c.args.world.now.words) c.args.asked.now c.args.marks c.args.blocks c.args.shrinks stood.0
+    c.args.self.now (g.W.Words.sight c.args.pass.now) c.requires.of
+    c.held_comm-x.result.now c.comm_of.result c.held_comm-x.ensures c.comm_of.ensures c.deref.result.now c.failures-seen.result.now
+    (members g (goal.at.overflow_cast-members g c).After-deref) c.failures-seen.ensures false stands.0 stands.1 stands.2 in
+    omega (arith, few, length_is g (goal.at.overflow_cast-members g c).After-len-members)
+
+pub new-requires : goal.new-requires
+new-requires g c =
+    let stood = c.requires.stands in
+    let stands = stood.1 in
+    let some = marking_any g.P.Meld.meld (g.W.Words.name c.args.world.now.words) c.args.asked.now c.args.marks c.args.blocks c.args.shrinks stood.0
+    c.args.self.now (g.W.Words.sight c.args.pass.now) c.requires.of
+    c.held_comm-x.result.now c.comm_of.result c.held_comm-x.ensures c.comm_of.ensures c.deref.result.now c.failures-seen.result.now
+    (members g (goal.at.new-requires g c).After-deref) c.failures-seen.ensures false stands.0 stands.1 stands.2 in
+    omega (arith, some, length_is g (goal.at.new-requires g c).After-len-members)
+
+pub returns : goal.returns
+returns g c =
+    let stood = c.requires.stands in
+    let stands = stood.1 in
+    let takes = c.advance.ensures.takes in
+    let unknown = marking_unknown g.P.Meld.meld (g.W.Words.name c.args.world.now.words) c.args.asked.now c.args.marks c.args.blocks c.args.shrinks stood.0
+    c.args.self.now (g.W.Words.sight c.args.pass.now) c.requires.of
+    c.held_comm-x.result.now c.comm_of.result c.held_comm-x.ensures c.comm_of.ensures c.deref.result.now c.failures-seen.result.now
+    (members g (goal.at.returns g c).After-deref) c.failures-seen.ensures false stands.0 stands.1 stands.2 in
+    let held = ap (held_at c.args.self.now) (sym c.comm_of.ensures) ∙ c.held_comm-x.ensures in
+    let left = marks_read (g.W.Words.name c.args.world.now.words).limits c.args.self.now c.args.asked.now c.held_comm-x.result.now held c.args.shrinks
+    c.args.blocks c.deref.result.now c.failures-seen.result.now
+    (members g (goal.at.returns g c).After-deref) c.failures-seen.ensures c.args.marks c.new.result _ _ c.len-members.result c.new.ensures
+    (length_is g (goal.at.returns g c).After-len-members) unknown
+    (g.W.Words.sight c.args.pass.now).steps (g.W.Words.sight c.advance.new.pass).steps _ takes.turns in
+    λ group.
+    record {
+      walks = search rules;
+      caches = λ none. c.advance.ensures.marks.marks.caches;
+      named = search rules;
+      nearer = λ single. omega (arith, left, takes.some);
+      spends = left;
+      also = λ never. absurd never;
+      further = search rules;
+      adds = adds g (goal.at.returns g c).After-advance _;
+      sees = search rules;
+      looks = λ at. absurd (cc at);
+      knows = λ known. rw (c.new.ensures, c.advance.ensures.comm, c.advance.ensures.round) (later g (goal.at.returns g c).After-advance known);
+      leads = search rules;
+      turns = λ alone only old before stands.
+          marking_reads g.P.Meld.meld (g.W.Words.name c.args.world.now.words) c.args.asked.now c.args.marks c.args.blocks c.args.shrinks group c.args.self.now
+          (g.W.Words.sight c.args.pass.now) c.requires.of
+          c.held_comm-x.result.now c.comm_of.result c.held_comm-x.ensures c.comm_of.ensures c.deref.result.now c.failures-seen.result.now
+          (members g (goal.at.returns g c).After-deref) c.failures-seen.ensures alone old before stands
+          g.W.Words.alone only (g.W.Words.sight c.advance.new.pass) c.advance.new.self c.advance.ensures.rank c.advance.ensures.comm c.advance.ensures.round
+          c.advance.ensures.at c.advance.ensures.marks c.new.result c.len-members.result c.new.ensures
+          (length_is g (goal.at.returns g c).After-len-members) (omega (arith, c.if-marks-seen.false));
+    }

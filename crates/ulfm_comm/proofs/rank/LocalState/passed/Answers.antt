@@ -1,0 +1,233 @@
+use Rattle.std.proofs.Common.{rules, ◌≡◌, ◌≤◌, Bool, None, Some, length, filter, max, min, ap, ap₂, refl, sym, ◌∙◌, subst, arith}
+use Rattle.std.specs.List.Sorted.{IsStrictlyIncreasing}
+use Rattle.ulfm_model.specs.declared.{call.Call.{Call}, reply.Reply.TheVariants.{Acked, FailedGroup, Freed}}
+use Rattle.ulfm_model.specs.{Answers.{first_refusal}, History.{has}, Records.{Held, Record, held_at}}
+use Rattle.ulfm_model.specs.Terms.{comm_of, tests_of}
+use Rattle.ulfm_model.proofs.Marking.{failed_few}
+use Rattle.ulfm_model.specs.Records.{moment}
+use Rattle.ulfm_words.specs.Steps.{view_of, Sight}
+use Rattle.ulfm_comm.specs.{Phase.{Answered}, Look.{HasLooked, JustLooked}, StepsLeft.{behind_look}}
+use Rattle.ulfm_comm.specs.AlsoLeft.{also_behind_look}
+use Rattle.ulfm_comm.proofs.{AlsoLeft.{follows_ends, follows_one}, StepsLeft.{one_left}}
+use Rattle.ulfm_comm.proofs.Look.{just_acked, just_counted, just_fits, just_freed, just_passed, own_barrier, own_question, own_revoke, starts_agree}
+use Rattle.ulfm_comm.proofs.Look.{starts_shrink}
+use Rattle.ulfm_comm.proofs.Holding.{group_rises}
+use Rattle.ulfm_comm.proofs.rank.LocalState.passed.Goals as goal
+use Rattle.ulfm_comm.proofs.rank.LocalState.passed.Goals.{After-held_comm-x}
+use Rattle.ulfm_comm.specs.Local.{frame, local}
+
+-- the communicator of the call
+held : (g : _) (c : After-held_comm-x g) → held_at c.args.self.now (comm_of c.args.asked.now) ≡ Some c.held_comm-x.result.now
+held g c = ap (held_at c.args.self.now) (sym c.comm_of.ensures) ∙ c.held_comm-x.ensures
+
+held_for : (g : _) (c : After-held_comm-x g) (asked : Call g.row.P.Denot) → c.args.asked.now ≡ asked
+    → held_at c.args.self.now (comm_of asked) ≡ Some c.held_comm-x.result.now
+held_for g c asked is = ap (λ (a : Call g.row.P.Denot). held_at c.args.self.now (comm_of a)) (sym is) ∙ held g c
+
+-- the record doesn't refuse the call on it
+passes : (g : _) (c : After-held_comm-x g) → first_refusal (tests_of c.args.self.now c.held_comm-x.result.now c.args.asked.now) ≡ None
+passes g c =
+    let first = held g c in
+    let second = c.requires.passes.held in
+    let same : c.requires.passes.x ≡ c.held_comm-x.result.now = cc (first, second) in
+    subst (λ y. first_refusal (tests_of c.args.self.now y c.args.asked.now) ≡ None) same c.requires.passes.passed
+
+-- so the call goes on after its look
+abbrev looked : (g : _) (c : After-held_comm-x g) (alone : Bool) (old : Record) (before : Sight g.row.P.Denot)
+    → JustLooked g.P.Meld.meld alone c.args.asked.now (local old (view_of (g.W.Words.name c.args.world.now.words) before)) (local c.args.self.now (view_of (g.W.Words.name c.args.world.now.words) (g.W.Words.sight c.args.pass.now)))
+    → HasLooked (frame g.P.Meld.meld (g.W.Words.name c.args.world.now.words).limits alone) c.args.asked.now (moment old before.seen) (moment c.args.self.now (g.W.Words.sight c.args.pass.now).seen)
+looked g c alone old before j =
+    just_passed g.P.Meld.meld alone (g.W.Words.name c.args.world.now.words) c.args.asked.now old before c.args.self.now
+    (g.W.Words.sight c.args.pass.now) j c.requires.of c.held_comm-x.result.now (held g c) (passes g c)
+
+rises : (g : _) (c : After-held_comm-x g) → IsStrictlyIncreasing c.held_comm-x.result.now.group
+rises g c =
+    let j = c.requires.just in
+    group_rises g.P.Meld.meld (g.W.Words.name c.args.world.now.words).limits (g.W.Words.sight c.args.pass.now).seen c.args.self.now
+    (comm_of c.args.asked.now) c.held_comm-x.result.now
+    (just_fits g.P.Meld.meld _ (g.W.Words.name c.args.world.now.words) c.args.asked.now j.0 j.1 c.args.self.now (g.W.Words.sight c.args.pass.now) j.2
+    c.requires.of) (held g c)
+
+pub count_in-count-requires : goal.count_in-count-requires
+count_in-count-requires g c = subst IsStrictlyIncreasing (sym (c.deref.ensures.value ∙ ap (λ (y : Held). y.group) c.x.view_is))
+    (rises g (goal.at.count_in-count-requires g c).After-held_comm-x)
+
+pub count_in-known-requires : goal.count_in-known-requires
+count_in-known-requires g c = subst IsStrictlyIncreasing (sym (c.deref-in-Ack.ensures.value ∙ ap (λ (y : Held). y.group) c.x.view_is))
+    (rises g (goal.at.count_in-known-requires g c).After-held_comm-x)
+
+pub returns-in-Agree-clause-turns : goal.returns-in-Agree-clause-turns
+returns-in-Agree-clause-turns g c =
+    λ group alone old before j.
+    record {
+      fits = j.fits;
+      mine = j.mine;
+      onward = j.onward;
+      at = (
+        looked g (goal.at.returns-in-Agree-clause-turns g c).After-held_comm-x alone old before j,
+        starts_agree c.args.asked.now _ _ _ old
+            c.held_comm-x.result.now _ c.in-Agree.is (ap (λ (y : Held). y.next_agreement) c.x.view_is),
+      );
+    }
+
+pub returns-in-Shrink-clause-turns : goal.returns-in-Shrink-clause-turns
+returns-in-Shrink-clause-turns g c =
+    λ group alone old before j.
+    record {
+      fits = j.fits;
+      mine = j.mine;
+      onward = j.onward;
+      at = (
+        looked g (goal.at.returns-in-Shrink-clause-turns g c).After-held_comm-x alone old before j,
+        starts_shrink c.args.asked.now _ _ old c.args.self.now _
+            c.held_comm-x.result.now _ _ c.in-Shrink.is j.looked.record_is c.free_ids.ensures (ap (λ (y : Held). y.next_agreement) c.x.view_is),
+      );
+    }
+
+pub returns-in-Barrier-clause-turns : goal.returns-in-Barrier-clause-turns
+returns-in-Barrier-clause-turns g c =
+    λ group alone old before j.
+    record {
+      fits = j.fits;
+      mine = j.mine;
+      onward = j.onward;
+      at = (
+        looked g (goal.at.returns-in-Barrier-clause-turns g c).After-held_comm-x alone old before j,
+        own_barrier c.args.asked.now _ _ old.number j.mine
+            c.in-Barrier.is,
+        ap (λ (y : Held). y.next_barrier) c.x.view_is,
+      );
+    }
+
+pub returns-in-Revoke-clause-turns : goal.returns-in-Revoke-clause-turns
+returns-in-Revoke-clause-turns g c =
+    λ group alone old before j.
+    record {
+      fits = j.fits;
+      mine = j.mine;
+      onward = j.onward;
+      at = (
+        looked g (goal.at.returns-in-Revoke-clause-turns g c).After-held_comm-x alone old before j,
+        own_revoke c.args.asked.now _ _ old.number j.mine
+            c.in-Revoke.is,
+      );
+    }
+
+pub returns-in-IsRevoked-clause-turns : goal.returns-in-IsRevoked-clause-turns
+returns-in-IsRevoked-clause-turns g c =
+    λ group alone old before j.
+    record {
+      fits = j.fits;
+      mine = j.mine;
+      onward = j.onward;
+      at = (
+        looked g (goal.at.returns-in-IsRevoked-clause-turns g c).After-held_comm-x alone old before j,
+        own_question c.args.asked.now _ _ old.number j.mine
+            c.in-IsRevoked.is,
+      );
+    }
+
+pub returns-in-GetFailed-clause-turns : goal.returns-in-GetFailed-clause-turns
+returns-in-GetFailed-clause-turns g c =
+    let at = (goal.at.returns-in-GetFailed-clause-turns g c).After-held_comm-x in
+    λ group alone old before j.
+    subst (λ a. Answered g.P.Meld.meld alone a (local old (view_of (g.W.Words.name c.args.world.now.words) before)) (FailedGroup c.count_in-count.result) (local c.args.self.now (view_of (g.W.Words.name c.args.world.now.words) (g.W.Words.sight c.args.pass.now)))) (sym c.in-GetFailed.is)
+    (just_counted g.P.Meld.meld alone (g.W.Words.name c.args.world.now.words) _ _ old before c.args.self.now (g.W.Words.sight c.args.pass.now) c.requires.of
+    c.held_comm-x.result.now (held_for g at _ c.in-GetFailed.is) _ (c.count_in-count.ensures ∙ ap₂ (λ w v. length (filter (has w) v))
+    (c.deref.ensures.value ∙ ap (λ (y : Held). y.group) c.x.view_is) c.failures.ensures)
+    (subst (λ a. JustLooked g.P.Meld.meld alone a (local old (view_of (g.W.Words.name c.args.world.now.words) before)) (local c.args.self.now (view_of (g.W.Words.name c.args.world.now.words) (g.W.Words.sight c.args.pass.now))))
+    c.in-GetFailed.is j))
+
+pub returns-in-Ack-clause-turns : goal.returns-in-Ack-clause-turns
+returns-in-Ack-clause-turns g c =
+    let at = (goal.at.returns-in-Ack-clause-turns g c).After-held_comm-x in
+    λ group alone old before j.
+    subst (λ a. Answered g.P.Meld.meld alone a (local old (view_of (g.W.Words.name c.args.world.now.words) before)) (Acked c.acknowledged-count.result) (local c.acknowledge.new.self (view_of (g.W.Words.name c.args.world.now.words) (g.W.Words.sight c.args.pass.now)))) (sym c.in-Ack.is)
+    (just_acked g.P.Meld.meld alone (g.W.Words.name c.args.world.now.words) _ _ old before c.args.self.now (g.W.Words.sight c.args.pass.now) c.requires.of
+    c.held_comm-x.result.now (held_for g at _ c.in-Ack.is) _ _ _
+    (c.acknowledged-count.ensures ∙ ap₂ (λ m n. max m (min c.in-Ack.count n)) (ap (λ (y : Held). y.acked) c.x.view_is)
+    (c.count_in-known.ensures ∙ ap₂ (λ w v. length (filter (has w) v)) (c.deref-in-Ack.ensures.value ∙ ap (λ (y : Held). y.group) c.x.view_is)
+    c.failures-in-Ack.ensures)) c.acknowledge.ensures (subst (λ a. JustLooked g.P.Meld.meld alone a (local old (view_of (g.W.Words.name c.args.world.now.words) before)) (local c.args.self.now (view_of (g.W.Words.name c.args.world.now.words) (g.W.Words.sight c.args.pass.now)))) c.in-Ack.is j))
+
+pub returns-in-Free-clause-turns : goal.returns-in-Free-clause-turns
+returns-in-Free-clause-turns g c =
+    let at = (goal.at.returns-in-Free-clause-turns g c).After-held_comm-x in
+    λ group alone old before j.
+    subst (λ a. Answered g.P.Meld.meld alone a (local old (view_of (g.W.Words.name c.args.world.now.words) before)) Freed (local c.release.new.self (view_of (g.W.Words.name c.args.world.now.words) (g.W.Words.sight c.args.pass.now))))
+    (sym c.in-Free.is)
+    (just_freed g.P.Meld.meld alone (g.W.Words.name c.args.world.now.words) _ _ old before c.args.self.now (g.W.Words.sight c.args.pass.now) c.requires.of
+    c.held_comm-x.result.now (held_for g at _ c.in-Free.is) _
+    (subst (λ a. first_refusal (tests_of c.args.self.now c.held_comm-x.result.now a) ≡ None) c.in-Free.is (passes g at)) c.release.ensures
+    (subst (λ a. JustLooked g.P.Meld.meld alone a (local old (view_of (g.W.Words.name c.args.world.now.words) before)) (local c.args.self.now (view_of (g.W.Words.name c.args.world.now.words) (g.W.Words.sight c.args.pass.now))))
+    c.in-Free.is j))
+
+pub overflow_cast-count : goal.overflow_cast-count
+overflow_cast-count g c =
+    let name = g.W.Words.name c.args.world.now.words in
+    let now = g.W.Words.sight c.args.pass.now in
+    let few = failed_few g.P.Meld.meld name.limits now.seen c.deref.result.now c.requires.of.legal in
+    let seen = c.failures.ensures ∙ ap (λ (w : Record). w.seen) c.requires.just.2.looked.record_is in
+    let is = c.count_in-count.ensures ∙ ap (λ v. length (filter (has c.deref.result.now) v)) seen in
+    let ranks = c.requires.of.may_open.in_range.ranks in
+    let small : c.count_in-count.result ≤ 1024 = omega (arith, few, is, ranks) in
+    search rules
+
+pub returns-in-Agree-clause-nearer : goal.returns-in-Agree-clause-nearer
+returns-in-Agree-clause-nearer g c = one_left (g.W.Words.name c.args.world.now.words).limits c.args.self.now c.args.asked.now c.requires.passes
+    (ap (behind_look (g.W.Words.name c.args.world.now.words).limits c.args.self.now) c.in-Agree.is)
+
+pub returns-in-Shrink-clause-nearer : goal.returns-in-Shrink-clause-nearer
+returns-in-Shrink-clause-nearer g c = one_left (g.W.Words.name c.args.world.now.words).limits c.args.self.now c.args.asked.now c.requires.passes
+    (ap (behind_look (g.W.Words.name c.args.world.now.words).limits c.args.self.now) c.in-Shrink.is)
+
+pub returns-in-Barrier-clause-nearer : goal.returns-in-Barrier-clause-nearer
+returns-in-Barrier-clause-nearer g c = one_left (g.W.Words.name c.args.world.now.words).limits c.args.self.now c.args.asked.now c.requires.passes
+    (ap (behind_look (g.W.Words.name c.args.world.now.words).limits c.args.self.now) c.in-Barrier.is)
+
+pub returns-in-Revoke-clause-nearer : goal.returns-in-Revoke-clause-nearer
+returns-in-Revoke-clause-nearer g c = one_left (g.W.Words.name c.args.world.now.words).limits c.args.self.now c.args.asked.now c.requires.passes
+    (ap (behind_look (g.W.Words.name c.args.world.now.words).limits c.args.self.now) c.in-Revoke.is)
+
+pub returns-in-IsRevoked-clause-nearer : goal.returns-in-IsRevoked-clause-nearer
+returns-in-IsRevoked-clause-nearer g c = one_left (g.W.Words.name c.args.world.now.words).limits c.args.self.now c.args.asked.now c.requires.passes
+    (ap (behind_look (g.W.Words.name c.args.world.now.words).limits c.args.self.now) c.in-IsRevoked.is)
+
+pub returns-in-Agree-clause-also : goal.returns-in-Agree-clause-also
+returns-in-Agree-clause-also g c = follows_one (g.W.Words.name c.args.world.now.words).limits c.args.self.now c.args.asked.now _ refl
+    (λ cached. tt) c.requires.passes (ap (also_behind_look (g.W.Words.name c.args.world.now.words).limits c.args.self.now) c.in-Agree.is)
+
+pub returns-in-Shrink-clause-also : goal.returns-in-Shrink-clause-also
+returns-in-Shrink-clause-also g c = follows_one (g.W.Words.name c.args.world.now.words).limits c.args.self.now c.args.asked.now _ refl
+    (λ cached. tt) c.requires.passes (ap (also_behind_look (g.W.Words.name c.args.world.now.words).limits c.args.self.now) c.in-Shrink.is)
+
+pub returns-in-Barrier-clause-also : goal.returns-in-Barrier-clause-also
+returns-in-Barrier-clause-also g c = follows_one (g.W.Words.name c.args.world.now.words).limits c.args.self.now c.args.asked.now _ refl
+    (λ cached. tt) c.requires.passes (ap (also_behind_look (g.W.Words.name c.args.world.now.words).limits c.args.self.now) c.in-Barrier.is)
+
+pub returns-in-Revoke-clause-also : goal.returns-in-Revoke-clause-also
+returns-in-Revoke-clause-also g c = follows_one (g.W.Words.name c.args.world.now.words).limits c.args.self.now c.args.asked.now _ refl
+    (λ cached. tt) c.requires.passes (ap (also_behind_look (g.W.Words.name c.args.world.now.words).limits c.args.self.now) c.in-Revoke.is)
+
+pub returns-in-IsRevoked-clause-also : goal.returns-in-IsRevoked-clause-also
+returns-in-IsRevoked-clause-also g c = follows_one (g.W.Words.name c.args.world.now.words).limits c.args.self.now c.args.asked.now _ refl
+    (λ cached. tt) c.requires.passes (ap (also_behind_look (g.W.Words.name c.args.world.now.words).limits c.args.self.now) c.in-IsRevoked.is)
+
+pub returns-in-GetFailed-clause-also : goal.returns-in-GetFailed-clause-also
+returns-in-GetFailed-clause-also g c = follows_ends (g.W.Words.name c.args.world.now.words).limits c.args.self.now c.args.asked.now _ _ refl
+
+pub returns-in-Ack-clause-also : goal.returns-in-Ack-clause-also
+returns-in-Ack-clause-also g c = follows_ends (g.W.Words.name c.args.world.now.words).limits c.args.self.now c.args.asked.now _ _
+    (ap (λ (w : Record). w.seen) c.acknowledge.ensures)
+
+pub returns-in-Free-clause-also : goal.returns-in-Free-clause-also
+returns-in-Free-clause-also g c = follows_ends (g.W.Words.name c.args.world.now.words).limits c.args.self.now c.args.asked.now _ _
+    (ap (λ (w : Record). w.seen) c.release.ensures)
+
+pub returns-in-GetFailed-clause-knows : goal.returns-in-GetFailed-clause-knows
+returns-in-GetFailed-clause-knows g c = λ cached of. absurd (cc of)
+
+pub returns-in-Ack-clause-knows : goal.returns-in-Ack-clause-knows
+returns-in-Ack-clause-knows g c = λ cached of. absurd (cc of)
+
+pub returns-in-Free-clause-knows : goal.returns-in-Free-clause-knows
+returns-in-Free-clause-knows g c = λ cached of. absurd (cc of)

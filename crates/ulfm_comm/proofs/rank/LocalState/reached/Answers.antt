@@ -1,0 +1,101 @@
+use Rattle.std.proofs.Common.{◌≡◌, ◌<◌, false, Some, take, sym, ap, ap₂, ◌∙◌, subst, arith}
+use Rattle.std.specs.Prelude.{IfOk, Result, Ok, Err}
+use Rattle.std.specs.Result.{is_err}
+use Rattle.ulfm_model.specs.Answers.{closed, traits_of}
+use Rattle.ulfm_model.specs.History.{has, without}
+use Rattle.ulfm_model.specs.Records.{Held, held_at}
+use Rattle.ulfm_model.specs.declared.call.Call.{Call}
+use Rattle.ulfm_model.specs.declared.event.Caller.TheVariants.{Rank as ByRank}
+use Rattle.ulfm_steps.specs.Appends.{room}
+use Rattle.ulfm_steps.specs.declared.append.Append.{Append}
+use Rattle.ulfm_steps.specs.declared.item.Item.{Item}
+use Rattle.ulfm_steps.specs.declared.item.Item.TheVariants.{Comm as OfComm}
+use Rattle.ulfm_model.specs.declared.limits.Limits.{Limits}
+use Rattle.ulfm_model.specs.Terms.{comm_of}
+use Rattle.ulfm_comm.proofs.Spawning.{ends_full, ends_out, ends_self_failed, full_alone, held_is, number_is}
+use Rattle.ulfm_comm.proofs.rank.LocalState.reached.Goals as goal
+use Rattle.ulfm_comm.proofs.rank.LocalState.reached.Goals.{After-has_rank}
+
+-- whether the rank is among the failures that reach so far
+among : (g : _) (c : After-has_rank g) → c.has_rank.result ≡ has (take c.args.reach c.args.self.now.seen) c.args.self.now.number
+among g c = c.has_rank.ensures ∙ ap₂ (λ s n. has (take c.args.reach s) n) c.failures.ensures c.number-number.ensures
+
+-- what holds of a result that isn't an error
+ok_of : {T E : Type 0} (result : Result T E) (Q : Type 0) → IfOk result (λ _. Q) → is_err result ≡ false → Q
+ok_of (Ok x) Q q right = q
+ok_of (Err e) Q q right = absurd (cc right)
+
+pub returns-then-has_rank-clause-turns : goal.returns-then-has_rank-clause-turns
+returns-then-has_rank-clause-turns g c = λ alone old before r.
+    ends_self_failed g.P.Meld.meld alone (g.W.Words.name c.args.world.now.words) c.args.asked.now c.args.made.round c.args.made.mask r.x c.args.made.count
+    c.args.reach old before c.args.self.now (g.W.Words.sight c.args.pass.now)
+    c.requires.of r.onward r.fits r.polls r.decided r.reads c.refuse.new.self
+    (sym (among g (goal.at.returns-then-has_rank-clause-turns g c).After-has_rank) ∙ c.if-has_rank.true) c.refuse.ensures
+
+pub returns-then-is_err-clause-turns : goal.returns-then-is_err-clause-turns
+returns-then-is_err-clause-turns g c = λ alone old before r.
+    let now = g.W.Words.sight c.args.pass.now in
+    let name = g.W.Words.name c.args.world.now.words in
+    ends_out g.P.Meld.meld alone name c.args.asked.now c.args.made.round c.args.made.mask r.x c.args.made.count c.args.reach old before c.args.self.now now
+    c.requires.of r.onward r.fits r.polls r.decided r.reads
+    (sym (among g (goal.at.returns-then-is_err-clause-turns g c).After-has_rank) ∙ c.if-has_rank.false)
+
+pub returns-then-limits-eq1-clause-turns : goal.returns-then-limits-eq1-clause-turns
+returns-then-limits-eq1-clause-turns g c = λ alone old before r.
+    let now = g.W.Words.sight c.args.pass.now in
+    let name = g.W.Words.name c.args.world.now.words in
+    let one : name.limits.comms ≡ 1 = ap (λ (l : Limits). l.comms) (sym c.limits.ensures.limits) ∙ c.if-limits-eq1.true in
+    let there = among g (goal.at.returns-then-limits-eq1-clause-turns g c).After-has_rank in
+    ends_full g.P.Meld.meld alone name c.args.asked.now c.args.made.round c.args.made.mask r.x c.args.made.count c.args.reach old before c.args.self.now now
+    c.requires.of r.onward r.fits r.polls r.decided r.reads c.close.new.self now
+    (full_alone g.P.Meld.meld alone name (comm_of c.args.asked.now) c.args.made.round now c.requires.of one) (sym there ∙ c.if-has_rank.false)
+    (c.close.ensures ∙ ap (closed c.args.self.now) c.comm_of-comm.ensures)
+
+pub returns-then-limits-eq1-clause-memory : goal.returns-then-limits-eq1-clause-memory
+returns-then-limits-eq1-clause-memory g c = λ is x held.
+    ok_of c.make_room.result ((x : Held) → held_at c.args.self.now c.comm_of-comm.result ≡ Some x
+    → c.make_room.new.group.items ≡ without x.group (take c.args.reach c.args.self.now.seen)) c.make_room.ensures
+    (sym c.is_err.ensures.value ∙ c.if-is_err.false)
+    x (ap (held_at c.args.self.now) c.comm_of-comm.ensures ∙ held)
+
+pub returns-clause-turns : goal.returns-clause-turns
+returns-clause-turns g c = λ alone old before r.
+    let now = g.W.Words.sight c.args.pass.now in
+    let name = g.W.Words.name c.args.world.now.words in
+    let there = among g (goal.at.returns-clause-turns g c).After-has_rank in
+    let held = held_is g.P.Meld.meld name.limits alone (comm_of c.args.asked.now) c.args.made.round c.args.made.mask r.x c.args.made.count old before.seen
+    c.args.self.now now.seen r.decided in
+    let number = number_is g.P.Meld.meld name.limits alone (comm_of c.args.asked.now) c.args.made.round c.args.made.mask r.x c.args.made.count old before.seen
+    c.args.self.now now.seen r.decided in
+    let item : c.new.result.item ≡ OfComm (comm_of c.args.asked.now) c.args.made.round = ap (λ (a : Append). a.item) c.new.ensures
+    ∙ ap (λ n. OfComm n c.args.made.round) c.comm_of-comm.ensures in
+    let index : c.new.result.index ≡ 0 = ap (λ (a : Append). a.index) c.new.ensures in
+    let some = c.requires.of.may_open.in_range.some_comms in
+    let limits = ap (λ (l : Limits). l.comms) c.limits.ensures.limits in
+    let several = c.if-limits-eq1.false in
+    let left = ok_of c.make_room.result ((x : Held) → held_at c.args.self.now c.comm_of-comm.result ≡ Some x
+    → c.make_room.new.group.items ≡ without x.group (take c.args.reach c.args.self.now.seen)) c.make_room.ensures
+    (sym c.is_err.ensures.value ∙ c.if-is_err.false) in
+    record {
+      fits = r.fits;
+      mine = ap (λ (a : Call _). (traits_of a).by) r.polls;
+      onward = r.onward;
+      at = (
+        r.polls,
+        record {
+          x = r.x;
+          round = c.args.made.round;
+          mask = c.args.made.mask;
+          count = c.args.made.count;
+          decided = r.decided;
+          lowest = c.lowest_id.ensures;
+          reads = r.reads;
+          stays = sym there ∙ c.if-has_rank.false;
+          left = left r.x (ap (held_at c.args.self.now) c.comm_of-comm.ensures ∙ held);
+          item = item;
+          mine = ap (λ (a : Append). a.by) c.new.ensures ∙ ap ByRank (c.number-number.ensures ∙ number);
+          passed = λ j lt. absurd (omega (arith, lt, index));
+          more = subst (λ (i : Item). c.new.result.index < room i name.limits) (sym item) (omega (arith, index, some, limits, several));
+        },
+      );
+    }

@@ -1,0 +1,121 @@
+use Rattle.std.proofs.Common.{◌≡◌, Bool, IsTrue, ap, refl, sym, ◌∙◌, subst, false}
+use Rattle.ulfm_model.specs.declared.call.Call.{Call}
+use Rattle.ulfm_model.specs.Records.{Record}
+use Rattle.ulfm_words.specs.Steps.{view_of, Sight}
+use Rattle.ulfm_comm.specs.{Phase.{Answered, NextIs, Stands, UnderWay, Waits}, Step.{Stepped}, StepsLeft.{Spends, steps_left}}
+use Rattle.ulfm_comm.proofs.Stands.{stands_lasts}
+use Rattle.ulfm_comm.proofs.rank.LocalState.step.Goals as goal
+use Rattle.ulfm_comm.proofs.rank.LocalState.step.Goals.{After-go, After-go-arg-4-1}
+use Rattle.ulfm_comm.specs.Local.{local}
+
+-- the call as its step takes it
+same : (g : _) (c : After-go-arg-4-1 g) → c.args.doing.now ≡ record {
+  asked = c.doing.inside.asked;
+  phase = c.replace-phase.result;
+  group = c.doing.inside.group.items;
+}
+same g c = sym c.doing.view_is ∙ ap (λ phase. record {
+  asked = c.doing.inside.asked;
+  phase = phase;
+  group = c.doing.inside.group.items;
+}) (sym c.replace-phase.ensures.value)
+
+pub go-requires-clause-stands : goal.go-requires-clause-stands
+go-requires-clause-stands g c =
+    let p = c.requires.stood in
+    let name = g.W.Words.name c.args.world.now.words in
+    let now = g.W.Words.sight c.args.pass.now in (
+      p.0,
+      p.1,
+      subst (λ (doing : UnderWay g.row.P.Denot). Stands g.P.Meld.meld false (local p.0 (view_of name p.1)) doing (local c.args.self.now (view_of name now))) (same g c)
+          (stands_lasts g.P.Meld.meld false name p.0 p.1 c.args.doing.now c.args.self.now p.2 now p.3 p.4 c.requires.of),
+    )
+
+-- what came of it
+pub turned : (g : _) (c : After-go g) → (alone : Bool) → (IsTrue alone → IsTrue g.W.Words.alone) → (old : Record) → (before stood : Sight g.row.P.Denot)
+    → Stands g.P.Meld.meld alone (local old (view_of (g.W.Words.name c.args.world.now.words) before)) c.args.doing.now (local c.args.self.now (view_of (g.W.Words.name c.args.world.now.words) stood))
+    → Waits alone stood (g.W.Words.sight c.args.pass.now)
+    → NextIs g.P.Meld.meld alone c.doing.inside.asked (local old (view_of (g.W.Words.name c.args.world.now.words) before)) c.go.result c.go.new.group.items (local c.go.new.self (view_of (g.W.Words.name c.args.world.now.words) (g.W.Words.sight c.go.new.pass)))
+turned g c alone only old before stood u waits =
+    let name = g.W.Words.name c.args.world.now.words in
+    let now = g.W.Words.sight c.args.pass.now in
+    c.go.ensures.turn.turns alone only old before
+    (subst (λ (doing : UnderWay g.row.P.Denot). Stands g.P.Meld.meld alone (local old (view_of name before)) doing (local c.args.self.now (view_of name now)))
+    (same g (goal.at.After-go g c).After-go-arg-4-1)
+    (stands_lasts g.P.Meld.meld alone name old before c.args.doing.now c.args.self.now stood now u waits c.requires.of))
+
+pub returns-in-Goes-clause-stands : goal.returns-in-Goes-clause-stands
+returns-in-Goes-clause-stands g c =
+    λ alone only old before stood u waits.
+    subst (λ next. NextIs g.P.Meld.meld alone c.doing.inside.asked (local old (view_of (g.W.Words.name c.args.world.now.words) before)) next c.go.new.group.items (local c.go.new.self (view_of (g.W.Words.name c.args.world.now.words) (g.W.Words.sight c.go.new.pass)))) c.in-Goes.is
+    (turned g (goal.at.returns-in-Goes-clause-stands g c).After-go alone only old before stood u waits)
+
+pub returns-in-Ends-clause-stands : goal.returns-in-Ends-clause-stands
+returns-in-Ends-clause-stands g c =
+    λ alone only old before stood u waits.
+    let name = g.W.Words.name c.args.world.now.words in
+    let after = g.W.Words.sight c.go.new.pass in
+    subst (λ (a : Call g.row.P.Denot). Answered g.P.Meld.meld alone a (local old (view_of name before)) c.in-Ends.reply (local c.go.new.self (view_of name after)))
+    (ap (λ (doing : UnderWay g.row.P.Denot). doing.asked) c.doing.view_is)
+    (subst (λ next. NextIs g.P.Meld.meld alone c.doing.inside.asked (local old (view_of name before)) next c.go.new.group.items (local c.go.new.self (view_of name after))) c.in-Ends.is
+    (turned g (goal.at.returns-in-Ends-clause-stands g c).After-go alone only old before stood u waits))
+
+-- what the step did
+stepped : (g : _) (c : After-go g)
+    → Stepped g.P.Meld.meld g.W.Words.alone c.args.doing.now (local c.args.self.now (view_of (g.W.Words.name c.args.world.now.words) (g.W.Words.sight c.args.pass.now))) c.go.result (local c.go.new.self (view_of (g.W.Words.name c.args.world.now.words) (g.W.Words.sight c.go.new.pass)))
+stepped g c =
+    let at = (goal.at.After-go g c).After-go-arg-4-1 in
+    subst (λ (was : UnderWay g.row.P.Denot). Stepped g.P.Meld.meld g.W.Words.alone was (local c.args.self.now (view_of (g.W.Words.name c.args.world.now.words) (g.W.Words.sight c.args.pass.now))) c.go.result (local c.go.new.self (view_of (g.W.Words.name c.args.world.now.words) (g.W.Words.sight c.go.new.pass))))
+    (sym (same g at)) (record {
+      of = c.go.ensures.turn.walks.of;
+      onward = c.go.ensures.turn.walks.onward;
+      cached = c.go.ensures.turn.walks.cached;
+      caches = c.go.ensures.turn.caches;
+      named = c.go.ensures.turn.named refl;
+      nearer = c.go.ensures.turn.nearer refl;
+      also = c.go.ensures.turn.also;
+      over = c.go.ensures.over;
+      adds = c.go.ensures.turn.adds refl;
+      sees = c.go.ensures.turn.sees;
+      looks = c.go.ensures.turn.looks;
+      knows = c.go.ensures.turn.knows;
+      leads = c.go.ensures.turn.leads;
+      checks = c.go.ensures.checks;
+      early = c.go.ensures.early;
+    })
+
+pub returns-in-Goes-clause-stepped : goal.returns-in-Goes-clause-stepped
+returns-in-Goes-clause-stepped g c =
+    subst (λ next. Stepped g.P.Meld.meld g.W.Words.alone c.args.doing.now (local c.args.self.now (view_of (g.W.Words.name c.args.world.now.words) (g.W.Words.sight c.args.pass.now))) next (local c.go.new.self (view_of (g.W.Words.name c.args.world.now.words) (g.W.Words.sight c.go.new.pass)))) c.in-Goes.is
+    (stepped g (goal.at.returns-in-Goes-clause-stepped g c).After-go)
+
+pub returns-in-Ends-clause-stepped : goal.returns-in-Ends-clause-stepped
+returns-in-Ends-clause-stepped g c =
+    subst (λ next. Stepped g.P.Meld.meld g.W.Words.alone c.args.doing.now (local c.args.self.now (view_of (g.W.Words.name c.args.world.now.words) (g.W.Words.sight c.args.pass.now))) next (local c.go.new.self (view_of (g.W.Words.name c.args.world.now.words) (g.W.Words.sight c.go.new.pass)))) c.in-Ends.is
+    (stepped g (goal.at.returns-in-Ends-clause-stepped g c).After-go)
+
+-- what it spent
+spent : (g : _) (c : After-go g)
+    → Spends (steps_left (g.W.Words.name c.args.world.now.words).limits c.args.self.now c.args.doing.now.asked c.args.doing.now.phase)
+    (g.W.Words.name c.args.world.now.words).limits c.go.new.self c.args.doing.now.asked c.go.result (g.W.Words.sight c.args.pass.now)
+    (g.W.Words.sight c.go.new.pass)
+spent g c =
+    let limits = (g.W.Words.name c.args.world.now.words).limits in
+    let at = (goal.at.After-go g c).After-go-arg-4-1 in
+    subst (λ (was : UnderWay g.row.P.Denot). Spends (steps_left limits c.args.self.now was.asked was.phase) limits c.go.new.self was.asked c.go.result
+    (g.W.Words.sight c.args.pass.now) (g.W.Words.sight c.go.new.pass))
+    (sym (same g at)) c.go.ensures.turn.spends
+
+pub returns-in-Goes-clause-spends : goal.returns-in-Goes-clause-spends
+returns-in-Goes-clause-spends g c =
+    let limits = (g.W.Words.name c.args.world.now.words).limits in
+    subst (λ next. Spends (steps_left limits c.args.self.now c.args.doing.now.asked c.args.doing.now.phase) limits c.go.new.self c.args.doing.now.asked next
+    (g.W.Words.sight c.args.pass.now) (g.W.Words.sight c.go.new.pass)) c.in-Goes.is
+    (spent g (goal.at.returns-in-Goes-clause-spends g c).After-go)
+
+pub returns-in-Ends-clause-spends : goal.returns-in-Ends-clause-spends
+returns-in-Ends-clause-spends g c =
+    let limits = (g.W.Words.name c.args.world.now.words).limits in
+    subst (λ next. Spends (steps_left limits c.args.self.now c.args.doing.now.asked c.args.doing.now.phase) limits c.go.new.self c.args.doing.now.asked next
+    (g.W.Words.sight c.args.pass.now) (g.W.Words.sight c.go.new.pass)) c.in-Ends.is
+    (spent g (goal.at.returns-in-Ends-clause-spends g c).After-go)

@@ -1,0 +1,2 @@
+pub mod Welcome
+pub mod Spawning

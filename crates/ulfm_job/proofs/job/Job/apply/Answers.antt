@@ -1,0 +1,74 @@
+use Rattle.std.proofs.Common.{refl, vec_capacity, ◌∙◌}
+use Rattle.ulfm_model.specs.Answers.{rank_of}
+use Rattle.ulfm_model.specs.declared.call.Call.TheVariants as call
+use Rattle.ulfm_job.proofs.{Applying.{applied_begins, applied_job, applied_step, at_value, on_error}, Lacking.{applied_keeps, applied_polls, lacks_poll}}
+use Rattle.ulfm_job.proofs.Others.{is_other}
+use Rattle.ulfm_job.proofs.job.Job.apply.Goals as goal
+
+pub returns-in-Fail : goal.returns-in-Fail
+returns-in-Fail g c =
+    record {
+      about = rw c.in-Fail.is (rw c.deref.ensures.value at c.fail_by.ensures.about c.args.group.now.items);
+      step = rw (← c.self.view_is, c.in-Fail.is) (rw c.deref.ensures.value at c.fail_by.ensures.step.step);
+      memory = tt;
+      kept = tt;
+      group = tt;
+      begins = rw (← c.self.view_is) c.fail_by.ensures.step.begins;
+    }
+
+pub returns-in-GetFailed : goal.returns-in-GetFailed
+returns-in-GetFailed g c =
+    record {
+      about = rw c.in-GetFailed.is c.get_by.ensures.about;
+      step = at_value c.get_by.result (applied_step g.P.Meld.meld g.W.Words.alone (g.W.Words.name c.self.inside.world.words)
+          (g.W.Words.sight c.self.inside.pass) c.args.self.now (g.W.Words.sight c.get_by.new.pass) c.self.inside.ranks c.deref_mut.result.now c.get_by.new.ranks
+          c.deref_mut.ensures.value (c.get_by.auto.ranks ∙ c.deref_mut.ensures.len) c.self.view_is (call.GetFailed c.in-GetFailed.rank c.in-GetFailed.comm)
+          c.args.asked.now c.in-GetFailed.is) c.get_by.ensures.step;
+      memory = on_error c.get_by.result (λ few. rw c.in-GetFailed.is few) c.get_by.ensures.memory;
+      kept = on_error c.get_by.result (applied_keeps (g.W.Words.name c.self.inside.world.words) (g.W.Words.sight c.self.inside.pass) c.args.self.now
+          c.self.inside.ranks c.deref_mut.result.now c.get_by.new.ranks c.deref_mut.ensures.value (c.get_by.auto.ranks ∙ c.deref_mut.ensures.len)
+          c.self.view_is) c.get_by.ensures.kept;
+      group = c.get_by.ensures.group;
+      begins = applied_begins g.P.Meld.meld g.W.Words.alone (g.W.Words.name c.self.inside.world.words) (g.W.Words.sight c.self.inside.pass) c.args.self.now
+          (g.W.Words.sight c.get_by.new.pass) c.self.inside.ranks c.deref_mut.result.now c.get_by.new.ranks c.deref_mut.ensures.value
+          (c.get_by.auto.ranks ∙ c.deref_mut.ensures.len) c.self.view_is c.get_by.ensures.begins;
+    }
+
+pub call_by-requires-clause-other : goal.call_by-requires-clause-other
+call_by-requires-clause-other g c = is_other c.args.asked.now c.in_default.not-Fail c.in_default.not-GetFailed
+
+pub returns-in_default : goal.returns-in_default
+returns-in_default g c =
+    record {
+      about = c.call_by.ensures.about;
+      step = at_value c.call_by.result (applied_step g.P.Meld.meld g.W.Words.alone (g.W.Words.name c.self.inside.world.words)
+          (g.W.Words.sight c.self.inside.pass) c.args.self.now (g.W.Words.sight c.call_by.new.pass) c.self.inside.ranks c.deref_mut-in_default.result.now
+          c.call_by.new.ranks c.deref_mut-in_default.ensures.value (c.call_by.auto.ranks ∙ c.deref_mut-in_default.ensures.len) c.self.view_is c.args.asked.now
+          c.args.asked.now refl) c.call_by.ensures.step;
+      memory = on_error c.call_by.result (λ polls.
+          lacks_poll (vec_capacity c.args.group.now) c.args.self.now _ c.args.asked.now
+          (is_other c.args.asked.now c.in_default.not-Fail c.in_default.not-GetFailed)
+          (applied_polls (g.W.Words.name c.self.inside.world.words) (g.W.Words.sight c.self.inside.pass) c.args.self.now c.self.inside.ranks
+          c.deref_mut-in_default.result.now c.deref_mut-in_default.ensures.value c.self.view_is (rank_of c.args.asked.now) c.args.asked.now polls))
+          c.call_by.ensures.memory;
+      kept = on_error c.call_by.result (applied_keeps (g.W.Words.name c.self.inside.world.words) (g.W.Words.sight c.self.inside.pass) c.args.self.now
+          c.self.inside.ranks c.deref_mut-in_default.result.now c.call_by.new.ranks c.deref_mut-in_default.ensures.value
+          (c.call_by.auto.ranks ∙ c.deref_mut-in_default.ensures.len) c.self.view_is) c.call_by.ensures.kept;
+      group = c.call_by.ensures.group;
+      begins = applied_begins g.P.Meld.meld g.W.Words.alone (g.W.Words.name c.self.inside.world.words) (g.W.Words.sight c.self.inside.pass) c.args.self.now
+          (g.W.Words.sight c.call_by.new.pass) c.self.inside.ranks c.deref_mut-in_default.result.now c.call_by.new.ranks c.deref_mut-in_default.ensures.value
+          (c.call_by.auto.ranks ∙ c.deref_mut-in_default.ensures.len) c.self.view_is c.call_by.ensures.begins;
+    }
+
+pub invariant_of-self-in-GetFailed : goal.invariant_of-self-in-GetFailed
+invariant_of-self-in-GetFailed g c = applied_job g.P.Meld.meld g.W.Words.alone (g.W.Words.name c.self.inside.world.words)
+    (g.W.Words.sight c.self.inside.pass) c.args.self.now (g.W.Words.sight c.get_by.new.pass) c.self.inside.ranks c.deref_mut.result.now c.get_by.new.ranks
+    c.deref_mut.ensures.value (c.get_by.auto.ranks ∙ c.deref_mut.ensures.len) c.self.view_is c.get_by.ensures.job
+
+pub invariant_of-self-in_default : goal.invariant_of-self-in_default
+invariant_of-self-in_default g c = applied_job g.P.Meld.meld g.W.Words.alone (g.W.Words.name c.self.inside.world.words)
+    (g.W.Words.sight c.self.inside.pass) c.args.self.now (g.W.Words.sight c.call_by.new.pass) c.self.inside.ranks c.deref_mut-in_default.result.now
+    c.call_by.new.ranks c.deref_mut-in_default.ensures.value (c.call_by.auto.ranks ∙ c.deref_mut-in_default.ensures.len) c.self.view_is c.call_by.ensures.job
+
+pub invariant_of-self : goal.invariant_of-self
+invariant_of-self g c = rw c.deref.ensures.value at c.fail_by.ensures.step.job
