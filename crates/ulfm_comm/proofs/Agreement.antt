@@ -28,7 +28,7 @@ use Rattle.ulfm_comm.specs.declared.phases.phase.Phase.TheVariants.{Marking, Rea
 use Rattle.ulfm_comm.proofs.{CallRuns.{calls_is}, Holding.{exists_is, group_is, holds, same_held}, AmongOthers.{did_loosely, marks_loosely}}
 use Rattle.ulfm_comm.proofs.Polls.{held_first, later, not_found, not_marked, open_round, poll_agreed, poll_mismatch, poll_pending}
 use Rattle.ulfm_comm.specs.Local.{frame, local}
-use Rattle.ulfm_comm.specs.Requests.{agreeing}
+use Rattle.ulfm_comm.specs.Requests.{polled_round}
 
 -- the poll of a rank is one in its own name
 pub poll_mine : {P : Type 0} (asked : Call P) (old : Record) (rank comm : ℕ) → asked ≡ call.Poll rank comm → (traits_of asked).by ≡ Rank old.number
@@ -51,8 +51,8 @@ all_in group declared n within past =
 -- a poll under way, after others' events
 marked_later : {P : Type 0} (meld : P → P → P) (limits : Limits) (alone : Bool) (c : ℕ) (shrinks : Bool) (k : ℕ) (x : Held) (old : Record) (before : History P)
     (mid : Record) (now after : History P)
-    → PollHasMarked (frame meld limits alone) c (agreeing shrinks k) x (moment old before) (moment mid now) → Did alone [] now after → IsLegal meld limits after
-    → PollHasMarked (frame meld limits alone) c (agreeing shrinks k) x (moment old before) (moment mid after)
+    → PollHasMarked (frame meld limits alone) c (polled_round shrinks k) x (moment old before) (moment mid now) → Did alone [] now after → IsLegal meld limits after
+    → PollHasMarked (frame meld limits alone) c (polled_round shrinks k) x (moment old before) (moment mid after)
 marked_later meld limits alone c shrinks k x old before mid now after p did legal =
     record {
       look = p.look;
@@ -69,7 +69,7 @@ marked_later meld limits alone c shrinks k x old before mid now after p did lega
 -- once all declared members are marked, the reading of those blocks begins that aren't known
 pub reading_begins : {P : Type 0} (meld : P → P → P) (limits : Limits) (alone : Bool) (c : ℕ) (shrinks : Bool) (k : ℕ) (x : Held) (old : Record)
     (before : History P) (mid : Record) (now : History P)
-    → PollHasMarked (frame meld limits alone) c (agreeing shrinks k) x (moment old before) (moment mid now) → (blocks : RoundBlocks P) (comm round members : ℕ)
+    → PollHasMarked (frame meld limits alone) c (polled_round shrinks k) x (moment old before) (moment mid now) → (blocks : RoundBlocks P) (comm round members : ℕ)
     → BothTell meld now comm round x.group blocks → is_whole blocks (length x.group) ≡ false
     → (reading : ReadBlocks P) → reading ≡ starts_at comm round blocks members → comm ≡ c → round ≡ k → members ≡ length x.group
     → IsReading (frame meld limits alone) c shrinks reading (moment old before) (moment mid now)
@@ -78,7 +78,7 @@ reading_begins {P} meld limits alone c shrinks k x old before mid now p blocks c
     let begun : IsReading (frame meld limits alone) c shrinks (starts_at comm round blocks (length x.group)) (moment old before) (moment mid now) =
     record {
       x = x;
-      marked = subst (λ w. PollHasMarked (frame meld limits alone) c (agreeing shrinks w) x (moment old before) (moment mid now)) (sym at) p;
+      marked = subst (λ w. PollHasMarked (frame meld limits alone) c (polled_round shrinks w) x (moment old before) (moment mid now)) (sym at) p;
       there = there;
       at = starts meld now comm round x.group blocks some are unknown;
     } in
@@ -159,7 +159,7 @@ module _ {P : Type 0} (meld : P → P → P) (limits : Limits) (alone : Bool) (c
 
     -- or all are marked
     marking_ends : (known : ℕ) → IsAt p.x.group own.seen n known → length own.seen ≤ n → IsLegal meld limits after
-        → PollHasMarked (frame meld limits alone) c (agreeing shrinks marks.round) p.x (moment old before) (moment own after)
+        → PollHasMarked (frame meld limits alone) c (polled_round shrinks marks.round) p.x (moment old before) (moment own after)
     marking_ends known at past longer =
         let all = all_in p.x.group found n (subst (λ s. n ≤ length s) marking_seen at.within) (subst (λ s. length s ≤ n) marking_seen past) in
         record {
@@ -275,7 +275,7 @@ module _ {P : Type 0} (meld : P → P → P) (limits : Limits) (alone : Bool) (c
       subst (λ w. IsRoundOf limits now w reading.round p.x.group) (sym p.there) round
 
   module _ (quiet : Bool) (only : IsTrue alone → IsTrue quiet) (after : History P) (did : Did quiet [] now after) (legal : IsLegal meld limits after) where
-    reading_marked : PollHasMarked (frame meld limits alone) c (agreeing shrinks reading.round) p.x (moment old before) (moment own after)
+    reading_marked : PollHasMarked (frame meld limits alone) c (polled_round shrinks reading.round) p.x (moment old before) (moment own after)
     reading_marked = marked_later meld limits alone c shrinks reading.round p.x old before own now after p.marked
         (did_loosely alone quiet only [] now after did) legal
 
@@ -285,7 +285,7 @@ module _ {P : Type 0} (meld : P → P → P) (limits : Limits) (alone : Bool) (c
     reading_on next comm round at =
         record {
           x = p.x;
-          marked = subst (λ k. PollHasMarked (frame meld limits alone) c (agreeing shrinks k) p.x (moment old before) (moment own after)) (sym round) reading_marked;
+          marked = subst (λ k. PollHasMarked (frame meld limits alone) c (polled_round shrinks k) p.x (moment old before) (moment own after)) (sym round) reading_marked;
           there = comm ∙ p.there;
           at = at;
         }
@@ -297,7 +297,7 @@ module _ {P : Type 0} (meld : P → P → P) (alone : Bool) (name : Name) (c k :
   polling = call.Poll old.number c
 
   -- one of its members is missing
-  answers_pending : (shrinks : Bool) (x : Held) → PollHasMarked (frame meld name.limits alone) c (agreeing shrinks k) x (moment old before.seen) (moment mid after.seen) → before.steps < after.steps
+  answers_pending : (shrinks : Bool) (x : Held) → PollHasMarked (frame meld name.limits alone) c (polled_round shrinks k) x (moment old before.seen) (moment mid after.seen) → before.steps < after.steps
       → IsMissing after.last after.seen c k x.group → Answered meld alone polling (local old (view_of name before)) Pending (local mid (view_of name after))
   answers_pending shrinks x m in_call one =
       let limits = name.limits in
@@ -323,7 +323,7 @@ module _ {P : Type 0} (meld : P → P → P) (alone : Bool) (name : Name) (c k :
       }
 
   -- an agree is decided
-  answers_agreed : (x : Held) → PollHasMarked (frame meld name.limits alone) c (agreeing false k) x (moment old before.seen) (moment mid after.seen) → (all : Summary P)
+  answers_agreed : (x : Held) → PollHasMarked (frame meld name.limits alone) c (polled_round false k) x (moment old before.seen) (moment mid after.seen) → (all : Summary P)
       → IsSummed meld after.seen c k x.group all → (new : Record) → new ≡ closed mid c → (reply : Reply P) → reply ≡ agreed_reply all all.body
       → Answered meld alone polling (local old (view_of name before)) reply (local new (view_of name after))
   answers_agreed x m all read new left reply reply_is =
@@ -376,7 +376,7 @@ module _ {P : Type 0} (meld : P → P → P) (name : Name) (asked : Call P) (rea
 
   module _ (quiet : Bool) (only : IsTrue alone → IsTrue quiet) (after : Sight P) (of : IsView meld (view_of name after)) (did : Did quiet [] now.seen after.seen)
       (steps : now.steps ≤ after.steps) where
-    marked_on : PollHasMarked (frame meld name.limits alone) (comm_of asked) (agreeing shrinks reading.round) reads.x (moment old before.seen) (moment own after.seen)
+    marked_on : PollHasMarked (frame meld name.limits alone) (comm_of asked) (polled_round shrinks reading.round) reads.x (moment old before.seen) (moment own after.seen)
     marked_on = reading_marked meld name.limits alone (comm_of asked) shrinks reading old before.seen own now.seen reads quiet only after.seen did of.legal
 
     module _ (next : ReadBlocks P) (comm : next.comm ≡ reading.comm) (round : next.round ≡ reading.round) where
@@ -401,14 +401,14 @@ module _ {P : Type 0} (meld : P → P → P) (name : Name) (asked : Call P) (rea
 
       -- nothing is left: this is what all say
       pub reading_ends : (all : Summary P) → IsSummed meld after.seen next.comm next.round members all
-          → HasReadAll meld alone asked (agreeing shrinks next.round) all (local old (view_of name before)) (local own (view_of name after))
+          → HasReadAll meld alone asked (polled_round shrinks next.round) all (local old (view_of name before)) (local own (view_of name after))
       reading_ends all read =
           record {
             fits = st.fits;
             polls = st.at.0;
             onward = omega (arith, st.onward, steps);
             x = reads.x;
-            marked = subst (λ k. PollHasMarked (frame meld name.limits alone) (comm_of asked) (agreeing shrinks k) reads.x (moment old before.seen) (moment own after.seen)) (sym round) marked_on;
+            marked = subst (λ k. PollHasMarked (frame meld name.limits alone) (comm_of asked) (polled_round shrinks k) reads.x (moment old before.seen) (moment own after.seen)) (sym round) marked_on;
             read = subst (λ c. IsSummed meld after.seen c next.round reads.x.group all) (comm ∙ reads.there)
                 (subst (λ ms. IsSummed meld after.seen next.comm next.round ms all) read_same read);
           }
@@ -426,18 +426,18 @@ reads_named {P} members r shrinks rank c old new there one = go (nat_lt r.read r
 -- an agree is answered once all that its round's members say is known
 pub round_agrees : {P : Type 0} (meld : P → P → P) (alone : Bool) (name : Name) (asked : Call P) (shrinks : Bool) (k : ℕ) (all : Summary P) (old : Record)
     (before : Sight P) (mid : Record) (now : Sight P) → IsView meld (view_of name now)
-    → HasReadAll meld alone asked (agreeing shrinks k) all (local old (view_of name before)) (local mid (view_of name now)) → shrinks ≡ false → (w : ℕ) → w ≡ comm_of asked → (new : Record) → new ≡ closed mid w
+    → HasReadAll meld alone asked (polled_round shrinks k) all (local old (view_of name before)) (local mid (view_of name now)) → shrinks ≡ false → (w : ℕ) → w ≡ comm_of asked → (new : Record) → new ≡ closed mid w
     → (reply : Reply P) → reply ≡ agreed_reply all all.body
     → Answered meld alone asked (local old (view_of name before)) reply (local new (view_of name now))
 round_agrees {P} meld alone name asked shrinks k all old before mid now of r is w w_is new left reply reply_is =
     subst (λ (a : Call P). Answered meld alone a (local old (view_of name before)) reply (local new (view_of name now))) (sym r.polls)
     (answers_agreed meld alone name (comm_of asked) k old before mid now r.fits of r.onward r.x
-    (subst (λ b. PollHasMarked (frame meld name.limits alone) (comm_of asked) (agreeing b k) r.x (moment old before.seen) (moment mid now.seen)) is r.marked) all r.read new
+    (subst (λ b. PollHasMarked (frame meld name.limits alone) (comm_of asked) (polled_round b k) r.x (moment old before.seen) (moment mid now.seen)) is r.marked) all r.read new
     (left ∙ ap (closed mid) w_is) reply
     reply_is)
 
 -- a shrink's goes on
 pub round_shrinks : {P : Type 0} (meld : P → P → P) (alone : Bool) (name : Name) (asked : Call P) (shrinks : Bool) (k : ℕ) (all : Summary P) (old : Record)
     (before : Sight P) (mid : Record) (now : Sight P)
-    → HasReadAll meld alone asked (agreeing shrinks k) all (local old (view_of name before)) (local mid (view_of name now)) → shrinks ≡ true → HasReadAll meld alone asked (agreeing true k) all (local old (view_of name before)) (local mid (view_of name now))
-round_shrinks meld alone name asked shrinks k all old before mid now r is = subst (λ b. HasReadAll meld alone asked (agreeing b k) all (local old (view_of name before)) (local mid (view_of name now))) is r
+    → HasReadAll meld alone asked (polled_round shrinks k) all (local old (view_of name before)) (local mid (view_of name now)) → shrinks ≡ true → HasReadAll meld alone asked (polled_round true k) all (local old (view_of name before)) (local mid (view_of name now))
+round_shrinks meld alone name asked shrinks k all old before mid now r is = subst (λ b. HasReadAll meld alone asked (polled_round b k) all (local old (view_of name before)) (local mid (view_of name now))) is r

@@ -21,7 +21,6 @@ pub mod Stands
 pub mod LeftOut
 pub mod AmongOthers
 pub mod Opening
-pub mod Passing
 pub mod Polls
 pub mod Revokes
 pub mod WholeCall

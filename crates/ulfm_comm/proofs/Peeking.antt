@@ -16,14 +16,13 @@ use Rattle.ulfm_steps.specs.declared.{mark_all.MarkAll.{MarkAll}, blocks.Peek.{P
 use Rattle.ulfm_steps.specs.{Blocks.{BothTell, MayPeek, block_at, is_whole, starts_at}, Marks.{IsAt, Marks, members_in}, Rounds.{IsRoundOf}, Turns.{IsStepAt}}
 use Rattle.ulfm_steps.proofs.{InBlocks.{few_members}, Groups.{members_rise}, Marking.{marks_none}}
 use Rattle.ulfm_steps.specs.Turns.{running}
-use Rattle.ulfm_steps.specs.Among.{among}
 use Rattle.ulfm_comm.specs.{Polls.{PollHasMarked}, Requests.{agreement}, Phase.{Stands, next_step}, StepsLeft.{MakesStep}}
 use Rattle.ulfm_comm.specs.Agreement.{HasPeeked, HasReadAll, IsMarking, IsPeeking}
 use Rattle.ulfm_comm.specs.declared.phases.phase.Phase.TheVariants.{Marking, Peeking, Reading}
 use Rattle.ulfm_comm.proofs.{Agreement.{all_in, reading_begins, some_member}, AmongOthers.{did_loosely}, Holding.{exists_is, group_is, holds, same_held}}
 use Rattle.ulfm_comm.proofs.Polls.{open_round}
 use Rattle.ulfm_comm.specs.Local.{frame, local}
-use Rattle.ulfm_comm.specs.Requests.{agreeing}
+use Rattle.ulfm_comm.specs.Requests.{polled_round}
 
 -- where all members are settled, so are those among these ranks
 members_settled : (p : ℕ → Bool) (group declared : List ℕ) → list_all p group ≡ true → AllByRecursion (λ r. IsTrue (p r)) (filter (has group) declared)
@@ -88,7 +87,7 @@ module _ {P : Type 0} (meld : P → P → P) (limits : Limits) (alone : Bool) (c
 
   -- where all members are settled, no mark is due
   peeking_marked : IsLegal meld limits now → (all : Summary P) → IsSummed meld now c peek.round p.x.group all
-      → PollHasMarked (frame meld limits alone) c (agreeing shrinks peek.round) p.x (moment old before) (moment own now)
+      → PollHasMarked (frame meld limits alone) c (polled_round shrinks peek.round) p.x (moment old before) (moment own now)
   peeking_marked legal all read =
       record {
         look = p.look;
@@ -170,7 +169,7 @@ module _ {P : Type 0} (meld : P → P → P) (name : Name) (asked : Call P) (pee
 
     -- all were: this is what they say
     pub peek_ends : (all : Summary P) → IsSummed meld after.seen peek.comm peek.round members all
-        → HasReadAll meld alone asked (agreeing shrinks next.round) all (local old (view_of name before)) (local own (view_of name after))
+        → HasReadAll meld alone asked (polled_round shrinks next.round) all (local old (view_of name before)) (local own (view_of name after))
     unfolding peeking_on
     peek_ends all said =
         let there : IsSummed meld after.seen (comm_of asked) next.round peeking.x.group all =
@@ -280,7 +279,7 @@ module _ {P : Type 0} (meld : P → P → P) (alone : Bool) (name : Name) (asked
     unread_reading reading size is size_is past =
         let nobody : filter (has p.x.group) fs ≡ [] = sym (all_in p.x.group fs marks.next at_look.within (subst (λ s. length s ≤ marks.next) seen_are past))
         ∙ none_yet in
-        let marked : PollHasMarked (frame meld name.limits alone) (comm_of asked) (agreeing shrinks peek.round) p.x (moment old before.seen) (moment own now.seen) =
+        let marked : PollHasMarked (frame meld name.limits alone) (comm_of asked) (polled_round shrinks peek.round) p.x (moment old before.seen) (moment own now.seen) =
         record {
           look = p.look;
           looked = p.looked;

@@ -29,7 +29,7 @@ use Rattle.ulfm_steps.specs.Marks.{IsMarkOf}
 use Rattle.ulfm_comm.specs.{Ends.{IsEndRun}, Polls.{PollHasMarked}, Requests.{agreement}}
 use Rattle.ulfm_comm.proofs.{Holding.{comm_is, failed_is, group_is, holds}, WholeCall.{held_before, replied}}
 use Rattle.ulfm_comm.specs.Local.{frame}
-use Rattle.ulfm_comm.specs.Requests.{agreeing}
+use Rattle.ulfm_comm.specs.Requests.{polled_round}
 
 -- a body that is a flag or a clash, and no flag
 pub clash_is : {P : Type 0} (body : Body P) → IsFlagged body → ((flag : P) → body ≡ OfFlags flag → ⊥) → body ≡ Clash
@@ -178,7 +178,7 @@ sees_begin look after seen false k is = ([], append-nil look ∙ sym is)
 sees_begin look after seen true k is = is.0
 
 module _ {P : Type 0} (meld : P → P → P) (limits : Limits) (alone : Bool) (before : History P) (old mid : Record) (c : ℕ) (shrinks : Bool) (k : ℕ) (x : Held)
-    (after : History P) (p : PollHasMarked (frame meld limits alone) c (agreeing shrinks k) x (moment old before) (moment mid after)) where
+    (after : History P) (p : PollHasMarked (frame meld limits alone) c (polled_round shrinks k) x (moment old before) (moment mid after)) where
   abbrev pub asked : Call P
   asked = call.Poll old.number c
 
@@ -264,7 +264,7 @@ module _ {P : Type 0} (meld : P → P → P) (limits : Limits) (alone : Bool) (b
       is
 
 module _ {P : Type 0} (meld : P → P → P) (limits : Limits) (alone : Bool) (before : History P) (old mid : Record) (c k : ℕ) (x : Held) (after : History P)
-    (p : PollHasMarked (frame meld limits alone) c (agreeing false k) x (moment old before) (moment mid after))
+    (p : PollHasMarked (frame meld limits alone) c (polled_round false k) x (moment old before) (moment mid after))
     (all : Summary P) (new : Record) (read : IsSummed meld after c k x.group all) where
   still : Fits meld limits after mid
   still = later meld limits alone before old mid c false k x after p

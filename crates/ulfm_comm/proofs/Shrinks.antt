@@ -33,7 +33,7 @@ use Rattle.ulfm_comm.proofs.Polls.{answered, body_read, declared, due, enough_re
 use Rattle.ulfm_comm.proofs.Polls.{read_masked, whole}
 use Rattle.ulfm_comm.proofs.WholeCall.{run_ends}
 use Rattle.ulfm_comm.specs.Local.{frame}
-use Rattle.ulfm_comm.specs.Requests.{agreeing}
+use Rattle.ulfm_comm.specs.Requests.{polled_round}
 
 -- a body that is a mask or a clash, and no mask
 pub masked_clash : {P : Type 0} (body : Body P) → IsMasked body → ((mask : CtxMask) → body ≡ OfIds mask → ⊥) → body ≡ Clash
@@ -62,7 +62,7 @@ marks_make_none by c k ranks (Revoke comm ∷ own) all = absurd all.0
 marks_make_none by c k ranks (Spawn j comm round ∷ own) all = absurd all.0
 
 module _ {P : Type 0} (meld : P → P → P) (limits : Limits) (alone : Bool) (before : History P) (old mid : Record) (c k : ℕ) (x : Held) (h : History P)
-    (p : PollHasMarked (frame meld limits alone) c (agreeing true k) x (moment old before) (moment mid h)) (all : Summary P)
+    (p : PollHasMarked (frame meld limits alone) c (polled_round true k) x (moment old before) (moment mid h)) (all : Summary P)
     (read : IsSummed meld h c k x.group all) where
   abbrev poll : Call P
   poll = call.Poll old.number c

@@ -37,8 +37,8 @@ use Rattle.ulfm_comm.proofs.{Polls.{body_read, enough_read, later, not_refused, 
 use Rattle.ulfm_comm.proofs.Shrinks.{all_did, marks_make_none, may_own, sees_on, shrink_decided, shrink_mismatch, shrink_no_context, shrink_no_room}
 use Rattle.ulfm_comm.proofs.Shrinks.{shrink_self_failed, shrink_shrunk}
 use Rattle.ulfm_comm.specs.Local.{frame, local}
-use Rattle.ulfm_comm.specs.Requests.{agreeing}
-use Rattle.ulfm_comm.specs.Spawning.{decided_as, sought, seeking, target}
+use Rattle.ulfm_comm.specs.Requests.{polled_round}
+use Rattle.ulfm_comm.specs.Spawning.{decided_as, seeking, target}
 
 -- so many failures were gone through as have the decision's failed group
 pub reads_of : (group : List ℕ) (count : ℕ) (on : ReadOn) (old new whole : List ℕ) → AtFailure group count on new → count ≤ on.found → IsPrefix old new
@@ -263,7 +263,7 @@ module _ {P : Type 0} (meld : P → P → P) (alone : Bool) (name : Name) (asked
 
 module _ {P : Type 0} (meld : P → P → P) (alone : Bool) (name : Name) (asked : Call P) (k : ℕ) (all : Summary P) (old : Record) (before : Sight P)
     (mid : Record) (now : Sight P) (of : IsView meld (view_of name now))
-    (r : HasReadAll meld alone asked (agreeing true k) all (local old (view_of name before)) (local mid (view_of name now))) where
+    (r : HasReadAll meld alone asked (polled_round true k) all (local old (view_of name before)) (local mid (view_of name now))) where
   fits_read : Fits meld name.limits now.seen mid
   fits_read = later meld name.limits alone before.seen old mid (comm_of asked) true k r.x now.seen r.marked
 

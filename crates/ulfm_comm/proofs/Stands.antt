@@ -21,7 +21,7 @@ use Rattle.ulfm_comm.specs.declared.phases.phase.Phase.{Phase}
 use Rattle.ulfm_comm.specs.declared.phases.phase.Phase.TheVariants.{Over, Begun, Looking, Settling, Arriving, Revoking, Asking, Peeking, Marking, Reading}
 use Rattle.ulfm_comm.specs.declared.phases.phase.Phase.TheVariants.{ReadingOn, Spawning, Waiting, Checking}
 use Rattle.ulfm_comm.specs.Local.{frame, local}
-use Rattle.ulfm_comm.specs.Requests.{agreeing}
+use Rattle.ulfm_comm.specs.Requests.{polled_round}
 use Rattle.ulfm_comm.specs.Spawning.{decided_as, sought}
 
 module _ {P : Type 0} (meld : P → P → P) (limits : Limits) (alone : Bool) (old : Record) (before : History P) (own : Record) (now later : History P)
@@ -80,8 +80,8 @@ module _ {P : Type 0} (meld : P → P → P) (limits : Limits) (alone : Bool) (o
     unknown = p.unknown;
   }
 
-  pub marked_lasts : (c : ℕ) (shrinks : Bool) (k : ℕ) (x : Held) → PollHasMarked (frame meld limits alone) c (agreeing shrinks k) x (moment old before) (moment own now)
-      → PollHasMarked (frame meld limits alone) c (agreeing shrinks k) x (moment old before) (moment own later)
+  pub marked_lasts : (c : ℕ) (shrinks : Bool) (k : ℕ) (x : Held) → PollHasMarked (frame meld limits alone) c (polled_round shrinks k) x (moment old before) (moment own now)
+      → PollHasMarked (frame meld limits alone) c (polled_round shrinks k) x (moment old before) (moment own later)
   marked_lasts c shrinks k x p =
       record {
         look = p.look;

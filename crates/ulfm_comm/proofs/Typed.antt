@@ -1,17 +1,21 @@
 -- The typed calls, by the reply of a whole call.
-use Rattle.std.proofs.Common.{◌≡◌, ◌∙◌, ℕ, Bool, true, false, List, [], ◌∷◌, length, filter, Some, refl, ap, ap₂, sym, inl, inr}
+use Rattle.std.proofs.Common.{◌≡◌, ◌∙◌, ℕ, Bool, true, false, List, [], ◌∷◌, length, filter, Some, Result, Ok, Err, refl, ap, ap₂, sym, subst, inl, inr}
+use Rattle.std.proofs.lemmas.Bool.{false≢true}
 use Rattle.std.specs.List.{AllByRecursion}
 use Rattle.ulfm_model.specs.declared.call.Call.TheVariants as call
 use Rattle.ulfm_model.specs.declared.{call.Call.{Call}, event.Caller.TheVariants.{Rank}, event.Event.{Event}, reply.Reply.{Reply}}
-use Rattle.ulfm_model.specs.declared.reply.Reply.TheVariants.{FailedGroup}
+use Rattle.ulfm_model.specs.declared.reply.Reply.TheVariants.{FailedGroup, Refused}
 use Rattle.ulfm_model.specs.{Answers.{MayOwn, polled_by}, History.{entries_by, failed, failures, has, spawns}, Records.{Fits, Held, Record, held_at, is_shrink}}
 use Rattle.ulfm_model.specs.Runs.{IsCall, IsRun}
 use Rattle.ulfm_model.specs.Records.{moment}
 use Rattle.ulfm_model.proofs.Histories.{members_stay}
 use Rattle.ulfm_words.specs.Steps.{view_of, Name, Sight}
-use Rattle.ulfm_comm.specs.Calls.{Calls, EndsAs, EndsReply, RunsOut, wants_memory}
+use Rattle.ulfm_comm.specs.Calls.{Calls, EndsAs, EndsBy, EndsReply, RunsOut, is_out_of_memory, reply_of, wants_memory}
+use Rattle.ulfm_comm.specs.Polls.{Polls, polled}
+use Rattle.ulfm_comm.specs.declared.{calls.polled.Polled.{Polled}, calls.polled.Polled.TheVariants.{Agreed, Done, Pending, Shrunk}}
+use Rattle.ulfm_model.specs.declared.{refusal.Refusal.{Refusal}, refusal.Refusal.TheVariants.{OutOfMemory}}
 use Rattle.ulfm_comm.proofs.{CallRuns.{called_counts, called_run}, Holding.{exists_is, failed_is}, ReplyKinds.{answered_on}}
-use Rattle.ulfm_comm.specs.Local.{local}
+use Rattle.ulfm_comm.specs.Local.{Local, local}
 
 module _ {P : Type 0} (meld : P → P → P) (alone : Bool) (name : Name) (asked : Call P) (old : Record) (before : Sight P) (new : Record) (after : Sight P) where
   calls_as : (reply : Reply P) (b : Bool) → EndsAs meld alone asked (local old (view_of name before)) reply b (local new (view_of name after)) → is_shrink (polled_by old asked) ≡ false
@@ -23,6 +27,16 @@ module _ {P : Type 0} (meld : P → P → P) (alone : Bool) (name : Name) (asked
   pub ends_calls : (reply : Reply P) → EndsReply meld alone asked (local old (view_of name before)) reply (local new (view_of name after)) → is_shrink (polled_by old asked) ≡ false
       → Calls meld alone asked (local old (view_of name before)) reply (local new (view_of name after))
   ends_calls reply ends other = calls_as reply (wants_memory reply) ends other
+
+-- the typed call is of the same rank by another name, and its own reply stands for that of the whole call
+pub typed_calls : {P : Type 0} (meld : P → P → P) (alone : Bool) (name : Name) (asked same : Call P) (old : Record) (before : Sight P) (new : Record)
+    (after : Sight P) (reply told : Reply P) → asked ≡ same → told ≡ reply
+    → EndsReply meld alone asked (local old (view_of name before)) reply (local new (view_of name after)) → is_shrink (polled_by old asked) ≡ false
+    → Calls meld alone same (local old (view_of name before)) told (local new (view_of name after))
+typed_calls meld alone name asked same old before new after reply told by_same by_told ends other =
+    subst (λ q. Calls meld alone q (local old (view_of name before)) told (local new (view_of name after))) by_same
+    (ends_calls meld alone name asked old before new after told
+    (subst (λ r. EndsReply meld alone asked (local old (view_of name before)) r (local new (view_of name after))) (sym by_told) ends) other)
 
 -- a query of the failed group adds nothing
 none_made : {P : Type 0} (look : List ℕ) (old : Record) (rank c : ℕ) (own : List (Event P)) → AllByRecursion (MayOwn look old (call.GetFailed rank c)) own
@@ -93,3 +107,42 @@ module _ {P : Type 0} (meld : P → P → P) (alone : Bool) (name : Name) (rank 
 
   pub has_counted : HasCounted meld alone name rank c count old before new after
   has_counted = by_call (called_run meld alone name (call.GetFailed rank c) old before (FailedGroup count) new after called)
+
+-- the same of a poll, by its result
+module _ {P : Type 0} (meld : P → P → P) (alone : Bool) (asked : Call P) (old new : Local P) where
+  polls_on : (answer : Polled P) → Calls meld alone asked old (polled answer) new → Polls meld alone asked old (Ok answer) new
+  polls_on answer calls =
+      record { of = calls.linearizes.of; fits = calls.linearizes.fits; run = calls; memory = λ is. absurd (cc is); blocks = calls.blocks }
+
+  by_answer : (answer : Polled P) → EndsReply meld alone asked old (polled answer) new → Polls meld alone asked old (Ok answer) new
+  by_answer Pending ends = polls_on Pending ends
+  by_answer (Agreed value failed raised) ends = polls_on (Agreed value failed raised) ends
+  by_answer (Shrunk j context size) ends = polls_on (Shrunk j context size) ends
+  by_answer Done ends = polls_on Done ends
+
+  by_refusal : (refusal : Refusal) (b : Bool) → is_out_of_memory refusal ≡ b → EndsAs meld alone asked old (Refused refusal) b new
+      → Polls meld alone asked old (Err refusal) new
+  by_refusal refusal true wants ends = record {
+    of = ends.0.ran_out.of;
+    fits = ends.0.ran_out.fits;
+    run = subst (λ b. EndsBy meld alone asked old refusal b new) (sym wants) ends.0;
+    memory = λ _. ends.1;
+    blocks = record { cached = ends.0.blocks.cached; caches = ends.0.blocks.caches; knows = λ _. ends.0.blocks.knows refl };
+  }
+  by_refusal refusal false wants ends = record {
+    of = ends.linearizes.of;
+    fits = ends.linearizes.fits;
+    run = subst (λ b. EndsBy meld alone asked old refusal b new) (sym wants) ends;
+    memory = λ is. let same : refusal ≡ OutOfMemory = cc is in absurd (false≢true (sym wants ∙ ap is_out_of_memory same));
+    blocks = ends.blocks;
+  }
+
+  by_result : (result : Result (Polled P) Refusal) → EndsReply meld alone asked old (reply_of polled result) new → Polls meld alone asked old result new
+  by_result (Ok answer) ends = by_answer answer ends
+  by_result (Err refusal) ends = by_refusal refusal (is_out_of_memory refusal) refl ends
+
+  pub typed_polls : (same : Call P) (reply : Reply P) (result : Result (Polled P) Refusal) → asked ≡ same → reply_of polled result ≡ reply
+      → EndsReply meld alone asked old reply new → Polls meld alone same old result new
+  typed_polls same reply result by_same by_told ends =
+      subst (λ q. Polls meld alone q old result new) by_same
+      (by_result result (subst (λ r. EndsReply meld alone asked old r new) (sym by_told) ends))

@@ -3,14 +3,14 @@ use Rattle.std.specs.Prelude.{◌≡◌, ℕ, ◌≤◌, Bool, false, [], Some, 
 use Rattle.ulfm_laws.specs.declared.{summary.Body.{Body}, summary.Summary.{Summary}}
 use Rattle.ulfm_laws.specs.declared.summary.Body.TheVariants.{Unit as Nothing, Flag as OfFlag, Ctx as OfIds, Clash}
 use Rattle.ulfm_model.specs.declared.call.Call.TheVariants as call
-use Rattle.ulfm_model.specs.declared.{call.Call.{Call}, limits.Limits.{Limits}, refusal.Refusal.TheVariants.{Mismatch}, reply.Reply.{Reply}}
+use Rattle.ulfm_model.specs.declared.{call.Call.{Call}, refusal.Refusal.TheVariants.{Mismatch}, reply.Reply.{Reply}}
 use Rattle.ulfm_model.specs.declared.reply.Reply.TheVariants.{Agreed, Refused}
 use Rattle.ulfm_model.specs.{History.{History, IsLegal, failures}, Records.{Fits, Held, Moment, held_at}, Runs.{Did}, Terms.{comm_of}}
 use Rattle.ulfm_steps.specs.declared.{mark_all.MarkAll.{MarkAll}, blocks.Peek.{Peek}, blocks.ReadBlocks.{ReadBlocks}}
 use Rattle.ulfm_steps.specs.declared.blocks.RoundBlocks.{RoundBlocks}
 use Rattle.ulfm_model.specs.Blocks.{IsSummed}
 use Rattle.ulfm_steps.specs.{Blocks.{BothTell, AtBlock, is_whole}, Marks.{IsAt, Marks, members_in}}
-use Rattle.ulfm_comm.specs.{Local.{Frame, Local, frame_of, moment_of}, Look.{Looked}, Polls.{PollHasMarked}, Requests.{Agreeing, agreeing, agreement}}
+use Rattle.ulfm_comm.specs.{Local.{Frame, Local, frame_of, moment_of}, Look.{Looked}, Polls.{PollHasMarked}, Requests.{PolledRound, polled_round, agreement}}
 
 -- The poll of an agreement has looked, and loads the blocks of its round, of which it knows those that were set. Since its look there were
 -- others' events alone.
@@ -48,7 +48,7 @@ pub record IsMarking {P : Type 0} (by : Frame P) (c : ℕ) (shrinks : Bool) (mar
 -- It has marked them all, and reads the blocks that weren't set.
 pub record IsReading {P : Type 0} (by : Frame P) (c : ℕ) (shrinks : Bool) (reading : ReadBlocks P) (start now : Moment P) : Type 0 where
   pub x : Held
-  pub marked : PollHasMarked by c (agreeing shrinks reading.round) x start now
+  pub marked : PollHasMarked by c (polled_round shrinks reading.round) x start now
   pub there : reading.comm ≡ c
   pub at : AtBlock by.meld now.seen x.group reading
 
@@ -61,7 +61,7 @@ pub record HasPeeked {P : Type 0} (meld : P → P → P) (alone : Bool) (asked :
   pub unknown : is_whole peek.blocks (length peeked.x.group) ≡ false
 
 -- the poll of an agreement has just found what all its round's members say together
-pub record HasReadAll {P : Type 0} (meld : P → P → P) (alone : Bool) (asked : Call P) (which : Agreeing) (all : Summary P) (start now : Local P)
+pub record HasReadAll {P : Type 0} (meld : P → P → P) (alone : Bool) (asked : Call P) (which : PolledRound) (all : Summary P) (start now : Local P)
     : Type 0 where
   pub fits : Fits meld start.view.words.limits start.view.pass.seen start.own
   pub polls : asked ≡ call.Poll start.own.number (comm_of asked)

@@ -7,7 +7,7 @@ use Rattle.ulfm_model.specs.declared.{call.Request.{Request}, call.Request.TheVa
 use Rattle.ulfm_model.specs.declared.{call.Call.{Call}, event.Caller.TheVariants.{Rank}, limits.Limits.{Limits}, refusal.Refusal.{Refusal}, reply.Reply.{Reply}}
 use Rattle.ulfm_model.specs.declared.{refusal.Refusal.TheVariants.{OutOfMemory}, reply.Reply.TheVariants.{FailedGroup, Refused}}
 use Rattle.ulfm_model.specs.{Answers.{MayOwn, Sees, polled_by, printed, refusal_of}, History.{History, decision, entries_by, failures, has, is_decided, spawns}}
-use Rattle.ulfm_model.specs.{Records.{Fits, Moment, Record, is_shrink}, Runs.{IsSpan}}
+use Rattle.ulfm_model.specs.{Records.{Fits, Moment, is_shrink}, Runs.{IsSpan}}
 use Rattle.ulfm_model.specs.Terms.{comm_of}
 use Rattle.ulfm_words.specs.Steps.{IsView}
 use Rattle.ulfm_comm.specs.{Ends.{IsEarlyRun, IsEndRun, IsRefusedAgain}, Local.{Local, moment_of}, Requests.{LeavesSet, may_cache}}

@@ -64,3 +64,7 @@ named_steps phase = if is_some (next_step phase) then 1 else 0
 pub record CountsStep {P : Type 0} (limits : Limits) (was : Counted P) (own : Record) (next : Next P) (made : ℕ) (new : Record) : Type 0 where
   pub adds : made ≡ min (was.made + named_steps was.way.phase) 4294967295
   pub few : made + left_in limits new was.way.asked next ≤ was.made + steps_left limits own was.way.asked was.way.phase
+
+-- the same between two local states
+abbrev pub StepCounts : {P : Type 0} → Counted P → Local P → Next P → ℕ → Local P → Type 0
+StepCounts was old next made new = CountsStep new.view.words.limits was old.own next made new.own

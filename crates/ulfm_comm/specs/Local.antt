@@ -1,7 +1,7 @@
 -- A rank's local state (its record and its caller's view), and the parameters by which a history is read.
 use Rattle.std.specs.Prelude.{Bool}
 use Rattle.ulfm_model.specs.declared.limits.Limits.{Limits}
-use Rattle.ulfm_model.specs.Records.{Moment, Record, moment}
+use Rattle.ulfm_model.specs.Records.{Fits, Moment, Record, moment}
 use Rattle.ulfm_words.specs.Steps.{Sight, View}
 
 -- a rank's local state, by which its calls go: its record (what it keeps between calls), and its caller's view of the words
@@ -11,6 +11,10 @@ pub record Local (P : Type 0) : Type 0 where
 
 abbrev pub local : {P : Type 0} → Record → View P → Local P
 local own view = record { own = own; view = view }
+
+-- a rank's record fits what its caller's view has seen of the words
+abbrev pub FitsView : {P : Type 0} → (P → P → P) → Local P → Type 0
+FitsView meld at = Fits meld at.view.words.limits at.view.pass.seen at.own
 
 -- the moment of a local state, as the model has it: the record, and the history that was seen by then
 abbrev pub moment_of : {P : Type 0} → Local P → Moment P

@@ -1,6 +1,6 @@
 -- The look of a call, and how the call goes on after it.
 use Rattle.std.specs.Prelude.{◌≡◌, ◌≤◌, Bool, [], Some, None, IsFalse}
-use Rattle.ulfm_model.specs.declared.{call.Call.{Call}, event.Caller.TheVariants.{Rank}, limits.Limits.{Limits}}
+use Rattle.ulfm_model.specs.declared.{call.Call.{Call}, event.Caller.TheVariants.{Rank}}
 use Rattle.ulfm_model.specs.{Answers.{first_refusal, refusal_of, traits_of}, History.{History, IsLegal, failures, has}}
 use Rattle.ulfm_model.specs.Records.{Fits, Held, Moment, Record, held_at}
 use Rattle.ulfm_model.specs.{Runs.{Did}, Terms.{comm_of, tests_of}}

@@ -1,5 +1,6 @@
 -- Where a call of a rank stands between two steps.
 use Rattle.std.specs.Prelude.{◌≡◌, ◌⊎◌, ℕ, ◌<◌, ◌≤◌, Bool, true, false, List, [], Some, None, Option, length, nat_lt, IsTrue, IsFalse, if◌then◌else◌, ⊤}
+use Rattle.std.specs.Prelude.{MatchOption}
 use Rattle.ulfm_model.specs.declared.call.Call.TheVariants as call
 use Rattle.ulfm_model.specs.declared.{call.Call.{Call}, event.Caller.TheVariants.{Rank}, reply.Reply.{Reply}}
 use Rattle.ulfm_model.specs.{Answers.{traits_of}, History.{History, failures}, Records.{Fits, Held, Record}, Runs.{Did}, Terms.{comm_of}}
@@ -195,3 +196,17 @@ Turns {P} meld quiet doing now next left new =
 -- a call stands so, whenever it began
 abbrev pub StillStands : {P : Type 0} → (P → P → P) → UnderWay P → Local P → Type 0
 StillStands {P} meld doing now = (old : Record) × (before : Sight P) × Stands meld false (local old (view_of now.view.words before)) doing now
+
+-- a call may take its next step: it began at some time, stood on its way at some later one, and since then there were others' events alone
+abbrev pub MayStep : {P : Type 0} → (P → P → P) → UnderWay P → Local P → Type 0
+MayStep {P} meld doing now =
+    (old : Record) × (before : Sight P) × (stood : Sight P)
+    × Stands meld false (local old (view_of now.view.words before)) doing (local now.own (view_of now.view.words stood)) × Waits false stood now.view.pass
+
+-- what comes of a step, whenever its call began and wherever it stood since: it stands on its way still, or is answered
+abbrev pub StandsOrEnds : {P : Type 0} → (P → P → P) → Bool → UnderWay P → Local P → Option (Reply P) → UnderWay P → Local P → Type 0
+StandsOrEnds {P} meld quiet was now reply is new =
+    (alone : Bool) → (IsTrue alone → IsTrue quiet) → (old : Record) → (before : Sight P) → (stood : Sight P)
+    → Stands meld alone (local old (view_of now.view.words before)) was (local now.own (view_of now.view.words stood)) → Waits alone stood now.view.pass
+    → MatchOption reply (Stands meld alone (local old (view_of now.view.words before)) is new)
+    (λ answer. Answered meld alone was.asked (local old (view_of now.view.words before)) answer new)

@@ -1,6 +1,5 @@
 -- What a poll answers, and in which step a pending one ends.
-use Rattle.std.specs.Prelude.{◌≡◌, ℕ, ◌<◌, Bool, true, false, [], Option, Some, None, IsTrue, IsFalse, Result, Ok, Err, filter, ⊤}
-use mathlib.Core.List.{IsPrefix}
+use Rattle.std.specs.Prelude.{◌≡◌, ℕ, ◌<◌, Bool, true, [], Option, Some, None, IsTrue, IsFalse, Result, Ok, Err, filter, ⊤}
 use Rattle.ulfm_laws.specs.declared.summary.Summary.{Summary}
 use Rattle.ulfm_model.specs.declared.{call.Call.{Call}, call.Call.TheVariants.{Poll}, call.Request.{Request}, call.Request.TheVariants.{Agree, Shrink, Barrier}}
 use Rattle.ulfm_model.specs.declared.{limits.Limits.{Limits}, place.Place.TheVariants.{Slot as SlotAt}, refusal.Refusal.{Refusal}}
@@ -13,7 +12,7 @@ use Rattle.ulfm_model.specs.Blocks.{IsSummed}
 use Rattle.ulfm_words.specs.declared.step.Site.{Site}
 use Rattle.ulfm_steps.specs.Marks.{Marks}
 use Rattle.ulfm_comm.specs.{Calls.{Calls, EndsBy, LeavesBlocks, is_out_of_memory, reply_of}, Local.{Frame, Local, moment_of}, Look.{Looked}}
-use Rattle.ulfm_comm.specs.Requests.{Agreeing, agreement}
+use Rattle.ulfm_comm.specs.Requests.{PolledRound, agreement}
 use Rattle.ulfm_comm.specs.declared.{calls.polled.Polled.{Polled}, calls.polled.Polled.TheVariants.{Agreed, Done, Pending, Shrunk}}
 
 -- the open request is no barrier: it is an agree or a shrink, or there is none
@@ -47,7 +46,7 @@ pub record Polls {P : Type 0} (meld : P → P → P) (alone : Bool) (asked : Cal
 
 -- A poll under way: it has looked, and then made the marks that were lacking, so that in the round of its open request each member that the look
 -- found declared is settled. After that only others' events came.
-pub record PollHasMarked {P : Type 0} (by : Frame P) (c : ℕ) (which : Agreeing) (x : Held) (start now : Moment P) : Type 0 where
+pub record PollHasMarked {P : Type 0} (by : Frame P) (c : ℕ) (which : PolledRound) (x : Held) (start now : Moment P) : Type 0 where
   pub look : History P
   pub looked : Looked by.alone start.seen look start.own now.own
   pub fits : Fits by.meld by.limits look now.own
@@ -59,7 +58,7 @@ pub record PollHasMarked {P : Type 0} (by : Frame P) (c : ℕ) (which : Agreeing
   pub legal : IsLegal by.meld by.limits now.seen
 
 -- the round of the rank's open request is read through: `all` is what the members' places say, combined
-pub record HasRead {P : Type 0} (meld : P → P → P) (limits : Limits) (c : ℕ) (which : Agreeing) (all : Summary P) (now : Moment P) : Type 0 where
+pub record HasRead {P : Type 0} (meld : P → P → P) (limits : Limits) (c : ℕ) (which : PolledRound) (all : Summary P) (now : Moment P) : Type 0 where
   pub fits : Fits meld limits now.seen now.own
   pub x : Held
   pub held : held_at now.own c ≡ Some x

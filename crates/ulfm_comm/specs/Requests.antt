@@ -12,13 +12,13 @@ abbrev pub agreement : Bool → ℕ → Request
 agreement false k = Agree k
 agreement true k = Shrink k
 
--- an agreement that is open: whether it is a shrink, and its round
-pub record Agreeing : Type 0 where
+-- the agreement round that is polled: whether it is a shrink, and its number
+pub record PolledRound : Type 0 where
   pub shrinks : Bool
   pub round : ℕ
 
-abbrev pub agreeing : Bool → ℕ → Agreeing
-agreeing shrinks k = record { shrinks = shrinks; round = k }
+abbrev pub polled_round : Bool → ℕ → PolledRound
+polled_round shrinks k = record { shrinks = shrinks; round = k }
 
 -- A poll finds its round's blocks set: where an agree or a shrink is open on its communicator, all blocks of that round are among these.
 abbrev pub BlocksStand : {P : Type 0} → Record → Call P → List Block → Type 0

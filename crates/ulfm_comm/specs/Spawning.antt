@@ -13,7 +13,7 @@ use Rattle.ulfm_words.specs.Steps.{IsView, Sight, View}
 use Rattle.ulfm_steps.specs.declared.{append.Append.{Append}, item.Item.TheVariants.{Comm as OfComm}}
 use Rattle.ulfm_model.specs.Blocks.{IsSummed}
 use Rattle.ulfm_steps.specs.{Appends.{Passed, room, MayAppend, turns_left}, ReadsOn.{ReadsOn}, Rounds.{RoundOn, round_on}, Turns.{Running, TakesFirst, running}}
-use Rattle.ulfm_comm.specs.{Local.{Frame, Local, frame_of, moment_of}, Polls.{PollHasMarked}, Requests.{agreeing}}
+use Rattle.ulfm_comm.specs.{Local.{Frame, Local, frame_of, moment_of}, Polls.{PollHasMarked}, Requests.{polled_round}}
 use Rattle.ulfm_comm.specs.declared.{phases.phase.Made.{Made}, phases.phase.Next.{Next}, phases.phase.Next.TheVariants.{Ends}}
 use Rattle.ulfm_comm.specs.declared.phases.spawning.Spawned.{Spawned}
 use Rattle.ulfm_comm.specs.declared.phases.spawning.Spawned.TheVariants as spawned
@@ -122,7 +122,7 @@ decided_as round mask count = record { round = round; mask = mask; count = count
 pub record HasReadMask {P : Type 0} (by : Frame P) (c : ℕ) (made : Made) (x : Held) (start now : Moment P) : Type 0 where
   pub mid : Record
   pub decided : History P
-  pub marked : PollHasMarked by c (agreeing true made.round) x start (moment mid decided)
+  pub marked : PollHasMarked by c (polled_round true made.round) x start (moment mid decided)
   pub all : Summary P
   pub read : IsSummed by.meld decided c made.round x.group all
   pub body : all.body ≡ OfIds made.mask

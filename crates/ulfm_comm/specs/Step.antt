@@ -122,6 +122,15 @@ pub record TakesTurn {P : Type 0} (meld : P → P → P) (quiet whole : Bool) (w
   pub leads : LeadsTo was.phase comes.next
   pub turns : Turns meld quiet was old comes.next comes.group new
 
+-- A call goes on in any phase: it takes its turn; one that is over is refused again, with its record as it was; and a barrier's poll finds who is
+-- missing, or is answered as it was when that was found.
+pub record GoesOn {P : Type 0} (meld : P → P → P) (quiet whole : Bool) (was : UnderWay P) (old : Local P) (comes : Coming P) (new : Local P)
+    : Type 0 where
+  pub turn : TakesTurn meld quiet whole was old comes new
+  pub over : was.phase ≡ Over → (comes.next ≡ Ends (Refused SelfFailed)) × (new.own ≡ old.own)
+  pub checks : FoundNow (FindsMissing meld quiet (midway was old) new) was.phase comes.next
+  pub early : AnsweredNow (AnswersMissing meld quiet (midway was old) new.own) was.phase comes.next
+
 -- The poll of a shrink has read on in the list of failures, behind what its look found. All blocks of its round are known to be set then.
 pub record HasReadOn {P : Type 0} (old : Record) (asked : Call P) (found seen : List ℕ) (cached : List Block) : Type 0 where
   pub shrinks : IsTrue (is_shrink (polled_by old asked))

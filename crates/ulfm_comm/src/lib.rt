@@ -2,7 +2,6 @@
 #![tactic(auto)]
 
 pub mod calls;
-mod groups;
 pub mod phases;
 pub mod rank;
 pub mod world;

@@ -13,7 +13,6 @@ ghost use Rattle.ulfm_comm.specs.Spawning.{seeking, target, MayHold, MayGoSpawni
 ghost use Rattle.ulfm_comm.specs.declared.phases.spawning.Spawned.TheVariants.{Unknown};
 ghost use Rattle.ulfm_comm.specs.Local.{local};
 
-use crate::groups::without;
 use crate::phases::spawning::{Spawned, place_in};
 use std::alloc::{AllocError, Allocator};
 use std::marker::{Model, PhantomData};
@@ -25,6 +24,7 @@ use ulfm_model::limits::Limits;
 use ulfm_model::refusal::Refusal;
 use ulfm_record::held::{self, HeldComm, place_of, refusal_on, take_in};
 use ulfm_record::ids::free_ids;
+use ulfm_steps::group::without;
 use ulfm_steps::{Append, Look, ReadOn};
 use ulfm_words::Words;
 
@@ -120,23 +120,6 @@ impl<P: Packed, A: Allocator> LocalState<P, A> {
             // Its callers know that the rank holds it, since the look of their call.
             None => unreachable!(),
         }
-    }
-
-    // The members of a communicator that it holds, in order.
-    pub(crate) fn members(&self, comm: u16) -> Option<&[u16]>
-        ensures { MatchOption result (held_at self.now comm ≡ None) (λ group. (x : Held) × (held_at self.now comm ≡ Some x) × (group.now ≡ x.group)) }
-    {
-        let x = self.held(comm)?;
-        Some(&x.group)
-    }
-
-    // The context id of a communicator that it holds.
-    pub(crate) fn context(&self, comm: u16) -> Option<u8>
-        ensures distinct { IsDistinct nat_eq (map (λ x. x.context) self.now.held) }
-        ensures id { MatchOption result (held_at self.now comm ≡ None) (λ id. (x : Held) × (held_at self.now comm ≡ Some x) × (id ≡ x.context)) }
-    {
-        let x = self.held(comm)?;
-        Some(x.context)
     }
 
     // Whether it was refused for good.
@@ -418,7 +401,8 @@ impl<P: Packed, A: Allocator> Rank<P, A> {
         ensures { MatchOption result (held_at self.now.own comm ≡ None)
             (λ group. (x : Held) × (held_at self.now.own comm ≡ Some x) × (group.now ≡ x.group)) }
     {
-        self.own.members(comm)
+        let x = self.own.held(comm)?;
+        Some(&x.group)
     }
 
     /// The context id of a communicator, 0 to 31; `None` where the rank doesn't hold the communicator. No two communicators that it holds
@@ -433,7 +417,8 @@ impl<P: Packed, A: Allocator> Rank<P, A> {
         ensures id { MatchOption result (held_at self.now.own comm ≡ None)
             (λ id. (x : Held) × (held_at self.now.own comm ≡ Some x) × (id ≡ x.context)) }
     {
-        self.own.context(comm)
+        let x = self.own.held(comm)?;
+        Some(x.context)
     }
 
     /// The request that is open on a communicator; `None` where none is, or where the rank doesn't hold the communicator. It makes no atomic

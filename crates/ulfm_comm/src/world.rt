@@ -9,20 +9,35 @@ ghost use Rattle.ulfm_comm.specs.Counts.{new_rank, records_of};
 
 use crate::rank::Rank;
 use std::alloc::{AllocError, Allocator};
-use std::marker::PhantomData;
+use std::marker::{Model, PhantomData};
 use ulfm_laws::meld::Packed;
 use ulfm_model::limits::{Limits, OpenFault};
 use ulfm_steps::group::first_ranks;
 use ulfm_words::{OpenWords, Words};
 
 /// A world of ranks and communicators, over words: 64-bit registers, each of which is set at most once. Its ranks are given out once, when
-/// it is opened. Examples are of a world of two ranks.
+/// it is opened. In contracts it stands for the identity of its words, with the limits that it was opened with. Examples are of a world of
+/// two ranks.
 #[derive(Drop)]
-pub struct World<W, P, A> {
+pub struct World<W, P: Packed, A: Allocator>
+where
+    W: Words<P, A>,
+{
     // Each atomic step of a call is one of theirs. Nobody outside gets at them: nobody opens a second world over the same words.
     pub(crate) words: W,
     flags: PhantomData<P>,
     memory: PhantomData<A>,
+}
+
+impl<W, P: Packed, A: Allocator> Model for World<W, P, A>
+where
+    W: Words<P, A>,
+{
+    ghost use Rattle.ulfm_words.specs.Steps.{Name};
+
+    ghost Value = { Name };
+
+    ghost view = { λ w. W.name w.words };
 }
 
 impl<W, P: Packed, A: Allocator + Copy> World<W, P, A>
@@ -39,7 +54,7 @@ where
     pub fn open(alloc: A, words: W) -> Result<(World<W, P, A>, Vec<Rank<P, A>, A>), OpenFault>
     where
         W: Drop,
-        ensures world { IfOk result (λ o. o.0.words ≡ words) }
+        ensures world { IfOk result (λ o. o.0 ≡ W.name words) }
         ensures ranks { MatchResult result (λ o. o.1.items ≡ map (new_rank (W.name words).limits) (all_below (W.name words).limits.ranks))
             (λ fault. fault ≡ OutOfMemory) }
         ensures fits { IfOk result (λ o. AllByRecursion (Fits P.meld (W.name words).limits []) (records_of o.1.items)) }
@@ -64,7 +79,7 @@ where
     /// assert!(rt; world.limits().ranks == 2);
     /// ```
     pub fn limits(&self) -> Limits
-        ensures { result ≡ (W.name self.now.words).limits }
+        ensures { result ≡ self.now.limits }
     {
         self.words.limits()
     }
@@ -82,7 +97,7 @@ where
     /// assert!(rt; world.fail(&mut pass, 1) == Ok(true));
     /// ```
     pub fn pass(&self, alloc: A) -> Result<W::Pass, AllocError>
-        ensures { IfOk result (λ p. IsNew P.meld (view_of (W.name self.now.words) (W.sight p))) }
+        ensures { IfOk result (λ p. IsNew P.meld (view_of self.now (W.sight p))) }
     {
         self.words.pass(alloc)
     }
@@ -96,8 +111,8 @@ where
     /// world.learn(&mut other, &world.told(&pass));
     /// ```
     pub fn told(&self, pass: &W::Pass) -> W::Told
-        requires of { IsView P.meld (view_of (W.name self.now.words) (W.sight pass.now)) }
-        ensures { Tells W.tells_all (view_of (W.name self.now.words) (W.sight pass.now)) (W.heard result) }
+        requires of { IsView P.meld (view_of self.now (W.sight pass.now)) }
+        ensures { Tells W.tells_all (view_of self.now (W.sight pass.now)) (W.heard result) }
     {
         self.words.told(pass)
     }
@@ -112,10 +127,10 @@ where
     /// world.learn(&mut other, &told);
     /// ```
     pub fn learn(&self, pass: &mut W::Pass, told: &W::Told)
-        requires of { IsView P.meld (view_of (W.name self.now.words) (W.sight pass.old)) }
-        requires told { (W.heard told.now).name ≡ W.name self.now.words }
-        ensures { Learns P.meld W.alone (W.heard told.now) (view_of (W.name self.now.words) (W.sight pass.old))
-            (view_of (W.name self.now.words) (W.sight pass.new)) }
+        requires of { IsView P.meld (view_of self.now (W.sight pass.old)) }
+        requires told { (W.heard told.now).name ≡ self.now }
+        ensures { Learns P.meld W.alone (W.heard told.now) (view_of self.now (W.sight pass.old))
+            (view_of self.now (W.sight pass.new)) }
     {
         self.words.learn(pass, told)
     }

@@ -1,5 +1,5 @@
 -- A rank whose calls are taken step by step, among others over one pass.
-use Rattle.std.proofs.Common.{◌≡◌, ◌⊎◌, ℕ, zero, suc, ◌<◌, ◌∷◌, length, get_or, Bool, true, false, List, [], Some, None, sym, subst, arith, append-nil, inl, inr, IsTrue, set}
+use Rattle.std.proofs.Common.{◌⊎◌, ℕ, zero, suc, ◌<◌, ◌∷◌, length, get_or, Bool, true, false, List, [], Some, None, sym, subst, arith, append-nil, inl, inr, set}
 use Rattle.std.specs.{List.{AllByRecursion}, Prelude.{MatchOption, Option}}
 use Rattle.ulfm_model.specs.declared.{call.Call.{Call}, event.Caller.TheVariants.{Rank}, reply.Reply.{Reply}}
 use Rattle.ulfm_model.specs.{History.{IsLegal, entries_by}, Records.{Fits, Record}}
@@ -38,7 +38,7 @@ module _ {P : Type 0} (meld : P → P → P) (name : Name) where
   pub call_waits : (quiet : Bool) (asked : Call P) (own : Record) (now : Sight P) (reply : Reply P) (new : Record) (after : Sight P) → IsLegal meld name.limits now.seen → Calls meld quiet asked (local own (view_of name now)) reply (local new (view_of name after)) → Waits false now after
   call_waits quiet asked own now reply new after legal called =
       let run = called_run meld quiet name asked own now reply new after called in
-      record { did = did_among now.seen after.seen (call_legal meld name.limits quiet now.seen after.seen own asked reply new legal run).0; onward = called.onward }
+      record { did = did_among now.seen after.seen (call_legal meld name.limits quiet now.seen after.seen own asked reply new legal run).0; onward = called.linearizes.onward }
 
   -- a call that has just begun
   pub stood_first : (own : Record) (now : Sight P) (doing : Counted P) → Stands meld false (local own (view_of name now)) doing.way (local own (view_of name now)) → HasStood meld name own now doing

@@ -2,9 +2,9 @@
 // and says the same; that one is missing holds at its load alone.
 ghost use Rattle.std.specs.Prelude.{◌≡◌, ◌+◌, ◌≤◌, ◌<◌, ◌-◌, false, true, length, MatchBool, MatchOption};
 ghost use Rattle.ulfm_laws.specs.Summaries.{summary_unit};
-ghost use Rattle.ulfm_words.specs.Steps.{view_of, Goes};
+ghost use Rattle.ulfm_words.specs.Steps.{view_of, Goes, seen_in, steps_in};
 ghost use Rattle.ulfm_model.specs.Blocks.{IsSummed};
-ghost use Rattle.ulfm_steps.specs.Rounds.{IsMissing};
+ghost use Rattle.ulfm_steps.specs.Rounds.{IsMissingIn};
 ghost use Rattle.ulfm_steps.specs.Turns.{running};
 ghost use Rattle.ulfm_intruder.specs.Readings.{MayReadRound, ReadsRound};
 
@@ -104,9 +104,10 @@ impl<P: Packed> ReadRound<P> {
         requires within { self.read ≤ length group.now }
         ensures goes { Goes P.meld W.alone false (length group.now - self.read) (view_of (W.name words.now) (W.sight pass.old))
             (view_of (W.name words.now) (W.sight pass.new)) }
-        ensures loaded { MatchOption result ((W.sight pass.old).steps < (W.sight pass.new).steps) (λ _. Unit {0}) }
-        ensures read { MatchOption result (IsMissing (W.sight pass.new).last (W.sight pass.new).seen self.comm self.round group.now)
-            (IsSummed P.meld (W.sight pass.new).seen self.comm self.round group.now) }
+        ensures loaded { MatchOption result
+            (steps_in (view_of (W.name words.now) (W.sight pass.old)) < steps_in (view_of (W.name words.now) (W.sight pass.new))) (λ _. Unit {0}) }
+        ensures read { MatchOption result (IsMissingIn (view_of (W.name words.now) (W.sight pass.new)) self.comm self.round group.now)
+            (IsSummed P.meld (seen_in (view_of (W.name words.now) (W.sight pass.new))) self.comm self.round group.now) }
     {
         if self.read < group.len() && !self.advance(words, pass, group, true) {
             return None;

@@ -9,7 +9,7 @@ ghost use Rattle.ulfm_model.specs.declared.limits.OpenFault.TheVariants.{OutOfMe
 ghost use Rattle.ulfm_model.specs.Terms.{comm_of};
 ghost use Rattle.ulfm_comm.specs.Counts.{records_of};
 ghost use Rattle.ulfm_job.specs.Jobs.{crew, IsAbout, IsJob, IsOther, KeepsRecords, MayLack, PollsShrink, StepsBy, state_seen};
-ghost use Rattle.ulfm_words.specs.Steps.{view_of, IsView};
+ghost use Rattle.ulfm_words.specs.Steps.{view_of, seen_in, IsView};
 
 use std::alloc::{AllocError, Allocator};
 use std::marker::Model;
@@ -46,9 +46,9 @@ where
 
     ghost Value = { State P };
 
-    ghost view = { λ a. state_seen (W.name a.world.words) (W.sight a.pass) (records_of a.ranks.items) };
+    ghost view = { λ a. state_seen a.world (W.sight a.pass) (records_of a.ranks.items) };
 
-    ghost invariant = { λ a. IsJob P.meld (W.name a.world.words) (W.sight a.pass) (records_of a.ranks.items) };
+    ghost invariant = { λ a. IsJob P.meld a.world (W.sight a.pass) (records_of a.ranks.items) };
 }
 
 impl<W, P: Packed, A: Allocator + Copy> Job<W, P, A>
@@ -74,19 +74,19 @@ where
         Ok(Job { world, pass, ranks })
     }
 
-    /// The pass that all calls are made over, to be read. It is no step.
+    /// The pass that all calls are made over, to be read. It makes no atomic step.
     ///
     /// ```
     /// assert!(rt; job.pass().nth(0).is_none());
     /// ```
     pub fn pass(&self) -> &W::Pass
         ensures of { IsView P.meld (view_of (W.sight result.now).name (W.sight result.now)) }
-        ensures seen { (W.sight result.now).seen ≡ self.now.history }
+        ensures seen { seen_in (view_of (W.sight result.now).name (W.sight result.now)) ≡ self.now.history }
     {
         &self.pass
     }
 
-    /// A rank of the world, if there is one of this number. It is no step.
+    /// A rank of the world, if there is one of this number. It makes no atomic step.
     ///
     /// ```
     /// assert!(rt; job.rank(1).is_some());
@@ -153,10 +153,10 @@ fn fail_by<P: Packed, A: Allocator + Copy, W: Words<P, A>>(
     ranks: &[Rank<P, A>],
     rank: u16,
 ) -> Reply<P>
-    requires { IsJob P.meld (W.name world.now.words) (W.sight pass.old) (records_of ranks.now) }
-    ensures about { (group : List ℕ) → IsAbout (state_seen (W.name world.now.words) (W.sight pass.new) (records_of ranks.now)) 0 group group result }
-    ensures step { StepsBy P.meld W.alone (FailAsked rank) (crew (view_of (W.name world.now.words) (W.sight pass.old)) (records_of ranks.now)) result
-        (crew (view_of (W.name world.now.words) (W.sight pass.new)) (records_of ranks.now)) }
+    requires { IsJob P.meld world.now (W.sight pass.old) (records_of ranks.now) }
+    ensures about { (group : List ℕ) → IsAbout (state_seen world.now (W.sight pass.new) (records_of ranks.now)) 0 group group result }
+    ensures step { StepsBy P.meld W.alone (FailAsked rank) (crew (view_of world.now (W.sight pass.old)) (records_of ranks.now)) result
+        (crew (view_of world.now (W.sight pass.new)) (records_of ranks.now)) }
 {
     let _ = ranks;
     match world.fail(pass, rank) {
@@ -175,14 +175,14 @@ fn get_by<P: Packed, A: Allocator + Copy, W: Words<P, A>>(
     comm: u16,
     found: &mut Vec<u16, A>,
 ) -> Result<Reply<P>, AllocError>
-    requires { IsJob P.meld (W.name world.now.words) (W.sight pass.old) (records_of ranks.old) }
+    requires { IsJob P.meld world.now (W.sight pass.old) (records_of ranks.old) }
     ensures step { IfOk result
-        (λ reply. StepsBy P.meld W.alone (GetAsked rank comm) (crew (view_of (W.name world.now.words) (W.sight pass.old)) (records_of ranks.old)) reply
-        (crew (view_of (W.name world.now.words) (W.sight pass.new)) (records_of ranks.new))) }
-    ensures job { IsJob P.meld (W.name world.now.words) (W.sight pass.new) (records_of ranks.new) }
+        (λ reply. StepsBy P.meld W.alone (GetAsked rank comm) (crew (view_of world.now (W.sight pass.old)) (records_of ranks.old)) reply
+        (crew (view_of world.now (W.sight pass.new)) (records_of ranks.new))) }
+    ensures job { IsJob P.meld world.now (W.sight pass.new) (records_of ranks.new) }
     ensures begins { IsPrefix (W.sight pass.old).seen (W.sight pass.new).seen }
-    ensures about { IfOk result (IsAbout (state_seen (W.name world.now.words) (W.sight pass.new) (records_of ranks.new)) comm found.old.items found.new.items) }
-    ensures memory { OnErr result (vec_capacity found.old < length (failed (W.name world.now.words).limits.ranks (W.sight pass.new).seen comm)) }
+    ensures about { IfOk result (IsAbout (state_seen world.now (W.sight pass.new) (records_of ranks.new)) comm found.old.items found.new.items) }
+    ensures memory { OnErr result (vec_capacity found.old < length (failed world.now.limits.ranks (W.sight pass.new).seen comm)) }
     ensures kept { OnErr result (KeepsRecords (records_of ranks.old) (records_of ranks.new)) }
     ensures group { OnErr result (found.new.items ≡ found.old.items) }
 {
@@ -249,13 +249,13 @@ fn call_by<P: Packed, A: Allocator + Copy, W: Words<P, A>>(
     asked: Call<P>,
     found: &mut Vec<u16, A>,
 ) -> Result<Reply<P>, AllocError>
-    requires job { IsJob P.meld (W.name world.now.words) (W.sight pass.old) (records_of ranks.old) }
+    requires job { IsJob P.meld world.now (W.sight pass.old) (records_of ranks.old) }
     requires other { IsOther asked }
-    ensures step { IfOk result (λ reply. StepsBy P.meld W.alone asked (crew (view_of (W.name world.now.words) (W.sight pass.old)) (records_of ranks.old)) reply
-        (crew (view_of (W.name world.now.words) (W.sight pass.new)) (records_of ranks.new))) }
-    ensures job { IsJob P.meld (W.name world.now.words) (W.sight pass.new) (records_of ranks.new) }
+    ensures step { IfOk result (λ reply. StepsBy P.meld W.alone asked (crew (view_of world.now (W.sight pass.old)) (records_of ranks.old)) reply
+        (crew (view_of world.now (W.sight pass.new)) (records_of ranks.new))) }
+    ensures job { IsJob P.meld world.now (W.sight pass.new) (records_of ranks.new) }
     ensures begins { IsPrefix (W.sight pass.old).seen (W.sight pass.new).seen }
-    ensures about { IfOk result (IsAbout (state_seen (W.name world.now.words) (W.sight pass.new) (records_of ranks.new)) (comm_of asked)
+    ensures about { IfOk result (IsAbout (state_seen world.now (W.sight pass.new) (records_of ranks.new)) (comm_of asked)
         found.old.items found.new.items) }
     ensures memory { OnErr result (PollsShrink (records_of ranks.old) (rank_in asked) asked) }
     ensures kept { OnErr result (KeepsRecords (records_of ranks.old) (records_of ranks.new)) }

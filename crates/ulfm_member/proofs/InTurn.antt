@@ -1,18 +1,18 @@
 -- A poll after another member's poll of the same round was answered.
-use Rattle.std.proofs.Common.{◌≡◌, ℕ, ◌+◌, ◌-◌, ◌≤◌, Bool, true, false, List, length, Some, IsTrue, is_some, if◌then◌else◌, refl, ap, sym, ◌∙◌, subst, arith}
+use Rattle.std.proofs.Common.{◌≡◌, ℕ, ◌+◌, ◌-◌, ◌≤◌, Bool, true, false, length, Some, IsTrue, is_some, if◌then◌else◌, refl, ap, sym, ◌∙◌, subst, arith}
 use Rattle.std.specs.Prelude.{Option, Result}
 use mathlib.Core.List.{IsPrefix}
 use Rattle.ulfm_model.specs.declared.call.Call.TheVariants as call
-use Rattle.ulfm_model.specs.declared.{block.Block.{Block}, call.Call.{Call}, call.Request.{Request}, call.Request.TheVariants.{Agree}, limits.Limits.{Limits}, refusal.Refusal.{Refusal}}
+use Rattle.ulfm_model.specs.declared.{call.Call.{Call}, call.Request.{Request}, call.Request.TheVariants.{Agree}, limits.Limits.{Limits}, refusal.Refusal.{Refusal}}
 use Rattle.ulfm_model.specs.{Answers.{refusal_of}, History.{members}, Records.{Held, Record, held_at}, Terms.{request_of}}
 use Rattle.ulfm_model.proofs.{Histories.{members_stay}, Lists.{prefix_trans}}
 use Rattle.ulfm_words.specs.Steps.{view_of, Heard, Tells}
 use Rattle.ulfm_steps.specs.Blocks.{AllSet}
 use Rattle.ulfm_steps.proofs.KnownBlocks.{all_later}
-use Rattle.ulfm_comm.specs.{Bound.{also_bound, also_call_bound}, Calls.{reply_of}, Polls.{polled}, Requests.{BlocksStand, agreement, is_of_round}, StepsLeft.{group_of}}
+use Rattle.ulfm_comm.specs.{Bound.{also_bound, also_call_bound}, Requests.{BlocksStand}, StepsLeft.{group_of}}
 use Rattle.ulfm_comm.specs.declared.calls.polled.Polled.{Polled}
 use Rattle.ulfm_comm.proofs.{Holding.{exists_is, group_is}, Known.{round_known}}
-use Rattle.ulfm_member.specs.{InTurn.{HasAgree, IsShort}, Members.{IsMember, MemberLearns, MemberPolls, Membership}}
+use Rattle.ulfm_member.specs.{InTurn.{IsShort}, Members.{IsMember, MemberLearns, MemberPolls, Membership}}
 
 -- the second column's bound on the poll of an agree
 bound_is : (P : Type 0) (limits : Limits) (own : Record) (rank c k f : ℕ) (x : Held) → held_at own c ≡ Some x → x.request ≡ Some (Agree k) → also_bound {P = P} limits own (call.Poll rank c) f ≤ f + 3

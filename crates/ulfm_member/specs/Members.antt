@@ -1,5 +1,5 @@
 -- A `Member`, that is a rank of a world with the pass that it calls with, and what its calls promise.
-use Rattle.std.specs.Prelude.{◌≡◌, ℕ, ◌+◌, ◌≤◌, Bool, Result, IfOk}
+use Rattle.std.specs.Prelude.{◌≡◌, ℕ, Bool, Result, IfOk}
 use Rattle.ulfm_model.specs.declared.{call.Call.{Call}, call.Call.TheVariants.{Poll}, refusal.Refusal.{Refusal}, reply.Reply.{Reply}}
 use Rattle.ulfm_model.specs.Records.{Fits, Record}
 use Rattle.ulfm_words.specs.Steps.{Heard, IsNew, IsView, Learns, Name, View, view_of}

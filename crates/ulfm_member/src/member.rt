@@ -50,10 +50,10 @@ where
 
     ghost Value = { Membership P };
 
-    ghost view = { λ m. record { own = m.rank.own; last = m.rank.last; view = view_of (W.name (arc_value m.world).words) (W.sight m.pass) } };
+    ghost view = { λ m. record { own = m.rank.own; last = m.rank.last; view = view_of (arc_value m.world) (W.sight m.pass) } };
 
     ghost invariant = { λ m. IsMember P.meld
-        (record { own = m.rank.own; last = m.rank.last; view = view_of (W.name (arc_value m.world).words) (W.sight m.pass) }) };
+        (record { own = m.rank.own; last = m.rank.last; view = view_of (arc_value m.world) (W.sight m.pass) }) };
 }
 
 impl<W, P: Packed, A: Allocator> Member<W, P, A>
@@ -68,8 +68,8 @@ where
     /// member.iagree(0, FlagAnd { bits: 0b0110 })?;
     /// ```
     pub fn new(world: Arc<World<W, P, A>, A>, rank: Rank<P, A>, pass: W::Pass) -> Member<W, P, A>
-        requires { IsMember P.meld (record { own = rank.own; last = rank.last; view = view_of (W.name (arc_value world).words) (W.sight pass) }) }
-        ensures { result ≡ record { own = rank.own; last = rank.last; view = view_of (W.name (arc_value world).words) (W.sight pass) } }
+        requires { IsMember P.meld (record { own = rank.own; last = rank.last; view = view_of (arc_value world) (W.sight pass) }) }
+        ensures { result ≡ record { own = rank.own; last = rank.last; view = view_of (arc_value world) (W.sight pass) } }
     {
         Member { world, rank, pass }
     }
@@ -82,7 +82,7 @@ where
     /// ```
     pub fn into_parts(self) -> (Arc<World<W, P, A>, A>, Rank<P, A>, W::Pass)
         ensures of { IsMember P.meld self }
-        ensures parts { self ≡ record { own = result.1.own; last = result.1.last; view = view_of (W.name (arc_value result.0).words) (W.sight result.2) } }
+        ensures parts { self ≡ record { own = result.1.own; last = result.1.last; view = view_of (arc_value result.0) (W.sight result.2) } }
     {
         (self.world, self.rank, self.pass)
     }
@@ -109,7 +109,7 @@ where
     /// assert!(rt; member.pass().nth(0).is_some());
     /// ```
     pub fn pass(&self) -> &W::Pass
-        ensures { W.sight result.now ≡ self.now.view.pass }
+        ensures { self.now.view ≡ view_of self.now.view.words (W.sight result.now) }
     {
         &self.pass
     }

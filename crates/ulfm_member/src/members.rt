@@ -54,10 +54,10 @@ fn shared<W, P: Packed, A: Allocator + Copy>(
 ) -> Result<(Outside<W, P, A>, Vec<Member<W, P, A>, A>), AllocError>
 where
     W: OpenWords<P, A> + Drop,
-    requires fits { AllByRecursion (Fits P.meld (W.name world.words).limits []) (records_of ranks.items) }
+    requires fits { AllByRecursion (Fits P.meld world.limits []) (records_of ranks.items) }
     requires last { AllByRecursion (λ r. r.last ≡ 0) ranks.items }
-    ensures outside { IfOk result (λ o. IsNewOutside P.meld (W.name world.words) o.0) }
-    ensures members { IfOk result (λ o. AllByRecursion (IsNewMember P.meld (W.name world.words)) o.1.items) }
+    ensures outside { IfOk result (λ o. IsNewOutside P.meld world o.0) }
+    ensures members { IfOk result (λ o. AllByRecursion (IsNewMember P.meld world) o.1.items) }
     ensures ranks { IfOk result (λ o. map (λ m. m.own) o.1.items ≡ records_of ranks.items) }
 {
     let world = Arc::new(alloc, world)?;
@@ -73,9 +73,9 @@ fn members_of<W, P: Packed, A: Allocator + Copy>(
 ) -> Result<Vec<Member<W, P, A>, A>, AllocError>
 where
     W: OpenWords<P, A> + Drop,
-    requires fits { AllByRecursion (Fits P.meld (W.name (arc_value world.now).words).limits []) (records_of ranks.items) }
+    requires fits { AllByRecursion (Fits P.meld (arc_value world.now).limits []) (records_of ranks.items) }
     requires last { AllByRecursion (λ r. r.last ≡ 0) ranks.items }
-    ensures members { IfOk result (λ all. AllByRecursion (IsNewMember P.meld (W.name (arc_value world.now).words)) all.items) }
+    ensures members { IfOk result (λ all. AllByRecursion (IsNewMember P.meld (arc_value world.now)) all.items) }
     ensures ranks { IfOk result (λ all. map (λ m. m.own) all.items ≡ records_of ranks.items) }
 {
     let mut all = Vec::with_capacity(alloc, ranks.len())?;

@@ -35,9 +35,9 @@ where
 
     ghost Value = { View P };
 
-    ghost view = { λ o. view_of (W.name (arc_value o.world).words) (W.sight o.pass) };
+    ghost view = { λ o. view_of (arc_value o.world) (W.sight o.pass) };
 
-    ghost invariant = { λ o. IsView P.meld (view_of (W.name (arc_value o.world).words) (W.sight o.pass)) };
+    ghost invariant = { λ o. IsView P.meld (view_of (arc_value o.world) (W.sight o.pass)) };
 }
 
 impl<W, P: Packed, A: Allocator> Outside<W, P, A>
@@ -54,7 +54,7 @@ where
     pub fn new(alloc: A, world: Arc<World<W, P, A>, A>) -> Result<Outside<W, P, A>, AllocError>
     where
         W: Drop,
-        ensures { IfOk result (IsNewOutside P.meld (W.name (arc_value world).words)) }
+        ensures { IfOk result (IsNewOutside P.meld (arc_value world)) }
     {
         let pass = world.pass(alloc)?;
         Ok(Outside { world, pass })

@@ -115,12 +115,12 @@ pub(crate) fn hear_all<R: Threads, G: Gate>(
     outside: &mut BookPass<FlagAnd>,
     gathered: Gathered,
 ) -> Result<Outcome, RaceFault>
-    requires limits { world.now.words.limits ≡ limits_of gathered.plan }
-    requires of { IsView flag_meld (view_of world.now.words outside.old) }
+    requires limits { world.now.limits ≡ limits_of gathered.plan }
+    requires of { IsView flag_meld (view_of world.now outside.old) }
     requires declared { IfSome gathered.plan.fail (IsDeclared outside.old.seen) }
     requires nothing { (gathered.replies.items ≡ []) × (gathered.group.items ≡ []) × (gathered.fault ≡ None) }
     requires room { vec_capacity gathered.replies ≡ gathered.plan.ranks }
-    requires started { Numbered (λ r one. StartIs (λ h. IsStarted world.now.words said.now gate.now gathered.plan r h.promise) outside.old.seen r one)
+    requires started { Numbered (λ r one. StartIs (λ h. IsStarted world.now said.now gate.now gathered.plan r h.promise) outside.old.seen r one)
         0 started.items }
     requires all { length started.items ≡ gathered.plan.ranks }
     ensures answered { IfOk result (λ o. IsOutcome gathered.plan o.seen.seen (map (λ v. v.items) o.replies.items) o.group.items) }
@@ -162,15 +162,15 @@ fn hear<'a, R: Threads, G: Gate>(
     one: Started<'a, G>,
     outside: &mut BookPass<FlagAnd>,
 ) -> Result<Heard, RaceFault>
-    requires limits { world.now.words.limits ≡ limits_of plan }
-    requires of { IsView flag_meld (view_of world.now.words outside.old) }
-    requires one { (r : ℕ) × StartIs (λ h. IsStarted world.now.words said.now gate.now plan r h.promise) outside.old.seen r one }
-    ensures of { IsView flag_meld (view_of world.now.words outside.new) }
+    requires limits { world.now.limits ≡ limits_of plan }
+    requires of { IsView flag_meld (view_of world.now outside.old) }
+    requires one { (r : ℕ) × StartIs (λ h. IsStarted world.now said.now gate.now plan r h.promise) outside.old.seen r one }
+    ensures of { IsView flag_meld (view_of world.now outside.new) }
     ensures seen { IsPrefix outside.old.seen outside.new.seen }
-    ensures heard { (r : ℕ) → StartIs (λ h. IsStarted world.now.words said.now gate.now plan r h.promise) outside.old.seen r one.entry
+    ensures heard { (r : ℕ) → StartIs (λ h. IsStarted world.now said.now gate.now plan r h.promise) outside.old.seen r one.entry
         → MatchResult result (λ x. IsHeard plan outside.new.seen r x.replies.items x.made x.group.items × WasLet (G.may_say gate.now r) x.replies.items)
         (StopsFor ⊤ (G.may_say gate.now r)) }
-    ensures ended { (r : ℕ) → StartIs (λ h. IsStarted world.now.words said.now gate.now plan r h.promise) outside.old.seen r one.entry
+    ensures ended { (r : ℕ) → StartIs (λ h. IsStarted world.now said.now gate.now plan r h.promise) outside.old.seen r one.entry
         → IsEnded plan outside.new.seen r }
     ensures still { outside.new.steps ≡ outside.old.steps }
 {
@@ -187,13 +187,13 @@ fn finish<'a, R: Threads, G: Gate>(
     handle: Handle<'a, G>,
     outside: &mut BookPass<FlagAnd>,
 ) -> Report
-    requires world { handle.promise.world.now.words ≡ world.now.words }
-    requires of { IsView flag_meld (view_of world.now.words outside.old) }
-    ensures of { IsView flag_meld (view_of world.now.words outside.new) }
+    requires world { handle.promise.world.now ≡ world.now }
+    requires of { IsView flag_meld (view_of world.now outside.old) }
+    ensures of { IsView flag_meld (view_of world.now outside.new) }
     ensures seen { IsPrefix outside.old.seen outside.new.seen }
     ensures learned { IsPrefix result.told.seen outside.new.seen }
     ensures still { outside.new.steps ≡ outside.old.steps }
-    ensures kept { IsReported world.now.words handle.entry.promise.said.now (G.may_say handle.entry.promise.gate.now) handle.entry.promise.plan
+    ensures kept { IsReported world.now handle.entry.promise.said.now (G.may_say handle.entry.promise.gate.now) handle.entry.promise.plan
         handle.entry.promise.number result }
 {
     let report = handle.join(rt);
@@ -210,11 +210,11 @@ fn hear_thread<'a, R: Threads, G: Gate>(
     handle: Handle<'a, G>,
     outside: &mut BookPass<FlagAnd>,
 ) -> Result<Heard, RaceFault>
-    requires world { handle.promise.world.now.words ≡ world.now.words }
+    requires world { handle.promise.world.now ≡ world.now }
     requires said { handle.promise.said.now ≡ said.now }
-    requires limits { world.now.words.limits ≡ limits_of handle.promise.plan }
-    requires of { IsView flag_meld (view_of world.now.words outside.old) }
-    ensures of { IsView flag_meld (view_of world.now.words outside.new) }
+    requires limits { world.now.limits ≡ limits_of handle.promise.plan }
+    requires of { IsView flag_meld (view_of world.now outside.old) }
+    ensures of { IsView flag_meld (view_of world.now outside.new) }
     ensures seen { IsPrefix outside.old.seen outside.new.seen }
     ensures answered { IfOk result (λ x. IsHeard handle.entry.promise.plan outside.new.seen handle.entry.promise.number x.replies.items x.made x.group.items) }
     ensures asked { IfOk result (λ x. WasLet (G.may_say handle.entry.promise.gate.now handle.entry.promise.number) x.replies.items) }

@@ -28,7 +28,7 @@ pub(crate) struct Promised<'a, G: Gate> {
 }
 
 impl<'a, G: Gate> Promise<Report> for Promised<'a, G> {
-    ghost kept_by = { λ p r. IsReported p.world.now.words p.said.now (G.may_say p.gate.now) p.plan p.number r };
+    ghost kept_by = { λ p r. IsReported p.world.now p.said.now (G.may_say p.gate.now) p.plan p.number r };
 }
 
 /// A worker's thread.
@@ -88,7 +88,7 @@ pub fn race<R: Threads + Wait + Sync, G: Gate + Sync>(
         rt,
         |scope|
             requires plan { IsPlan plan }
-            requires limits { world.now.words.limits ≡ limits_of plan }
+            requires limits { world.now.limits ≡ limits_of plan }
             requires ranks { Numbered (IsNewRank plan) 0 (records_of ranks.items) }
             requires all { length ranks.items ≡ plan.ranks }
         { race_in(scope, rt, gate, alloc, world, said, plan, ranks) },
@@ -100,7 +100,7 @@ pub fn race<R: Threads + Wait + Sync, G: Gate + Sync>(
 fn open_world(alloc: Global, plan: Plan) -> Result<(Shared, Vec<Own>), RaceFault>
     requires { IsPlan plan }
     ensures refused { IfErr result (λ fault. fault ≡ RaceFault.Memory) }
-    ensures limits { IfOk result (λ o. o.0.words.limits ≡ limits_of plan) }
+    ensures limits { IfOk result (λ o. o.0.limits ≡ limits_of plan) }
     ensures ranks { IfOk result (λ o. Numbered (IsNewRank plan) 0 (records_of o.1.items)) }
     ensures all { IfOk result (λ o. length o.1.items ≡ plan.ranks) }
 {
@@ -131,7 +131,7 @@ fn race_in<'s, E, R: Threads + Wait + Sync, G: Gate + Sync>(
     ranks: Vec<Own>,
 ) -> Result<Outcome, RaceFault>
     requires plan { IsPlan plan }
-    requires limits { world.now.words.limits ≡ limits_of plan }
+    requires limits { world.now.limits ≡ limits_of plan }
     requires ranks { Numbered (IsNewRank plan) 0 (records_of ranks.items) }
     requires all { length ranks.items ≡ plan.ranks }
     ensures answered { IfOk result (λ o. IsOutcome plan o.seen.seen (map (λ v. v.items) o.replies.items) o.group.items) }
@@ -169,12 +169,12 @@ fn race_in<'s, E, R: Threads + Wait + Sync, G: Gate + Sync>(
 // The rank that the plan declares, if any, is declared.
 fn declare(world: &Shared, plan: Plan, outside: &mut BookPass<FlagAnd>)
     requires plan { IsPlan plan }
-    requires limits { world.now.words.limits ≡ limits_of plan }
-    requires of { IsView flag_meld (view_of world.now.words outside.old) }
-    ensures of { IsView flag_meld (view_of world.now.words outside.new) }
+    requires limits { world.now.limits ≡ limits_of plan }
+    requires of { IsView flag_meld (view_of world.now outside.old) }
+    ensures of { IsView flag_meld (view_of world.now outside.new) }
     ensures seen { IsPrefix outside.old.seen outside.new.seen }
     ensures declared { IfSome plan.fail (IsDeclared outside.new.seen) }
-    ensures once { IfSome plan.fail (λ rank. Declares world.now.words rank outside.old outside.new) }
+    ensures once { IfSome plan.fail (λ rank. Declares world.now rank outside.old outside.new) }
     ensures nobody { plan.fail ≡ None → outside.new ≡ outside.old }
 {
     if let Some(rank) = plan.fail {
@@ -196,16 +196,16 @@ fn start_all<'s, E, G: Gate + Sync, R: Wait + Sync>(
     started: &mut Vec<Started<'s, G>>,
 )
     requires plan { IsPlan plan }
-    requires limits { world.now.words.limits ≡ limits_of plan }
-    requires of { IsView flag_meld (view_of world.now.words outside.old) }
+    requires limits { world.now.limits ≡ limits_of plan }
+    requires of { IsView flag_meld (view_of world.now outside.old) }
     requires ranks { Numbered (IsNewRank plan) 0 (records_of ranks.items) }
     requires nobody { started.old.items ≡ [] }
     requires room { length ranks.items ≤ vec_capacity started.old }
-    ensures of { IsView flag_meld (view_of world.now.words outside.new) }
-    ensures started { Numbered (λ r one. StartIs (λ h. IsStarted world.now.words said.now gate.now plan r h.promise) outside.new.seen r one)
+    ensures of { IsView flag_meld (view_of world.now outside.new) }
+    ensures started { Numbered (λ r one. StartIs (λ h. IsStarted world.now said.now gate.now plan r h.promise) outside.new.seen r one)
         0 started.new.items }
     ensures all { length started.new.items ≡ length ranks.items }
-    ensures few { outside.new.steps ≤ outside.old.steps + steps_of (2 * world.now.words.limits.ranks) started.new.items }
+    ensures few { outside.new.steps ≤ outside.old.steps + steps_of (2 * world.now.limits.ranks) started.new.items }
 {
     for rank in ranks {
         let one = start(scope, rt, gate, alloc, world, said, plan, rank, outside);
@@ -226,13 +226,13 @@ fn start<'s, E, G: Gate + Sync, R: Wait + Sync>(
     outside: &mut BookPass<FlagAnd>,
 ) -> Started<'s, G>
     requires plan { IsPlan plan }
-    requires limits { world.now.words.limits ≡ limits_of plan }
+    requires limits { world.now.limits ≡ limits_of plan }
     requires new { IsNewRank plan rank.own.number rank.own }
-    requires of { IsView flag_meld (view_of world.now.words outside.old) }
-    ensures of { IsView flag_meld (view_of world.now.words outside.new) }
+    requires of { IsView flag_meld (view_of world.now outside.old) }
+    ensures of { IsView flag_meld (view_of world.now outside.new) }
     ensures seen { IsPrefix outside.old.seen outside.new.seen }
-    ensures started { StartIs (λ h. IsStarted world.now.words said.now gate.now plan rank.own.number h.promise) outside.new.seen rank.own.number result }
-    ensures once { MatchResult result (λ _. outside.new ≡ outside.old) (λ _. Declares world.now.words rank.own.number outside.old outside.new) }
+    ensures started { StartIs (λ h. IsStarted world.now said.now gate.now plan rank.own.number h.promise) outside.new.seen rank.own.number result }
+    ensures once { MatchResult result (λ _. outside.new ≡ outside.old) (λ _. Declares world.now rank.own.number outside.old outside.new) }
 {
     let number = rank.number();
     let promised = Promised {

@@ -63,11 +63,11 @@ pub(crate) fn work<G: Gate, R: Wait>(
     pass: BookPass<FlagAnd>,
 ) -> Report
     requires plan { IsPlan plan }
-    requires limits { world.now.words.limits ≡ limits_of plan }
+    requires limits { world.now.limits ≡ limits_of plan }
     requires new { rank.own ≡ new_record (limits_of plan) rank.own.number }
-    requires own { IsRankOf world.now.words rank.own pass }
-    ensures reports { IsReported world.now.words said.now (G.may_say gate.now) plan rank.own.number result }
-    ensures works { HasWorked world.now.words plan (member_of world.now.words rank pass) result }
+    requires own { IsRankOf world.now rank.own pass }
+    ensures reports { IsReported world.now said.now (G.may_say gate.now) plan rank.own.number result }
+    ensures works { HasWorked world.now plan (member_of world.now rank pass) result }
 {
     let number = rank.number();
     let mut worker = Worker {
@@ -113,11 +113,11 @@ fn fault_in(ended: &Result<bool, RaceFault>) -> Option<RaceFault>
 
 // The rank of a worker that stopped, of this number, is declared.
 fn declare(world: &Shared, rank: &Own, number: u16, pass: &mut BookPass<FlagAnd>, stopped: bool)
-    requires own { IsRankOf world.now.words rank.now.own pass.old }
-    ensures own { IsRankOf world.now.words rank.now.own pass.new }
+    requires own { IsRankOf world.now rank.now.own pass.old }
+    ensures own { IsRankOf world.now rank.now.own pass.new }
     ensures seen { IsPrefix pass.old.seen pass.new.seen }
-    ensures declared { IsTrue stopped → number < world.now.words.limits.ranks → IsTrue (has (failures pass.new.seen) number) }
-    ensures once { IsTrue stopped → Declares world.now.words number pass.old pass.new }
+    ensures declared { IsTrue stopped → number < world.now.limits.ranks → IsTrue (has (failures pass.new.seen) number) }
+    ensures once { IsTrue stopped → Declares world.now number pass.old pass.new }
     ensures alone { stopped ≡ false → pass.new ≡ pass.old }
 {
     if stopped {
@@ -134,15 +134,15 @@ fn take_turns<G: Gate, R: Wait>(
     plan: Plan,
     worker: &mut Worker,
 ) -> Result<bool, RaceFault>
-    requires { Starts world.now.words said.now plan worker.old.rank.own worker.old.pass worker.old.tokens.items }
-    ensures works { Works world.now.words said.now worker.new.rank.own worker.new.pass worker.new.tokens.items }
+    requires { Starts world.now said.now plan worker.old.rank.own worker.old.pass worker.old.tokens.items }
+    ensures works { Works world.now said.now worker.new.rank.own worker.new.pass worker.new.tokens.items }
     ensures answered { IfOk result (λ _. IsAnswered plan worker.new.pass.seen worker.old.rank.own.number worker.new.rank.own
         (map (λ t. t.value) worker.new.tokens.items)) }
     ensures asks { IfOk result (λ _. WasLet (G.may_say gate.now worker.old.rank.own.number) (map (λ t. t.value) worker.new.tokens.items)) }
     ensures whole { IfOk result (λ whole. list_any is_refused (map (λ t. t.value) worker.new.tokens.items) ≡ not whole) }
     ensures stops { IfErr result (StopsFor ⊤ (G.may_say gate.now worker.old.rank.own.number)) }
     ensures turns { HasTurned plan worker.old.rank.own.number result (map (λ t. t.value) worker.new.tokens.items)
-        (member_of world.now.words worker.old.rank worker.old.pass) (member_of world.now.words worker.new.rank worker.new.pass) }
+        (member_of world.now worker.old.rank worker.old.pass) (member_of world.now worker.new.rank worker.new.pass) }
 {
     match agree_all(rt, gate, world, said, plan, worker) {
         Ok(true) => {}
@@ -197,15 +197,15 @@ fn polled<G: Gate, R: Wait>(
     rank: &mut Own,
     pass: &mut BookPass<FlagAnd>,
 ) -> Result<Result<Polled<FlagAnd>, Refusal>, RaceFault>
-    requires own { IsRankOf world.now.words rank.old.own pass.old }
-    ensures own { IsRankOf world.now.words rank.new.own pass.new }
-    ensures polls { IfOk result (λ answer. IsPolledOn flag_meld false 0 (local rank.old.own (view_of world.now.words pass.old)) answer
-        (local rank.new.own (view_of world.now.words pass.new))) }
+    requires own { IsRankOf world.now rank.old.own pass.old }
+    ensures own { IsRankOf world.now rank.new.own pass.new }
+    ensures polls { IfOk result (λ answer. IsPolledOn flag_meld false 0 (local rank.old.own (view_of world.now pass.old)) answer
+        (local rank.new.own (view_of world.now pass.new))) }
     ensures asks { IfOk result (λ _. G.may_say gate.now rank.old.own.number Turn.Poll true) }
     ensures stops { IfErr result (λ fault. (fault ≡ RaceFault.Held) × G.may_say gate.now rank.old.own.number Turn.Poll false) }
-    ensures counted { IfOk result (λ answer. MemberPollsOn flag_meld false 0 (member_of world.now.words rank.old pass.old) answer
-        (member_of world.now.words rank.new pass.new)) }
-    ensures pends { IfErr result (λ _. HasPended (member_of world.now.words rank.old pass.old) (member_of world.now.words rank.new pass.new)) }
+    ensures counted { IfOk result (λ answer. MemberPollsOn flag_meld false 0 (member_of world.now rank.old pass.old) answer
+        (member_of world.now rank.new pass.new)) }
+    ensures pends { IfErr result (λ _. HasPended (member_of world.now rank.old pass.old) (member_of world.now rank.new pass.new)) }
 {
     let number = rank.number();
     for _ in rt.forever() {
@@ -273,18 +273,18 @@ fn agree<G: Gate, R: Wait>(
     pass: &mut BookPass<FlagAnd>,
     round: u16,
 ) -> Result<Reply<FlagAnd>, RaceFault>
-    requires own { IsRankOf world.now.words rank.old.own pass.old }
-    ensures own { IsRankOf world.now.words rank.new.own pass.new }
+    requires own { IsRankOf world.now rank.old.own pass.old }
+    ensures own { IsRankOf world.now rank.new.own pass.new }
     ensures says { IfOk result (λ reply. (plan : PlanOf) → (said : List (ReplyOf _))
-        → world.now.words.limits ≡ limits_of plan → round < plan.rounds → IsReady plan rank.old.own.number round rank.old.own pass.old.seen said
+        → world.now.limits ≡ limits_of plan → round < plan.rounds → IsReady plan rank.old.own.number round rank.old.own pass.old.seen said
         → SaysAgree plan rank.old.own.number round said rank.new.own pass.new.seen reply) }
     ensures asks { IfOk result (λ reply. WasLet (G.may_say gate.now rank.old.own.number) (reply ∷ [])) }
     ensures stops { IfErr result (StopsFor
-        (IsAwaited flag_meld false 0 (Agree rank.old.own.number 0 (flag_of rank.old.own.number round)) (local rank.old.own (view_of world.now.words pass.old))
-        (Err Refusal.OutOfMemory) (local rank.new.own (view_of world.now.words pass.new)))
+        (IsAwaited flag_meld false 0 (Agree rank.old.own.number 0 (flag_of rank.old.own.number round)) (local rank.old.own (view_of world.now pass.old))
+        (Err Refusal.OutOfMemory) (local rank.new.own (view_of world.now pass.new)))
         (G.may_say gate.now rank.old.own.number)) }
-    ensures turn { TurnIs (Agree rank.old.own.number 0 (flag_of rank.old.own.number round)) (member_of world.now.words rank.old pass.old) result
-        (member_of world.now.words rank.new pass.new) }
+    ensures turn { TurnIs (Agree rank.old.own.number 0 (flag_of rank.old.own.number round)) (member_of world.now rank.old pass.old) result
+        (member_of world.now rank.new pass.new) }
 {
     let number = rank.number();
     if !gate.go(number, Turn::Contribute) {
@@ -309,18 +309,18 @@ fn shrink<G: Gate, R: Wait>(
     rank: &mut Own,
     pass: &mut BookPass<FlagAnd>,
 ) -> Result<Reply<FlagAnd>, RaceFault>
-    requires own { IsRankOf world.now.words rank.old.own pass.old }
-    ensures own { IsRankOf world.now.words rank.new.own pass.new }
-    ensures says { IfOk result (λ reply. (plan : PlanOf) → (said : List (ReplyOf _)) → world.now.words.limits ≡ limits_of plan
+    requires own { IsRankOf world.now rank.old.own pass.old }
+    ensures own { IsRankOf world.now rank.new.own pass.new }
+    ensures says { IfOk result (λ reply. (plan : PlanOf) → (said : List (ReplyOf _)) → world.now.limits ≡ limits_of plan
         → IsReady plan rank.old.own.number plan.rounds rank.old.own pass.old.seen said
         → IsAnswered plan pass.new.seen rank.old.own.number rank.new.own (said ++ reply ∷ [])) }
     ensures asks { IfOk result (λ reply. WasLet (G.may_say gate.now rank.old.own.number) (reply ∷ [])) }
     ensures stops { IfErr result (StopsFor
-        (IsAwaited flag_meld false 0 (Shrink rank.old.own.number 0) (local rank.old.own (view_of world.now.words pass.old)) (Err Refusal.OutOfMemory)
-        (local rank.new.own (view_of world.now.words pass.new)))
+        (IsAwaited flag_meld false 0 (Shrink rank.old.own.number 0) (local rank.old.own (view_of world.now pass.old)) (Err Refusal.OutOfMemory)
+        (local rank.new.own (view_of world.now pass.new)))
         (G.may_say gate.now rank.old.own.number)) }
-    ensures turn { TurnIs (Shrink rank.old.own.number 0) (member_of world.now.words rank.old pass.old) result
-        (member_of world.now.words rank.new pass.new) }
+    ensures turn { TurnIs (Shrink rank.old.own.number 0) (member_of world.now rank.old pass.old) result
+        (member_of world.now rank.new pass.new) }
 {
     let number = rank.number();
     if !gate.go(number, Turn::Contribute) {
@@ -356,8 +356,8 @@ pub(crate) fn agree_all<G: Gate, R: Wait>(
     plan: Plan,
     worker: &mut Worker,
 ) -> Result<bool, RaceFault>
-    requires { Starts world.now.words said.now plan worker.old.rank.own worker.old.pass worker.old.tokens.items }
-    ensures works { Works world.now.words said.now worker.new.rank.own worker.new.pass worker.new.tokens.items }
+    requires { Starts world.now said.now plan worker.old.rank.own worker.old.pass worker.old.tokens.items }
+    ensures works { Works world.now said.now worker.new.rank.own worker.new.pass worker.new.tokens.items }
     ensures says { IfOk result (λ goes. MatchBool goes
         (IsReady plan worker.old.rank.own.number plan.rounds worker.new.rank.own worker.new.pass.seen
         (map (λ t. t.value) worker.new.tokens.items))
@@ -367,7 +367,7 @@ pub(crate) fn agree_all<G: Gate, R: Wait>(
     ensures whole { IfOk result (λ goes. list_any is_refused (map (λ t. t.value) worker.new.tokens.items) ≡ not goes) }
     ensures stops { IfErr result (StopsFor ⊤ (G.may_say gate.now worker.old.rank.own.number)) }
     ensures turns { HasTurned plan worker.old.rank.own.number result (map (λ t. t.value) worker.new.tokens.items)
-        (member_of world.now.words worker.old.rank worker.old.pass) (member_of world.now.words worker.new.rank worker.new.pass) }
+        (member_of world.now worker.old.rank worker.old.pass) (member_of world.now worker.new.rank worker.new.pass) }
 {
     for round in 0..plan.rounds {
         match agree(rt, gate, world, &mut worker.rank, &mut worker.pass, round) {

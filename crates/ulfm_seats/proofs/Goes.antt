@@ -1,9 +1,8 @@
 -- How far steps take a rank's call.
-use Rattle.std.proofs.Common.{◌≡◌, ℕ, zero, suc, ◌+◌, ◌<◌, ◌≤◌, List, [], ◌∷◌, length, get_or, set, Option, Some, None, refl, ap, sym, ◌∙◌, subst, arith, inl, inr}
+use Rattle.std.proofs.Common.{◌≡◌, ℕ, zero, suc, ◌+◌, ◌<◌, ◌≤◌, List, [], ◌∷◌, length, get_or, set, Some, None, refl, ap, sym, ◌∙◌, subst, arith, inl, inr}
 use Rattle.std.specs.Prelude.{◌⊎◌, slice_get}
 use Rattle.ulfm_laws.specs.declared.flag_and.FlagAnd.{FlagAnd}
 use Rattle.ulfm_model.specs.declared.step_name.StepName.{StepName}
-use Rattle.ulfm_comm.specs.Phase.{UnderWay}
 use Rattle.ulfm_words.specs.Steps.{Name, Sight}
 use Rattle.ulfm_stepping.specs.Seats.{next_in}
 use Rattle.ulfm_lines.specs.{Progress.{GoesFar, IsReached, Progress}, Walked.{IsCountOf}}

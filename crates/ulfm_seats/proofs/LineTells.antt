@@ -11,7 +11,7 @@ use Rattle.ulfm_words.specs.Steps.{view_of, IsView, Name, Sight}
 use Rattle.ulfm_trace_model.specs.declared.{line.Line.{Line}, step_line.StepLine.TheVariants.{Called}}
 use Rattle.ulfm_trace_model.specs.{Follows.{AreOf, IsPiece}, Traces.{AnswersRank, AreLegalAfter, IsOpen, MayCome, Told, Traced, Under, after, after_reply, call_by, caller_of, record_in, said_by, same_caller, taken_in}}
 use Rattle.ulfm_trace_model.proofs.Callers.{same_rank}
-use Rattle.ulfm_lines.specs.{LineTexts.{lines_text}, Progress.{GoesFar, IsReached}, StepLines.{IsByRank}, Stepped.{TellsStep}, Walked.{TellsSteps}}
+use Rattle.ulfm_lines.specs.{LineTexts.{lines_text}, Progress.{IsReached}, StepLines.{IsByRank}, Stepped.{TellsStep}, Walked.{TellsSteps}}
 use Rattle.ulfm_lines.specs.declared.step_machine.Reach.{Reach}
 use Rattle.ulfm_lines.specs.declared.step_machine.Taken.TheVariants.{Open, Run}
 use Rattle.ulfm_stepping.specs.Stepping.{reply_told}

@@ -1,14 +1,14 @@
 -- What a piece of one caller's lines adds, and what it leaves of the others.
-use Rattle.std.proofs.Common.{◌≡◌, ℕ, ◌==◌, Bool, true, false, List, [], ◌∷◌, ◌++◌, filter, find, map, not, take, Option, is_some, Some, None, refl, ap, sym, ◌∙◌, append-nil, append_assoc, if◌then◌else◌}
+use Rattle.std.proofs.Common.{◌≡◌, ℕ, ◌==◌, Bool, true, false, List, [], ◌∷◌, ◌++◌, find, map, take, Option, is_some, Some, None, refl, ap, sym, ◌∙◌, append-nil, append_assoc, if◌then◌else◌}
 use Rattle.std.specs.List.{AllByRecursion}
 use Rattle.std.proofs.lemmas.Bool.{eqb-false, eqb-true, ne_eqb}
-use Rattle.ulfm_model.specs.declared.{event.Caller.{Caller}, event.Event.{Event}, reply.Reply.{Reply}}
-use Rattle.ulfm_model.specs.{Answers.{traits_of}, History.{History}, Records.{Record}}
+use Rattle.ulfm_model.specs.declared.{event.Caller.{Caller}, reply.Reply.{Reply}}
+use Rattle.ulfm_model.specs.{History.{History}, Records.{Record}}
 use Rattle.ulfm_model.proofs.LeftRuns.{left_keeps}
 use Rattle.ulfm_trace_model.specs.declared.line.Line.{Line}
-use Rattle.ulfm_trace_model.specs.{Follows.{AreOf, is_of}, Traces.{Told, Traced, Under, after, after_reply, call_by, caller_of, change_by, found_by, is_owned, record_in, said_by, same_caller, taken_in, with_event}}
+use Rattle.ulfm_trace_model.specs.{Follows.{AreOf, is_of}, Traces.{Told, Traced, Under, after, after_reply, call_by, caller_of, found_by, record_in, said_by, same_caller, taken_in, with_event}}
 use Rattle.ulfm_trace_model.proofs.Callers.{same_is}
-use Rattle.ulfm_lines.proofs.Calls.{find_behind, find_kept, find_left_out, find_unchanged, keeps_asked}
+use Rattle.ulfm_lines.proofs.Calls.{find_behind, find_kept, find_unchanged, keeps_asked}
 use Rattle.ulfm_stepping.specs.Seats.{line_by}
 
 -- lines of one caller alone, its calls with them

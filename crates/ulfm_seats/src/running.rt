@@ -3,7 +3,7 @@ ghost use Rattle.std.specs.Prelude.{◌≡◌, ◌++◌, ◌+◌, ◌*◌, ◌�
 ghost use Rattle.ulfm_laws.specs.{Flags.{flag_meld}, declared.flag_and.FlagAnd.{FlagAnd}};
 ghost use Rattle.ulfm_model.specs.Answers.{rank_of as caller_in, traits_of};
 ghost use Rattle.ulfm_model.specs.declared.{event.Caller.TheVariants.{Rank as OfRank}, reply.Reply.{Reply}};
-ghost use Rattle.ulfm_words.specs.{Pass.{plain_name}, Steps.{IsView}};
+ghost use Rattle.ulfm_words.specs.Steps.{IsView};
 ghost use Rattle.ulfm_words.specs.Steps.{view_of};
 ghost use Rattle.ulfm_trace_model.specs.Traces.{Traced};
 ghost use Rattle.ulfm_trace_model.specs.declared.step_line.StepLine.TheVariants.{Called, Failed};
@@ -34,8 +34,8 @@ fn begin_at<A: Allocator + Copy + Drop>(
 ) -> Result<(), AllocError>
     requires mine { (traits_of asked).by ≡ OfRank seat.old.own.number }
     requires closed { seat.old.call ≡ None }
-    requires of { IsView flag_meld (view_of (plain_name world.now.words.limits) pass.now) }
-    ensures { OnOk result (BeginsCall (plain_name world.now.words.limits) asked pass.now seat.old teller.old.text.items seat.new teller.new.text.items) }
+    requires of { IsView flag_meld (view_of world.now pass.now) }
+    ensures { OnOk result (BeginsCall world.now asked pass.now seat.old teller.old.text.items seat.new teller.new.text.items) }
 {
     let rank = seat.number();
     let answer = seat.begin(world, pass, asked);
@@ -52,11 +52,11 @@ fn run_call<A: Allocator + Copy + Drop>(
     teller: &mut Teller<A>,
 ) -> Result<Taken, AllocError>
     requires by_rank { IsByRank asked }
-    requires stands { (now : Traced FlagAnd) × StandsFor (plain_name world.now.words.limits) pass.now seats.old now }
-    ensures tells { (now : Traced FlagAnd) → StandsFor (plain_name world.now.words.limits) pass.now seats.old now
-        → IfOk result (λ taken. TellsStep (StandsFor (plain_name world.now.words.limits) pass.now seats.new) now (Called asked) taken
+    requires stands { (now : Traced FlagAnd) × StandsFor world.now pass.now seats.old now }
+    ensures tells { (now : Traced FlagAnd) → StandsFor world.now pass.now seats.old now
+        → IfOk result (λ taken. TellsStep (StandsFor world.now pass.now seats.new) now (Called asked) taken
         teller.old.text.items teller.new.text.items) }
-    ensures stands { OnOk result ((next : Traced FlagAnd) × StandsFor (plain_name world.now.words.limits) pass.now seats.new next) }
+    ensures stands { OnOk result ((next : Traced FlagAnd) × StandsFor world.now pass.now seats.new next) }
     ensures others { OthersStay (caller_in asked) seats.old seats.new }
 {
     let rank = rank_of(&asked);
@@ -90,9 +90,9 @@ pub(crate) fn walk_rank<A: Allocator + Copy + Drop>(
     group: &mut Vec<u16, A>,
     teller: &mut Teller<A>,
 ) -> Result<u32, AllocError>
-    requires stands { (now : Traced FlagAnd) × StandsFor (plain_name world.now.words.limits) pass.old seats.old now }
-    ensures tells { (now : Traced FlagAnd) → StandsFor (plain_name world.now.words.limits) pass.old seats.old now
-        → IfOk result (λ made. TellsSteps (StandsFor (plain_name world.now.words.limits) pass.new seats.new) now rank reach made
+    requires stands { (now : Traced FlagAnd) × StandsFor world.now pass.old seats.old now }
+    ensures tells { (now : Traced FlagAnd) → StandsFor world.now pass.old seats.old now
+        → IfOk result (λ made. TellsSteps (StandsFor world.now pass.new seats.new) now rank reach made
         teller.old.text.items teller.new.text.items) }
     ensures goes { IfOk result (λ made. GoesFar (progress_of pass.old seats.old) (progress_of pass.new seats.new) rank reach made) }
     ensures others { OthersStay rank seats.old seats.new }
@@ -118,11 +118,11 @@ fn run_fail<A: Allocator + Copy + Drop>(
     rank: u16,
     teller: &mut Teller<A>,
 ) -> Result<(), AllocError>
-    requires { (now : Traced FlagAnd) × StandsFor (plain_name world.now.words.limits) pass.old seats.now now }
-    ensures tells { (now : Traced FlagAnd) → StandsFor (plain_name world.now.words.limits) pass.old seats.now now
-        → OnOk result (TellsStep (StandsFor (plain_name world.now.words.limits) pass.new seats.now) now (Failed rank) Run
+    requires { (now : Traced FlagAnd) × StandsFor world.now pass.old seats.now now }
+    ensures tells { (now : Traced FlagAnd) → StandsFor world.now pass.old seats.now now
+        → OnOk result (TellsStep (StandsFor world.now pass.new seats.now) now (Failed rank) Run
         teller.old.text.items teller.new.text.items) }
-    ensures few { pass.new.steps ≤ pass.old.steps + 2 * world.now.words.limits.ranks }
+    ensures few { pass.new.steps ≤ pass.old.steps + 2 * world.now.limits.ranks }
 {
     let _ = seats;
     let told = fail_whole(world, pass, rank);
@@ -139,11 +139,11 @@ pub(crate) fn run_line<A: Allocator + Copy + Drop>(
     teller: &mut Teller<A>,
 ) -> Result<Taken, AllocError>
     requires step { IsSpelledStep step.now }
-    requires stands { (now : Traced FlagAnd) × StandsFor (plain_name world.now.words.limits) pass.old seats.old now }
-    ensures tells { (now : Traced FlagAnd) → StandsFor (plain_name world.now.words.limits) pass.old seats.old now
-        → IfOk result (λ taken. TellsStep (StandsFor (plain_name world.now.words.limits) pass.new seats.new) now step.now taken
+    requires stands { (now : Traced FlagAnd) × StandsFor world.now pass.old seats.old now }
+    ensures tells { (now : Traced FlagAnd) → StandsFor world.now pass.old seats.old now
+        → IfOk result (λ taken. TellsStep (StandsFor world.now pass.new seats.new) now step.now taken
         teller.old.text.items teller.new.text.items) }
-    ensures stands { OnOk result ((next : Traced FlagAnd) × StandsFor (plain_name world.now.words.limits) pass.new seats.new next) }
+    ensures stands { OnOk result ((next : Traced FlagAnd) × StandsFor world.now pass.new seats.new next) }
     ensures goes { OnOk result (GoesAsSaid (progress_of pass.old seats.old) (progress_of pass.new seats.new) step.now) }
     ensures others { OnOk result (SeatsStay step.now seats.old seats.new) }
 {

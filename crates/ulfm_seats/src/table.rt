@@ -31,15 +31,14 @@ pub struct StepTable<A: Allocator + Copy + Drop> {
 impl<A: Allocator + Copy + Drop> Model for StepTable<A> {
     ghost use Rattle.std.specs.Prelude.{◌≡◌, false};
     ghost use Rattle.ulfm_laws.specs.declared.flag_and.FlagAnd.{FlagAnd};
-    ghost use Rattle.ulfm_words.specs.Pass.{plain_name};
     ghost use Rattle.ulfm_trace_model.specs.Traces.{Traced};
     ghost use Rattle.ulfm_seats.specs.Table.{StandsFor, Table};
 
     ghost Value = { Table };
 
-    ghost view = { λ a. record { name = plain_name a.world.words.limits; pass = a.pass; seats = a.seats.items } };
+    ghost view = { λ a. record { name = a.world; pass = a.pass; seats = a.seats.items } };
 
-    ghost invariant = { λ a. a.failed ≡ false → (now : Traced FlagAnd) × StandsFor (plain_name a.world.words.limits) a.pass a.seats.items now };
+    ghost invariant = { λ a. a.failed ≡ false → (now : Traced FlagAnd) × StandsFor a.world a.pass a.seats.items now };
 }
 
 // A seat for each rank, in order.

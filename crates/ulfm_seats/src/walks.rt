@@ -1,7 +1,7 @@
 // Steps of one rank's call, and the lines that they tell.
 ghost use Rattle.std.specs.Prelude.{◌≡◌, ◌≢◌, ◌+◌, ◌<◌, ◌≤◌, ℕ, [], ◌∷◌, Some, false, is_some, IfOk, IsTrue, OnOk};
 ghost use Rattle.ulfm_laws.specs.{Flags.{flag_meld}, declared.flag_and.FlagAnd.{FlagAnd}};
-ghost use Rattle.ulfm_words.specs.{Pass.{plain_name}, Steps.{IsView}};
+ghost use Rattle.ulfm_words.specs.Steps.{IsView};
 ghost use Rattle.ulfm_words.specs.Steps.{view_of};
 ghost use Rattle.ulfm_trace_model.specs.Traces.{Traced};
 ghost use Rattle.ulfm_model.specs.declared.step_name.StepName.{StepName as TheStep};
@@ -27,15 +27,15 @@ fn walk_one<A: Allocator + Copy + Drop>(
     group: &mut Vec<u16, A>,
     teller: &mut Teller<A>,
 ) -> Result<(), AllocError>
-    requires of { IsView flag_meld (view_of (plain_name world.now.words.limits) pass.old) }
-    requires sits { (now : Traced FlagAnd) × Sits flag_meld (plain_name world.now.words.limits) now pass.old seat.old }
+    requires of { IsView flag_meld (view_of world.now pass.old) }
+    requires sits { (now : Traced FlagAnd) × Sits flag_meld world.now now pass.old seat.old }
     requires is_open { IsTrue (is_some seat.old.call) }
-    ensures of { IsView flag_meld (view_of (plain_name world.now.words.limits) pass.new) }
-    ensures walks { OnOk result (SeatWalks (plain_name world.now.words.limits) (next_in seat.old.call ∷ []) (stage pass.old seat.old teller.old.text.items)
+    ensures of { IsView flag_meld (view_of world.now pass.new) }
+    ensures walks { OnOk result (SeatWalks world.now (next_in seat.old.call ∷ []) (stage pass.old seat.old teller.old.text.items)
         (stage pass.new seat.new teller.new.text.items)) }
     ensures step { OnOk result (pass.new.steps ≡ pass.old.steps + 1) }
-    ensures nearer { OnOk result (IsTrue (is_some seat.new.call) → left_of (plain_name world.now.words.limits) seat.new < left_of
-        (plain_name world.now.words.limits) seat.old) }
+    ensures nearer { OnOk result (IsTrue (is_some seat.new.call) → left_of world.now seat.new < left_of
+        world.now seat.old) }
 {
     let Some(asked) = seat.asked() else {
         unreachable!()
@@ -70,10 +70,10 @@ pub(crate) fn walk_until<A: Allocator + Copy + Drop>(
     group: &mut Vec<u16, A>,
     teller: &mut Teller<A>,
 ) -> Result<u32, AllocError>
-    requires of { IsView flag_meld (view_of (plain_name world.now.words.limits) pass.old) }
-    requires sits { (now : Traced FlagAnd) × Sits flag_meld (plain_name world.now.words.limits) now pass.old seat.old }
-    ensures of { IsView flag_meld (view_of (plain_name world.now.words.limits) pass.new) }
-    ensures walks { IfOk result (λ made. WalksUntil reach made (plain_name world.now.words.limits) (stage pass.old seat.old teller.old.text.items)
+    requires of { IsView flag_meld (view_of world.now pass.old) }
+    requires sits { (now : Traced FlagAnd) × Sits flag_meld world.now now pass.old seat.old }
+    ensures of { IsView flag_meld (view_of world.now pass.new) }
+    ensures walks { IfOk result (λ made. WalksUntil reach made world.now (stage pass.old seat.old teller.old.text.items)
         (stage pass.new seat.new teller.new.text.items)) }
 {
     let mut made = 0;

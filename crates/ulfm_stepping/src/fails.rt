@@ -1,6 +1,6 @@
 // A whole declaration.
 ghost use Rattle.std.specs.Prelude.{◌≡◌, ◌+◌, ◌*◌, ◌≤◌};
-ghost use Rattle.ulfm_words.specs.{Pass.{plain_name}, Steps.{IsView}};
+ghost use Rattle.ulfm_words.specs.Steps.{IsView};
 ghost use Rattle.ulfm_words.specs.Steps.{view_of};
 ghost use Rattle.ulfm_comm.specs.{Calls.{reply_of}, Fails.{declared}};
 ghost use Rattle.ulfm_stepping.specs.Failing.{TellsFail};
@@ -18,11 +18,11 @@ pub fn fail_whole<P: Packed, A: Allocator + Copy + Drop>(
     pass: &mut PlainPass<P, A>,
     rank: u16,
 ) -> Result<bool, Refusal>
-    requires of { IsView P.meld (view_of (plain_name world.now.words.limits) pass.old) }
-    ensures of { IsView P.meld (view_of (plain_name world.now.words.limits) pass.new) }
+    requires of { IsView P.meld (view_of world.now pass.old) }
+    ensures of { IsView P.meld (view_of world.now pass.new) }
     ensures onward { pass.old.steps ≤ pass.new.steps }
-    ensures few { pass.new.steps ≤ pass.old.steps + 2 * world.now.words.limits.ranks }
-    ensures tells { TellsFail P.meld (plain_name world.now.words.limits) rank pass.old (reply_of declared result) pass.new }
+    ensures few { pass.new.steps ≤ pass.old.steps + 2 * world.now.limits.ranks }
+    ensures tells { TellsFail P.meld world.now rank pass.old (reply_of declared result) pass.new }
 {
     world.fail(pass, rank)
 }

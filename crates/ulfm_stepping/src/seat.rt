@@ -3,7 +3,7 @@ ghost use Rattle.std.specs.Prelude.{◌≡◌, ◌<◌, ◌≤◌, ◌^◌, ℕ,
 ghost use Rattle.ulfm_model.specs.{Answers.{traits_of}, History.{History, has}};
 ghost use Rattle.ulfm_model.specs.declared.event.Caller.TheVariants.{Rank as OfRank};
 ghost use Rattle.ulfm_trace_model.specs.Traces.{Traced, listed};
-ghost use Rattle.ulfm_words.specs.{Pass.{plain_name}, Steps.{IsView}};
+ghost use Rattle.ulfm_words.specs.Steps.{IsView};
 ghost use Rattle.ulfm_words.specs.Steps.{view_of};
 ghost use Rattle.ulfm_stepping.specs.Seats.{MayList, CallPollsShrink, Sits, TellsBegin, TellsPiece, asked_in, has_looked, next_in, wants_in};
 ghost use Rattle.ulfm_stepping.specs.Stepping.{is_early as early_reply, point_of as point_by};
@@ -127,7 +127,7 @@ impl<P: Packed, A: Allocator + Copy + Drop> Seat<P, A> {
     }
 
     /// Begins a call of this rank, which has none under way: its line is told, and that of its reply, where the rank was refused for
-    /// good before. It is no step.
+    /// good before. It makes no atomic step.
     pub fn begin(
         &mut self,
         world: &World<PlainWords<P>, P, A>,
@@ -136,8 +136,8 @@ impl<P: Packed, A: Allocator + Copy + Drop> Seat<P, A> {
     ) -> Option<Answer<P>>
         requires mine { (traits_of asked).by ≡ OfRank self.old.own.number }
         requires closed { self.old.call ≡ None }
-        requires of { IsView P.meld (view_of (plain_name world.now.words.limits) pass.now) }
-        ensures { TellsBegin P.meld (plain_name world.now.words.limits) self.old pass.now asked result self.new }
+        requires of { IsView P.meld (view_of world.now pass.now) }
+        ensures { TellsBegin P.meld world.now self.old pass.now asked result self.new }
     {
         let _ = world;
         let doing = self.rank.begin(asked);
@@ -169,12 +169,12 @@ impl<P: Packed, A: Allocator + Copy + Drop> Seat<P, A> {
         world: &World<PlainWords<P>, P, A>,
         pass: &mut PlainPass<P, A>,
     ) -> Result<StepTold<P>, AllocError>
-        requires of { IsView P.meld (view_of (plain_name world.now.words.limits) pass.old) }
-        requires sits { (now : Traced P) × Sits P.meld (plain_name world.now.words.limits) now pass.old self.old }
+        requires of { IsView P.meld (view_of world.now pass.old) }
+        requires sits { (now : Traced P) × Sits P.meld world.now now pass.old self.old }
         requires open { IsTrue (is_some self.old.call) }
-        ensures of { IsView P.meld (view_of (plain_name world.now.words.limits) pass.new) }
+        ensures of { IsView P.meld (view_of world.now pass.new) }
         ensures onward { pass.old.steps ≤ pass.new.steps }
-        ensures tells { IfOk result (λ told. TellsPiece P.meld (plain_name world.now.words.limits) self.old pass.old told self.new pass.new) }
+        ensures tells { IfOk result (λ told. TellsPiece P.meld world.now self.old pass.old told self.new pass.new) }
         ensures memory { OnErr result (CallPollsShrink self.old.own self.old.call) }
     {
         let Some(mut doing) = self.call.take() else {

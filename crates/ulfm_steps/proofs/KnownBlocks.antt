@@ -1,12 +1,12 @@
 -- Blocks of a round that are known to be set.
-use Rattle.std.proofs.Common.{◌≡◌, ℕ, ◌<◌, Bool, true, false, if◌then◌else◌, List, length, Option, Some, is_some, nat_lt, refl, ap, sym, ◌∙◌, subst, arith}
+use Rattle.std.proofs.Common.{◌≡◌, ℕ, ◌<◌, Bool, true, false, if◌then◌else◌, List, length, Option, Some, is_some, refl, arith}
 use Rattle.std.proofs.lemmas.Bool.Decides.{nat_tests}
 use mathlib.Core.List.{IsPrefix}
 use Rattle.ulfm_laws.specs.{declared.summary.Summary.{Summary}}
 use Rattle.ulfm_model.specs.declared.{block.Block.{Block}, block.Side.{Side}, block.Side.TheVariants.{Front, Back}}
 use Rattle.ulfm_model.specs.Blocks.{has_block, width}
 use Rattle.ulfm_model.proofs.Blocks.{has_block_stays}
-use Rattle.ulfm_steps.specs.Blocks.{AllSet, AreSet, block_at, has_back, is_whole, said_at}
+use Rattle.ulfm_steps.specs.Blocks.{AllSet, AreSet, block_at, has_back, is_whole}
 use Rattle.ulfm_steps.specs.declared.{blocks.RoundBlocks.{RoundBlocks}}
 use Rattle.ulfm_steps.proofs.InBlocks.{known_with}
 

@@ -11,3 +11,4 @@ pub mod Marking
 pub mod Appending
 pub mod Coming
 pub mod Spawning
+pub mod Passing

@@ -1,7 +1,7 @@
 -- Marking a round's declared members.
 use Rattle.std.proofs.Common.{◌≡◌, ℕ, zero, suc, ◌+◌, ◌-◌, ◌<◌, ◌≤◌, ◌==◌, Bool, true, false, cond, not, ◌||◌, ◌&&◌, List, [], ◌∷◌, ◌++◌, length, map, filter, filter_map, take, drop, slice_index_or, slice_get, Some, None, is_some, IsTrue, nat_eq, refl, ap, ap₂, sym, ◌∙◌, subst, arith, append-nil, append_assoc, length-append, if◌then◌else◌, inl, inr}
 use Rattle.std.specs.Prelude.{MatchBool}
-use Rattle.std.specs.List.{slice_index, cons_option, AllByRecursion, IsDistinct}
+use Rattle.std.specs.List.{slice_index, AllByRecursion, IsDistinct}
 use Rattle.std.proofs.lemmas.Bool.{eq-eqb, or_left, or_right, or_parts, or_from}
 use Rattle.std.proofs.lemmas.List.{map-append, take-append-drop}
 use Rattle.std.proofs.lemmas.List.Elements.{filter-append, filter_map-append}

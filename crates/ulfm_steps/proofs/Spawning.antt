@@ -1,15 +1,13 @@
 -- A decided round's communicator may be appended to the list of communicators.
-use Rattle.std.proofs.Common.{◌≡◌, ℕ, suc, ◌+◌, ◌<◌, ◌==◌, ◌&&◌, Bool, true, false, ◌||◌, List, [], ◌∷◌, length, map, Some, is_some, slice_get, refl, ap, sym, ◌∙◌, arith, IsTrue}
-use Rattle.std.specs.List.{list_all, list_any}
+use Rattle.std.proofs.Common.{◌≡◌, ℕ, suc, ◌+◌, ◌<◌, ◌==◌, ◌&&◌, Bool, true, false, ◌||◌, List, [], ◌∷◌, length, map, Some, slice_get, refl, ap, ◌∙◌, arith, IsTrue}
+use Rattle.std.specs.List.{list_any}
 use Rattle.std.proofs.lemmas.Bool.{and_parts, eqb-true}
-use Rattle.ulfm_laws.specs.{declared.summary.Body.TheVariants.{Ctx}, declared.ctx_mask.CtxMask.{CtxMask}, declared.summary.Summary.{Summary}}
+use Rattle.ulfm_laws.specs.{declared.summary.Body.TheVariants.{Ctx}, declared.ctx_mask.CtxMask.{CtxMask}}
 use Rattle.ulfm_model.specs.declared.limits.Limits.{Limits}
-use Rattle.ulfm_model.specs.{History.{Decision, Exists, History, IsLegal, decision, first_ranks, is_decided, is_made, round_among, slot, spawns}, Laws.{all_of}}
-use Rattle.ulfm_model.proofs.{Decisions.{decision_stays}, Histories.{members_stay}, Stable.{decision_is}}
-use Rattle.ulfm_model.specs.Blocks.{IsSummed}
+use Rattle.ulfm_model.specs.{History.{Decision, Exists, History, decision, is_decided, is_made, spawns}}
+use Rattle.ulfm_model.proofs.{Decisions.{decision_stays}, Histories.{members_stay}}
 use Rattle.ulfm_steps.specs.Appends.{MayAppend}
 use Rattle.ulfm_steps.specs.declared.item.Item.TheVariants.{Comm}
-use Rattle.ulfm_steps.proofs.Reading.{world_round}
 
 made_in : (xs : List (ℕ × ℕ)) (c k : ℕ) → list_any (λ made. (made.0 == c) && (made.1 == k)) xs ≡ true → (j : ℕ) × (slice_get (map (λ made. Comm made.0 made.1) xs) j ≡ Some (Comm c k))
 made_in [] c k e = absurd (cc e)

@@ -4,7 +4,7 @@ use mathlib.Core.List.{IsPrefix}
 use Rattle.ulfm_model.specs.declared.{event.Caller.{Caller}, event.Event.{Event}, event.Event.TheVariants.{Fail, Spawn}, limits.Limits.{Limits}}
 use Rattle.ulfm_model.specs.declared.{place.Place.{Place}, place.Place.TheVariants.{List as ListAt, Comm as CommAt}}
 use Rattle.ulfm_model.specs.{History.{History, IsLegal, MayFollow, failures, spawns}, Runs.{Did}}
-use Rattle.ulfm_words.specs.{Steps.{IsAdded, IsView, Sight, View}, Tries.{entry}}
+use Rattle.ulfm_words.specs.{Steps.{IsAdded, IsView, View}, Tries.{entry}}
 use Rattle.ulfm_steps.specs.Turns.{TakesFirst, left_without}
 use Rattle.ulfm_steps.specs.declared.{append.Append.{Append}, append.Appended.{Appended}, append.Appended.TheVariants.{Won, Found, Full}, item.Item.{Item}}
 use Rattle.ulfm_steps.specs.declared.{item.Item.TheVariants.{Failure, Comm}}
@@ -38,6 +38,14 @@ MayStand {P} meld limits seen item i = (more : History P) → IsPrefix seen more
 abbrev pub MayAppend : {P : Type 0} → (P → P → P) → Limits → History P → Item → Type 0
 MayAppend {P} meld limits seen item = (more : History P) → IsPrefix seen more → IsLegal meld limits more → ((j : ℕ) → slice_get (items item more) j ≢ Some item)
     → length (items item more) < room item limits → MayFollow meld limits more (event_at item (length (items item more)))
+
+-- the item may stand at its i-th place, for the caller of a view, while the list has no such place yet
+abbrev pub MayStandIn : {P : Type 0} → (P → P → P) → View P → Item → ℕ → Type 0
+MayStandIn meld view item i = MayStand meld view.words.limits view.pass.seen item i
+
+-- the item may come next, for the caller of a view, while its list has room and not this item
+abbrev pub MayAppendIn : {P : Type 0} → (P → P → P) → View P → Item → Type 0
+MayAppendIn meld view item = MayAppend meld view.words.limits view.pass.seen item
 
 -- the first places of the list, so many, have other items
 abbrev pub Passed : {P : Type 0} → History P → Item → ℕ → Type 0
@@ -77,10 +85,10 @@ abbrev pub turns_left : ℕ → Append → ℕ
 turns_left places a = 2 * (places - a.index) - (if a.empty then 1 else 0)
 
 -- the steps of an appending, the first of them at the place that is tried: an exchange after a load that found nothing, or else a load
-abbrev pub AppendTakes : {P : Type 0} → Bool → Limits → Append → Option Appended → Append → Sight P → Sight P → Type 0
-AppendTakes whole limits old end new =
-    TakesFirst whole (place_at old.item old.index) (not old.empty) (turns_left (room old.item limits) old)
-    (left_without end (turns_left (room old.item limits) new))
+abbrev pub AppendTakes : {P : Type 0} → Bool → Append → Option Appended → Append → View P → View P → Type 0
+AppendTakes whole old end new before after =
+    TakesFirst whole (place_at old.item old.index) (not old.empty) (turns_left (room old.item before.words.limits) old)
+    (left_without end (turns_left (room old.item before.words.limits) new)) before.pass after.pass
 
 -- an exchange comes next only at a place that was empty in what is seen
 abbrev pub FoundEmpty : {P : Type 0} → History P → Append → Type 0

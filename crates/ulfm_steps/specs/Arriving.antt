@@ -2,7 +2,7 @@
 use Rattle.std.specs.Prelude.{◌≡◌, ℕ, ◌-◌, ◌<◌, ◌≤◌, Bool, true, false, not, List, ◌++◌, Option, filter, length, take, slice_index, IsTrue}
 use Rattle.std.specs.List.{list_all}
 use Rattle.ulfm_model.specs.{History.{History, has, has_arrived, without}, declared.place.Place.TheVariants.{Arrival as ArrivalAt}}
-use Rattle.ulfm_words.specs.Steps.{Sight}
+use Rattle.ulfm_words.specs.Steps.{View}
 use Rattle.ulfm_steps.specs.{Among.{Among}, Turns.{TakesFirst, left_without}}
 use Rattle.ulfm_steps.specs.declared.arrivals.{Arrivals.{Arrivals}, Missing.{Missing}, Missing.TheVariants.{Nobody, Others, Declared}}
 
@@ -68,7 +68,7 @@ abbrev pub arrivals_left : List ℕ → List ℕ → Arrivals → ℕ
 arrivals_left group declared a = length (in_order group declared) - length (asked_before group declared a.others a.next)
 
 -- the loads of a reading of arrivals, the first of them of the next member's place
-abbrev pub ArrivalsTake : {P : Type 0} → Bool → Among → Arrivals → Option Missing → Arrivals → Sight P → Sight P → Type 0
-ArrivalsTake whole ranks old found new =
+abbrev pub ArrivalsTake : {P : Type 0} → Bool → Among → Arrivals → Option Missing → Arrivals → View P → View P → Type 0
+ArrivalsTake whole ranks old found new before after =
     TakesFirst whole (ArrivalAt old.comm old.round (rank_at ranks.group ranks.declared old.others old.next)) true
-    (arrivals_left ranks.group ranks.declared old) (left_without found (arrivals_left ranks.group ranks.declared new))
+    (arrivals_left ranks.group ranks.declared old) (left_without found (arrivals_left ranks.group ranks.declared new)) before.pass after.pass

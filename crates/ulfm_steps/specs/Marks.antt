@@ -6,7 +6,7 @@ use Rattle.ulfm_model.specs.declared.{contribution.MarkCount.{MarkCount}, event.
 use Rattle.ulfm_model.specs.declared.{event.Event.TheVariants.{Mark}, limits.Limits.{Limits}, place.Place.TheVariants.{Slot as SlotAt}}
 use Rattle.ulfm_model.specs.{History.{History, entries_by, failures, has, slot}, Runs.{Did}}
 use Rattle.ulfm_model.specs.Terms.{settled_by}
-use Rattle.ulfm_words.specs.Steps.{IsAdded, IsView, Sight, View}
+use Rattle.ulfm_words.specs.Steps.{IsAdded, IsView, View}
 use Rattle.ulfm_steps.specs.{Among.{Among}, Rounds.{IsRoundOf, RoundOn, round_on}, Turns.{TakesFirst}}
 use Rattle.ulfm_steps.specs.declared.mark_all.MarkAll.{MarkAll}
 
@@ -44,6 +44,10 @@ pub record MayMarkAll {P : Type 0} (limits : Limits) (h : History P) (c k : ℕ)
   pub round : IsRoundOf limits h c k group
   pub begins : IsPrefix declared (failures h)
 
+-- as a view's pass has seen it, the round is one of these members', and these ranks are the first that were declared
+abbrev pub MayMarkAllIn : {P : Type 0} → View P → ℕ → ℕ → List ℕ → List ℕ → Type 0
+MayMarkAllIn view c k group declared = MayMarkAll view.words.limits view.pass.seen c k group declared
+
 -- the members among the first so many of these ranks
 abbrev pub members_in : List ℕ → List ℕ → ℕ → List ℕ
 members_in group declared n = filter (has group) (take n declared)
@@ -72,6 +76,7 @@ abbrev pub marks_left : List ℕ → List ℕ → ℕ → ℕ
 marks_left group declared at = length (filter (has group) declared) - length (members_in group declared at)
 
 -- the exchanges of a marking, the first of them of the next member's place
-abbrev pub MarksTake : {P : Type 0} → Bool → List ℕ → List ℕ → MarkAll → MarkAll → Sight P → Sight P → Type 0
-MarksTake whole group declared old new =
+abbrev pub MarksTake : {P : Type 0} → Bool → List ℕ → List ℕ → MarkAll → MarkAll → View P → View P → Type 0
+MarksTake whole group declared old new before after =
     TakesFirst whole (SlotAt old.comm old.round (slice_index declared old.next)) false (marks_left group declared old.next) (marks_left group declared new.next)
+    before.pass after.pass

@@ -3,7 +3,7 @@ use Rattle.std.specs.Prelude.{◌≡◌, ℕ, ◌-◌, ◌<◌, ◌≤◌, Bool,
 use Rattle.std.specs.List.Sorted.{IsStrictlyIncreasing}
 use mathlib.Core.List.{IsPrefix}
 use Rattle.ulfm_model.specs.{History.{has}, declared.limits.Limits.{Limits}, declared.place.Place.TheVariants.{List as ListAt}}
-use Rattle.ulfm_words.specs.Steps.{Sight}
+use Rattle.ulfm_words.specs.Steps.{Sight, View}
 use Rattle.ulfm_steps.specs.{Turns.{TakesFirst}, declared.read_on.ReadOn.{ReadOn}}
 
 -- of the list of failures this beginning was seen, and the list has so many members of the group
@@ -30,3 +30,7 @@ pub record ReadsOn (group : List ℕ) (count : ℕ) (old new whole : List ℕ) (
 -- the loads of a reading on, the first of them of the place past what was seen: one at most for each rank that wasn't
 abbrev pub ReadOnTakes : {P : Type 0} → Bool → Limits → List ℕ → List ℕ → Sight P → Sight P → Type 0
 ReadOnTakes whole limits seen new = TakesFirst whole (ListAt (length seen)) true (limits.ranks - length seen) (limits.ranks - length new)
+
+-- the loads of a reading on, which lead from one view to another
+abbrev pub ReadOnTakesIn : {P : Type 0} → Bool → List ℕ → List ℕ → View P → View P → Type 0
+ReadOnTakesIn whole seen new before after = ReadOnTakes whole before.words.limits seen new before.pass after.pass

@@ -1,8 +1,8 @@
 // Appending an item to a list that fills from the front, unless it is there: at each place a load and, where nothing stands,
 // an exchange. A place that was passed has another item for good, so the first place that is empty is the next one.
 ghost use Rattle.std.specs.Prelude.{◌≡◌, ◌<◌, ◌≤◌, ◌+◌, ◌*◌, ◌-◌, false, MatchOption};
-ghost use Rattle.ulfm_words.specs.Steps.{view_of, IsView, Goes};
-ghost use Rattle.ulfm_steps.specs.Appends.{wanted, AppendTakes, Appends, FoundEmpty, HasRound, MayAppend, Passed, room};
+ghost use Rattle.ulfm_words.specs.Steps.{view_of, IsView, Goes, limits_in, seen_in};
+ghost use Rattle.ulfm_steps.specs.Appends.{wanted, AppendTakes, Appends, FoundEmpty, HasRound, Passed, room, MayAppendIn};
 
 use crate::item::Item;
 use crate::items::{load_item, room_for, set_item};
@@ -55,19 +55,20 @@ impl Append {
         pass: &mut W::Pass,
     ) -> Option<Appended>
         requires of { IsView P.meld (view_of (W.name words.now) (W.sight pass.old)) }
-        requires may { MayAppend P.meld (W.name words.now).limits (W.sight pass.old).seen self.old.item }
-        requires round { HasRound (W.name words.now).limits self.old.item }
-        requires passed { Passed (W.sight pass.old).seen self.old.item self.old.index }
-        requires more { self.old.index < room self.old.item (W.name words.now).limits }
+        requires may { MayAppendIn P.meld (view_of (W.name words.now) (W.sight pass.old)) self.old.item }
+        requires round { HasRound (limits_in (view_of (W.name words.now) (W.sight pass.old))) self.old.item }
+        requires passed { Passed (seen_in (view_of (W.name words.now) (W.sight pass.old))) self.old.item self.old.index }
+        requires more { self.old.index < room self.old.item (limits_in (view_of (W.name words.now) (W.sight pass.old))) }
         ensures same { (self.new.item ≡ self.old.item) × (self.new.by ≡ self.old.by) }
         ensures goes { MatchOption result (Goes P.meld W.alone false 1 (view_of (W.name words.now) (W.sight pass.old))
             (view_of (W.name words.now) (W.sight pass.new)))
             (λ a. Appends P.meld W.alone (wanted self.old.item self.old.by) 1 (view_of (W.name words.now) (W.sight pass.old)) a
             (view_of (W.name words.now) (W.sight pass.new))) }
-        ensures takes { AppendTakes false (W.name words.now).limits self.old result self.new (W.sight pass.old) (W.sight pass.new) }
-        ensures passed { MatchOption result (Passed (W.sight pass.new).seen self.old.item self.new.index) (λ _. Unit {0}) }
-        ensures empty { MatchOption result (FoundEmpty (W.sight pass.new).seen self.new) (λ _. Unit {0}) }
-        ensures within { MatchOption result (self.new.index < room self.old.item (W.name words.now).limits) (λ _. Unit {0}) }
+        ensures takes { AppendTakes false self.old result self.new (view_of (W.name words.now) (W.sight pass.old))
+            (view_of (W.name words.now) (W.sight pass.new)) }
+        ensures passed { MatchOption result (Passed (seen_in (view_of (W.name words.now) (W.sight pass.new))) self.old.item self.new.index) (λ _. Unit {0}) }
+        ensures empty { MatchOption result (FoundEmpty (seen_in (view_of (W.name words.now) (W.sight pass.new))) self.new) (λ _. Unit {0}) }
+        ensures within { MatchOption result (self.new.index < room self.old.item (limits_in (view_of (W.name words.now) (W.sight pass.old)))) (λ _. Unit {0}) }
     {
         let standing = if self.empty {
             match set_item(words, pass, self.by, self.item, self.index) {
@@ -104,19 +105,20 @@ impl Append {
         whole: bool,
     ) -> Option<Appended>
         requires of { IsView P.meld (view_of (W.name words.now) (W.sight pass.old)) }
-        requires may { MayAppend P.meld (W.name words.now).limits (W.sight pass.old).seen self.old.item }
-        requires round { HasRound (W.name words.now).limits self.old.item }
-        requires passed { Passed (W.sight pass.old).seen self.old.item self.old.index }
-        requires more { self.old.index < room self.old.item (W.name words.now).limits }
+        requires may { MayAppendIn P.meld (view_of (W.name words.now) (W.sight pass.old)) self.old.item }
+        requires round { HasRound (limits_in (view_of (W.name words.now) (W.sight pass.old))) self.old.item }
+        requires passed { Passed (seen_in (view_of (W.name words.now) (W.sight pass.old))) self.old.item self.old.index }
+        requires more { self.old.index < room self.old.item (limits_in (view_of (W.name words.now) (W.sight pass.old))) }
         ensures same { (self.new.item ≡ self.old.item) × (self.new.by ≡ self.old.by) }
-        ensures goes { MatchOption result (Goes P.meld W.alone false (2 * room self.old.item (W.name words.now).limits)
+        ensures goes { MatchOption result (Goes P.meld W.alone false (2 * room self.old.item (limits_in (view_of (W.name words.now) (W.sight pass.old))))
             (view_of (W.name words.now) (W.sight pass.old)) (view_of (W.name words.now) (W.sight pass.new)))
-            (λ a. Appends P.meld W.alone (wanted self.old.item self.old.by) (2 * room self.old.item (W.name words.now).limits)
+            (λ a. Appends P.meld W.alone (wanted self.old.item self.old.by) (2 * room self.old.item (limits_in (view_of (W.name words.now) (W.sight pass.old))))
             (view_of (W.name words.now) (W.sight pass.old)) a (view_of (W.name words.now) (W.sight pass.new))) }
-        ensures takes { AppendTakes whole (W.name words.now).limits self.old result self.new (W.sight pass.old) (W.sight pass.new) }
-        ensures passed { MatchOption result (Passed (W.sight pass.new).seen self.old.item self.new.index) (λ _. Unit {0}) }
-        ensures empty { MatchOption result (FoundEmpty (W.sight pass.new).seen self.new) (λ _. Unit {0}) }
-        ensures within { MatchOption result (self.new.index < room self.old.item (W.name words.now).limits) (λ _. Unit {0}) }
+        ensures takes { AppendTakes whole self.old result self.new (view_of (W.name words.now) (W.sight pass.old))
+            (view_of (W.name words.now) (W.sight pass.new)) }
+        ensures passed { MatchOption result (Passed (seen_in (view_of (W.name words.now) (W.sight pass.new))) self.old.item self.new.index) (λ _. Unit {0}) }
+        ensures empty { MatchOption result (FoundEmpty (seen_in (view_of (W.name words.now) (W.sight pass.new))) self.new) (λ _. Unit {0}) }
+        ensures within { MatchOption result (self.new.index < room self.old.item (limits_in (view_of (W.name words.now) (W.sight pass.old)))) (λ _. Unit {0}) }
         ensures done { MatchOption result (whole ≡ false) (λ _. Unit {0}) }
     {
         loop {
@@ -135,11 +137,11 @@ impl Append {
         pass: &mut W::Pass,
     ) -> Appended
         requires of { IsView P.meld (view_of (W.name words.now) (W.sight pass.old)) }
-        requires may { MayAppend P.meld (W.name words.now).limits (W.sight pass.old).seen self.item }
-        requires round { HasRound (W.name words.now).limits self.item }
-        requires passed { Passed (W.sight pass.old).seen self.item self.index }
-        requires within { self.index ≤ room self.item (W.name words.now).limits }
-        ensures { Appends P.meld W.alone (wanted self.item self.by) (2 * room self.item (W.name words.now).limits)
+        requires may { MayAppendIn P.meld (view_of (W.name words.now) (W.sight pass.old)) self.item }
+        requires round { HasRound (limits_in (view_of (W.name words.now) (W.sight pass.old))) self.item }
+        requires passed { Passed (seen_in (view_of (W.name words.now) (W.sight pass.old))) self.item self.index }
+        requires within { self.index ≤ room self.item (limits_in (view_of (W.name words.now) (W.sight pass.old))) }
+        ensures { Appends P.meld W.alone (wanted self.item self.by) (2 * room self.item (limits_in (view_of (W.name words.now) (W.sight pass.old))))
             (view_of (W.name words.now) (W.sight pass.old)) result (view_of (W.name words.now) (W.sight pass.new)) }
     {
         let places = room_for(self.item, words.limits());

@@ -6,9 +6,9 @@ ghost use Rattle.std.specs.List.{list_all};
 ghost use Rattle.std.specs.List.Sorted.{IsStrictlyIncreasing};
 ghost use Rattle.ulfm_model.specs.History.{has_arrived};
 ghost use Rattle.ulfm_words.specs.Places.{IsCell};
-ghost use Rattle.ulfm_words.specs.Steps.{view_of, IsView, Goes};
+ghost use Rattle.ulfm_words.specs.Steps.{view_of, IsView, Goes, limits_in, seen_in, steps_in};
 ghost use Rattle.ulfm_steps.specs.Arriving.{ArrivalsTake, AtArrival, IsAsked, IsNextOther, IsPosition, MissingAre, asked_before, asked_members, asks, in_order};
-ghost use Rattle.ulfm_steps.specs.Rounds.{IsRoundOf};
+ghost use Rattle.ulfm_steps.specs.Rounds.{IsRoundIn};
 ghost use Rattle.ulfm_steps.specs.Among.{among};
 
 use crate::group::{has_rank, is_member};
@@ -75,11 +75,12 @@ fn is_there<P: Packed, A: Allocator, W: Words<P, A>>(
     asked: bool,
 ) -> bool
     requires of { IsView P.meld (view_of (W.name words.now) (W.sight pass.old)) }
-    requires within { asked ≡ true → IsCell (W.name words.now).limits comm round rank }
+    requires within { asked ≡ true → IsCell (limits_in (view_of (W.name words.now) (W.sight pass.old))) comm round rank }
     ensures goes { Goes P.meld W.alone false 1 (view_of (W.name words.now) (W.sight pass.old)) (view_of (W.name words.now) (W.sight pass.new)) }
-    ensures steps { (W.sight pass.new).steps ≡ (W.sight pass.old).steps + (if asked then 1 else 0) }
-    ensures arrived { MatchBool result (asked ≡ true → has_arrived (W.sight pass.new).seen comm round rank ≡ true) ((asked ≡ true)
-        × (has_arrived (W.sight pass.new).seen comm round rank ≡ false)) }
+    ensures steps { steps_in (view_of (W.name words.now) (W.sight pass.new))
+        ≡ steps_in (view_of (W.name words.now) (W.sight pass.old)) + (if asked then 1 else 0) }
+    ensures arrived { MatchBool result (asked ≡ true → has_arrived (seen_in (view_of (W.name words.now) (W.sight pass.new))) comm round rank ≡ true)
+        ((asked ≡ true) × (has_arrived (seen_in (view_of (W.name words.now) (W.sight pass.new))) comm round rank ≡ false)) }
 {
     if !asked {
         return true;
@@ -100,13 +101,16 @@ fn arrived_from<P: Packed, A: Allocator, W: Words<P, A>>(
     start: usize,
 ) -> bool
     requires of { IsView P.meld (view_of (W.name words.now) (W.sight pass.old)) }
-    requires round { IsRoundOf (W.name words.now).limits (W.sight pass.old).seen comm round group.now }
+    requires round { IsRoundIn (view_of (W.name words.now) (W.sight pass.old)) comm round group.now }
     requires within { IsPosition group.now declared.now others start }
-    requires before { list_all (has_arrived (W.sight pass.old).seen comm round) (asked_before group.now declared.now others start) ≡ true }
+    requires before { list_all (has_arrived (seen_in (view_of (W.name words.now) (W.sight pass.old))) comm round)
+        (asked_before group.now declared.now others start) ≡ true }
     ensures goes { Goes P.meld W.alone false (length (asked_members group.now declared.now others) - length (asked_before group.now declared.now others start))
         (view_of (W.name words.now) (W.sight pass.old)) (view_of (W.name words.now) (W.sight pass.new)) }
-    ensures more { IsAsked group.now declared.now others start → (W.sight pass.old).steps < (W.sight pass.new).steps }
-    ensures arrived { result ≡ list_all (has_arrived (W.sight pass.new).seen comm round) (asked_members group.now declared.now others) }
+    ensures more { IsAsked group.now declared.now others start
+        → steps_in (view_of (W.name words.now) (W.sight pass.old)) < steps_in (view_of (W.name words.now) (W.sight pass.new)) }
+    ensures arrived { result ≡ list_all (has_arrived (seen_in (view_of (W.name words.now) (W.sight pass.new))) comm round)
+        (asked_members group.now declared.now others) }
 {
     let ranks = if others { group } else { declared };
     for at in start..ranks.len() {
@@ -174,16 +178,18 @@ impl Arrivals {
         declared: &[u16],
     ) -> Option<Missing>
         requires of { IsView P.meld (view_of (W.name words.now) (W.sight pass.old)) }
-        requires round { IsRoundOf (W.name words.now).limits (W.sight pass.old).seen self.old.comm self.old.round group.now }
-        requires at { AtArrival group.now declared.now self.old (W.sight pass.old).seen }
+        requires round { IsRoundIn (view_of (W.name words.now) (W.sight pass.old)) self.old.comm self.old.round group.now }
+        requires at { AtArrival group.now declared.now self.old (seen_in (view_of (W.name words.now) (W.sight pass.old))) }
         ensures goes { Goes P.meld W.alone false 1 (view_of (W.name words.now) (W.sight pass.old)) (view_of (W.name words.now) (W.sight pass.new)) }
-        ensures takes { ArrivalsTake false (among group.now declared.now) self.old result self.new (W.sight pass.old) (W.sight pass.new) }
+        ensures takes { ArrivalsTake false (among group.now declared.now) self.old result self.new (view_of (W.name words.now) (W.sight pass.old))
+            (view_of (W.name words.now) (W.sight pass.new)) }
         ensures comm { self.new.comm ≡ self.old.comm }
         ensures round { self.new.round ≡ self.old.round }
         ensures further { MatchOption result (length (asked_before group.now declared.now self.new.others self.new.next) ≡ length
             (asked_before group.now declared.now self.old.others self.old.next) + 1) (λ _. Unit {0}) }
-        ensures at { MatchOption result (AtArrival group.now declared.now self.new (W.sight pass.new).seen) (λ _. Unit {0}) }
-        ensures are { IfSome result (λ m. MissingAre (W.sight pass.new).seen self.old.comm self.old.round group.now declared.now m) }
+        ensures at { MatchOption result (AtArrival group.now declared.now self.new (seen_in (view_of (W.name words.now) (W.sight pass.new)))) (λ _. Unit {0}) }
+        ensures are { IfSome result (λ m. MissingAre (seen_in (view_of (W.name words.now) (W.sight pass.new))) self.old.comm self.old.round group.now
+            declared.now m) }
     {
         let rank = if self.others {
             group[self.next]
@@ -215,18 +221,20 @@ impl Arrivals {
         whole: bool,
     ) -> Option<Missing>
         requires of { IsView P.meld (view_of (W.name words.now) (W.sight pass.old)) }
-        requires round { IsRoundOf (W.name words.now).limits (W.sight pass.old).seen self.old.comm self.old.round group.now }
-        requires at { AtArrival group.now declared.now self.old (W.sight pass.old).seen }
+        requires round { IsRoundIn (view_of (W.name words.now) (W.sight pass.old)) self.old.comm self.old.round group.now }
+        requires at { AtArrival group.now declared.now self.old (seen_in (view_of (W.name words.now) (W.sight pass.old))) }
         ensures goes { Goes P.meld W.alone false (length (in_order group.now declared.now) - length
             (asked_before group.now declared.now self.old.others self.old.next)) (view_of (W.name words.now) (W.sight pass.old))
             (view_of (W.name words.now) (W.sight pass.new)) }
-        ensures takes { ArrivalsTake whole (among group.now declared.now) self.old result self.new (W.sight pass.old) (W.sight pass.new) }
+        ensures takes { ArrivalsTake whole (among group.now declared.now) self.old result self.new (view_of (W.name words.now) (W.sight pass.old))
+            (view_of (W.name words.now) (W.sight pass.new)) }
         ensures comm { self.new.comm ≡ self.old.comm }
         ensures round { self.new.round ≡ self.old.round }
         ensures further { MatchOption result (length (asked_before group.now declared.now self.new.others self.new.next) ≡ length
             (asked_before group.now declared.now self.old.others self.old.next) + 1) (λ _. Unit {0}) }
-        ensures at { MatchOption result (AtArrival group.now declared.now self.new (W.sight pass.new).seen) (λ _. Unit {0}) }
-        ensures are { IfSome result (λ m. MissingAre (W.sight pass.new).seen self.old.comm self.old.round group.now declared.now m) }
+        ensures at { MatchOption result (AtArrival group.now declared.now self.new (seen_in (view_of (W.name words.now) (W.sight pass.new)))) (λ _. Unit {0}) }
+        ensures are { IfSome result (λ m. MissingAre (seen_in (view_of (W.name words.now) (W.sight pass.new))) self.old.comm self.old.round group.now
+            declared.now m) }
         ensures done { MatchOption result (whole ≡ false) (λ _. Unit {0}) }
     {
         if whole {
@@ -245,12 +253,12 @@ impl Arrivals {
         declared: &[u16],
     ) -> Missing
         requires of { IsView P.meld (view_of (W.name words.now) (W.sight pass.old)) }
-        requires round { IsRoundOf (W.name words.now).limits (W.sight pass.old).seen self.comm self.round group.now }
-        requires at { AtArrival group.now declared.now self (W.sight pass.old).seen }
+        requires round { IsRoundIn (view_of (W.name words.now) (W.sight pass.old)) self.comm self.round group.now }
+        requires at { AtArrival group.now declared.now self (seen_in (view_of (W.name words.now) (W.sight pass.old))) }
         ensures goes { Goes P.meld W.alone false (length (in_order group.now declared.now) - length (asked_before group.now declared.now self.others self.next))
             (view_of (W.name words.now) (W.sight pass.old)) (view_of (W.name words.now) (W.sight pass.new)) }
-        ensures more { (W.sight pass.old).steps < (W.sight pass.new).steps }
-        ensures are { MissingAre (W.sight pass.new).seen self.comm self.round group.now declared.now result }
+        ensures more { steps_in (view_of (W.name words.now) (W.sight pass.old)) < steps_in (view_of (W.name words.now) (W.sight pass.new)) }
+        ensures are { MissingAre (seen_in (view_of (W.name words.now) (W.sight pass.new))) self.comm self.round group.now declared.now result }
     {
         let mut start = self.next;
         if !self.others {

@@ -8,7 +8,7 @@ ghost use Rattle.ulfm_model.specs.declared.block.Side.TheVariants.{Front, Back};
 ghost use Rattle.ulfm_steps.specs.Blocks.{BothTell, FindsSet, MayPeek, MayReadBlocks, PeeksOn, ReadsBlocks, MembersTell};
 ghost use Rattle.ulfm_steps.specs.Blocks.{has_back as is_apart, is_whole, said_at, starts_at};
 ghost use Rattle.ulfm_steps.specs.Turns.{running};
-ghost use Rattle.ulfm_words.specs.Steps.{view_of};
+ghost use Rattle.ulfm_words.specs.Steps.{view_of, cached_in};
 
 use std::alloc::Allocator;
 use ulfm_laws::meld::{Meld, Packed};
@@ -121,7 +121,7 @@ impl<P: Packed> Peek<P> {
             (running self.new (view_of (W.name words.now) (W.sight pass.new))) }
         ensures next { result ≡ false → (self.old.side ≡ Front) × (self.new.side ≡ Back) × (is_apart (length group.now) ≡ true) }
         ensures last { result ≡ true → self.old.side ≡ Front → is_apart (length group.now) ≡ false }
-        ensures back { self.old.side ≡ Back → FindsSet (W.sight pass.old).cached self.new Back }
+        ensures back { self.old.side ≡ Back → FindsSet (cached_in (view_of (W.name words.now) (W.sight pass.old))) self.new Back }
     {
         let block = Block {
             comm: self.comm,

@@ -1,6 +1,7 @@
-ghost use Rattle.std.specs.Prelude.{◌≡◌, IfOk};
+// Groups of ranks, and which of their members are declared.
+ghost use Rattle.std.specs.Prelude.{◌≡◌, ◌<◌, ◌≤◌, [], IfOk, OnErr, OnOk, filter, length, vec_capacity};
 ghost use Rattle.std.specs.List.Sorted.{IsStrictlyIncreasing};
-ghost use Rattle.ulfm_model.specs.History.{first_ranks as all_below, has};
+ghost use Rattle.ulfm_model.specs.History.{first_ranks as all_below, has, without};
 
 use std::alloc::{AllocError, Allocator};
 
@@ -35,4 +36,64 @@ pub fn first_ranks<A: Allocator + Copy>(alloc: A, ranks: u16) -> Result<Vec<u16,
         group.push(rank)?;
     }
     Ok(group)
+}
+
+/// How many of these ranks are in the group, whose ranks rise.
+#[inline(never)]
+pub fn count_in(group: &[u16], ranks: &[u16]) -> usize
+    requires { IsStrictlyIncreasing group.now }
+    ensures { result ≡ length (filter (has group.now) ranks.now) }
+{
+    ranks.iter().filter(|rank| is_member(group, **rank)).count()
+}
+
+/// Makes room in a vector for those of these ranks that are in the group, whose ranks rise. Where it has room for all of them,
+/// nobody is counted. It fails only where memory is refused. The vector keeps its items.
+pub fn make_room<B: Allocator>(
+    group: &[u16],
+    ranks: &[u16],
+    found: &mut Vec<u16, B>,
+) -> Result<(), AllocError>
+    requires { IsStrictlyIncreasing group.now }
+    ensures kept { found.new.items ≡ found.old.items }
+    ensures room { OnOk result (length (filter (has group.now) ranks.now) ≤ vec_capacity found.new) }
+    ensures lacks { OnErr result (vec_capacity found.old < length (filter (has group.now) ranks.now)) }
+{
+    if ranks.len() <= found.capacity() {
+        return Ok(());
+    }
+    let count = count_in(group, ranks);
+    found.reserve(count.saturating_sub(found.len()))
+}
+
+/// Puts those of these ranks into a vector that are in the group, whose ranks rise, in their order. It has room for them.
+#[inline(never)]
+pub fn put_in<B: Allocator>(group: &[u16], ranks: &[u16], found: &mut Vec<u16, B>)
+    requires rises { IsStrictlyIncreasing group.now }
+    requires empty { found.old.items ≡ [] }
+    requires room { length (filter (has group.now) ranks.now) ≤ vec_capacity found.old }
+    ensures { found.new.items ≡ filter (has group.now) ranks.now }
+{
+    for rank in ranks {
+        if is_member(group, *rank) {
+            let _ = found.push(*rank);
+        }
+    }
+}
+
+/// The ranks of a group that aren't among the others, in their order. It fails only where memory is refused.
+pub fn without<A: Allocator + Copy>(
+    alloc: A,
+    group: &[u16],
+    others: &[u16],
+) -> Result<Vec<u16, A>, AllocError>
+    ensures { IfOk result (λ left. left.items ≡ without group.now others.now) }
+{
+    let mut left = Vec::with_capacity(alloc, group.len())?;
+    for rank in group {
+        if !has_rank(others, *rank) {
+            left.push(*rank)?;
+        }
+    }
+    Ok(left)
 }

@@ -1,7 +1,7 @@
 ghost use Rattle.std.specs.Prelude.{◌≡◌, ◌<◌, Some, is_ok, slice_get, MatchResult};
-ghost use Rattle.ulfm_words.specs.Steps.{view_of, IsView, Loads};
+ghost use Rattle.ulfm_words.specs.Steps.{view_of, IsView, Loads, limits_in, seen_in};
 ghost use Rattle.ulfm_words.specs.Tries.{attempt, Tries, entry};
-ghost use Rattle.ulfm_steps.specs.Appends.{items, room, place_at, event_at, HasRound, MayStand};
+ghost use Rattle.ulfm_steps.specs.Appends.{items, room, place_at, event_at, HasRound, MayStandIn};
 
 use crate::item::Item;
 use std::alloc::Allocator;
@@ -30,10 +30,10 @@ pub(crate) fn load_item<P: Packed, A: Allocator, W: Words<P, A>>(
     index: u16,
 ) -> Option<Item>
     requires of { IsView P.meld (view_of (W.name words.now) (W.sight pass.old)) }
-    requires within { index < room item (W.name words.now).limits }
+    requires within { index < room item (limits_in (view_of (W.name words.now) (W.sight pass.old))) }
     ensures loads { Loads P.meld P.pack W.alone (place_at item index) (view_of (W.name words.now) (W.sight pass.old))
         (view_of (W.name words.now) (W.sight pass.new)) }
-    ensures stands { result ≡ slice_get (items item (W.sight pass.new).seen) index }
+    ensures stands { result ≡ slice_get (items item (seen_in (view_of (W.name words.now) (W.sight pass.new)))) index }
 {
     match item {
         Item::Failure { .. } => match load_failure(words, pass, index) {
@@ -56,13 +56,13 @@ pub(crate) fn set_item<P: Packed, A: Allocator, W: Words<P, A>>(
     index: u16,
 ) -> Result<(), Item>
     requires of { IsView P.meld (view_of (W.name words.now) (W.sight pass.old)) }
-    requires within { index < room item (W.name words.now).limits }
-    requires may { MayStand P.meld (W.name words.now).limits (W.sight pass.old).seen item index }
-    requires round { HasRound (W.name words.now).limits item }
+    requires within { index < room item (limits_in (view_of (W.name words.now) (W.sight pass.old))) }
+    requires may { MayStandIn P.meld (view_of (W.name words.now) (W.sight pass.old)) item index }
+    requires round { HasRound (limits_in (view_of (W.name words.now) (W.sight pass.old))) item }
     ensures tries { Tries P.meld P.pack W.alone (attempt (place_at item index) (entry by (event_at item index))) (is_ok result)
         (view_of (W.name words.now) (W.sight pass.old)) (view_of (W.name words.now) (W.sight pass.new)) }
-    ensures stands { MatchResult result (λ _. slice_get (items item (W.sight pass.new).seen) index ≡ Some item)
-        (λ x. slice_get (items item (W.sight pass.new).seen) index ≡ Some x) }
+    ensures stands { MatchResult result (λ _. slice_get (items item (seen_in (view_of (W.name words.now) (W.sight pass.new)))) index ≡ Some item)
+        (λ x. slice_get (items item (seen_in (view_of (W.name words.now) (W.sight pass.new)))) index ≡ Some x) }
 {
     match item {
         Item::Failure { rank } => match set_failure(words, pass, by, index, rank) {

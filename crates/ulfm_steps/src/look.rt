@@ -2,8 +2,8 @@
 // begins the list from the load on that found it; at its end the list is that and no more.
 ghost use Rattle.std.specs.Prelude.{◌≡◌, ◌+◌, ◌<◌, ◌≤◌, [], false, true, vec_capacity, vec_len, if◌then◌else◌};
 ghost use Rattle.ulfm_model.specs.History.{failures};
-ghost use Rattle.ulfm_words.specs.Steps.{view_of, IsView, Goes};
-ghost use Rattle.ulfm_steps.specs.Looks.{LookIs, LookTakes};
+ghost use Rattle.ulfm_words.specs.Steps.{view_of, IsView, Goes, limits_in, seen_in};
+ghost use Rattle.ulfm_steps.specs.Looks.{LookIsIn, LookTakesIn};
 
 use std::alloc::Allocator;
 use ulfm_laws::meld::Packed;
@@ -37,11 +37,12 @@ impl Look {
     )
         requires of { IsView P.meld (view_of (W.name words.now) (W.sight pass.old)) }
         requires going { self.old.done ≡ false }
-        requires look { LookIs (W.name words.now).limits false found.old.items (W.sight pass.old).seen }
-        requires room { (W.name words.now).limits.ranks ≤ vec_capacity found.old }
+        requires look { LookIsIn (view_of (W.name words.now) (W.sight pass.old)) false found.old.items }
+        requires room { (limits_in (view_of (W.name words.now) (W.sight pass.old))).ranks ≤ vec_capacity found.old }
         ensures goes { Goes P.meld W.alone false 1 (view_of (W.name words.now) (W.sight pass.old)) (view_of (W.name words.now) (W.sight pass.new)) }
-        ensures takes { LookTakes false (W.name words.now).limits found.old.items self.new.done found.new.items (W.sight pass.old) (W.sight pass.new) }
-        ensures look { LookIs (W.name words.now).limits self.new.done found.new.items (W.sight pass.new).seen }
+        ensures takes { LookTakesIn false found.old.items self.new.done found.new.items (view_of (W.name words.now) (W.sight pass.old))
+            (view_of (W.name words.now) (W.sight pass.new)) }
+        ensures look { LookIsIn (view_of (W.name words.now) (W.sight pass.new)) self.new.done found.new.items }
         ensures further { self.new.done ≡ false → vec_len found.new ≡ vec_len found.old + 1 }
         ensures room { vec_capacity found.old ≤ vec_capacity found.new }
     {
@@ -66,12 +67,13 @@ impl Look {
     )
         requires of { IsView P.meld (view_of (W.name words.now) (W.sight pass.old)) }
         requires going { self.old.done ≡ false }
-        requires look { LookIs (W.name words.now).limits false found.old.items (W.sight pass.old).seen }
-        requires room { (W.name words.now).limits.ranks ≤ vec_capacity found.old }
-        ensures goes { Goes P.meld W.alone false (if whole then (W.name words.now).limits.ranks else 1) (view_of (W.name words.now) (W.sight pass.old))
+        requires look { LookIsIn (view_of (W.name words.now) (W.sight pass.old)) false found.old.items }
+        requires room { (limits_in (view_of (W.name words.now) (W.sight pass.old))).ranks ≤ vec_capacity found.old }
+        ensures goes { Goes P.meld W.alone false (if whole then (limits_in (view_of (W.name words.now) (W.sight pass.old))).ranks else 1)
+            (view_of (W.name words.now) (W.sight pass.old)) (view_of (W.name words.now) (W.sight pass.new)) }
+        ensures takes { LookTakesIn whole found.old.items self.new.done found.new.items (view_of (W.name words.now) (W.sight pass.old))
             (view_of (W.name words.now) (W.sight pass.new)) }
-        ensures takes { LookTakes whole (W.name words.now).limits found.old.items self.new.done found.new.items (W.sight pass.old) (W.sight pass.new) }
-        ensures look { LookIs (W.name words.now).limits self.new.done found.new.items (W.sight pass.new).seen }
+        ensures look { LookIsIn (view_of (W.name words.now) (W.sight pass.new)) self.new.done found.new.items }
         ensures further { self.new.done ≡ false → vec_len found.new ≡ vec_len found.old + 1 }
         ensures done { whole ≡ true → self.new.done ≡ true }
         ensures room { vec_capacity found.old ≤ vec_capacity found.new }
@@ -94,11 +96,11 @@ impl Look {
     )
         requires of { IsView P.meld (view_of (W.name words.now) (W.sight pass.old)) }
         requires going { self.done ≡ false }
-        requires look { LookIs (W.name words.now).limits false found.old.items (W.sight pass.old).seen }
-        requires room { (W.name words.now).limits.ranks ≤ vec_capacity found.old }
-        ensures goes { Goes P.meld W.alone false (W.name words.now).limits.ranks (view_of (W.name words.now) (W.sight pass.old))
-            (view_of (W.name words.now) (W.sight pass.new)) }
-        ensures found { found.new.items ≡ failures (W.sight pass.new).seen }
+        requires look { LookIsIn (view_of (W.name words.now) (W.sight pass.old)) false found.old.items }
+        requires room { (limits_in (view_of (W.name words.now) (W.sight pass.old))).ranks ≤ vec_capacity found.old }
+        ensures goes { Goes P.meld W.alone false (limits_in (view_of (W.name words.now) (W.sight pass.old))).ranks
+            (view_of (W.name words.now) (W.sight pass.old)) (view_of (W.name words.now) (W.sight pass.new)) }
+        ensures found { found.new.items ≡ failures (seen_in (view_of (W.name words.now) (W.sight pass.new))) }
         ensures room { vec_capacity found.old ≤ vec_capacity found.new }
     {
         self.advance(words, pass, found, true);

@@ -2,8 +2,8 @@
 // or before it, stays as it is.
 ghost use Rattle.std.specs.Prelude.{◌≡◌, ◌<◌, ◌≤◌, ◌+◌, ◌++◌, ◌∷◌, [], false, true, length, slice_index};
 ghost use Rattle.std.specs.List.Sorted.{IsStrictlyIncreasing};
-ghost use Rattle.ulfm_words.specs.Steps.{view_of, IsView};
-ghost use Rattle.ulfm_steps.specs.Marks.{HasMarked, MarksOnce, MarksTake, MarkSteps, MayMarkAll, members_in, IsNext, IsAt};
+ghost use Rattle.ulfm_words.specs.Steps.{view_of, IsView, seen_in};
+ghost use Rattle.ulfm_steps.specs.Marks.{HasMarked, MarksOnce, MarksTake, MarkSteps, members_in, IsNext, IsAt, MayMarkAllIn};
 ghost use Rattle.ulfm_steps.specs.Among.{among};
 ghost use Rattle.ulfm_steps.specs.Rounds.{round_on};
 
@@ -71,10 +71,11 @@ impl MarkAll {
         declared: &[u16],
     )
         requires of { IsView P.meld (view_of (W.name words.now) (W.sight pass.old)) }
-        requires may { MayMarkAll (W.name words.now).limits (W.sight pass.old).seen self.old.comm self.old.round group.now declared.now }
+        requires may { MayMarkAllIn (view_of (W.name words.now) (W.sight pass.old)) self.old.comm self.old.round group.now declared.now }
         requires at { IsAt group.now declared.now self.old.next self.old.known }
         requires more { self.old.next < length declared.now }
-        ensures takes { MarksTake false group.now declared.now self.old self.new (W.sight pass.old) (W.sight pass.new) }
+        ensures takes { MarksTake false group.now declared.now self.old self.new (view_of (W.name words.now) (W.sight pass.old))
+            (view_of (W.name words.now) (W.sight pass.new)) }
         ensures rank { self.new.rank ≡ self.old.rank }
         ensures comm { self.new.comm ≡ self.old.comm }
         ensures round { self.new.round ≡ self.old.round }
@@ -82,8 +83,8 @@ impl MarkAll {
         ensures onward { self.old.next < self.new.next }
         ensures further { members_in group.now declared.now self.new.next ≡ members_in group.now declared.now self.old.next ++ slice_index declared.now
             self.old.next ∷ [] }
-        ensures once { MarksOnce W.alone self.old.rank self.old.comm self.old.round (slice_index declared.now self.old.next) (W.sight pass.old).seen
-            (W.sight pass.new).seen }
+        ensures once { MarksOnce W.alone self.old.rank self.old.comm self.old.round (slice_index declared.now self.old.next)
+            (seen_in (view_of (W.name words.now) (W.sight pass.old))) (seen_in (view_of (W.name words.now) (W.sight pass.new))) }
         ensures marks { MarkSteps P.meld W.alone self.old.rank (round_on self.old.comm self.old.round) (slice_index declared.now self.old.next ∷ [])
             (view_of (W.name words.now) (W.sight pass.old)) (view_of (W.name words.now) (W.sight pass.new)) }
     {
@@ -108,10 +109,11 @@ impl MarkAll {
         whole: bool,
     )
         requires of { IsView P.meld (view_of (W.name words.now) (W.sight pass.old)) }
-        requires may { MayMarkAll (W.name words.now).limits (W.sight pass.old).seen self.old.comm self.old.round group.now declared.now }
+        requires may { MayMarkAllIn (view_of (W.name words.now) (W.sight pass.old)) self.old.comm self.old.round group.now declared.now }
         requires at { IsAt group.now declared.now self.old.next self.old.known }
         requires more { self.old.next < length declared.now }
-        ensures takes { MarksTake whole group.now declared.now self.old self.new (W.sight pass.old) (W.sight pass.new) }
+        ensures takes { MarksTake whole group.now declared.now self.old self.new (view_of (W.name words.now) (W.sight pass.old))
+            (view_of (W.name words.now) (W.sight pass.new)) }
         ensures rank { self.new.rank ≡ self.old.rank }
         ensures comm { self.new.comm ≡ self.old.comm }
         ensures round { self.new.round ≡ self.old.round }
@@ -119,8 +121,8 @@ impl MarkAll {
         ensures onward { self.old.next < self.new.next }
         ensures done { whole ≡ true → self.new.next ≡ length declared.now }
         ensures once { whole ≡ false
-            → MarksOnce W.alone self.old.rank self.old.comm self.old.round (slice_index declared.now self.old.next) (W.sight pass.old).seen
-            (W.sight pass.new).seen }
+            → MarksOnce W.alone self.old.rank self.old.comm self.old.round (slice_index declared.now self.old.next)
+            (seen_in (view_of (W.name words.now) (W.sight pass.old))) (seen_in (view_of (W.name words.now) (W.sight pass.new))) }
         ensures marks { HasMarked P.meld W.alone self.old (among group.now declared.now) self.new.next (view_of (W.name words.now) (W.sight pass.old))
             (view_of (W.name words.now) (W.sight pass.new)) }
     {
@@ -142,7 +144,7 @@ impl MarkAll {
         declared: &[u16],
     )
         requires of { IsView P.meld (view_of (W.name words.now) (W.sight pass.old)) }
-        requires may { MayMarkAll (W.name words.now).limits (W.sight pass.old).seen self.comm self.round group.now declared.now }
+        requires may { MayMarkAllIn (view_of (W.name words.now) (W.sight pass.old)) self.comm self.round group.now declared.now }
         requires at { IsAt group.now declared.now self.next self.known }
         ensures marks { HasMarked P.meld W.alone self (among group.now declared.now) (length declared.now) (view_of (W.name words.now) (W.sight pass.old))
             (view_of (W.name words.now) (W.sight pass.new)) }

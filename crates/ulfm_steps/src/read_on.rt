@@ -4,8 +4,8 @@ ghost use Rattle.std.specs.Prelude.{◌≡◌, ◌==◌, ◌<◌, ◌≤◌, ◌
 ghost use Rattle.std.specs.List.Sorted.{IsStrictlyIncreasing};
 ghost use mathlib.Core.List.{IsPrefix};
 ghost use Rattle.ulfm_model.specs.History.{failures};
-ghost use Rattle.ulfm_words.specs.Steps.{view_of, IsView, Goes};
-ghost use Rattle.ulfm_steps.specs.ReadsOn.{AtFailure, MayReadOn, ReadOnTakes};
+ghost use Rattle.ulfm_words.specs.Steps.{view_of, IsView, Goes, limits_in, seen_in, steps_in};
+ghost use Rattle.ulfm_steps.specs.ReadsOn.{AtFailure, MayReadOn, ReadOnTakesIn};
 
 use crate::group::is_member;
 use std::alloc::Allocator;
@@ -58,16 +58,17 @@ impl ReadOn {
         seen: &mut Vec<u16, B>,
     )
         requires of { IsView P.meld (view_of (W.name words.now) (W.sight pass.old)) }
-        requires may { MayReadOn group.now count seen.old.items (failures (W.sight pass.old).seen) }
+        requires may { MayReadOn group.now count seen.old.items (failures (seen_in (view_of (W.name words.now) (W.sight pass.old)))) }
         requires at { AtFailure group.now count self.old seen.old.items }
         requires more { self.old.found < count }
-        requires room { (W.name words.now).limits.ranks ≤ vec_capacity seen.old }
+        requires room { (limits_in (view_of (W.name words.now) (W.sight pass.old))).ranks ≤ vec_capacity seen.old }
         ensures goes { Goes P.meld W.alone false 1 (view_of (W.name words.now) (W.sight pass.old)) (view_of (W.name words.now) (W.sight pass.new)) }
-        ensures takes { ReadOnTakes false (W.name words.now).limits seen.old.items seen.new.items (W.sight pass.old) (W.sight pass.new) }
+        ensures takes { ReadOnTakesIn false seen.old.items seen.new.items (view_of (W.name words.now) (W.sight pass.old))
+            (view_of (W.name words.now) (W.sight pass.new)) }
         ensures at { AtFailure group.now count self.new seen.new.items }
         ensures further { vec_len seen.new ≡ vec_len seen.old + 1 }
         ensures goes_on { IsPrefix seen.old.items seen.new.items }
-        ensures begins { IsPrefix seen.new.items (failures (W.sight pass.new).seen) }
+        ensures begins { IsPrefix seen.new.items (failures (seen_in (view_of (W.name words.now) (W.sight pass.new)))) }
         ensures room { vec_capacity seen.old ≤ vec_capacity seen.new }
     {
         let Some(rank) = load_failure(words, pass, seen.len() as u16) else {
@@ -90,17 +91,19 @@ impl ReadOn {
         whole: bool,
     )
         requires of { IsView P.meld (view_of (W.name words.now) (W.sight pass.old)) }
-        requires may { MayReadOn group.now count seen.old.items (failures (W.sight pass.old).seen) }
+        requires may { MayReadOn group.now count seen.old.items (failures (seen_in (view_of (W.name words.now) (W.sight pass.old)))) }
         requires at { AtFailure group.now count self.old seen.old.items }
         requires more { self.old.found < count }
-        requires room { (W.name words.now).limits.ranks ≤ vec_capacity seen.old }
-        ensures goes { Goes P.meld W.alone false (W.name words.now).limits.ranks (view_of (W.name words.now) (W.sight pass.old))
+        requires room { (limits_in (view_of (W.name words.now) (W.sight pass.old))).ranks ≤ vec_capacity seen.old }
+        ensures goes { Goes P.meld W.alone false (limits_in (view_of (W.name words.now) (W.sight pass.old))).ranks
+            (view_of (W.name words.now) (W.sight pass.old)) (view_of (W.name words.now) (W.sight pass.new)) }
+        ensures takes { ReadOnTakesIn whole seen.old.items seen.new.items (view_of (W.name words.now) (W.sight pass.old))
             (view_of (W.name words.now) (W.sight pass.new)) }
-        ensures takes { ReadOnTakes whole (W.name words.now).limits seen.old.items seen.new.items (W.sight pass.old) (W.sight pass.new) }
         ensures at { AtFailure group.now count self.new seen.new.items }
-        ensures further { (W.sight pass.new).steps + vec_len seen.old ≡ (W.sight pass.old).steps + vec_len seen.new }
+        ensures further { steps_in (view_of (W.name words.now) (W.sight pass.new)) + vec_len seen.old
+            ≡ steps_in (view_of (W.name words.now) (W.sight pass.old)) + vec_len seen.new }
         ensures goes_on { IsPrefix seen.old.items seen.new.items }
-        ensures begins { IsPrefix seen.new.items (failures (W.sight pass.new).seen) }
+        ensures begins { IsPrefix seen.new.items (failures (seen_in (view_of (W.name words.now) (W.sight pass.new)))) }
         ensures room { vec_capacity seen.old ≤ vec_capacity seen.new }
         ensures done { whole ≡ true → self.new.found ≡ count }
     {

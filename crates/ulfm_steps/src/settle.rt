@@ -5,9 +5,9 @@ ghost use Rattle.ulfm_model.specs.declared.contribution.Slot.TheVariants.{Given}
 ghost use Rattle.ulfm_model.specs.declared.event.Caller.TheVariants.{Rank as ByRank};
 ghost use Rattle.ulfm_model.specs.declared.event.Event.TheVariants.{Settle as Settled};
 ghost use Rattle.ulfm_model.specs.declared.place.Place.TheVariants.{Slot as SlotAt};
-ghost use Rattle.ulfm_words.specs.Steps.{view_of, IsView};
+ghost use Rattle.ulfm_words.specs.Steps.{view_of, IsView, seen_in};
 ghost use Rattle.ulfm_words.specs.Tries.{attempt, Tries, entry};
-ghost use Rattle.ulfm_steps.specs.Settles.{MayGive};
+ghost use Rattle.ulfm_steps.specs.Settles.{MayGiveIn};
 
 use std::alloc::Allocator;
 use ulfm_laws::meld::Packed;
@@ -32,12 +32,13 @@ impl<P: Packed> Settle<P> {
         pass: &mut W::Pass,
     ) -> Result<(), Slot<P>>
         requires of { IsView P.meld (view_of (W.name words.now) (W.sight pass.old)) }
-        requires may { MayGive (W.name words.now).limits (W.sight pass.old).seen self.now.comm self.now.round self.now.rank self.now.given }
+        requires may { MayGiveIn (view_of (W.name words.now) (W.sight pass.old)) self.now.comm self.now.round self.now.rank self.now.given }
         ensures tries { Tries P.meld P.pack W.alone (attempt (SlotAt self.now.comm self.now.round self.now.rank)
             (entry (ByRank self.now.rank) (Settled self.now.comm self.now.round self.now.rank self.now.given))) (is_ok result)
             (view_of (W.name words.now) (W.sight pass.old)) (view_of (W.name words.now) (W.sight pass.new)) }
-        ensures stands { MatchResult result (λ _. slot (W.sight pass.new).seen self.now.comm self.now.round self.now.rank ≡ Some (Given self.now.given))
-            (λ s. slot (W.sight pass.new).seen self.now.comm self.now.round self.now.rank ≡ Some s) }
+        ensures stands { MatchResult result
+            (λ _. slot (seen_in (view_of (W.name words.now) (W.sight pass.new))) self.now.comm self.now.round self.now.rank ≡ Some (Given self.now.given))
+            (λ s. slot (seen_in (view_of (W.name words.now) (W.sight pass.new))) self.now.comm self.now.round self.now.rank ≡ Some s) }
     {
         let put = Slot::Given(self.given);
         let by = Caller::Rank(self.rank);
@@ -51,12 +52,13 @@ impl<P: Packed> Settle<P> {
         pass: &mut W::Pass,
     ) -> Result<(), Slot<P>>
         requires of { IsView P.meld (view_of (W.name words.now) (W.sight pass.old)) }
-        requires may { MayGive (W.name words.now).limits (W.sight pass.old).seen self.comm self.round self.rank self.given }
+        requires may { MayGiveIn (view_of (W.name words.now) (W.sight pass.old)) self.comm self.round self.rank self.given }
         ensures tries { Tries P.meld P.pack W.alone (attempt (SlotAt self.comm self.round self.rank)
             (entry (ByRank self.rank) (Settled self.comm self.round self.rank self.given))) (is_ok result) (view_of (W.name words.now) (W.sight pass.old))
             (view_of (W.name words.now) (W.sight pass.new)) }
-        ensures stands { MatchResult result (λ _. slot (W.sight pass.new).seen self.comm self.round self.rank ≡ Some (Given self.given))
-            (λ s. slot (W.sight pass.new).seen self.comm self.round self.rank ≡ Some s) }
+        ensures stands { MatchResult result
+            (λ _. slot (seen_in (view_of (W.name words.now) (W.sight pass.new))) self.comm self.round self.rank ≡ Some (Given self.given))
+            (λ s. slot (seen_in (view_of (W.name words.now) (W.sight pass.new))) self.comm self.round self.rank ≡ Some s) }
     {
         self.step(words, pass)
     }

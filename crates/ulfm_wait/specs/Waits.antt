@@ -2,7 +2,7 @@
 use Rattle.std.specs.Prelude.{◌≡◌, ◌⊎◌, ℕ, zero, suc, Bool, Some, IfOk, Result, Ok, Err}
 use Rattle.ulfm_model.specs.declared.{call.Call.{Call}, limits.Limits.{Limits}, refusal.Refusal.{Refusal}, reply.Reply.{Reply}}
 use Rattle.ulfm_model.specs.{History.{History}, Records.{Held, Record, held_at}}
-use Rattle.ulfm_words.specs.Steps.{view_of, Name, Sight}
+use Rattle.ulfm_words.specs.Steps.{view_of, Sight, View}
 use Rattle.ulfm_comm.specs.{Calls.{Calls}, Polls.{IsNotPending, PollIs, polled}}
 use Rattle.ulfm_comm.specs.declared.calls.polled.Polled.{Polled}
 use Rattle.ulfm_comm.specs.Local.{Local, local}
@@ -65,6 +65,10 @@ pub record TellsAgree {P : Type 0} (meld : P → P → P) (limits : Limits) (h :
   pub held : held_at old c ≡ Some x
   pub decision : IsDecision meld limits h c x.next_agreement (polled reply)
   pub gave : Gave h c x.next_agreement old.number value
+
+-- the same as a view has seen it
+abbrev pub AgreeIsTold : {P : Type 0} → (P → P → P) → ℕ → P → Record → View P → Polled P → Type 0
+AgreeIsTold meld c value old view reply = TellsAgree meld view.words.limits view.pass.seen c value old reply
 
 -- what a shrink tells that was answered: what was made of the rank's next round, of which the rank is a member
 pub record TellsShrink {P : Type 0} (meld : P → P → P) (limits : Limits) (h : History P) (c : ℕ) (old : Record) (reply : Polled P) : Type 0 where

@@ -2,12 +2,12 @@
 ghost use Rattle.std.specs.Prelude.{◌≡◌, true, false, IfOk, None, Some, Ok};
 ghost use Rattle.futures.specs.Task.{Covers, Keeps};
 ghost use Rattle.futures.specs.Poll.{IfReady, OnPending};
-ghost use Rattle.ulfm_model.specs.Records.{Fits};
 ghost use Rattle.ulfm_model.specs.declared.call.Call.TheVariants.{Agree};
 ghost use Rattle.ulfm_words.specs.Steps.{view_of, IsView};
 ghost use Rattle.ulfm_comm.specs.declared.calls.polled.Polled.TheVariants.{Pending as StillPending};
 ghost use Rattle.ulfm_wait.specs.Turns.{FutureEnds, FutureGives, Pends, TakesAgreeTurn, member_of};
-ghost use Rattle.ulfm_wait.specs.Waits.{MemberWaits, TellsAgree};
+ghost use Rattle.ulfm_comm.specs.Local.{local, FitsView};
+ghost use Rattle.ulfm_wait.specs.Waits.{AgreeIsTold, MemberWaits};
 
 use futures::Future;
 use futures::task::{Context, Poll};
@@ -45,11 +45,11 @@ impl<'a, W: Words<P, A>, P: Packed, A: Allocator> Model for AgreeFuture<'a, W, P
 
     ghost view = { λ f. record {
       agree = record { comm = f.comm; value = f.value; started = f.started };
-      held = option_map (λ s. member_of (W.name f.world.now.words) s.1 (W.sight s.0)) f.held;
+      held = option_map (λ s. member_of f.world.now s.1 (W.sight s.0)) f.held;
     } };
 
     ghost invariant = { λ f. IfSome f.held (λ s. FutureHolds P.meld (record { comm = f.comm; value = f.value; started = f.started })
-        (member_of (W.name f.world.now.words) s.1 (W.sight s.0))) };
+        (member_of f.world.now s.1 (W.sight s.0))) };
 }
 
 impl<'a, W: Words<P, A>, P: Packed, A: Allocator + Copy> AgreeFuture<'a, W, P, A> {
@@ -75,18 +75,18 @@ impl<'a, W: Words<P, A>, P: Packed, A: Allocator + Copy> AgreeFuture<'a, W, P, A
         comm: u16,
         value: P,
     ) -> AgreeFuture<'a, W, P, A>
-        requires of { IsView P.meld (view_of (W.name world.now.words) (W.sight pass)) }
-        requires fits { Fits P.meld (W.name world.now.words).limits (W.sight pass).seen rank.own }
+        requires of { IsView P.meld (view_of world.now (W.sight pass)) }
+        requires fits { FitsView P.meld (local rank.own (view_of world.now (W.sight pass))) }
         ensures fresh { result ≡ record {
           agree = record { comm = comm; value = value; started = false };
-          held = Some (member_of (W.name world.now.words) rank (W.sight pass));
+          held = Some (member_of world.now rank (W.sight pass));
         } }
         ensures may { ⟦<AgreeFuture<'a, W, P, A> as Future>⟧.can_poll result }
         ensures gives { (out : _) → ⟦<AgreeFuture<'a, W, P, A> as Future>⟧.gives result out
-            → MemberWaits P.meld W.alone comm (Agree rank.own.number comm value) (member_of (W.name world.now.words) rank (W.sight pass)) out.2
-            (member_of (W.name world.now.words) out.1 (W.sight out.0)) }
+            → MemberWaits P.meld W.alone comm (Agree rank.own.number comm value) (member_of world.now rank (W.sight pass)) out.2
+            (member_of world.now out.1 (W.sight out.0)) }
         ensures tells { (out : _) → ⟦<AgreeFuture<'a, W, P, A> as Future>⟧.gives result out
-            → IfOk out.2 (TellsAgree P.meld (W.name world.now.words).limits (W.sight out.0).seen comm value rank.own) }
+            → IfOk out.2 (AgreeIsTold P.meld comm value rank.own (view_of world.now (W.sight out.0))) }
     {
         AgreeFuture {
             world,
@@ -161,10 +161,10 @@ fn step<W: Words<P, A>, P: Packed, A: Allocator + Copy>(
     value: P,
     started: bool,
 ) -> Result<Polled<P>, Refusal>
-    requires of { IsView P.meld (view_of (W.name world.now.words) (W.sight pass.old)) }
-    requires fits { Fits P.meld (W.name world.now.words).limits (W.sight pass.old).seen rank.old.own }
+    requires of { IsView P.meld (view_of world.now (W.sight pass.old)) }
+    requires fits { FitsView P.meld (local rank.old.own (view_of world.now (W.sight pass.old))) }
     ensures { TakesAgreeTurn P.meld W.alone (record { comm = comm; value = value; started = started })
-        (member_of (W.name world.now.words) rank.old (W.sight pass.old)) result (member_of (W.name world.now.words) rank.new (W.sight pass.new)) }
+        (member_of world.now rank.old (W.sight pass.old)) result (member_of world.now rank.new (W.sight pass.new)) }
 {
     if started {
         return rank.poll(world, pass, comm);

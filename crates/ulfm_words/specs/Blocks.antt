@@ -4,7 +4,7 @@ use mathlib.Core.List.{IsPrefix}
 use Rattle.ulfm_laws.specs.declared.{summary.Body.{Body}, summary.Body.TheVariants.{Unit as Nothing, Flag as OfFlags, Ctx as OfIds, Clash}}
 use Rattle.ulfm_laws.specs.declared.summary.Summary.{Summary}
 use Rattle.ulfm_model.specs.declared.{block.Block.{Block}, contribution.Slot.{Slot}}
-use Rattle.ulfm_model.specs.{Blocks.{IsCached, IsSide, IsSummed, block_of, block_word, has_block}, History.{Exists, History, members}, Laws.{all_of}}
+use Rattle.ulfm_model.specs.{Blocks.{IsBlock, IsCached, IsSide, IsSummed, block_of, block_word, has_block}, History.{Exists, History, members}, Laws.{all_of}}
 use Rattle.ulfm_model.specs.Runs.{Did}
 use Rattle.ulfm_words.specs.declared.{step.Site.{Site}}
 use Rattle.ulfm_words.specs.{Slots.{IsExact, acked_in, known_in, payload_in, tag_in}, Steps.{IsView, View, found}}
@@ -85,6 +85,14 @@ pub record BlockSays {P : Type 0} (meld : P → P → P) (ranks : ℕ) (h : Hist
   pub exists : Exists h b.comm
   pub side : IsSide b.side (members ranks h b.comm)
   pub summed : IsSummed meld h b.comm b.round (block_of b.side (members ranks h b.comm)) all
+
+-- as a view's pass has seen it, the round has the block, and this is what its members say together
+abbrev pub BlockSaysIn : {P : Type 0} → (P → P → P) → View P → Block → Summary P → Type 0
+BlockSaysIn meld view b = BlockSays meld view.words.limits.ranks view.pass.seen b
+
+-- .. and this is the word of what they say together
+abbrev pub IsBlockIn : {P : Type 0} → (P → P → P) → (P → ℕ) → View P → Block → ℕ → Type 0
+IsBlockIn meld pack view b word = IsBlock meld pack view.words.limits.ranks view.pass.seen b word
 
 -- one atomic load of a block, and whether it is set
 pub record Peeks {P : Type 0} (meld : P → P → P) (alone : Bool) (block : Block) (set : Bool) (old new : View P) : Type 0 where

@@ -38,6 +38,26 @@ pub record View (P : Type 0) : Type 0 where
 abbrev pub view_of : {P : Type 0} → Name → Sight P → View P
 view_of words pass = record { words = words; pass = pass }
 
+-- the limits that a view's words were opened with
+abbrev pub limits_in : {P : Type 0} → View P → Limits
+limits_in view = view.words.limits
+
+-- the history that a view's pass has seen
+abbrev pub seen_in : {P : Type 0} → View P → History P
+seen_in view = view.pass.seen
+
+-- the blocks that a view's pass knows to be set
+abbrev pub cached_in : {P : Type 0} → View P → List Block
+cached_in view = view.pass.cached
+
+-- how many atomic steps a view's pass has made
+abbrev pub steps_in : {P : Type 0} → View P → ℕ
+steps_in view = view.pass.steps
+
+-- a view's pass was made by the view's own words
+abbrev pub IsOwnPass : {P : Type 0} → View P → Type 0
+IsOwnPass view = view.pass.name ≡ view.words
+
 -- a view's pass was made by the view's own words, whose limits may be opened, and what the pass has seen is a legal history
 pub record IsView {P : Type 0} (meld : P → P → P) (view : View P) : Type 0 where
   pub name_is : view.pass.name ≡ view.words
@@ -113,6 +133,10 @@ pub record Coding (P : Type 0) : Type 0 where
 abbrev pub coding : {P : Type 0} → (P → ℕ) → (ℕ → Option P) → Coding P
 coding pack unpack = record { pack = pack; unpack = unpack }
 
+-- the caller of a view may try an exchange of this step
+abbrev pub MaySetIn : {P : Type 0} → (P → P → P) → Coding P → View P → Step → Type 0
+MaySetIn meld by view s = MaySet meld by.pack by.unpack view.words.limits view.pass.seen s
+
 -- one compare-exchange of the word at a place, from 0
 pub record Sets {P : Type 0} (meld : P → P → P) (by : Coding P) (alone : Bool) (s : Step) (old : View P) (result : Result (Unit {0}) ℕ) (new : View P)
     : Type 0 where
@@ -130,6 +154,10 @@ pub record Tells {P : Type 0} (tells_all : Bool) (view : View P) (told : Heard P
   pub seen : IsPrefix told.seen view.pass.seen
   pub cached : IsPrefix told.cached view.pass.cached
   pub all : IsTrue tells_all → (told.seen ≡ view.pass.seen) × (told.cached ≡ view.pass.cached)
+
+-- a told value is of a view's own words
+abbrev pub IsOwnTold : {P : Type 0} → View P → Heard P → Type 0
+IsOwnTold view told = told.name ≡ view.words
 
 -- a pass learns a told value, without an atomic step: what it has seen and knows then begins with what was told
 pub record Learns {P : Type 0} (meld : P → P → P) (alone : Bool) (told : Heard P) (old new : View P) : Type 0 where

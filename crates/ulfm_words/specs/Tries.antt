@@ -54,3 +54,23 @@ MayArrive {P} meld limits seen c k r =
 abbrev pub MayEnd : {P : Type 0} → (P → P → P) → Limits → History P → ℕ → Type 0
 MayEnd {P} meld limits seen c =
     (more : History P) → IsPrefix seen more → IsLegal meld limits more → is_revoked more c ≡ false → MayFollow meld limits more (Revoke c)
+
+-- the caller of a view may declare the rank at this place of the list of failures
+abbrev pub MayDeclareIn : {P : Type 0} → (P → P → P) → View P → ℕ → ℕ → Type 0
+MayDeclareIn meld view i r = MayDeclare meld view.words.limits view.pass.seen i r
+
+-- .. may settle the member so
+abbrev pub MayPutIn : {P : Type 0} → (P → P → P) → View P → ℕ → ℕ → ℕ → Slot P → Type 0
+MayPutIn meld view c k r put = MayPut meld view.words.limits view.pass.seen c k r put
+
+-- .. may make the communicator of this round
+abbrev pub MayMakeIn : {P : Type 0} → (P → P → P) → View P → ℕ → ℕ → ℕ → Type 0
+MayMakeIn meld view j c k = MayMake meld view.words.limits view.pass.seen j c k
+
+-- .. may set the member's arrival
+abbrev pub MayArriveIn : {P : Type 0} → (P → P → P) → View P → ℕ → ℕ → ℕ → Type 0
+MayArriveIn meld view c k r = MayArrive meld view.words.limits view.pass.seen c k r
+
+-- .. may revoke the communicator
+abbrev pub MayEndIn : {P : Type 0} → (P → P → P) → View P → ℕ → Type 0
+MayEndIn meld view c = MayEnd meld view.words.limits view.pass.seen c

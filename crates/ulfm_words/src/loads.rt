@@ -6,9 +6,9 @@ ghost use Rattle.ulfm_model.specs.Laws.{summary_of};
 ghost use Rattle.ulfm_model.specs.declared.contribution.Slot.{Slot};
 ghost use Rattle.ulfm_model.specs.Terms.{made_at};
 ghost use Rattle.ulfm_model.specs.declared.place.Place.TheVariants.{List as ListAt, Comm as CommAt, Revoked as RevokedAt, Slot as SlotAt, Arrival as ArrivalAt};
-ghost use Rattle.ulfm_words.specs.Blocks.{Peeks, BlockSays};
+ghost use Rattle.ulfm_words.specs.Blocks.{Peeks, BlockSaysIn};
 ghost use Rattle.ulfm_words.specs.Places.{IsCell, IsWithin};
-ghost use Rattle.ulfm_words.specs.Steps.{view_of, IsView, Loads};
+ghost use Rattle.ulfm_words.specs.Steps.{view_of, IsView, Loads, limits_in, seen_in};
 
 use crate::summaries::said_in;
 use crate::words::Words;
@@ -26,10 +26,10 @@ pub fn load_failure<P: Packed, A: Allocator, W: Words<P, A>>(
     index: u16,
 ) -> Option<u16>
     requires of { IsView P.meld (view_of (W.name words.now) (W.sight pass.old)) }
-    requires within { index < (W.name words.now).limits.ranks }
+    requires within { index < (limits_in (view_of (W.name words.now) (W.sight pass.old))).ranks }
     ensures loads { Loads P.meld P.pack W.alone (ListAt index) (view_of (W.name words.now) (W.sight pass.old)) (view_of (W.name words.now) (W.sight pass.new)) }
-    ensures rank { result ≡ slice_get (failures (W.sight pass.new).seen) index }
-    ensures below { IfSome result (λ r. r < (W.name words.now).limits.ranks) }
+    ensures rank { result ≡ slice_get (failures (seen_in (view_of (W.name words.now) (W.sight pass.new)))) index }
+    ensures below { IfSome result (λ r. r < (limits_in (view_of (W.name words.now) (W.sight pass.old))).ranks) }
 {
     let word = words.load(pass, Place::List { index });
     if word == 0 {
@@ -48,11 +48,11 @@ pub fn load_summary<P: Packed, A: Allocator, W: Words<P, A>>(
     rank: u16,
 ) -> Option<Summary<P>>
     requires of { IsView P.meld (view_of (W.name words.now) (W.sight pass.old)) }
-    requires within { IsCell (W.name words.now).limits comm round rank }
+    requires within { IsCell (limits_in (view_of (W.name words.now) (W.sight pass.old))) comm round rank }
     ensures loads { Loads P.meld P.pack W.alone (SlotAt comm round rank) (view_of (W.name words.now) (W.sight pass.old))
         (view_of (W.name words.now) (W.sight pass.new)) }
-    ensures summary { MatchOption result (slot (W.sight pass.new).seen comm round rank ≡ None) (λ all. (s : Slot P)
-        × (slot (W.sight pass.new).seen comm round rank ≡ Some s) × (all ≡ summary_of s)) }
+    ensures summary { MatchOption result (slot (seen_in (view_of (W.name words.now) (W.sight pass.new))) comm round rank ≡ None) (λ all. (s : Slot P)
+        × (slot (seen_in (view_of (W.name words.now) (W.sight pass.new))) comm round rank ≡ Some s) × (all ≡ summary_of s)) }
 {
     let word = words.load(pass, Place::Slot { comm, round, rank });
     if word == 0 {
@@ -69,9 +69,9 @@ pub fn load_comm<P: Packed, A: Allocator, W: Words<P, A>>(
     comm: u16,
 ) -> Option<(u16, u16)>
     requires of { IsView P.meld (view_of (W.name words.now) (W.sight pass.old)) }
-    requires within { IsWithin (W.name words.now).limits (CommAt comm) }
+    requires within { IsWithin (limits_in (view_of (W.name words.now) (W.sight pass.old))) (CommAt comm) }
     ensures loads { Loads P.meld P.pack W.alone (CommAt comm) (view_of (W.name words.now) (W.sight pass.old)) (view_of (W.name words.now) (W.sight pass.new)) }
-    ensures made { result ≡ made_at (W.sight pass.new).seen comm }
+    ensures made { result ≡ made_at (seen_in (view_of (W.name words.now) (W.sight pass.new))) comm }
 {
     let word = words.load(pass, Place::Comm { comm });
     if word == 0 {
@@ -87,9 +87,10 @@ pub fn load_revocation<P: Packed, A: Allocator, W: Words<P, A>>(
     comm: u16,
 ) -> bool
     requires of { IsView P.meld (view_of (W.name words.now) (W.sight pass.old)) }
-    requires within { comm < (W.name words.now).limits.comms }
-    ensures loads { Loads P.meld P.pack W.alone (RevokedAt comm) (view_of (W.name words.now) (W.sight pass.old)) (view_of (W.name words.now) (W.sight pass.new)) }
-    ensures revoked { result ≡ is_revoked (W.sight pass.new).seen comm }
+    requires within { comm < (limits_in (view_of (W.name words.now) (W.sight pass.old))).comms }
+    ensures loads { Loads P.meld P.pack W.alone (RevokedAt comm) (view_of (W.name words.now) (W.sight pass.old))
+        (view_of (W.name words.now) (W.sight pass.new)) }
+    ensures revoked { result ≡ is_revoked (seen_in (view_of (W.name words.now) (W.sight pass.new))) comm }
 {
     words.load(pass, Place::Revoked { comm }) != 0
 }
@@ -103,10 +104,10 @@ pub fn load_arrival<P: Packed, A: Allocator, W: Words<P, A>>(
     rank: u16,
 ) -> bool
     requires of { IsView P.meld (view_of (W.name words.now) (W.sight pass.old)) }
-    requires within { IsCell (W.name words.now).limits comm round rank }
+    requires within { IsCell (limits_in (view_of (W.name words.now) (W.sight pass.old))) comm round rank }
     ensures loads { Loads P.meld P.pack W.alone (ArrivalAt comm round rank) (view_of (W.name words.now) (W.sight pass.old))
         (view_of (W.name words.now) (W.sight pass.new)) }
-    ensures arrived { result ≡ has_arrived (W.sight pass.new).seen comm round rank }
+    ensures arrived { result ≡ has_arrived (seen_in (view_of (W.name words.now) (W.sight pass.new))) comm round rank }
 {
     words.load(pass, Place::Arrival { comm, round, rank }) != 0
 }
@@ -119,9 +120,10 @@ pub fn load_said<P: Packed, A: Allocator, W: Words<P, A>>(
     block: Block,
 ) -> Option<Summary<P>>
     requires of { IsView P.meld (view_of (W.name words.now) (W.sight pass.old)) }
-    requires within { IsBlockWithin (W.name words.now).limits block }
-    ensures peeks { Peeks P.meld W.alone block (is_some result) (view_of (W.name words.now) (W.sight pass.old)) (view_of (W.name words.now) (W.sight pass.new)) }
-    ensures said { IfSome result (BlockSays P.meld (W.name words.now).limits.ranks (W.sight pass.new).seen block) }
+    requires within { IsBlockWithin (limits_in (view_of (W.name words.now) (W.sight pass.old))) block }
+    ensures peeks { Peeks P.meld W.alone block (is_some result) (view_of (W.name words.now) (W.sight pass.old))
+        (view_of (W.name words.now) (W.sight pass.new)) }
+    ensures said { IfSome result (BlockSaysIn P.meld (view_of (W.name words.now) (W.sight pass.new)) block) }
 {
     let word = words.load_block(pass, block);
     if word == 0 {

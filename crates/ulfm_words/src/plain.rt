@@ -1,11 +1,11 @@
 // Words of one owner, and the passes over them: each pass is a memory of its own.
 ghost use Rattle.std.specs.Prelude.{◌≡◌, ◌≤◌, ◌%◌, ◌^◌, ◌++◌, ◌∷◌, [], true, false, IfOk, MatchOption, MatchResult, length};
-ghost use Rattle.ulfm_model.specs.Blocks.{IsBlock, IsBlockWithin};
+ghost use Rattle.ulfm_model.specs.Blocks.{IsBlockWithin};
 ghost use Rattle.ulfm_model.specs.Words.{IsUnfit, MayOpen, word_at};
-ghost use Rattle.ulfm_words.specs.Blocks.{Caches, LoadsBlock};
+ghost use Rattle.ulfm_words.specs.Blocks.{Caches, LoadsBlock, IsBlockIn};
 ghost use Rattle.ulfm_words.specs.Pass.{IsNth, plain_name};
 ghost use Rattle.ulfm_words.specs.Places.{IsWithin};
-ghost use Rattle.ulfm_words.specs.Steps.{coding, view_of, IsView, IsNew, Loads, MaySet, Sets};
+ghost use Rattle.ulfm_words.specs.Steps.{coding, view_of, limits_in, seen_in, IsView, IsNew, Loads, MaySetIn, Sets};
 
 use crate::row::Row;
 use crate::step::{Last, Site, Step};
@@ -208,14 +208,14 @@ impl<P: Packed, A: Allocator + Copy> PlainPass<P, A> {
         })
     }
 
-    /// How many events it has seen: no more than a world has words, at most 4,194,304. It is no atomic step.
+    /// How many events it has seen: no more than a world has words, at most 4,194,304. It makes no atomic step.
     pub fn count(&self) -> u32
         ensures { result ≡ length self.now.seen }
     {
         self.journal.len() as u32
     }
 
-    /// The step that was set as the `i`-th, counted from 0; none past the last. It is no atomic step and takes no memory.
+    /// The step that was set as the `i`-th, counted from 0; none past the last. It makes no atomic step and takes no memory.
     ///
     /// ```
     /// world.fail(&mut pass, 1)?;
@@ -237,7 +237,7 @@ impl<P: Packed, A: Allocator + Copy> PlainPass<P, A> {
         })
     }
 
-    /// How many atomic steps it has made, modulo 2^64. It is no step.
+    /// How many atomic steps it has made, modulo 2^64. It makes no atomic step.
     #[inline(always)]
     pub fn steps_made(&self) -> u64
         ensures { result ≡ self.now.steps % 2 ^ 64 }
@@ -255,9 +255,9 @@ impl<P: Packed, A: Allocator + Copy> PlainPass<P, A> {
     /// The word at a place.
     #[inline(always)]
     pub fn load(&mut self, place: Place) -> u64
-        requires { IsWithin self.old.name.limits place }
+        requires { IsWithin (limits_in (view_of self.old.name self.old)) place }
         ensures loads { Loads P.meld P.pack true place (view_of self.old.name self.old) (view_of self.old.name self.new) }
-        ensures word { result ≡ word_at P.pack self.new.seen place }
+        ensures word { result ≡ word_at P.pack (seen_in (view_of self.old.name self.new)) place }
     {
         let word = self.row.get(place);
         let load = true;
@@ -269,8 +269,8 @@ impl<P: Packed, A: Allocator + Copy> PlainPass<P, A> {
     /// Sets a word that is 0, or gives the word that stands. It takes no memory.
     #[inline(always)]
     pub fn set_once(&mut self, step: Step) -> Result<(), u64>
-        requires within { IsWithin self.old.name.limits step.place }
-        requires may { MaySet P.meld P.pack P.unpack self.old.name.limits self.old.seen step }
+        requires within { IsWithin (limits_in (view_of self.old.name self.old)) step.place }
+        requires may { MaySetIn P.meld (coding P.pack P.unpack) (view_of self.old.name self.old) step }
         ensures { Sets P.meld (coding P.pack P.unpack) true step (view_of self.old.name self.old) result (view_of self.old.name self.new) }
     {
         let place = step.place;
@@ -289,7 +289,7 @@ impl<P: Packed, A: Allocator + Copy> PlainPass<P, A> {
     #[inline(always)]
     pub fn load_block(&mut self, block: Block) -> u64
         requires of { IsView P.meld (view_of self.old.name self.old) }
-        requires within { IsBlockWithin self.old.name.limits block }
+        requires within { IsBlockWithin (limits_in (view_of self.old.name self.old)) block }
         ensures { LoadsBlock P.meld P.pack true block result (view_of self.old.name self.old) (view_of self.old.name self.new) }
     {
         let stood = self.blocks[self.row.block_index(block)];
@@ -310,8 +310,8 @@ impl<P: Packed, A: Allocator + Copy> PlainPass<P, A> {
     #[inline(always)]
     pub fn cache(&mut self, block: Block, word: u64) -> Result<(), u64>
         requires of { IsView P.meld (view_of self.old.name self.old) }
-        requires within { IsBlockWithin self.old.name.limits block }
-        requires may { IsBlock P.meld P.pack self.old.name.limits.ranks self.old.seen block word }
+        requires within { IsBlockWithin (limits_in (view_of self.old.name self.old)) block }
+        requires may { IsBlockIn P.meld P.pack (view_of self.old.name self.old) block word }
         ensures { Caches P.meld true block word (view_of self.old.name self.old) result (view_of self.old.name self.new) }
     {
         let index = self.row.block_index(block);

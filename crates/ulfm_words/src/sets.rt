@@ -8,8 +8,8 @@ ghost use Rattle.ulfm_model.specs.declared.contribution.Slot.{Slot};
 ghost use Rattle.ulfm_words.specs.Entries.{put_of};
 ghost use Rattle.ulfm_words.specs.Places.{IsCell, IsWithin};
 ghost use Rattle.ulfm_words.specs.Slots.{slot_in};
-ghost use Rattle.ulfm_words.specs.Steps.{view_of, IsView};
-ghost use Rattle.ulfm_words.specs.Tries.{attempt, Tries, entry, MayDeclare, MayPut, MayMake, MayArrive, MayEnd};
+ghost use Rattle.ulfm_words.specs.Steps.{view_of, IsView, limits_in, seen_in};
+ghost use Rattle.ulfm_words.specs.Tries.{attempt, Tries, entry, MayDeclareIn, MayPutIn, MayMakeIn, MayArriveIn, MayEndIn};
 
 use crate::step::Step;
 use crate::summaries::{read_slot, slot_word};
@@ -29,12 +29,12 @@ pub fn set_failure<P: Packed, A: Allocator, W: Words<P, A>>(
     rank: u16,
 ) -> Result<(), u16>
     requires of { IsView P.meld (view_of (W.name words.now) (W.sight pass.old)) }
-    requires within { index < (W.name words.now).limits.ranks }
-    requires may { MayDeclare P.meld (W.name words.now).limits (W.sight pass.old).seen index rank }
+    requires within { index < (limits_in (view_of (W.name words.now) (W.sight pass.old))).ranks }
+    requires may { MayDeclareIn P.meld (view_of (W.name words.now) (W.sight pass.old)) index rank }
     ensures tries { Tries P.meld P.pack W.alone (attempt (ListAt index) (entry by (Fail rank))) (is_ok result) (view_of (W.name words.now) (W.sight pass.old))
         (view_of (W.name words.now) (W.sight pass.new)) }
-    ensures stands { MatchResult result (λ _. slice_get (failures (W.sight pass.new).seen) index ≡ Some rank)
-        (λ r. slice_get (failures (W.sight pass.new).seen) index ≡ Some r) }
+    ensures stands { MatchResult result (λ _. slice_get (failures (seen_in (view_of (W.name words.now) (W.sight pass.new)))) index ≡ Some rank)
+        (λ r. slice_get (failures (seen_in (view_of (W.name words.now) (W.sight pass.new)))) index ≡ Some r) }
 {
     let step = Step {
         place: Place::List { index },
@@ -59,12 +59,13 @@ fn try_slot<P: Packed, A: Allocator, W: Words<P, A>>(
     put: Slot<P>,
 ) -> Result<(), u64>
     requires of { IsView P.meld (view_of (W.name words.now) (W.sight pass.old)) }
-    requires within { IsCell (W.name words.now).limits comm round rank }
-    requires may { MayPut P.meld (W.name words.now).limits (W.sight pass.old).seen comm round rank put }
+    requires within { IsCell (limits_in (view_of (W.name words.now) (W.sight pass.old))) comm round rank }
+    requires may { MayPutIn P.meld (view_of (W.name words.now) (W.sight pass.old)) comm round rank put }
     ensures tries { Tries P.meld P.pack W.alone (attempt (SlotAt comm round rank) (entry by (put_of comm round rank put))) (is_ok result)
         (view_of (W.name words.now) (W.sight pass.old)) (view_of (W.name words.now) (W.sight pass.new)) }
-    ensures stands { MatchResult result (λ _. slot (W.sight pass.new).seen comm round rank ≡ Some put) (λ word. (s : Slot P) × (slot_in P.unpack word ≡ Some s)
-        × (slot (W.sight pass.new).seen comm round rank ≡ Some s)) }
+    ensures stands { MatchResult result (λ _. slot (seen_in (view_of (W.name words.now) (W.sight pass.new))) comm round rank ≡ Some put)
+        (λ word. (s : Slot P) × (slot_in P.unpack word ≡ Some s)
+        × (slot (seen_in (view_of (W.name words.now) (W.sight pass.new))) comm round rank ≡ Some s)) }
 {
     let step = Step {
         place: Place::Slot { comm, round, rank },
@@ -88,12 +89,12 @@ pub fn set_slot<P: Packed, A: Allocator, W: Words<P, A>>(
     put: Slot<P>,
 ) -> Result<(), Slot<P>>
     requires of { IsView P.meld (view_of (W.name words.now) (W.sight pass.old)) }
-    requires within { IsCell (W.name words.now).limits comm round rank }
-    requires may { MayPut P.meld (W.name words.now).limits (W.sight pass.old).seen comm round rank put }
+    requires within { IsCell (limits_in (view_of (W.name words.now) (W.sight pass.old))) comm round rank }
+    requires may { MayPutIn P.meld (view_of (W.name words.now) (W.sight pass.old)) comm round rank put }
     ensures tries { Tries P.meld P.pack W.alone (attempt (SlotAt comm round rank) (entry by (put_of comm round rank put))) (is_ok result)
         (view_of (W.name words.now) (W.sight pass.old)) (view_of (W.name words.now) (W.sight pass.new)) }
-    ensures stands { MatchResult result (λ _. slot (W.sight pass.new).seen comm round rank ≡ Some put)
-        (λ s. slot (W.sight pass.new).seen comm round rank ≡ Some s) }
+    ensures stands { MatchResult result (λ _. slot (seen_in (view_of (W.name words.now) (W.sight pass.new))) comm round rank ≡ Some put)
+        (λ s. slot (seen_in (view_of (W.name words.now) (W.sight pass.new))) comm round rank ≡ Some s) }
 {
     match try_slot(words, pass, by, comm, round, rank, put) {
         Ok(()) => Ok(()),
@@ -113,12 +114,12 @@ pub fn put_slot<P: Packed, A: Allocator, W: Words<P, A>>(
     put: Slot<P>,
 ) -> bool
     requires of { IsView P.meld (view_of (W.name words.now) (W.sight pass.old)) }
-    requires within { IsCell (W.name words.now).limits comm round rank }
-    requires may { MayPut P.meld (W.name words.now).limits (W.sight pass.old).seen comm round rank put }
+    requires within { IsCell (limits_in (view_of (W.name words.now) (W.sight pass.old))) comm round rank }
+    requires may { MayPutIn P.meld (view_of (W.name words.now) (W.sight pass.old)) comm round rank put }
     ensures tries { Tries P.meld P.pack W.alone (attempt (SlotAt comm round rank) (entry by (put_of comm round rank put))) result
         (view_of (W.name words.now) (W.sight pass.old)) (view_of (W.name words.now) (W.sight pass.new)) }
-    ensures stands { MatchBool result (slot (W.sight pass.new).seen comm round rank ≡ Some put) ((s : Slot P)
-        × (slot (W.sight pass.new).seen comm round rank ≡ Some s)) }
+    ensures stands { MatchBool result (slot (seen_in (view_of (W.name words.now) (W.sight pass.new))) comm round rank ≡ Some put) ((s : Slot P)
+        × (slot (seen_in (view_of (W.name words.now) (W.sight pass.new))) comm round rank ≡ Some s)) }
 {
     match try_slot(words, pass, by, comm, round, rank, put) {
         Ok(()) => true,
@@ -136,13 +137,13 @@ pub fn set_comm<P: Packed, A: Allocator, W: Words<P, A>>(
     round: u16,
 ) -> Result<(), (u16, u16)>
     requires of { IsView P.meld (view_of (W.name words.now) (W.sight pass.old)) }
-    requires within { IsWithin (W.name words.now).limits (CommAt comm) }
-    requires round { round < (W.name words.now).limits.rounds }
-    requires may { MayMake P.meld (W.name words.now).limits (W.sight pass.old).seen comm parent round }
+    requires within { IsWithin (limits_in (view_of (W.name words.now) (W.sight pass.old))) (CommAt comm) }
+    requires round { round < (limits_in (view_of (W.name words.now) (W.sight pass.old))).rounds }
+    requires may { MayMakeIn P.meld (view_of (W.name words.now) (W.sight pass.old)) comm parent round }
     ensures tries { Tries P.meld P.pack W.alone (attempt (CommAt comm) (entry by (Spawn comm parent round))) (is_ok result)
         (view_of (W.name words.now) (W.sight pass.old)) (view_of (W.name words.now) (W.sight pass.new)) }
-    ensures stands { MatchResult result (λ _. made_at (W.sight pass.new).seen comm ≡ Some (parent, round))
-        (λ m. made_at (W.sight pass.new).seen comm ≡ Some m) }
+    ensures stands { MatchResult result (λ _. made_at (seen_in (view_of (W.name words.now) (W.sight pass.new))) comm ≡ Some (parent, round))
+        (λ m. made_at (seen_in (view_of (W.name words.now) (W.sight pass.new))) comm ≡ Some m) }
 {
     let step = Step {
         place: Place::Comm { comm },
@@ -165,11 +166,11 @@ pub fn set_arrival<P: Packed, A: Allocator, W: Words<P, A>>(
     rank: u16,
 ) -> bool
     requires of { IsView P.meld (view_of (W.name words.now) (W.sight pass.old)) }
-    requires within { IsCell (W.name words.now).limits comm round rank }
-    requires may { MayArrive P.meld (W.name words.now).limits (W.sight pass.old).seen comm round rank }
+    requires within { IsCell (limits_in (view_of (W.name words.now) (W.sight pass.old))) comm round rank }
+    requires may { MayArriveIn P.meld (view_of (W.name words.now) (W.sight pass.old)) comm round rank }
     ensures tries { Tries P.meld P.pack W.alone (attempt (ArrivalAt comm round rank) (entry by (Arrive comm round rank))) result
         (view_of (W.name words.now) (W.sight pass.old)) (view_of (W.name words.now) (W.sight pass.new)) }
-    ensures stands { IsTrue (has_arrived (W.sight pass.new).seen comm round rank) }
+    ensures stands { IsTrue (has_arrived (seen_in (view_of (W.name words.now) (W.sight pass.new))) comm round rank) }
 {
     let arrival = Step {
         place: Place::Arrival { comm, round, rank },
@@ -187,11 +188,11 @@ pub fn set_revocation<P: Packed, A: Allocator, W: Words<P, A>>(
     comm: u16,
 ) -> bool
     requires of { IsView P.meld (view_of (W.name words.now) (W.sight pass.old)) }
-    requires within { comm < (W.name words.now).limits.comms }
-    requires may { MayEnd P.meld (W.name words.now).limits (W.sight pass.old).seen comm }
+    requires within { comm < (limits_in (view_of (W.name words.now) (W.sight pass.old))).comms }
+    requires may { MayEndIn P.meld (view_of (W.name words.now) (W.sight pass.old)) comm }
     ensures tries { Tries P.meld P.pack W.alone (attempt (RevokedAt comm) (entry by (Revoke comm))) result (view_of (W.name words.now) (W.sight pass.old))
         (view_of (W.name words.now) (W.sight pass.new)) }
-    ensures stands { IsTrue (is_revoked (W.sight pass.new).seen comm) }
+    ensures stands { IsTrue (is_revoked (seen_in (view_of (W.name words.now) (W.sight pass.new))) comm) }
 {
     let revocation = Step {
         place: Place::Revoked { comm },

@@ -1,10 +1,11 @@
 ghost use Rattle.std.specs.Prelude.{◌≡◌, ◌%◌, ◌^◌, Bool, IfOk};
-ghost use Rattle.ulfm_model.specs.Blocks.{IsBlock, IsBlockWithin};
+ghost use Rattle.ulfm_model.specs.Blocks.{IsBlockWithin};
 ghost use Rattle.ulfm_model.specs.Words.{MayOpen};
 ghost use Rattle.ulfm_model.specs.Words.{word_at};
-ghost use Rattle.ulfm_words.specs.Blocks.{Caches, LoadsBlock};
+ghost use Rattle.ulfm_words.specs.Blocks.{Caches, LoadsBlock, IsBlockIn};
 ghost use Rattle.ulfm_words.specs.Places.{IsWithin};
-ghost use Rattle.ulfm_words.specs.Steps.{coding, view_of, Name, Sight, Heard, IsView, IsNew, Loads, MaySet, Sets, Tells, Learns};
+ghost use Rattle.ulfm_words.specs.Steps.{coding, view_of, Name, Sight, Heard, IsView, IsNew, Loads, MaySetIn, Sets, Tells, Learns};
+ghost use Rattle.ulfm_words.specs.Steps.{limits_in, seen_in, steps_in, IsOwnPass, IsOwnTold};
 
 use crate::step::Step;
 use std::alloc::{AllocError, Allocator};
@@ -35,38 +36,39 @@ pub trait Words<P: Packed, A: Allocator> {
     /// One atomic load: the word that stands in what is then seen, 0 where no event of it sets the place.
     fn load(&self, pass: &mut Self::Pass, place: Place) -> u64
         requires of { IsView P.meld (view_of (name self.now) (sight pass.old)) }
-        requires within { IsWithin (name self.now).limits place }
+        requires within { IsWithin (limits_in (view_of (name self.now) (sight pass.old))) place }
         ensures loads { Loads P.meld P.pack alone place (view_of (name self.now) (sight pass.old)) (view_of (name self.now) (sight pass.new)) }
-        ensures word { result ≡ word_at P.pack (sight pass.new).seen place };
+        ensures word { result ≡ word_at P.pack (seen_in (view_of (name self.now) (sight pass.new))) place };
 
     /// One compare-exchange from 0: the step's event comes once, or the word that stands is given.
     fn set_once(&self, pass: &mut Self::Pass, step: Step) -> Result<(), u64>
         requires of { IsView P.meld (view_of (name self.now) (sight pass.old)) }
-        requires within { IsWithin (name self.now).limits step.place }
-        requires may { MaySet P.meld P.pack P.unpack (name self.now).limits (sight pass.old).seen step }
-        ensures { Sets P.meld (coding P.pack P.unpack) alone step (view_of (name self.now) (sight pass.old)) result (view_of (name self.now) (sight pass.new)) };
+        requires within { IsWithin (limits_in (view_of (name self.now) (sight pass.old))) step.place }
+        requires may { MaySetIn P.meld (coding P.pack P.unpack) (view_of (name self.now) (sight pass.old)) step }
+        ensures { Sets P.meld (coding P.pack P.unpack) alone step (view_of (name self.now) (sight pass.old)) result
+            (view_of (name self.now) (sight pass.new)) };
 
     /// One atomic load of a block's word: 0, or the word of what its members say, each of which is settled.
     fn load_block(&self, pass: &mut Self::Pass, block: Block) -> u64
         requires of { IsView P.meld (view_of (name self.now) (sight pass.old)) }
-        requires within { IsBlockWithin (name self.now).limits block }
+        requires within { IsBlockWithin (limits_in (view_of (name self.now) (sight pass.old))) block }
         ensures { LoadsBlock P.meld P.pack alone block result (view_of (name self.now) (sight pass.old)) (view_of (name self.now) (sight pass.new)) };
 
     /// One compare-exchange of a block's word from 0, to that of its settled members. No event comes of it, and whoever loses
     /// finds the same word.
     fn cache(&self, pass: &mut Self::Pass, block: Block, word: u64) -> Result<(), u64>
         requires of { IsView P.meld (view_of (name self.now) (sight pass.old)) }
-        requires within { IsBlockWithin (name self.now).limits block }
-        requires may { IsBlock P.meld P.pack (name self.now).limits.ranks (sight pass.old).seen block word }
+        requires within { IsBlockWithin (limits_in (view_of (name self.now) (sight pass.old))) block }
+        requires may { IsBlockIn P.meld P.pack (view_of (name self.now) (sight pass.old)) block word }
         ensures { Caches P.meld alone block word (view_of (name self.now) (sight pass.old)) result (view_of (name self.now) (sight pass.new)) };
 
-    /// How many atomic steps a pass has made, modulo 2^64. It is no step.
+    /// How many atomic steps a pass has made, modulo 2^64. It makes no atomic step.
     fn steps_made(&self, pass: &Self::Pass) -> u64
-        ensures { result ≡ (sight pass.now).steps % 2 ^ 64 };
+        ensures { result ≡ steps_in (view_of (name self.now) (sight pass.now)) % 2 ^ 64 };
 
     /// What a pass of these words has seen is legal. It does nothing.
     fn known_legal(&self, pass: &Self::Pass)
-        requires { (sight pass.now).name ≡ name self.now }
+        requires { IsOwnPass (view_of (name self.now) (sight pass.now)) }
         ensures { IsView P.meld (view_of (name self.now) (sight pass.now)) };
 }
 
@@ -93,7 +95,7 @@ pub trait OpenWords<P: Packed, A: Allocator>: Words<P, A> {
     /// From now on the pass has seen what was told, too.
     fn learn(&self, pass: &mut Self::Pass, told: &Self::Told)
         requires of { IsView P.meld (view_of (Self.name self.now) (Self.sight pass.old)) }
-        requires told { (heard told.now).name ≡ Self.name self.now }
+        requires told { IsOwnTold (view_of (Self.name self.now) (Self.sight pass.old)) (heard told.now) }
         ensures { Learns P.meld Self.alone (heard told.now) (view_of (Self.name self.now) (Self.sight pass.old))
             (view_of (Self.name self.now) (Self.sight pass.new)) };
 }

@@ -1,10 +1,9 @@
-ghost use Rattle.ulfm_model.specs.Records.{Fits};
 ghost use Rattle.ulfm_model.specs.declared.call.Call.TheVariants.{Ack as Asked};
 ghost use Rattle.ulfm_model.specs.declared.reply.Reply.TheVariants.{Acked as Answered};
 ghost use Rattle.ulfm_words.specs.Steps.{view_of, IsView};
 ghost use Rattle.ulfm_comm.specs.Calls.{Calls, reply_of};
 ghost use Rattle.ulfm_comm.specs.Counts.{TakesSteps};
-ghost use Rattle.ulfm_comm.specs.Local.{local};
+ghost use Rattle.ulfm_comm.specs.Local.{local, FitsView};
 
 use crate::calls::replies::acked;
 use crate::rank::Rank;
@@ -35,12 +34,12 @@ impl<P: Packed, A: Allocator + Copy> Rank<P, A> {
         comm: u16,
         count: u16,
     ) -> Result<u16, Refusal>
-        requires of { IsView P.meld (view_of (W.name world.now.words) (W.sight pass.old)) }
-        requires fits { Fits P.meld (W.name world.now.words).limits (W.sight pass.old).seen self.old.own }
-        ensures calls { Calls P.meld W.alone (Asked self.old.own.number comm count) (local self.old.own (view_of (W.name world.now.words) (W.sight pass.old)))
-            (reply_of Answered result) (local self.new.own (view_of (W.name world.now.words) (W.sight pass.new))) }
-        ensures steps { TakesSteps {P = P} (Asked self.old.own.number comm count) (local self.old.own (view_of (W.name world.now.words) (W.sight pass.old)))
-            self.new.last (local self.new.own (view_of (W.name world.now.words) (W.sight pass.new))) }
+        requires of { IsView P.meld (view_of world.now (W.sight pass.old)) }
+        requires fits { FitsView P.meld (local self.old.own (view_of world.now (W.sight pass.old))) }
+        ensures calls { Calls P.meld W.alone (Asked self.old.own.number comm count) (local self.old.own (view_of world.now (W.sight pass.old)))
+            (reply_of Answered result) (local self.new.own (view_of world.now (W.sight pass.new))) }
+        ensures steps { TakesSteps {P = P} (Asked self.old.own.number comm count) (local self.old.own (view_of world.now (W.sight pass.old)))
+            self.new.last (local self.new.own (view_of world.now (W.sight pass.new))) }
     {
         let rank = self.number();
         acked(self.call(world, pass, Call::Ack { rank, comm, count }))

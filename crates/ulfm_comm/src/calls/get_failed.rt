@@ -1,20 +1,19 @@
+ghost use Rattle.ulfm_comm.specs.Excludes.{failed_in};
 ghost use Rattle.std.specs.Prelude.{◌≡◌, ◌<◌, Err, IfOk, OnErr, length, vec_capacity};
-ghost use Rattle.ulfm_model.specs.Records.{Fits};
-ghost use Rattle.ulfm_model.specs.History.{failed};
 ghost use Rattle.ulfm_model.specs.declared.{call.Call.TheVariants.{GetFailed as Asked}, refusal.Refusal.TheVariants.{OutOfMemory as NoMemory}};
 ghost use Rattle.ulfm_words.specs.Steps.{view_of, IsView};
 ghost use Rattle.ulfm_comm.specs.Calls.{Gets};
 ghost use Rattle.ulfm_comm.specs.Counts.{TakesSteps};
-ghost use Rattle.ulfm_comm.specs.Local.{local};
+ghost use Rattle.ulfm_comm.specs.Local.{local, FitsView};
 
 use crate::calls::replies::counted;
-use crate::groups::{make_room, put_in};
 use crate::rank::Rank;
 use crate::world::World;
 use std::alloc::Allocator;
 use ulfm_laws::meld::Packed;
 use ulfm_model::call::Call;
 use ulfm_model::refusal::Refusal;
+use ulfm_steps::group::{make_room, put_in};
 use ulfm_words::Words;
 
 impl<P: Packed, A: Allocator + Copy> Rank<P, A> {
@@ -39,15 +38,15 @@ impl<P: Packed, A: Allocator + Copy> Rank<P, A> {
         comm: u16,
         found: &mut Vec<u16, B>,
     ) -> Result<(), Refusal>
-        requires of { IsView P.meld (view_of (W.name world.now.words) (W.sight pass.old)) }
-        requires fits { Fits P.meld (W.name world.now.words).limits (W.sight pass.old).seen self.old.own }
-        ensures gets { Gets P.meld W.alone (Asked self.old.own.number comm) (local self.old.own (view_of (W.name world.now.words) (W.sight pass.old)))
-            (length found.new.items) result (local self.new.own (view_of (W.name world.now.words) (W.sight pass.new))) }
-        ensures group { IfOk result (λ _. found.new.items ≡ failed (W.name world.now.words).limits.ranks (W.sight pass.new).seen comm) }
+        requires of { IsView P.meld (view_of world.now (W.sight pass.old)) }
+        requires fits { FitsView P.meld (local self.old.own (view_of world.now (W.sight pass.old))) }
+        ensures gets { Gets P.meld W.alone (Asked self.old.own.number comm) (local self.old.own (view_of world.now (W.sight pass.old)))
+            (length found.new.items) result (local self.new.own (view_of world.now (W.sight pass.new))) }
+        ensures group { IfOk result (λ _. found.new.items ≡ failed_in (view_of world.now (W.sight pass.new)) comm) }
         ensures kept { OnErr result (found.new.items ≡ found.old.items) }
-        ensures memory { result ≡ Err NoMemory → vec_capacity found.old < length (failed (W.name world.now.words).limits.ranks (W.sight pass.new).seen comm) }
-        ensures steps { TakesSteps {P = P} (Asked self.old.own.number comm) (local self.old.own (view_of (W.name world.now.words) (W.sight pass.old)))
-            self.new.last (local self.new.own (view_of (W.name world.now.words) (W.sight pass.new))) }
+        ensures memory { result ≡ Err NoMemory → vec_capacity found.old < length (failed_in (view_of world.now (W.sight pass.new)) comm) }
+        ensures steps { TakesSteps {P = P} (Asked self.old.own.number comm) (local self.old.own (view_of world.now (W.sight pass.old)))
+            self.new.last (local self.new.own (view_of world.now (W.sight pass.new))) }
     {
         let rank = self.number();
         counted(self.call(world, pass, Call::GetFailed { rank, comm }))?;

@@ -1,10 +1,9 @@
 ghost use Rattle.std.specs.Prelude.{IfOk};
-ghost use Rattle.ulfm_model.specs.Records.{Fits};
 ghost use Rattle.ulfm_model.specs.declared.call.Call.TheVariants.{Poll as Asked};
 ghost use Rattle.ulfm_words.specs.Steps.{view_of, IsView};
 ghost use Rattle.ulfm_comm.specs.Polls.{Polls, EndsIn};
 ghost use Rattle.ulfm_comm.specs.Counts.{TakesSteps};
-ghost use Rattle.ulfm_comm.specs.Local.{local};
+ghost use Rattle.ulfm_comm.specs.Local.{local, FitsView};
 
 use crate::calls::polled::Polled;
 use crate::calls::replies::polled;
@@ -62,14 +61,14 @@ impl<P: Packed, A: Allocator + Copy> Rank<P, A> {
         pass: &mut W::Pass,
         comm: u16,
     ) -> Result<Polled<P>, Refusal>
-        requires of { IsView P.meld (view_of (W.name world.now.words) (W.sight pass.old)) }
-        requires fits { Fits P.meld (W.name world.now.words).limits (W.sight pass.old).seen self.old.own }
-        ensures calls { Polls P.meld W.alone (Asked self.old.own.number comm) (local self.old.own (view_of (W.name world.now.words) (W.sight pass.old))) result
-            (local self.new.own (view_of (W.name world.now.words) (W.sight pass.new))) }
-        ensures pending { IfOk result (EndsIn P.meld W.alone comm (local self.old.own (view_of (W.name world.now.words) (W.sight pass.old)))
-            (local self.new.own (view_of (W.name world.now.words) (W.sight pass.new)))) }
-        ensures steps { TakesSteps {P = P} (Asked self.old.own.number comm) (local self.old.own (view_of (W.name world.now.words) (W.sight pass.old)))
-            self.new.last (local self.new.own (view_of (W.name world.now.words) (W.sight pass.new))) }
+        requires of { IsView P.meld (view_of world.now (W.sight pass.old)) }
+        requires fits { FitsView P.meld (local self.old.own (view_of world.now (W.sight pass.old))) }
+        ensures calls { Polls P.meld W.alone (Asked self.old.own.number comm) (local self.old.own (view_of world.now (W.sight pass.old))) result
+            (local self.new.own (view_of world.now (W.sight pass.new))) }
+        ensures pending { IfOk result (EndsIn P.meld W.alone comm (local self.old.own (view_of world.now (W.sight pass.old)))
+            (local self.new.own (view_of world.now (W.sight pass.new)))) }
+        ensures steps { TakesSteps {P = P} (Asked self.old.own.number comm) (local self.old.own (view_of world.now (W.sight pass.old)))
+            self.new.last (local self.new.own (view_of world.now (W.sight pass.new))) }
     {
         let rank = self.number();
         polled(self.call(world, pass, Call::Poll { rank, comm }))

@@ -9,14 +9,13 @@ ghost use Rattle.ulfm_comm.specs.{AlsoLeft.{also_after_round, also_in}, Known.{K
 ghost use Rattle.ulfm_comm.specs.declared.phases.phase.Next.TheVariants.{Goes as NextGoes};
 ghost use Rattle.ulfm_comm.specs.declared.phases.phase.Phase.TheVariants.{Marking as AtMarking, Peeking as AtPeeking, Reading as AtReading};
 ghost use Rattle.ulfm_comm.specs.Local.{local};
-ghost use Rattle.ulfm_comm.specs.Requests.{agreeing};
+ghost use Rattle.ulfm_comm.specs.Requests.{polled_round};
 ghost use Rattle.ulfm_comm.specs.Phase.{under_way};
 ghost use Rattle.ulfm_comm.specs.Step.{coming};
 ghost use Rattle.ulfm_words.specs.Steps.{view_of, IsView, Sight};
 
 use crate::phases::phase::{Next, Phase};
 use crate::rank::LocalState;
-use crate::world::World;
 use std::alloc::Allocator;
 use ulfm_laws::meld::Packed;
 use ulfm_laws::summary::{Body, Summary};
@@ -31,7 +30,7 @@ impl<P: Packed, A: Allocator> LocalState<P, A> {
     #[inline(always)]
     pub(crate) fn go_marking<W: Words<P, A>>(
         &self,
-        world: &World<W, P, A>,
+        words: &W,
         pass: &mut W::Pass,
         asked: &Call<P>,
         marks: MarkAll,
@@ -39,18 +38,18 @@ impl<P: Packed, A: Allocator> LocalState<P, A> {
         shrinks: bool,
         whole: bool,
     ) -> Next<P>
-        requires of { IsView P.meld (view_of (W.name world.now.words) (W.sight pass.old)) }
+        requires of { IsView P.meld (view_of (W.name words.now) (W.sight pass.old)) }
         requires stands { (group : List ℕ)
             × StillStands P.meld (under_way asked.now (AtMarking marks blocks shrinks) group)
-            (local self.now (view_of (W.name world.now.words) (W.sight pass.old))) }
+            (local self.now (view_of (W.name words.now) (W.sight pass.old))) }
         ensures { (group : List ℕ) → TakesTurn P.meld W.alone whole (under_way asked.now (AtMarking marks blocks shrinks) group)
-            (local self.now (view_of (W.name world.now.words) (W.sight pass.old))) (coming result group)
-            (local self.now (view_of (W.name world.now.words) (W.sight pass.new))) }
+            (local self.now (view_of (W.name words.now) (W.sight pass.old))) (coming result group)
+            (local self.now (view_of (W.name words.now) (W.sight pass.new))) }
     {
         let x = self.held_comm(comm_of(asked));
         let seen = self.failures();
         let mut marks = marks;
-        marks.advance(&world.words, pass, &x.group, seen, whole);
+        marks.advance(words, pass, &x.group, seen, whole);
         if marks.next < seen.len() {
             return Next::Goes(Phase::Marking {
                 marks,
@@ -69,26 +68,26 @@ impl<P: Packed, A: Allocator> LocalState<P, A> {
     // aren't set are read.
     fn unread<W: Words<P, A>>(
         &self,
-        world: &World<W, P, A>,
+        words: &W,
         pass: &W::Pass,
         asked: &Call<P>,
         peek: Peek<P>,
         shrinks: bool,
     ) -> Phase<P>
-        requires of { IsView P.meld (view_of (W.name world.now.words) (W.sight pass.now)) }
+        requires of { IsView P.meld (view_of (W.name words.now) (W.sight pass.now)) }
         requires peeked { (old : Record) × (before : Sight P)
-            × HasPeeked P.meld false asked.now shrinks peek (local old (view_of (W.name world.now.words) before))
-            (local self.now (view_of (W.name world.now.words) (W.sight pass.now))) }
+            × HasPeeked P.meld false asked.now shrinks peek (local old (view_of (W.name words.now) before))
+            (local self.now (view_of (W.name words.now) (W.sight pass.now))) }
         ensures further { left result < 7 }
         ensures past { is_looking result ≡ false }
-        ensures nearer { steps_left (W.name world.now.words).limits self.now asked.now result
-            ≤ after_peek (W.name world.now.words).limits self.now asked.now shrinks }
+        ensures nearer { steps_left (W.name words.now).limits self.now asked.now result
+            ≤ after_peek (W.name words.now).limits self.now asked.now shrinks }
         ensures knows { (cached : List Block) → KnowsIn self.now asked.now cached (AtPeeking peek shrinks) → KnowsIn self.now asked.now cached result }
         ensures turns { (group : List ℕ) (alone : Bool) (old : Record) (before : Sight P)
-            → HasPeeked P.meld alone asked.now shrinks peek (local old (view_of (W.name world.now.words) before))
-            (local self.now (view_of (W.name world.now.words) (W.sight pass.now)))
-            → NextIs P.meld alone asked.now (local old (view_of (W.name world.now.words) before)) (NextGoes result) group
-            (local self.now (view_of (W.name world.now.words) (W.sight pass.now))) }
+            → HasPeeked P.meld alone asked.now shrinks peek (local old (view_of (W.name words.now) before))
+            (local self.now (view_of (W.name words.now) (W.sight pass.now)))
+            → NextIs P.meld alone asked.now (local old (view_of (W.name words.now) before)) (NextGoes result) group
+            (local self.now (view_of (W.name words.now) (W.sight pass.now))) }
     {
         let comm = comm_of(asked);
         let x = self.held_comm(comm);
@@ -115,7 +114,7 @@ impl<P: Packed, A: Allocator + Copy> LocalState<P, A> {
     #[inline(always)]
     pub(crate) fn go_peeking<W: Words<P, A>>(
         &mut self,
-        world: &World<W, P, A>,
+        words: &W,
         pass: &mut W::Pass,
         asked: &Call<P>,
         peek: Peek<P>,
@@ -123,22 +122,22 @@ impl<P: Packed, A: Allocator + Copy> LocalState<P, A> {
         whole: bool,
         group: &mut Vec<u16, A>,
     ) -> Next<P>
-        requires of { IsView P.meld (view_of (W.name world.now.words) (W.sight pass.old)) }
+        requires of { IsView P.meld (view_of (W.name words.now) (W.sight pass.old)) }
         requires stands { StillStands P.meld (under_way asked.now (AtPeeking peek shrinks) group.old.items)
-            (local self.old (view_of (W.name world.now.words) (W.sight pass.old))) }
+            (local self.old (view_of (W.name words.now) (W.sight pass.old))) }
         ensures { TakesTurn P.meld W.alone whole (under_way asked.now (AtPeeking peek shrinks) group.old.items)
-            (local self.old (view_of (W.name world.now.words) (W.sight pass.old))) (coming result group.new.items)
-            (local self.new (view_of (W.name world.now.words) (W.sight pass.new))) }
+            (local self.old (view_of (W.name words.now) (W.sight pass.old))) (coming result group.new.items)
+            (local self.new (view_of (W.name words.now) (W.sight pass.new))) }
     {
         let x = self.held_comm(comm_of(asked));
         let mut peek = peek;
-        if !peek.advance(&world.words, pass, &x.group, whole) {
+        if !peek.advance(words, pass, &x.group, whole) {
             return Next::Goes(Phase::Peeking { peek, shrinks });
         }
         let members = x.group.len() as u16;
         match peek.blocks.all(members) {
-            None => Next::Goes(self.unread(world, pass, asked, peek, shrinks)),
-            Some(all) => self.decided(world, pass, asked, peek.round, all, shrinks, group),
+            None => Next::Goes(self.unread(words, pass, asked, peek, shrinks)),
+            Some(all) => self.decided(words, pass, asked, peek.round, all, shrinks, group),
         }
     }
 
@@ -147,7 +146,7 @@ impl<P: Packed, A: Allocator + Copy> LocalState<P, A> {
     #[inline(always)]
     pub(crate) fn go_reading<W: Words<P, A>>(
         &mut self,
-        world: &World<W, P, A>,
+        words: &W,
         pass: &mut W::Pass,
         asked: &Call<P>,
         reading: ReadBlocks<P>,
@@ -155,20 +154,20 @@ impl<P: Packed, A: Allocator + Copy> LocalState<P, A> {
         whole: bool,
         group: &mut Vec<u16, A>,
     ) -> Next<P>
-        requires of { IsView P.meld (view_of (W.name world.now.words) (W.sight pass.old)) }
+        requires of { IsView P.meld (view_of (W.name words.now) (W.sight pass.old)) }
         requires stands { StillStands P.meld (under_way asked.now (AtReading reading shrinks) group.old.items)
-            (local self.old (view_of (W.name world.now.words) (W.sight pass.old))) }
+            (local self.old (view_of (W.name words.now) (W.sight pass.old))) }
         ensures { TakesTurn P.meld W.alone whole (under_way asked.now (AtReading reading shrinks) group.old.items)
-            (local self.old (view_of (W.name world.now.words) (W.sight pass.old))) (coming result group.new.items)
-            (local self.new (view_of (W.name world.now.words) (W.sight pass.new))) }
+            (local self.old (view_of (W.name words.now) (W.sight pass.old))) (coming result group.new.items)
+            (local self.new (view_of (W.name words.now) (W.sight pass.new))) }
     {
         let x = self.held_comm(comm_of(asked));
         let mut reading = reading;
-        match reading.advance(&world.words, pass, &x.group, whole) {
+        match reading.advance(words, pass, &x.group, whole) {
             None => Next::Goes(Phase::Reading { reading, shrinks }),
             Some(Found::Missing) => Next::Ends(Reply::Pending),
             Some(Found::All(all)) => {
-                self.decided(world, pass, asked, reading.round, all, shrinks, group)
+                self.decided(words, pass, asked, reading.round, all, shrinks, group)
             }
         }
     }
@@ -176,7 +175,7 @@ impl<P: Packed, A: Allocator + Copy> LocalState<P, A> {
     // What comes next where a round's members all say this.
     fn decided<W: Words<P, A>>(
         &mut self,
-        world: &World<W, P, A>,
+        words: &W,
         pass: &W::Pass,
         asked: &Call<P>,
         round: u16,
@@ -184,24 +183,24 @@ impl<P: Packed, A: Allocator + Copy> LocalState<P, A> {
         shrinks: bool,
         group: &mut Vec<u16, A>,
     ) -> Next<P>
-        requires of { IsView P.meld (view_of (W.name world.now.words) (W.sight pass.now)) }
+        requires of { IsView P.meld (view_of (W.name words.now) (W.sight pass.now)) }
         requires read { (old : Record) × (before : Sight P)
-            × HasReadAll P.meld false asked.now (agreeing shrinks round) all (local old (view_of (W.name world.now.words) before))
-            (local self.old (view_of (W.name world.now.words) (W.sight pass.now))) }
+            × HasReadAll P.meld false asked.now (polled_round shrinks round) all (local old (view_of (W.name words.now) before))
+            (local self.old (view_of (W.name words.now) (W.sight pass.now))) }
         ensures further { NextBelow 5 result }
         ensures sees { self.new.seen ≡ self.old.seen }
         ensures past { IsPast result }
-        ensures nearer { FewerLeft (after_round (W.name world.now.words).limits self.old shrinks + 1) (W.name world.now.words).limits self.new asked.now
+        ensures nearer { FewerLeft (after_round (W.name words.now).limits self.old shrinks + 1) (W.name words.now).limits self.new asked.now
             result }
-        ensures also { also_in (W.name world.now.words).limits self.new asked.now result ≤ also_after_round (W.name world.now.words).limits shrinks }
+        ensures also { also_in (W.name words.now).limits self.new asked.now result ≤ also_after_round (W.name words.now).limits shrinks }
         ensures turns { (alone : Bool) (old : Record) (before : Sight P)
-            → HasReadAll P.meld alone asked.now (agreeing shrinks round) all (local old (view_of (W.name world.now.words) before))
-            (local self.old (view_of (W.name world.now.words) (W.sight pass.now)))
-            → NextIs P.meld alone asked.now (local old (view_of (W.name world.now.words) before)) result group.new.items
-            (local self.new (view_of (W.name world.now.words) (W.sight pass.now))) }
+            → HasReadAll P.meld alone asked.now (polled_round shrinks round) all (local old (view_of (W.name words.now) before))
+            (local self.old (view_of (W.name words.now) (W.sight pass.now)))
+            → NextIs P.meld alone asked.now (local old (view_of (W.name words.now) before)) result group.new.items
+            (local self.new (view_of (W.name words.now) (W.sight pass.now))) }
     {
         if shrinks {
-            return self.shrunk(world, pass, asked, round, all, group);
+            return self.shrunk(words, pass, asked, round, all, group);
         }
         Next::Ends(self.agreed(comm_of(asked), all))
     }

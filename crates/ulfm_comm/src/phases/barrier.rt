@@ -10,7 +10,6 @@ ghost use Rattle.ulfm_words.specs.Steps.{view_of, IsView};
 
 use crate::phases::phase::{Next, Phase};
 use crate::rank::LocalState;
-use crate::world::World;
 use std::alloc::Allocator;
 use ulfm_laws::meld::Packed;
 use ulfm_model::call::{Call, comm_of};
@@ -24,26 +23,26 @@ impl<P: Packed, A: Allocator> LocalState<P, A> {
     #[inline(always)]
     pub(crate) fn go_waiting<W: Words<P, A>>(
         &self,
-        world: &World<W, P, A>,
+        words: &W,
         pass: &mut W::Pass,
         asked: &Call<P>,
         arrivals: Arrivals,
         whole: bool,
     ) -> Next<P>
-        requires of { IsView P.meld (view_of (W.name world.now.words) (W.sight pass.old)) }
+        requires of { IsView P.meld (view_of (W.name words.now) (W.sight pass.old)) }
         requires stands { (group : List ℕ) × StillStands P.meld (under_way asked.now (AtWaiting arrivals) group)
-            (local self.now (view_of (W.name world.now.words) (W.sight pass.old))) }
+            (local self.now (view_of (W.name words.now) (W.sight pass.old))) }
         ensures turn { (group : List ℕ) → TakesTurn P.meld W.alone whole (under_way asked.now (AtWaiting arrivals) group)
-            (local self.now (view_of (W.name world.now.words) (W.sight pass.old))) (coming result group)
-            (local self.now (view_of (W.name world.now.words) (W.sight pass.new))) }
+            (local self.now (view_of (W.name words.now) (W.sight pass.old))) (coming result group)
+            (local self.now (view_of (W.name words.now) (W.sight pass.new))) }
         ensures checks { (group : List ℕ) → FoundNow
             (FindsMissing P.meld W.alone (midway (under_way asked.now (AtWaiting arrivals) group)
-            (local self.now (view_of (W.name world.now.words) (W.sight pass.old)))) (local self.now (view_of (W.name world.now.words) (W.sight pass.new))))
+            (local self.now (view_of (W.name words.now) (W.sight pass.old)))) (local self.now (view_of (W.name words.now) (W.sight pass.new))))
             (AtWaiting arrivals) result }
     {
         let x = self.held_comm(comm_of(asked));
         let mut arrivals = arrivals;
-        match arrivals.advance(&world.words, pass, &x.group, self.failures(), whole) {
+        match arrivals.advance(words, pass, &x.group, self.failures(), whole) {
             None => Next::Goes(Phase::Waiting { arrivals }),
             Some(missing) => Next::Goes(Phase::Checking { missing }),
         }
@@ -53,22 +52,22 @@ impl<P: Packed, A: Allocator> LocalState<P, A> {
     #[inline(always)]
     pub(crate) fn go_checking<W: Words<P, A>>(
         &mut self,
-        world: &World<W, P, A>,
+        words: &W,
         pass: &mut W::Pass,
         asked: &Call<P>,
         missing: Missing,
     ) -> Reply<P>
-        requires of { IsView P.meld (view_of (W.name world.now.words) (W.sight pass.old)) }
+        requires of { IsView P.meld (view_of (W.name words.now) (W.sight pass.old)) }
         requires stands { (group : List ℕ) × StillStands P.meld (under_way asked.now (AtChecking missing) group)
-            (local self.old (view_of (W.name world.now.words) (W.sight pass.old))) }
-        ensures turn { EndsTurn P.meld W.alone asked.now (AtChecking missing) (local self.old (view_of (W.name world.now.words) (W.sight pass.old))) result
-            (local self.new (view_of (W.name world.now.words) (W.sight pass.new))) }
+            (local self.old (view_of (W.name words.now) (W.sight pass.old))) }
+        ensures turn { EndsTurn P.meld W.alone asked.now (AtChecking missing) (local self.old (view_of (W.name words.now) (W.sight pass.old))) result
+            (local self.new (view_of (W.name words.now) (W.sight pass.new))) }
         ensures early { (group : List ℕ) → AnswersMissing P.meld W.alone (midway (under_way asked.now (AtChecking missing) group)
-            (local self.old (view_of (W.name world.now.words) (W.sight pass.old)))) self.new
+            (local self.old (view_of (W.name words.now) (W.sight pass.old)))) self.new
             missing result }
     {
         let comm = comm_of(asked);
-        if load_revocation(&world.words, pass, comm) {
+        if load_revocation(words, pass, comm) {
             self.close(comm);
             return Reply::Refused(Refusal::IsRevoked);
         }

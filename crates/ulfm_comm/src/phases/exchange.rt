@@ -11,9 +11,7 @@ ghost use Rattle.ulfm_words.specs.Steps.{view_of, IsView};
 ghost use Rattle.ulfm_model.specs.declared.place.Place.TheVariants.{Slot as SlotAt};
 ghost use Rattle.ulfm_steps.specs.Turns.{IsOneStep};
 
-use crate::groups::count_in;
 use crate::rank::LocalState;
-use crate::world::World;
 use std::alloc::Allocator;
 use ulfm_laws::counts::{Acked, Known};
 use ulfm_laws::meld::Packed;
@@ -24,6 +22,7 @@ use ulfm_model::refusal::Refusal;
 use ulfm_model::reply::Reply;
 use ulfm_record::HeldComm;
 use ulfm_steps::Settle;
+use ulfm_steps::group::count_in;
 use ulfm_words::{Words, set_arrival, set_revocation};
 
 // An offer with these counts of failures.
@@ -47,20 +46,20 @@ impl<P: Packed, A: Allocator> LocalState<P, A> {
     #[inline(always)]
     pub(crate) fn go_settling<W: Words<P, A>>(
         &mut self,
-        world: &World<W, P, A>,
+        words: &W,
         pass: &mut W::Pass,
         asked: &Call<P>,
         request: Request,
         offer: Offer<P>,
     ) -> Reply<P>
-        requires of { IsView P.meld (view_of (W.name world.now.words) (W.sight pass.old)) }
+        requires of { IsView P.meld (view_of (W.name words.now) (W.sight pass.old)) }
         requires stands { (group : List ℕ)
-            × StillStands P.meld (under_way asked.now (AtSettling request offer) group) (local self.old (view_of (W.name world.now.words) (W.sight pass.old))) }
-        ensures { EndsTurn P.meld W.alone asked.now (AtSettling request offer) (local self.old (view_of (W.name world.now.words) (W.sight pass.old))) result
-            (local self.new (view_of (W.name world.now.words) (W.sight pass.new))) }
+            × StillStands P.meld (under_way asked.now (AtSettling request offer) group) (local self.old (view_of (W.name words.now) (W.sight pass.old))) }
+        ensures { EndsTurn P.meld W.alone asked.now (AtSettling request offer) (local self.old (view_of (W.name words.now) (W.sight pass.old))) result
+            (local self.new (view_of (W.name words.now) (W.sight pass.new))) }
     {
         let x = self.held_comm(comm_of(asked));
-        let settled = self.contribute(world, pass, x, offer);
+        let settled = self.contribute(words, pass, x, offer);
         match self.end_start(comm_of(asked), request, settled) {
             Ok(()) => Reply::Started,
             Err(refusal) => Reply::Refused(refusal),
@@ -71,21 +70,21 @@ impl<P: Packed, A: Allocator> LocalState<P, A> {
     #[inline(always)]
     pub(crate) fn go_arriving<W: Words<P, A>>(
         &mut self,
-        world: &World<W, P, A>,
+        words: &W,
         pass: &mut W::Pass,
         asked: &Call<P>,
         round: u16,
     ) -> Reply<P>
-        requires of { IsView P.meld (view_of (W.name world.now.words) (W.sight pass.old)) }
+        requires of { IsView P.meld (view_of (W.name words.now) (W.sight pass.old)) }
         requires stands { (group : List ℕ) × StillStands P.meld (under_way asked.now (AtArriving round) group)
-            (local self.old (view_of (W.name world.now.words) (W.sight pass.old))) }
-        ensures { EndsTurn P.meld W.alone asked.now (AtArriving round) (local self.old (view_of (W.name world.now.words) (W.sight pass.old))) result
-            (local self.new (view_of (W.name world.now.words) (W.sight pass.new))) }
+            (local self.old (view_of (W.name words.now) (W.sight pass.old))) }
+        ensures { EndsTurn P.meld W.alone asked.now (AtArriving round) (local self.old (view_of (W.name words.now) (W.sight pass.old))) result
+            (local self.new (view_of (W.name words.now) (W.sight pass.new))) }
     {
         let comm = comm_of(asked);
         let number = self.number();
         let by = Caller::Rank(number);
-        if !set_arrival(&world.words, pass, by, comm, round, number) {
+        if !set_arrival(words, pass, by, comm, round, number) {
             return Reply::Refused(Refusal::Twice);
         }
         self.open(comm, Request::Barrier { round });
@@ -96,18 +95,18 @@ impl<P: Packed, A: Allocator> LocalState<P, A> {
     #[inline(always)]
     pub(crate) fn go_revoking<W: Words<P, A>>(
         &self,
-        world: &World<W, P, A>,
+        words: &W,
         pass: &mut W::Pass,
         asked: &Call<P>,
     ) -> Reply<P>
-        requires of { IsView P.meld (view_of (W.name world.now.words) (W.sight pass.old)) }
+        requires of { IsView P.meld (view_of (W.name words.now) (W.sight pass.old)) }
         requires stands { (group : List ℕ) × StillStands P.meld (under_way asked.now AtRevoking group)
-            (local self.now (view_of (W.name world.now.words) (W.sight pass.old))) }
-        ensures { EndsTurn P.meld W.alone asked.now AtRevoking (local self.now (view_of (W.name world.now.words) (W.sight pass.old))) result
-            (local self.now (view_of (W.name world.now.words) (W.sight pass.new))) }
+            (local self.now (view_of (W.name words.now) (W.sight pass.old))) }
+        ensures { EndsTurn P.meld W.alone asked.now AtRevoking (local self.now (view_of (W.name words.now) (W.sight pass.old))) result
+            (local self.now (view_of (W.name words.now) (W.sight pass.new))) }
     {
         let by = Caller::Rank(self.number());
-        if set_revocation(&world.words, pass, by, comm_of(asked)) {
+        if set_revocation(words, pass, by, comm_of(asked)) {
             Reply::Revoked
         } else {
             Reply::AlreadyRevoked
@@ -118,17 +117,17 @@ impl<P: Packed, A: Allocator> LocalState<P, A> {
     // found and those of them that it has acknowledged. It is one step: an exchange, which gives what stood there before.
     fn contribute<W: Words<P, A>>(
         &self,
-        world: &World<W, P, A>,
+        words: &W,
         pass: &mut W::Pass,
         x: &HeldComm<A>,
         offer: Offer<P>,
     ) -> Result<(), Slot<P>>
-        requires of { IsView P.meld (view_of (W.name world.now.words) (W.sight pass.old)) }
-        requires fits { Fits P.meld (W.name world.now.words).limits (W.sight pass.old).seen self.now }
+        requires of { IsView P.meld (view_of (W.name words.now) (W.sight pass.old)) }
+        requires fits { Fits P.meld (W.name words.now).limits (W.sight pass.old).seen self.now }
         requires held { held_at self.now x.now.comm ≡ Some x.now }
         requires acked { x.now.acked ≤ length (filter (has x.now.group) self.now.seen) }
-        requires room { x.now.next_agreement < (W.name world.now.words).limits.rounds }
-        ensures of { IsView P.meld (view_of (W.name world.now.words) (W.sight pass.new)) }
+        requires room { x.now.next_agreement < (W.name words.now).limits.rounds }
+        ensures of { IsView P.meld (view_of (W.name words.now) (W.sight pass.new)) }
         ensures cached { IsPrefix (W.sight pass.old).cached (W.sight pass.new).cached }
         ensures caches { (W.sight pass.new).caches ≡ (W.sight pass.old).caches }
         ensures one { IsOneStep (SlotAt x.now.comm x.now.next_agreement self.now.number) false (W.sight pass.old) (W.sight pass.new) }
@@ -142,7 +141,7 @@ impl<P: Packed, A: Allocator> LocalState<P, A> {
             rank: self.number(),
             given,
         };
-        settle.finish(&world.words, pass)
+        settle.finish(words, pass)
     }
 
     // Ends a start: the request is open where the rank has contributed. A mark means that the rank was declared.

@@ -11,17 +11,15 @@ ghost use Rattle.ulfm_comm.specs.Phase.{under_way};
 ghost use Rattle.ulfm_comm.specs.Step.{coming};
 ghost use Rattle.ulfm_words.specs.Steps.{view_of, IsView};
 
-use crate::groups::count_in;
 use crate::phases::phase::{Next, Phase};
 use crate::rank::LocalState;
-use crate::world::World;
 use std::alloc::Allocator;
 use ulfm_laws::meld::Packed;
 use ulfm_model::call::{Call, Request, comm_of};
 use ulfm_model::contribution::Offer;
 use ulfm_model::refusal::Refusal;
 use ulfm_model::reply::Reply;
-use ulfm_steps::group::has_rank;
+use ulfm_steps::group::{count_in, has_rank};
 use ulfm_steps::{Arrivals, Peek};
 use ulfm_words::Words;
 
@@ -63,64 +61,59 @@ impl<P: Packed, A: Allocator> LocalState<P, A> {
     #[inline(always)]
     pub(crate) fn go_begun<W: Words<P, A>>(
         &mut self,
-        world: &World<W, P, A>,
+        words: &W,
         pass: &mut W::Pass,
         asked: &Call<P>,
         whole: bool,
     ) -> Next<P>
-        requires of { IsView P.meld (view_of (W.name world.now.words) (W.sight pass.old)) }
+        requires of { IsView P.meld (view_of (W.name words.now) (W.sight pass.old)) }
         requires stands { (group : List ℕ) × StillStands P.meld (under_way asked.now AtBegun group)
-            (local self.old (view_of (W.name world.now.words) (W.sight pass.old))) }
+            (local self.old (view_of (W.name words.now) (W.sight pass.old))) }
         ensures turn { (group : List ℕ) → TakesTurn P.meld W.alone whole (under_way asked.now AtBegun group)
-            (local self.old (view_of (W.name world.now.words) (W.sight pass.old))) (coming result group)
-            (local self.new (view_of (W.name world.now.words) (W.sight pass.new))) }
+            (local self.old (view_of (W.name words.now) (W.sight pass.old))) (coming result group)
+            (local self.new (view_of (W.name words.now) (W.sight pass.new))) }
         ensures past { whole ≡ true → IsPast result }
     {
         self.resume();
-        self.go_looking(world, pass, asked, whole)
+        self.go_looking(words, pass, asked, whole)
     }
 
     // A load of the list of failures, or all that are left of the look. At its end it is known what comes next.
     #[inline(always)]
     pub(crate) fn go_looking<W: Words<P, A>>(
         &mut self,
-        world: &World<W, P, A>,
+        words: &W,
         pass: &mut W::Pass,
         asked: &Call<P>,
         whole: bool,
     ) -> Next<P>
-        requires of { IsView P.meld (view_of (W.name world.now.words) (W.sight pass.old)) }
+        requires of { IsView P.meld (view_of (W.name words.now) (W.sight pass.old)) }
         requires stands { (group : List ℕ) × StillStands P.meld (under_way asked.now AtLooking group)
-            (local self.old (view_of (W.name world.now.words) (W.sight pass.old))) }
+            (local self.old (view_of (W.name words.now) (W.sight pass.old))) }
         ensures turn { (group : List ℕ) → TakesTurn P.meld W.alone whole (under_way asked.now AtLooking group)
-            (local self.old (view_of (W.name world.now.words) (W.sight pass.old))) (coming result group)
-            (local self.new (view_of (W.name world.now.words) (W.sight pass.new))) }
+            (local self.old (view_of (W.name words.now) (W.sight pass.old))) (coming result group)
+            (local self.new (view_of (W.name words.now) (W.sight pass.new))) }
         ensures past { whole ≡ true → IsPast result }
     {
-        if !self.look_on(&world.words, pass, whole) {
+        if !self.look_on(words, pass, whole) {
             return Next::Goes(Phase::Looking);
         }
         if has_rank(self.failures(), self.number()) {
             self.refuse();
             return Next::Ends(Reply::Refused(Refusal::SelfFailed));
         }
-        self.looked(world, pass, asked)
+        self.looked(words, pass, asked)
     }
 
     // What comes after the look of a rank that it didn't find declared.
-    fn looked<W: Words<P, A>>(
-        &mut self,
-        world: &World<W, P, A>,
-        pass: &W::Pass,
-        asked: &Call<P>,
-    ) -> Next<P>
-        requires of { IsView P.meld (view_of (W.name world.now.words) (W.sight pass.now)) }
-        requires just { HasJustLooked P.meld asked.now (local self.old (view_of (W.name world.now.words) (W.sight pass.now))) }
+    fn looked<W: Words<P, A>>(&mut self, words: &W, pass: &W::Pass, asked: &Call<P>) -> Next<P>
+        requires of { IsView P.meld (view_of (W.name words.now) (W.sight pass.now)) }
+        requires just { HasJustLooked P.meld asked.now (local self.old (view_of (W.name words.now) (W.sight pass.now))) }
         ensures further { IsFurther AtLooking result }
-        ensures nearer { FewerLeft (with_look (W.name world.now.words).limits self.old asked.now) (W.name world.now.words).limits self.new asked.now result }
-        ensures also { AlsoFollows (W.name world.now.words).limits asked.now self.old result self.new }
+        ensures nearer { FewerLeft (with_look (W.name words.now).limits self.old asked.now) (W.name words.now).limits self.new asked.now result }
+        ensures also { AlsoFollows (W.name words.now).limits asked.now self.old result self.new }
         ensures knows { (cached : List Block) → KnowsNext self.old asked.now cached result }
-        ensures turns { FollowsLook P.meld asked.now (local self.old (view_of (W.name world.now.words) (W.sight pass.now))) result self.new }
+        ensures turns { FollowsLook P.meld asked.now (local self.old (view_of (W.name words.now) (W.sight pass.now))) result self.new }
     {
         let Some(x) = self.held(comm_of(asked)) else {
             return Next::Ends(Reply::Refused(Refusal::NoSuchComm));
@@ -128,24 +121,19 @@ impl<P: Packed, A: Allocator> LocalState<P, A> {
         if let Some(refusal) = self.refusal(x, asked) {
             return Next::Ends(Reply::Refused(refusal));
         }
-        self.passed(world, pass, asked)
+        self.passed(words, pass, asked)
     }
 
     // What comes next where the record doesn't refuse the call.
-    fn passed<W: Words<P, A>>(
-        &mut self,
-        world: &World<W, P, A>,
-        pass: &W::Pass,
-        asked: &Call<P>,
-    ) -> Next<P>
+    fn passed<W: Words<P, A>>(&mut self, words: &W, pass: &W::Pass, asked: &Call<P>) -> Next<P>
         requires passes { Passes self.old asked.now }
-        requires of { IsView P.meld (view_of (W.name world.now.words) (W.sight pass.now)) }
-        requires just { HasJustLooked P.meld asked.now (local self.old (view_of (W.name world.now.words) (W.sight pass.now))) }
+        requires of { IsView P.meld (view_of (W.name words.now) (W.sight pass.now)) }
+        requires just { HasJustLooked P.meld asked.now (local self.old (view_of (W.name words.now) (W.sight pass.now))) }
         ensures further { IsFurther AtLooking result }
-        ensures nearer { FewerLeft (with_look (W.name world.now.words).limits self.old asked.now) (W.name world.now.words).limits self.new asked.now result }
-        ensures also { AlsoFollows (W.name world.now.words).limits asked.now self.old result self.new }
+        ensures nearer { FewerLeft (with_look (W.name words.now).limits self.old asked.now) (W.name words.now).limits self.new asked.now result }
+        ensures also { AlsoFollows (W.name words.now).limits asked.now self.old result self.new }
         ensures knows { (cached : List Block) → KnowsNext self.old asked.now cached result }
-        ensures turns { FollowsLook P.meld asked.now (local self.old (view_of (W.name world.now.words) (W.sight pass.now))) result self.new }
+        ensures turns { FollowsLook P.meld asked.now (local self.old (view_of (W.name words.now) (W.sight pass.now))) result self.new }
     {
         let x = self.held_comm(comm_of(asked));
         match *asked {
@@ -174,7 +162,7 @@ impl<P: Packed, A: Allocator> LocalState<P, A> {
             Call::Barrier { .. } => Next::Goes(Phase::Arriving {
                 round: x.next_barrier,
             }),
-            Call::Poll { .. } => Next::Goes(self.ready(world, pass, asked)),
+            Call::Poll { .. } => Next::Goes(self.ready(words, pass, asked)),
             Call::Revoke { .. } => Next::Goes(Phase::Revoking),
             Call::IsRevoked { .. } => Next::Goes(Phase::Asking),
             Call::Free { comm, .. } => {
@@ -187,21 +175,16 @@ impl<P: Packed, A: Allocator> LocalState<P, A> {
     }
 
     // How the poll of an open request goes on after its look: a barrier reads who has arrived; an agreement loads its round's blocks.
-    fn ready<W: Words<P, A>>(
-        &self,
-        world: &World<W, P, A>,
-        pass: &W::Pass,
-        asked: &Call<P>,
-    ) -> Phase<P>
-        requires of { IsView P.meld (view_of (W.name world.now.words) (W.sight pass.now)) }
-        requires just { HasJustLooked P.meld asked.now (local self.now (view_of (W.name world.now.words) (W.sight pass.now))) }
+    fn ready<W: Words<P, A>>(&self, words: &W, pass: &W::Pass, asked: &Call<P>) -> Phase<P>
+        requires of { IsView P.meld (view_of (W.name words.now) (W.sight pass.now)) }
+        requires just { HasJustLooked P.meld asked.now (local self.now (view_of (W.name words.now) (W.sight pass.now))) }
         requires passes { Passes self.now asked.now }
         requires polls { (rank : ℕ) × (comm : ℕ) × (asked.now ≡ PollAsked rank comm) }
         ensures further { left result < 8 }
-        ensures nearer { steps_left (W.name world.now.words).limits self.now asked.now result < with_look (W.name world.now.words).limits self.now asked.now }
-        ensures also { AlsoFollows (W.name world.now.words).limits asked.now self.now (NextGoes result) self.now }
+        ensures nearer { steps_left (W.name words.now).limits self.now asked.now result < with_look (W.name words.now).limits self.now asked.now }
+        ensures also { AlsoFollows (W.name words.now).limits asked.now self.now (NextGoes result) self.now }
         ensures knows { (cached : List Block) → KnowsNext self.now asked.now cached (NextGoes result) }
-        ensures turns { FollowsLook P.meld asked.now (local self.now (view_of (W.name world.now.words) (W.sight pass.now))) (NextGoes result) self.now }
+        ensures turns { FollowsLook P.meld asked.now (local self.now (view_of (W.name words.now) (W.sight pass.now))) (NextGoes result) self.now }
     {
         let comm = comm_of(asked);
         let x = self.held_comm(comm);

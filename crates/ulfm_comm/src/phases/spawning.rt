@@ -5,7 +5,7 @@ ghost use Rattle.ulfm_comm.specs.{Spawning.{HadMemory, HasReached}, Agreement.{H
 ghost use Rattle.ulfm_comm.specs.{StepsLeft.{FewerLeft, after_round}, AlsoLeft.{also_after_round, also_in}, Step.{TakesTurn}};
 ghost use Rattle.ulfm_comm.specs.declared.phases.phase.Phase.TheVariants.{ReadingOn as AtReadingOn, Spawning as AtSpawning};
 ghost use Rattle.ulfm_comm.specs.Local.{local};
-ghost use Rattle.ulfm_comm.specs.Requests.{agreeing};
+ghost use Rattle.ulfm_comm.specs.Requests.{polled_round};
 ghost use Rattle.ulfm_comm.specs.Phase.{under_way};
 ghost use Rattle.ulfm_comm.specs.Step.{coming};
 ghost use Rattle.ulfm_words.specs.Steps.{view_of, IsView, Sight};
@@ -13,7 +13,6 @@ ghost use Rattle.ulfm_steps.specs.declared.append.Appended.TheVariants.{Found as
 
 use crate::phases::phase::{Made, Next, Phase};
 use crate::rank::LocalState;
-use crate::world::World;
 use std::alloc::Allocator;
 use ulfm_laws::meld::Packed;
 use ulfm_laws::summary::{Body, Summary};
@@ -52,27 +51,27 @@ impl<P: Packed, A: Allocator + Copy> LocalState<P, A> {
     // What comes next where a shrink's round says this.
     pub(crate) fn shrunk<W: Words<P, A>>(
         &mut self,
-        world: &World<W, P, A>,
+        words: &W,
         pass: &W::Pass,
         asked: &Call<P>,
         round: u16,
         all: Summary<P>,
         group: &mut Vec<u16, A>,
     ) -> Next<P>
-        requires of { IsView P.meld (view_of (W.name world.now.words) (W.sight pass.now)) }
+        requires of { IsView P.meld (view_of (W.name words.now) (W.sight pass.now)) }
         requires read { (old : Record) × (before : Sight P)
-            × HasReadAll P.meld false asked.now (agreeing true round) all (local old (view_of (W.name world.now.words) before))
-            (local self.old (view_of (W.name world.now.words) (W.sight pass.now))) }
+            × HasReadAll P.meld false asked.now (polled_round true round) all (local old (view_of (W.name words.now) before))
+            (local self.old (view_of (W.name words.now) (W.sight pass.now))) }
         ensures further { NextBelow 5 result }
         ensures sees { self.new.seen ≡ self.old.seen }
         ensures past { IsPast result }
-        ensures nearer { FewerLeft (after_round (W.name world.now.words).limits self.old true + 1) (W.name world.now.words).limits self.new asked.now result }
-        ensures also { also_in (W.name world.now.words).limits self.new asked.now result ≤ also_after_round (W.name world.now.words).limits true }
+        ensures nearer { FewerLeft (after_round (W.name words.now).limits self.old true + 1) (W.name words.now).limits self.new asked.now result }
+        ensures also { also_in (W.name words.now).limits self.new asked.now result ≤ also_after_round (W.name words.now).limits true }
         ensures turns { (alone : Bool) (old : Record) (before : Sight P)
-            → HasReadAll P.meld alone asked.now (agreeing true round) all (local old (view_of (W.name world.now.words) before))
-            (local self.old (view_of (W.name world.now.words) (W.sight pass.now)))
-            → NextIs P.meld alone asked.now (local old (view_of (W.name world.now.words) before)) result group.new.items
-            (local self.new (view_of (W.name world.now.words) (W.sight pass.now))) }
+            → HasReadAll P.meld alone asked.now (polled_round true round) all (local old (view_of (W.name words.now) before))
+            (local self.old (view_of (W.name words.now) (W.sight pass.now)))
+            → NextIs P.meld alone asked.now (local old (view_of (W.name words.now) before)) result group.new.items
+            (local self.new (view_of (W.name words.now) (W.sight pass.now))) }
     {
         let comm = comm_of(asked);
         let Body::Ctx(mask) = all.body else {
@@ -90,14 +89,14 @@ impl<P: Packed, A: Allocator + Copy> LocalState<P, A> {
         if on.found < count {
             return Next::Goes(Phase::ReadingOn { on, made });
         }
-        self.reached(world, pass, asked, on.reach, made, group)
+        self.reached(words, pass, asked, on.reach, made, group)
     }
 
     // A load of the list of failures, or all that are left, as far as the decision's failed group reaches.
     #[inline(always)]
     pub(crate) fn go_reading_on<W: Words<P, A>>(
         &mut self,
-        world: &World<W, P, A>,
+        words: &W,
         pass: &mut W::Pass,
         asked: &Call<P>,
         on: ReadOn,
@@ -105,53 +104,46 @@ impl<P: Packed, A: Allocator + Copy> LocalState<P, A> {
         whole: bool,
         group: &mut Vec<u16, A>,
     ) -> Next<P>
-        requires of { IsView P.meld (view_of (W.name world.now.words) (W.sight pass.old)) }
+        requires of { IsView P.meld (view_of (W.name words.now) (W.sight pass.old)) }
         requires stands { StillStands P.meld (under_way asked.now (AtReadingOn on made) group.old.items)
-            (local self.old (view_of (W.name world.now.words) (W.sight pass.old))) }
+            (local self.old (view_of (W.name words.now) (W.sight pass.old))) }
         ensures { TakesTurn P.meld W.alone whole (under_way asked.now (AtReadingOn on made) group.old.items)
-            (local self.old (view_of (W.name world.now.words) (W.sight pass.old))) (coming result group.new.items)
-            (local self.new (view_of (W.name world.now.words) (W.sight pass.new))) }
+            (local self.old (view_of (W.name words.now) (W.sight pass.old))) (coming result group.new.items)
+            (local self.new (view_of (W.name words.now) (W.sight pass.new))) }
     {
         let mut on = on;
-        self.read_on(
-            &world.words,
-            pass,
-            comm_of(asked),
-            &mut on,
-            made.count,
-            whole,
-        );
+        self.read_on(words, pass, comm_of(asked), &mut on, made.count, whole);
         if on.found < made.count {
             return Next::Goes(Phase::ReadingOn { on, made });
         }
-        self.reached(world, pass, asked, on.reach, made, group)
+        self.reached(words, pass, asked, on.reach, made, group)
     }
 
     // What comes next where the decision's whole failed group is known: so many failures that were seen reach as far as it.
     fn reached<W: Words<P, A>>(
         &mut self,
-        world: &World<W, P, A>,
+        words: &W,
         pass: &W::Pass,
         asked: &Call<P>,
         reach: usize,
         made: Made,
         group: &mut Vec<u16, A>,
     ) -> Next<P>
-        requires of { IsView P.meld (view_of (W.name world.now.words) (W.sight pass.now)) }
+        requires of { IsView P.meld (view_of (W.name words.now) (W.sight pass.now)) }
         requires reached { (old : Record) × (before : Sight P)
-            × HasReached P.meld false asked.now made reach (local old (view_of (W.name world.now.words) before))
-            (local self.old (view_of (W.name world.now.words) (W.sight pass.now))) }
+            × HasReached P.meld false asked.now made reach (local old (view_of (W.name words.now) before))
+            (local self.old (view_of (W.name words.now) (W.sight pass.now))) }
         ensures further { NextBelow 4 result }
         ensures sees { self.new.seen ≡ self.old.seen }
         ensures past { IsPast result }
         ensures makes { IsMaking result }
         ensures memory { HadMemory asked.now reach self.old result group.new.items }
-        ensures nearer { FewerLeft (2 * ((W.name world.now.words).limits.comms - 1) + 1) (W.name world.now.words).limits self.new asked.now result }
+        ensures nearer { FewerLeft (2 * ((W.name words.now).limits.comms - 1) + 1) (W.name words.now).limits self.new asked.now result }
         ensures turns { (alone : Bool) (old : Record) (before : Sight P)
-            → HasReached P.meld alone asked.now made reach (local old (view_of (W.name world.now.words) before))
-            (local self.old (view_of (W.name world.now.words) (W.sight pass.now)))
-            → NextIs P.meld alone asked.now (local old (view_of (W.name world.now.words) before)) result group.new.items
-            (local self.new (view_of (W.name world.now.words) (W.sight pass.now))) }
+            → HasReached P.meld alone asked.now made reach (local old (view_of (W.name words.now) before))
+            (local self.old (view_of (W.name words.now) (W.sight pass.now)))
+            → NextIs P.meld alone asked.now (local old (view_of (W.name words.now) before)) result group.new.items
+            (local self.new (view_of (W.name words.now) (W.sight pass.now))) }
     {
         let number = self.number();
         if has_rank(&self.failures()[..reach], number) {
@@ -162,7 +154,7 @@ impl<P: Packed, A: Allocator + Copy> LocalState<P, A> {
         if self.make_room(comm, reach, group).is_err() {
             return Next::Ends(Reply::Refused(Refusal::OutOfMemory));
         }
-        if world.words.limits().comms == 1 {
+        if words.limits().comms == 1 {
             self.close(comm);
             return Next::Ends(Reply::Refused(Refusal::NoRoom));
         }
@@ -180,7 +172,7 @@ impl<P: Packed, A: Allocator + Copy> LocalState<P, A> {
     // A load or an exchange of the list of communicators, or all that are left, until it has the round's or is full.
     pub(crate) fn go_spawning<W: Words<P, A>>(
         &mut self,
-        world: &World<W, P, A>,
+        words: &W,
         pass: &mut W::Pass,
         asked: &Call<P>,
         append: Append,
@@ -189,16 +181,16 @@ impl<P: Packed, A: Allocator + Copy> LocalState<P, A> {
         whole: bool,
         group: &mut Vec<u16, A>,
     ) -> Next<P>
-        requires of { IsView P.meld (view_of (W.name world.now.words) (W.sight pass.old)) }
+        requires of { IsView P.meld (view_of (W.name words.now) (W.sight pass.old)) }
         requires stands { StillStands P.meld (under_way asked.now (AtSpawning append context reach) group.old.items)
-            (local self.old (view_of (W.name world.now.words) (W.sight pass.old))) }
+            (local self.old (view_of (W.name words.now) (W.sight pass.old))) }
         ensures { TakesTurn P.meld W.alone whole (under_way asked.now (AtSpawning append context reach) group.old.items)
-            (local self.old (view_of (W.name world.now.words) (W.sight pass.old))) (coming result group.new.items)
-            (local self.new (view_of (W.name world.now.words) (W.sight pass.new))) }
+            (local self.old (view_of (W.name words.now) (W.sight pass.old))) (coming result group.new.items)
+            (local self.new (view_of (W.name words.now) (W.sight pass.new))) }
     {
         let comm = comm_of(asked);
         let mut append = append;
-        match self.spawn(&world.words, pass, comm, &mut append, context, whole, group) {
+        match self.spawn(words, pass, comm, &mut append, context, whole, group) {
             Spawned::Unknown => Next::Goes(Phase::Spawning {
                 append,
                 context,

@@ -1,16 +1,13 @@
 // Calls, step by step and whole.
 ghost use Rattle.std.specs.Prelude.{◌≡◌, ◌+◌, ◌<◌, ◌≤◌, [], Bool, false, length, IsTrue, MatchOption, OnSome, if◌then◌else◌};
 ghost use Rattle.ulfm_model.specs.declared.event.Caller.TheVariants.{Rank as OfRank};
-ghost use Rattle.ulfm_model.specs.declared.{refusal.Refusal.TheVariants.{SelfFailed}, reply.Reply.TheVariants.{Refused}};
-ghost use Rattle.ulfm_model.specs.{Answers.{traits_of}, Records.{Fits, Record}};
-ghost use Rattle.ulfm_comm.specs.{Begins.{loads_again}, Bound.{also_bound, step_bound}, AlsoLeft.{also_left}, Counts.{CountsStep, MakesSteps, TakesSteps}};
-ghost use Rattle.ulfm_comm.specs.{StepsLeft.{Spends, steps_left}, Step.{RunsOn, TakesTurn, Stepped}, Calls.{EndsReply}, Polls.{PendsIn}};
-ghost use Rattle.ulfm_comm.specs.Phase.{under_way, Answered, is_looking, next_of, Stands, StillStands, Waits};
-ghost use Rattle.ulfm_comm.specs.Missing.{midway, AnsweredNow, AnswersMissing, FindsMissing, FoundNow};
+ghost use Rattle.ulfm_model.specs.{Answers.{traits_of}, Records.{Fits}};
+ghost use Rattle.ulfm_comm.specs.{Begins.{loads_again}, Bound.{also_bound, step_bound}, AlsoLeft.{also_left}, Counts.{MakesSteps, StepCounts, TakesSteps}};
+ghost use Rattle.ulfm_comm.specs.{StepsLeft.{Spends, steps_left}, Step.{GoesOn, RunsOn, Stepped}, Calls.{EndsReply}, Polls.{PendsIn}};
+ghost use Rattle.ulfm_comm.specs.Phase.{under_way, is_looking, next_of, MayStep, Stands, StandsOrEnds, StillStands};
 ghost use Rattle.ulfm_words.specs.Steps.{view_of, IsView, Name, Sight};
-ghost use Rattle.ulfm_comm.specs.declared.phases.phase.Next.TheVariants.{Ends as NextEnds};
 ghost use Rattle.ulfm_comm.specs.declared.phases.phase.Phase.TheVariants.{Begun as AtBegun, Over as AtOver};
-ghost use Rattle.ulfm_comm.specs.Local.{local};
+ghost use Rattle.ulfm_comm.specs.Local.{local, FitsView};
 ghost use Rattle.ulfm_comm.specs.Step.{coming};
 
 use crate::phases::phase::{Doing, Next, Phase, Way};
@@ -35,7 +32,7 @@ impl<P: Packed, A: Allocator + Copy> LocalState<P, A> {
         Phase::Begun
     }
 
-    // Begins a call of this rank, any but a declaration. It is no step.
+    // Begins a call of this rank, any but a declaration. It makes no atomic step.
     pub(crate) fn begin(&self, asked: Call<P>) -> Way<P, A>
         requires { (traits_of asked).by ≡ OfRank self.now.number }
         ensures asked { result.asked ≡ asked }
@@ -56,62 +53,53 @@ impl<P: Packed, A: Allocator + Copy> LocalState<P, A> {
     #[inline(always)]
     fn go<W: Words<P, A>>(
         &mut self,
-        world: &World<W, P, A>,
+        words: &W,
         pass: &mut W::Pass,
         asked: &Call<P>,
         phase: Phase<P>,
         group: &mut Vec<u16, A>,
         whole: bool,
     ) -> Next<P>
-        requires of { IsView P.meld (view_of (W.name world.now.words) (W.sight pass.old)) }
-        requires stands { StillStands P.meld (under_way asked.now phase group.old.items) (local self.old (view_of (W.name world.now.words) (W.sight pass.old))) }
-        ensures turn { TakesTurn P.meld W.alone whole (under_way asked.now phase group.old.items)
-            (local self.old (view_of (W.name world.now.words) (W.sight pass.old))) (coming result group.new.items)
-            (local self.new (view_of (W.name world.now.words) (W.sight pass.new))) }
-        ensures over { phase ≡ AtOver → (result ≡ NextEnds (Refused SelfFailed)) × (self.new ≡ self.old) }
-        ensures checks { FoundNow
-            (FindsMissing P.meld W.alone (midway (under_way asked.now phase group.old.items)
-            (local self.old (view_of (W.name world.now.words) (W.sight pass.old)))) (local self.new (view_of (W.name world.now.words) (W.sight pass.new))))
-            phase result }
-        ensures early { AnsweredNow
-            (AnswersMissing P.meld W.alone (midway (under_way asked.now phase group.old.items)
-            (local self.old (view_of (W.name world.now.words) (W.sight pass.old)))) self.new)
-            phase result }
+        requires of { IsView P.meld (view_of (W.name words.now) (W.sight pass.old)) }
+        requires stands { StillStands P.meld (under_way asked.now phase group.old.items) (local self.old (view_of (W.name words.now) (W.sight pass.old))) }
+        ensures { GoesOn P.meld W.alone whole (under_way asked.now phase group.old.items)
+            (local self.old (view_of (W.name words.now) (W.sight pass.old))) (coming result group.new.items)
+            (local self.new (view_of (W.name words.now) (W.sight pass.new))) }
     {
         match phase {
             Phase::Over => Next::Ends(Reply::Refused(Refusal::SelfFailed)),
-            Phase::Begun => self.go_begun(world, pass, asked, whole),
-            Phase::Looking => self.go_looking(world, pass, asked, whole),
+            Phase::Begun => self.go_begun(words, pass, asked, whole),
+            Phase::Looking => self.go_looking(words, pass, asked, whole),
             Phase::Settling { request, offer } => {
-                Next::Ends(self.go_settling(world, pass, asked, request, offer))
+                Next::Ends(self.go_settling(words, pass, asked, request, offer))
             }
-            Phase::Arriving { round } => Next::Ends(self.go_arriving(world, pass, asked, round)),
-            Phase::Revoking => Next::Ends(self.go_revoking(world, pass, asked)),
+            Phase::Arriving { round } => Next::Ends(self.go_arriving(words, pass, asked, round)),
+            Phase::Revoking => Next::Ends(self.go_revoking(words, pass, asked)),
             Phase::Asking => Next::Ends(Reply::Standing {
-                revoked: load_revocation(&world.words, pass, comm_of(asked)),
+                revoked: load_revocation(words, pass, comm_of(asked)),
             }),
             Phase::Peeking { peek, shrinks } => {
-                self.go_peeking(world, pass, asked, peek, shrinks, whole, group)
+                self.go_peeking(words, pass, asked, peek, shrinks, whole, group)
             }
             Phase::Marking {
                 marks,
                 blocks,
                 shrinks,
-            } => self.go_marking(world, pass, asked, marks, blocks, shrinks, whole),
+            } => self.go_marking(words, pass, asked, marks, blocks, shrinks, whole),
             Phase::Reading { reading, shrinks } => {
-                self.go_reading(world, pass, asked, reading, shrinks, whole, group)
+                self.go_reading(words, pass, asked, reading, shrinks, whole, group)
             }
             Phase::ReadingOn { on, made } => {
-                self.go_reading_on(world, pass, asked, on, made, whole, group)
+                self.go_reading_on(words, pass, asked, on, made, whole, group)
             }
             Phase::Spawning {
                 append,
                 context,
                 reach,
-            } => self.go_spawning(world, pass, asked, append, context, reach, whole, group),
-            Phase::Waiting { arrivals } => self.go_waiting(world, pass, asked, arrivals, whole),
+            } => self.go_spawning(words, pass, asked, append, context, reach, whole, group),
+            Phase::Waiting { arrivals } => self.go_waiting(words, pass, asked, arrivals, whole),
             Phase::Checking { missing } => {
-                Next::Ends(self.go_checking(world, pass, asked, missing))
+                Next::Ends(self.go_checking(words, pass, asked, missing))
             }
         }
     }
@@ -120,30 +108,23 @@ impl<P: Packed, A: Allocator + Copy> LocalState<P, A> {
     #[inline(always)]
     pub(crate) fn step<W: Words<P, A>>(
         &mut self,
-        world: &World<W, P, A>,
+        words: &W,
         pass: &mut W::Pass,
         doing: &mut Way<P, A>,
     ) -> Option<Reply<P>>
-        requires of { IsView P.meld (view_of (W.name world.now.words) (W.sight pass.old)) }
-        requires stood { (old : Record) × (before : Sight P) × (stood : Sight P)
-            × Stands P.meld false (local old (view_of (W.name world.now.words) before)) doing.old (local self.old (view_of (W.name world.now.words) stood))
-            × Waits false stood (W.sight pass.old) }
+        requires of { IsView P.meld (view_of (W.name words.now) (W.sight pass.old)) }
+        requires stood { MayStep P.meld doing.old (local self.old (view_of (W.name words.now) (W.sight pass.old))) }
         ensures asked { doing.new.asked ≡ doing.old.asked }
         ensures ended { OnSome result (doing.new.phase ≡ AtOver) }
-        ensures stepped { Stepped P.meld W.alone doing.old (local self.old (view_of (W.name world.now.words) (W.sight pass.old)))
-            (next_of result doing.new.phase) (local self.new (view_of (W.name world.now.words) (W.sight pass.new))) }
-        ensures stands { (alone : Bool) → (IsTrue alone → IsTrue W.alone) → (old : Record) → (before : Sight P) → (stood : Sight P)
-            → Stands P.meld alone (local old (view_of (W.name world.now.words) before)) doing.old (local self.old (view_of (W.name world.now.words) stood))
-            → Waits alone stood (W.sight pass.old)
-            → MatchOption result (Stands P.meld alone (local old (view_of (W.name world.now.words) before)) doing.new
-            (local self.new (view_of (W.name world.now.words) (W.sight pass.new))))
-            (λ reply. Answered P.meld alone doing.old.asked (local old (view_of (W.name world.now.words) before)) reply
-            (local self.new (view_of (W.name world.now.words) (W.sight pass.new)))) }
-        ensures spends { Spends (steps_left (W.name world.now.words).limits self.old doing.old.asked doing.old.phase) (W.name world.now.words).limits self.new
+        ensures stepped { Stepped P.meld W.alone doing.old (local self.old (view_of (W.name words.now) (W.sight pass.old)))
+            (next_of result doing.new.phase) (local self.new (view_of (W.name words.now) (W.sight pass.new))) }
+        ensures stands { StandsOrEnds P.meld W.alone doing.old (local self.old (view_of (W.name words.now) (W.sight pass.old))) result doing.new
+            (local self.new (view_of (W.name words.now) (W.sight pass.new))) }
+        ensures spends { Spends (steps_left (W.name words.now).limits self.old doing.old.asked doing.old.phase) (W.name words.now).limits self.new
             doing.old.asked (next_of result doing.new.phase) (W.sight pass.old) (W.sight pass.new) }
     {
         let phase = mem::replace(&mut doing.phase, Phase::Over);
-        match self.go(world, pass, &doing.asked, phase, &mut doing.group, false) {
+        match self.go(words, pass, &doing.asked, phase, &mut doing.group, false) {
             Next::Goes(phase) => {
                 doing.phase = phase;
                 None
@@ -156,18 +137,18 @@ impl<P: Packed, A: Allocator + Copy> LocalState<P, A> {
     #[inline(always)]
     pub(crate) fn call<W: Words<P, A>>(
         &mut self,
-        world: &World<W, P, A>,
+        words: &W,
         pass: &mut W::Pass,
         asked: Call<P>,
     ) -> Reply<P>
-        requires of { IsView P.meld (view_of (W.name world.now.words) (W.sight pass.old)) }
-        requires fits { Fits P.meld (W.name world.now.words).limits (W.sight pass.old).seen self.old }
+        requires of { IsView P.meld (view_of (W.name words.now) (W.sight pass.old)) }
+        requires fits { Fits P.meld (W.name words.now).limits (W.sight pass.old).seen self.old }
         requires mine { (traits_of asked).by ≡ OfRank self.old.number }
-        ensures ends { EndsReply P.meld W.alone asked (local self.old (view_of (W.name world.now.words) (W.sight pass.old))) result
-            (local self.new (view_of (W.name world.now.words) (W.sight pass.new))) }
-        ensures pending { PendsIn P.meld W.alone asked (local self.old (view_of (W.name world.now.words) (W.sight pass.old))) result
-            (local self.new (view_of (W.name world.now.words) (W.sight pass.new))) }
-        ensures steps { MakesSteps (W.name world.now.words).limits asked self.old (W.sight pass.old) self.new (W.sight pass.new) }
+        ensures ends { EndsReply P.meld W.alone asked (local self.old (view_of (W.name words.now) (W.sight pass.old))) result
+            (local self.new (view_of (W.name words.now) (W.sight pass.new))) }
+        ensures pending { PendsIn P.meld W.alone asked (local self.old (view_of (W.name words.now) (W.sight pass.old))) result
+            (local self.new (view_of (W.name words.now) (W.sight pass.new))) }
+        ensures steps { MakesSteps (W.name words.now).limits asked self.old (W.sight pass.old) self.new (W.sight pass.new) }
     {
         if self.is_refused() {
             return Reply::Refused(Refusal::SelfFailed);
@@ -177,8 +158,8 @@ impl<P: Packed, A: Allocator + Copy> LocalState<P, A> {
             self.refuse();
             return Reply::Refused(Refusal::SelfFailed);
         }
-        match self.go_begun(world, pass, &asked, true) {
-            Next::Goes(phase) => self.run_on(world, pass, &asked, phase),
+        match self.go_begun(words, pass, &asked, true) {
+            Next::Goes(phase) => self.run_on(words, pass, &asked, phase),
             Next::Ends(reply) => reply,
         }
     }
@@ -187,20 +168,20 @@ impl<P: Packed, A: Allocator + Copy> LocalState<P, A> {
     #[inline(always)]
     fn run_on<W: Words<P, A>>(
         &mut self,
-        world: &World<W, P, A>,
+        words: &W,
         pass: &mut W::Pass,
         asked: &Call<P>,
         mut phase: Phase<P>,
     ) -> Reply<P>
-        requires of { IsView P.meld (view_of (W.name world.now.words) (W.sight pass.old)) }
-        requires stands { StillStands P.meld (under_way asked.now phase []) (local self.old (view_of (W.name world.now.words) (W.sight pass.old))) }
+        requires of { IsView P.meld (view_of (W.name words.now) (W.sight pass.old)) }
+        requires stands { StillStands P.meld (under_way asked.now phase []) (local self.old (view_of (W.name words.now) (W.sight pass.old))) }
         requires past { is_looking phase ≡ false }
-        ensures { RunsOn P.meld W.alone asked.now phase (local self.old (view_of (W.name world.now.words) (W.sight pass.old))) result
-            (local self.new (view_of (W.name world.now.words) (W.sight pass.new))) }
+        ensures { RunsOn P.meld W.alone asked.now phase (local self.old (view_of (W.name words.now) (W.sight pass.old))) result
+            (local self.new (view_of (W.name words.now) (W.sight pass.new))) }
     {
         let mut group = Vec::new(self.allocator());
         loop {
-            match self.go(world, pass, asked, phase, &mut group, true) {
+            match self.go(words, pass, asked, phase, &mut group, true) {
                 Next::Goes(next) => phase = next,
                 Next::Ends(reply) => return reply,
             }
@@ -209,9 +190,9 @@ impl<P: Packed, A: Allocator + Copy> LocalState<P, A> {
 }
 
 impl<P: Packed, A: Allocator + Copy> Rank<P, A> {
-    /// Begins a call of this rank, any but a declaration, to be taken step by step. It is no step, and takes no memory. The call makes as
-    /// many steps as when it is made whole, at most: with each step fewer are left. Only where the rank has seen all ranks of the world, as
-    /// one may that read on for a shrink, and wasn't refused for good, it makes one more: its look reads the last of them again.
+    /// Begins a call of this rank, any but a declaration, to be taken step by step. It makes no atomic step, and takes no memory. The call
+    /// makes as many steps as when it is made whole, at most: with each step fewer are left. Only where the rank has seen all ranks of the
+    /// world, as one may that read on for a shrink, and wasn't refused for good, it makes one more: its look reads the last of them again.
     ///
     /// ```
     /// let asked = Call::IsRevoked {
@@ -260,26 +241,20 @@ impl<P: Packed, A: Allocator + Copy> Rank<P, A> {
         pass: &mut W::Pass,
         doing: &mut Doing<P, A>,
     ) -> Option<Reply<P>>
-        requires of { IsView P.meld (view_of (W.name world.now.words) (W.sight pass.old)) }
-        requires stood { (old : Record) × (before : Sight P) × (stood : Sight P)
-            × Stands P.meld false (local old (view_of (W.name world.now.words) before)) doing.old.way
-            (local self.old.own (view_of (W.name world.now.words) stood)) × Waits false stood (W.sight pass.old) }
+        requires of { IsView P.meld (view_of world.now (W.sight pass.old)) }
+        requires stood { MayStep P.meld doing.old.way (local self.old.own (view_of world.now (W.sight pass.old))) }
         ensures asked { doing.new.way.asked ≡ doing.old.way.asked }
         ensures ended { OnSome result (doing.new.way.phase ≡ AtOver) }
-        ensures stepped { Stepped P.meld W.alone doing.old.way (local self.old.own (view_of (W.name world.now.words) (W.sight pass.old)))
-            (next_of result doing.new.way.phase) (local self.new.own (view_of (W.name world.now.words) (W.sight pass.new))) }
-        ensures stands { (alone : Bool) → (IsTrue alone → IsTrue W.alone) → (old : Record) → (before : Sight P) → (stood : Sight P)
-            → Stands P.meld alone (local old (view_of (W.name world.now.words) before)) doing.old.way
-            (local self.old.own (view_of (W.name world.now.words) stood)) → Waits alone stood (W.sight pass.old)
-            → MatchOption result (Stands P.meld alone (local old (view_of (W.name world.now.words) before)) doing.new.way
-            (local self.new.own (view_of (W.name world.now.words) (W.sight pass.new))))
-            (λ reply. Answered P.meld alone doing.old.way.asked (local old (view_of (W.name world.now.words) before)) reply
-            (local self.new.own (view_of (W.name world.now.words) (W.sight pass.new)))) }
-        ensures made { CountsStep (W.name world.now.words).limits doing.old self.old.own (next_of result doing.new.way.phase) doing.new.made self.new.own }
+        ensures stepped { Stepped P.meld W.alone doing.old.way (local self.old.own (view_of world.now (W.sight pass.old)))
+            (next_of result doing.new.way.phase) (local self.new.own (view_of world.now (W.sight pass.new))) }
+        ensures stands { StandsOrEnds P.meld W.alone doing.old.way (local self.old.own (view_of world.now (W.sight pass.old))) result doing.new.way
+            (local self.new.own (view_of world.now (W.sight pass.new))) }
+        ensures made { StepCounts doing.old (local self.old.own (view_of world.now (W.sight pass.old))) (next_of result doing.new.way.phase) doing.new.made
+            (local self.new.own (view_of world.now (W.sight pass.new))) }
         ensures last { MatchOption result (self.new.last ≡ self.old.last) (λ _. self.new.last ≡ doing.new.made) }
     {
         doing.count();
-        let Some(reply) = self.own.step(world, pass, &mut doing.way) else {
+        let Some(reply) = self.own.step(&world.words, pass, &mut doing.way) else {
             return None;
         };
         self.last = doing.made;
@@ -304,18 +279,18 @@ impl<P: Packed, A: Allocator + Copy> Rank<P, A> {
         pass: &mut W::Pass,
         asked: Call<P>,
     ) -> Reply<P>
-        requires of { IsView P.meld (view_of (W.name world.now.words) (W.sight pass.old)) }
-        requires fits { Fits P.meld (W.name world.now.words).limits (W.sight pass.old).seen self.old.own }
+        requires of { IsView P.meld (view_of world.now (W.sight pass.old)) }
+        requires fits { FitsView P.meld (local self.old.own (view_of world.now (W.sight pass.old))) }
         requires mine { (traits_of asked).by ≡ OfRank self.old.own.number }
-        ensures ends { EndsReply P.meld W.alone asked (local self.old.own (view_of (W.name world.now.words) (W.sight pass.old))) result
-            (local self.new.own (view_of (W.name world.now.words) (W.sight pass.new))) }
-        ensures pending { PendsIn P.meld W.alone asked (local self.old.own (view_of (W.name world.now.words) (W.sight pass.old))) result
-            (local self.new.own (view_of (W.name world.now.words) (W.sight pass.new))) }
-        ensures steps { TakesSteps asked (local self.old.own (view_of (W.name world.now.words) (W.sight pass.old))) self.new.last
-            (local self.new.own (view_of (W.name world.now.words) (W.sight pass.new))) }
+        ensures ends { EndsReply P.meld W.alone asked (local self.old.own (view_of world.now (W.sight pass.old))) result
+            (local self.new.own (view_of world.now (W.sight pass.new))) }
+        ensures pending { PendsIn P.meld W.alone asked (local self.old.own (view_of world.now (W.sight pass.old))) result
+            (local self.new.own (view_of world.now (W.sight pass.new))) }
+        ensures steps { TakesSteps asked (local self.old.own (view_of world.now (W.sight pass.old))) self.new.last
+            (local self.new.own (view_of world.now (W.sight pass.new))) }
     {
         let before = world.words.steps_made(pass);
-        let reply = self.own.call(world, pass, asked);
+        let reply = self.own.call(&world.words, pass, asked);
         let after = world.words.steps_made(pass);
         self.last = after.wrapping_sub(before) as u32;
         reply

@@ -7,5 +7,5 @@ use Rattle.ulfm_comm_tests.proofs.play.seats_of.Given as goal
 
 abbrev pub invariant-loop-own : goal.invariant-loop-own
 invariant-loop-own g l =
-    AllByRecursion (Fits g.P.Meld.meld (g.W.Words.name l.fn.world.words).limits []) (records_of l.own-iterator.rest.items)
-    × AllByRecursion (Plays g.P.Meld.meld (g.W.Words.name l.fn.world.words) (g.W.Words.sight l.fn.pass)) l.seats.items
+    AllByRecursion (Fits g.P.Meld.meld l.fn.world.limits []) (records_of l.own-iterator.rest.items)
+    × AllByRecursion (Plays g.P.Meld.meld l.fn.world (g.W.Words.sight l.fn.pass)) l.seats.items

@@ -1,4 +1,4 @@
-use Rattle.std.proofs.Common.{◌∙◌, sym}
+use Rattle.std.proofs.Common.{◌∙◌}
 use Rattle.ulfm_member.proofs.InTurn.{is_short}
 use Rattle.ulfm_member.proofs.in_turn.poll_in_turn.Goals as goal
 

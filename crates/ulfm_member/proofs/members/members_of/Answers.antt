@@ -13,26 +13,26 @@ use Rattle.ulfm_member.proofs.members.members_of.Goals as goal
 pub new-requires : goal.new-requires
 new-requires g c =
     let meld = g.P.Meld.meld in
-    let name = g.W.Words.name (arc_value c.args.world.now).words in
+    let name = arc_value c.args.world.now in
     let own = c.in-Some.rank.own in
     let pass = g.W.Words.sight c.in_ok-pass.pass in
-    let new = subst (λ world. IsNew meld (view_of (g.W.Words.name world.words) pass)) c.deref.ensures c.in_ok-pass.ensures in
+    let new = subst (λ world. IsNew meld (view_of world pass)) c.deref.ensures c.in_ok-pass.ensures in
     let left = subst (λ rs. AllByRecursion (Fits meld name.limits []) (records_of rs)) c.in-Some.ensures.steps.0 c.loop-rank.invariant.2 in
     let fits = subst (λ seen. Fits meld name.limits seen own) (sym new.seen) left.0 in
-    subst (λ world. IsMember meld (record { own = own; last = c.in-Some.rank.last; view = view_of (g.W.Words.name world.words) pass })) (sym c.in_ok-try_clone.ensures)
+    subst (λ world. IsMember meld (record { own = own; last = c.in-Some.rank.last; view = view_of world pass })) (sym c.in_ok-try_clone.ensures)
     (record { of = new.of; fits = fits })
 
 pub loop-rank-preserved : goal.loop-rank-preserved
 loop-rank-preserved g c =
     let meld = g.P.Meld.meld in
-    let name = g.W.Words.name (arc_value c.args.world.now).words in
+    let name = arc_value c.args.world.now in
     let pass = g.W.Words.sight c.in_ok-pass.pass in
     let all = c.loop-rank.all.items in
     let member = c.new.result in
     let rest = records_of c.next.new.self.rest.items in
-    let new = subst (λ world. IsNew meld (view_of (g.W.Words.name world.words) pass)) c.deref.ensures c.in_ok-pass.ensures in
+    let new = subst (λ world. IsNew meld (view_of world pass)) c.deref.ensures c.in_ok-pass.ensures in
     let none = subst (AllByRecursion (λ (r : Ranked). r.last ≡ 0)) c.in-Some.ensures.steps.0 c.loop-rank.invariant.3 in
-    let is_new = subst (IsNewMember meld name) (sym c.new.ensures) (record { name_is = ap (λ world. g.W.Words.name world.words) c.in_ok-try_clone.ensures; new = subst (λ world. IsNew meld (view_of (g.W.Words.name world.words) pass)) (sym c.in_ok-try_clone.ensures) new; last = none.0 }) in
+    let is_new = subst (IsNewMember meld name) (sym c.new.ensures) (record { name_is = ap (λ world. world) c.in_ok-try_clone.ensures; new = subst (λ world. IsNew meld (view_of world pass)) (sym c.in_ok-try_clone.ensures) new; last = none.0 }) in
     let left = subst (λ rs. AllByRecursion (Fits meld name.limits []) (records_of rs)) c.in-Some.ensures.steps.0 c.loop-rank.invariant.2 in
     let in_order =
     one_member_more all member rest ∙ (ap (λ x. map (λ m. m.own) all ++ x.own ∷ rest) c.new.ensures

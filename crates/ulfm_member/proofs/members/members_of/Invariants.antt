@@ -8,7 +8,7 @@ use Rattle.ulfm_member.proofs.members.members_of.Given as goal
 
 abbrev pub invariant-loop-rank : goal.invariant-loop-rank
 invariant-loop-rank g l =
-    let name = g.W.Words.name (arc_value l.fn.world).words in
+    let name = arc_value l.fn.world in
     (map (λ m. m.own) l.all.items ++ records_of l.rank-iterator.rest.items ≡ records_of l.fn.ranks.items)
     × AllByRecursion (IsNewMember g.P.Meld.meld name) l.all.items
     × AllByRecursion (Fits g.P.Meld.meld name.limits []) (records_of l.rank-iterator.rest.items)

@@ -9,7 +9,7 @@ use Rattle.ulfm_race.proofs.gather.hear_all.Given as goal
 abbrev pub invariant-loop-one : goal.invariant-loop-one
 invariant-loop-one g l =
     let plan = l.fn.gathered.plan in
-    let name = l.fn.world.words in
+    let name = l.fn.world in
     let rest = l.one-iterator.rest.items in
     (l.world ≡ l.fn.world)
     × (l.said ≡ l.fn.said)

@@ -8,7 +8,7 @@ use Rattle.ulfm_race.proofs.racing.start_all.Given as goal
 abbrev pub invariant-loop-rank : goal.invariant-loop-rank
 invariant-loop-rank g l =
     let plan = l.fn.plan in
-    let name = l.fn.world.words in
+    let name = l.fn.world in
     let rest = l.rank-iterator.rest.items in
     (l.world ≡ l.fn.world)
     × (l.said ≡ l.fn.said)

@@ -8,9 +8,9 @@ pub returns-then-stopped-clause-own : goal.returns-then-stopped-clause-own
 returns-then-stopped-clause-own c = record {
   of = c.fail.ensures.of;
   fits =
-      fail_fits flag_meld c.args.world.now.words.limits false c.args.pass.now.seen c.fail.new.pass.seen c.args.rank.now.own _ _ c.fail.ensures.run c.requires.own.fits;
+      fail_fits flag_meld c.args.world.now.limits false c.args.pass.now.seen c.fail.new.pass.seen c.args.rank.now.own _ _ c.fail.ensures.run c.requires.own.fits;
 }
 
 pub returns-then-stopped-clause-declared : goal.returns-then-stopped-clause-declared
 returns-then-stopped-clause-declared c stopped below =
-    fail_declares c.args.world.now.words.limits false c.args.pass.now.seen c.fail.new.pass.seen c.args.number _ c.fail.ensures.run c.fail.ensures.at_end below
+    fail_declares c.args.world.now.limits false c.args.pass.now.seen c.fail.new.pass.seen c.args.number _ c.fail.ensures.run c.fail.ensures.at_end below

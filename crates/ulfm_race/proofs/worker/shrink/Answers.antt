@@ -10,16 +10,16 @@ use Rattle.ulfm_race.proofs.worker.shrink.Goals as goal
 pub returns-in-Ok-polled-clause-says : goal.returns-in-Ok-polled-clause-says
 returns-in-Ok-polled-clause-says g c =
     if_ok (IsKeptReply c.in-Ok-polled.answer) _
-    (λ reply kept plan said same ready. shrink_answered plan c.args.world.now.words same plan.rounds (omega arith) c.args.rank.now.own c.args.pass.now c.requires.own.of c.requires.own.fits said ready refl c.ishrink-started.new.self.own c.ishrink-started.new.pass c.in-Ok.ensures.calls c.polled.new.rank.own c.polled.new.pass c.in-Ok-polled.answer reply c.in-Ok-polled.ensures.polls kept)
+    (λ reply kept plan said same ready. shrink_answered plan c.args.world.now same plan.rounds (omega arith) c.args.rank.now.own c.args.pass.now c.requires.own.of c.requires.own.fits said ready refl c.ishrink-started.new.self.own c.ishrink-started.new.pass c.in-Ok.ensures.calls c.polled.new.rank.own c.polled.new.pass c.in-Ok-polled.answer reply c.in-Ok-polled.ensures.polls kept)
     c.reply_from.result c.reply_from.ensures.kept
 
 pub returns-in-Err-clause-says : goal.returns-in-Err-clause-says
 returns-in-Err-clause-says g c plan said same ready =
-    shrink_refused plan c.args.world.now.words same plan.rounds (omega arith) c.args.rank.now.own c.args.pass.now c.requires.own.of c.requires.own.fits said ready c.in-Err.refusal c.ishrink-started.new.self.own c.ishrink-started.new.pass c.in-Err.ensures.calls
+    shrink_refused plan c.args.world.now same plan.rounds (omega arith) c.args.rank.now.own c.args.pass.now c.requires.own.of c.requires.own.fits said ready c.in-Err.refusal c.ishrink-started.new.self.own c.ishrink-started.new.pass c.in-Err.ensures.calls
 
 pub returns-in-Ok-polled-clause-turn : goal.returns-in-Ok-polled-clause-turn
 returns-in-Ok-polled-clause-turn g c =
-    let name = c.args.world.now.words in
+    let name = c.args.world.now in
     let r = c.args.rank.now.own.number in
     let old = member_of name c.args.rank.now c.args.pass.now in
     let mid = member_of name c.ishrink-started.new.self c.ishrink-started.new.pass in
@@ -29,7 +29,7 @@ returns-in-Ok-polled-clause-turn g c =
 
 pub returns-in-Err-polled-clause-turn : goal.returns-in-Err-polled-clause-turn
 returns-in-Err-polled-clause-turn g c =
-    let name = c.args.world.now.words in
+    let name = c.args.world.now in
     let r = c.args.rank.now.own.number in
     let old = member_of name c.args.rank.now c.args.pass.now in
     let mid = member_of name c.ishrink-started.new.self c.ishrink-started.new.pass in
@@ -38,7 +38,7 @@ returns-in-Err-polled-clause-turn g c =
 
 pub returns-in-Err-clause-turn : goal.returns-in-Err-clause-turn
 returns-in-Err-clause-turn g c =
-    let name = c.args.world.now.words in
+    let name = c.args.world.now in
     let r = c.args.rank.now.own.number in
     let old = member_of name c.args.rank.now c.args.pass.now in
     let mid = member_of name c.ishrink-started.new.self c.ishrink-started.new.pass in

@@ -8,7 +8,7 @@ use Rattle.ulfm_race.proofs.worker.take_turns.Goals as goal
 pub returns-in-Ok-keep-clause-turns : goal.returns-in-Ok-keep-clause-turns
 returns-in-Ok-keep-clause-turns g c =
     let plan = c.args.plan in
-    let name = c.args.world.now.words in
+    let name = c.args.world.now in
     let r = c.args.worker.now.rank.own.number in
     let ready = rw c.in-Ok-true.field-0-test at c.in-Ok-true.ensures.says in
     let n = c.agree_all.new.worker.rank.own.number in
@@ -23,7 +23,7 @@ returns-in-Ok-keep-clause-turns g c =
 pub returns-in-Err-keep-clause-turns : goal.returns-in-Err-keep-clause-turns
 returns-in-Err-keep-clause-turns g c =
     let plan = c.args.plan in
-    let name = c.args.world.now.words in
+    let name = c.args.world.now in
     let r = c.args.worker.now.rank.own.number in
     let ready = rw c.in-Ok-true.field-0-test at c.in-Ok-true.ensures.says in
     let n = c.agree_all.new.worker.rank.own.number in
@@ -39,7 +39,7 @@ returns-in-Err-keep-clause-turns g c =
 pub returns-in-Err-shrink-clause-turns : goal.returns-in-Err-shrink-clause-turns
 returns-in-Err-shrink-clause-turns g c =
     let plan = c.args.plan in
-    let name = c.args.world.now.words in
+    let name = c.args.world.now in
     let r = c.args.worker.now.rank.own.number in
     let ready = rw c.in-Ok-true.field-0-test at c.in-Ok-true.ensures.says in
     let n = c.agree_all.new.worker.rank.own.number in

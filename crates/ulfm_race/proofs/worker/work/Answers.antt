@@ -13,7 +13,7 @@ use Rattle.ulfm_race.proofs.worker.work.Goals as goal
 pub returns-clause-reports : goal.returns-clause-reports
 returns-clause-reports g c =
     let plan = c.args.plan in
-    let limits = c.args.world.now.words.limits in
+    let limits = c.args.world.now.limits in
     let number = c.args.rank.own.number in
     let rank = c.take_turns-ended.new.worker.rank.own in
     let said = map (λ t. t.value) c.take_turns-ended.new.worker.tokens.items in
@@ -45,7 +45,7 @@ returns-clause-reports g c =
 pub returns-clause-works : goal.returns-clause-works
 returns-clause-works g c =
     let plan = c.args.plan in
-    let name = c.args.world.now.words in
+    let name = c.args.world.now in
     let number = c.args.rank.own.number in
     let said = map (λ t. t.value) c.take_turns-ended.new.worker.tokens.items in
     let start = member_of name c.args.rank c.args.pass in

@@ -1,5 +1,4 @@
 use Rattle.std.proofs.Common.{None, Some, arith, refl}
-use Rattle.ulfm_words.specs.Pass.{plain_name}
 use Rattle.ulfm_trace_model.specs.declared.step_line.StepLine.TheVariants.{Before, Finished, Stepped}
 use Rattle.ulfm_lines.specs.declared.step_machine.Reach.{Reach}
 use Rattle.ulfm_lines.proofs.Taking.{steps_tell, taken_steps}
@@ -15,7 +14,7 @@ returns-in_ok-run_fail-in-Failed-clause-stands g c = let t = c.in_ok-run_fail-in
 
 pub returns-in_ok-walk_rank-in-Stepped-clause-tells : goal.returns-in_ok-walk_rank-in-Stepped-clause-tells
 returns-in_ok-walk_rank-in-Stepped-clause-tells g c = λ now stands.
-    let left = StandsFor (plain_name c.args.world.now.words.limits) c.walk_rank.new.pass c.walk_rank.new.seats in
+    let left = StandsFor c.args.world.now c.walk_rank.new.pass c.walk_rank.new.seats in
     let reach : Reach = record { most = Some c.in-Stepped.count; name = None } in
     let t = c.in_ok-walk_rank-in-Stepped.ensures.tells now stands in
     let k = taken_steps left now c.in-Stepped.rank reach c.in_ok-walk_rank-in-Stepped.field-0 c.args.teller.now.text.items c.walk_rank.new.teller.text.items t in
@@ -27,7 +26,7 @@ returns-in_ok-walk_rank-in-Stepped-clause-stands g c = let t = c.in_ok-walk_rank
 
 pub returns-in_ok-walk_rank-in-Before-clause-tells : goal.returns-in_ok-walk_rank-in-Before-clause-tells
 returns-in_ok-walk_rank-in-Before-clause-tells g c = λ now stands.
-    let left = StandsFor (plain_name c.args.world.now.words.limits) c.walk_rank-in-Before.new.pass c.walk_rank-in-Before.new.seats in
+    let left = StandsFor c.args.world.now c.walk_rank-in-Before.new.pass c.walk_rank-in-Before.new.seats in
     let reach : Reach = record { most = None; name = Some c.in-Before.name } in
     let t = c.in_ok-walk_rank-in-Before.ensures.tells now stands in
     let k = taken_steps left now c.in-Before.rank reach c.in_ok-walk_rank-in-Before.field-0 c.args.teller.now.text.items c.walk_rank-in-Before.new.teller.text.items t in
@@ -39,7 +38,7 @@ returns-in_ok-walk_rank-in-Before-clause-stands g c = let t = c.in_ok-walk_rank-
 
 pub returns-in_ok-walk_rank-in-Finished-clause-tells : goal.returns-in_ok-walk_rank-in-Finished-clause-tells
 returns-in_ok-walk_rank-in-Finished-clause-tells g c = λ now stands.
-    let left = StandsFor (plain_name c.args.world.now.words.limits) c.walk_rank-in-Finished.new.pass c.walk_rank-in-Finished.new.seats in
+    let left = StandsFor c.args.world.now c.walk_rank-in-Finished.new.pass c.walk_rank-in-Finished.new.seats in
     let reach : Reach = record { most = None; name = None } in
     let t = c.in_ok-walk_rank-in-Finished.ensures.tells now stands in
     let k = taken_steps left now c.in-Finished.rank reach c.in_ok-walk_rank-in-Finished.field-0 c.args.teller.now.text.items c.walk_rank-in-Finished.new.teller.text.items t in

@@ -1,6 +1,5 @@
 use Rattle.std.proofs.Common.{◌∙◌, arith, get_or, subst, sym}
 use Rattle.std.proofs.lemmas.List.{set-get_or}
-use Rattle.ulfm_words.specs.Pass.{plain_name}
 use Rattle.ulfm_lines.specs.{Progress.{GoesFar}, Walked.{TellsSteps}}
 use Rattle.ulfm_seats.specs.Table.{StandsFor, progress_of}
 use Rattle.ulfm_seats.proofs.{Goes.{goes_nowhere, goes_until, no_seat, no_step}, LineTells.{closed_there, no_call, nobody_open, none_tell, sits_there, until_tells}, Standing.{get_there}}
@@ -8,13 +7,13 @@ use Rattle.ulfm_seats.proofs.running.walk_rank.Goals as goal
 
 pub returns-then-rank-seats-clause-tells : goal.returns-then-rank-seats-clause-tells
 returns-then-rank-seats-clause-tells g c = λ now stands.
-    let name = plain_name c.args.world.now.words.limits in
+    let name = c.args.world.now in
     none_tell name c.args.pass.now c.args.seats.now now stands c.args.rank c.args.reach c.args.teller.now.text.items c.has_room.ensures
     (nobody_open name c.args.pass.now c.args.seats.now now stands c.args.rank (omega (arith, c.if-rank-seats.true, stands.size)))
 
 pub returns-then-not-is_open-clause-tells : goal.returns-then-not-is_open-clause-tells
 returns-then-not-is_open-clause-tells g c = λ now stands.
-    let name = plain_name c.args.world.now.words.limits in
+    let name = c.args.world.now in
     let seat = get_or c.args.seats.now c.args.rank c.index-seats-rank.result in
     let there = get_there c.args.seats.now c.args.rank c.index-seats-rank.result (omega (arith, c.if-rank-seats.false)) in
     let closed = closed_there name c.args.pass.now c.args.seats.now now stands c.args.rank seat there (no_call _ (sym c.is_open.ensures ∙ c.if-not-is_open.true)) in
@@ -25,12 +24,12 @@ returns-then-not-is_open-clause-tells g c = λ now stands.
 pub walk_until-requires-clause-sits : goal.walk_until-requires-clause-sits
 walk_until-requires-clause-sits g c = (
   c.requires.stands.0,
-  sits_there (plain_name c.args.world.now.words.limits) c.args.pass.now c.args.seats.now c.requires.stands.0 c.requires.stands.1 c.args.rank c.index-seats-rank.result (omega (arith, c.if-rank-seats.false)),
+  sits_there c.args.world.now c.args.pass.now c.args.seats.now c.requires.stands.0 c.requires.stands.1 c.args.rank c.index-seats-rank.result (omega (arith, c.if-rank-seats.false)),
 )
 
 pub returns-clause-tells : goal.returns-clause-tells
 returns-clause-tells g c = λ now stands.
-    let name = plain_name c.args.world.now.words.limits in
+    let name = c.args.world.now in
     let seat = get_or c.args.seats.now c.args.rank c.index-seats-rank.result in
     let there = get_there c.args.seats.now c.args.rank c.index-seats-rank.result (omega (arith, c.if-rank-seats.false)) in
     until_tells name c.args.pass.now c.args.seats.now now stands c.args.rank seat there c.walk_until.new.pass c.walk_until.new.seat c.walk_until.ensures.of
@@ -49,5 +48,5 @@ returns-then-not-is_open-clause-goes g c =
 
 pub returns-clause-goes : goal.returns-clause-goes
 returns-clause-goes g c =
-    goes_until c.args.pass.now c.args.seats.now c.args.rank c.args.reach c.in_ok-made.made (plain_name c.args.world.now.words.limits) (get_or c.args.seats.now c.args.rank c.index-seats-rank.result)
+    goes_until c.args.pass.now c.args.seats.now c.args.rank c.args.reach c.in_ok-made.made c.args.world.now (get_or c.args.seats.now c.args.rank c.index-seats-rank.result)
     c.args.teller.now.text.items c.walk_until.new.pass c.walk_until.new.seat c.walk_until.new.teller.text.items (omega (arith, c.if-rank-seats.false)) c.in_ok-made.ensures.walks

@@ -1,5 +1,4 @@
 use Rattle.std.proofs.Common.{[], ◌∷◌, ◌++◌, ◌∙◌, arith, inl, length-append, refl, sym}
-use Rattle.ulfm_words.specs.Pass.{plain_name}
 use Rattle.ulfm_stepping.specs.Seats.{next_in}
 use Rattle.ulfm_seats.proofs.Walking.{counts_on, goes_nearer, still_other, still_within, walks_none, walks_then}
 use Rattle.ulfm_seats.proofs.walks.walk_until.Goals as goal
@@ -12,7 +11,7 @@ steps-init g c = (
   λ most is. omega arith,
   λ n is. tt,
   omega arith,
-  walks_none (plain_name c.args.world.now.words.limits) c.args.pass.now c.args.seat.now c.args.teller.now.text.items,
+  walks_none c.args.world.now c.args.pass.now c.args.seat.now c.args.teller.now.text.items,
 )
 
 pub walk_one-requires-clause-sits : goal.walk_one-requires-clause-sits
@@ -28,10 +27,10 @@ steps-preserved g c =
       still_within c.args.reach was.1 next c.steps.made was.3 (λ most. c.is_reached.ensures.fewer most c.if-is_reached.false) was.2,
       still_other c.args.reach was.1 next was.4 (λ n is. rw c.next.ensures at c.is_reached.ensures.other n c.if-is_reached.false is),
       omega (arith, c.in_ok-walk_one.ensures.step, was.5, length-append was.1 (next ∷ [])),
-      walks_then (plain_name c.args.world.now.words.limits) c.args.pass.now c.args.seat.now c.args.teller.now.text.items c.steps.pass c.steps.seat c.steps.teller.text.items c.walk_one.new.pass c.walk_one.new.seat
+      walks_then c.args.world.now c.args.pass.now c.args.seat.now c.args.teller.now.text.items c.steps.pass c.steps.seat c.steps.teller.text.items c.walk_one.new.pass c.walk_one.new.seat
           c.walk_one.new.teller.text.items was.1 (next ∷ []) was.6 (sym c.is_open.ensures ∙ c.steps-test.true) c.in_ok-walk_one.ensures.walks,
     )
 
 pub steps-smaller : goal.steps-smaller
 steps-smaller g c =
-    goes_nearer c.args.world.now.words.limits c.steps.seat.own c.steps.seat.call c.walk_one.new.seat.own c.walk_one.new.seat.call (sym c.is_open.ensures ∙ c.steps-test.true) c.in_ok-walk_one.ensures.nearer
+    goes_nearer c.args.world.now.limits c.steps.seat.own c.steps.seat.call c.walk_one.new.seat.own c.walk_one.new.seat.call (sym c.is_open.ensures ∙ c.steps-test.true) c.in_ok-walk_one.ensures.nearer

@@ -33,7 +33,7 @@ in_use g c is = sym c.is_refused.ensures ∙ is
 
 -- the call has just begun
 begins : (g : _) (c : After-is_refused g) → c.is_refused.result ≡ false → (alone : Bool)
-    → Stands g.P.Meld.meld alone (local c.args.self.now (view_of (g.W.Words.name c.args.world.now.words) (g.W.Words.sight c.args.pass.now))) (record { asked = c.args.asked; phase = Begun; group = [] }) (local c.args.self.now (view_of (g.W.Words.name c.args.world.now.words) (g.W.Words.sight c.args.pass.now)))
+    → Stands g.P.Meld.meld alone (local c.args.self.now (view_of (g.W.Words.name c.args.words.now) (g.W.Words.sight c.args.pass.now))) (record { asked = c.args.asked; phase = Begun; group = [] }) (local c.args.self.now (view_of (g.W.Words.name c.args.words.now) (g.W.Words.sight c.args.pass.now)))
 begins g c is alone = record {
   fits = c.requires.fits;
   mine = c.requires.mine;
@@ -54,14 +54,14 @@ go_begun-requires-clause-stands g c = (
 
 -- what comes next
 then : (g : _) (c : After-go_begun g) → c.is_refused.result ≡ false → (alone : Bool) → (IsTrue alone → IsTrue g.W.Words.alone)
-    → NextIs g.P.Meld.meld alone c.args.asked (local c.args.self.now (view_of (g.W.Words.name c.args.world.now.words) (g.W.Words.sight c.args.pass.now))) c.go_begun.result [] (local c.go_begun.new.self (view_of (g.W.Words.name c.args.world.now.words) (g.W.Words.sight c.go_begun.new.pass)))
+    → NextIs g.P.Meld.meld alone c.args.asked (local c.args.self.now (view_of (g.W.Words.name c.args.words.now) (g.W.Words.sight c.args.pass.now))) c.go_begun.result [] (local c.go_begun.new.self (view_of (g.W.Words.name c.args.words.now) (g.W.Words.sight c.go_begun.new.pass)))
 then g c is alone only =
     (c.go_begun.ensures.turn []).turns alone only c.args.self.now (g.W.Words.sight c.args.pass.now)
     (begins g (goal.at.After-go_begun g c).After-is_refused is alone)
 
 -- not all ranks were seen
-more : (g : _) (c : After-has_seen_all g) → c.has_seen_all.result ≡ false → length c.args.self.now.seen < (g.W.Words.name c.args.world.now.words).limits.ranks
-more g c is = has_place_left g.P.Meld.meld (g.W.Words.name c.args.world.now.words) c.args.self.now (g.W.Words.sight c.args.pass.now) c.requires.of
+more : (g : _) (c : After-has_seen_all g) → c.has_seen_all.result ≡ false → length c.args.self.now.seen < (g.W.Words.name c.args.words.now).limits.ranks
+more g c is = has_place_left g.P.Meld.meld (g.W.Words.name c.args.words.now) c.args.self.now (g.W.Words.sight c.args.pass.now) c.requires.of
     c.requires.fits (sym c.has_seen_all.ensures.all ∙ is)
 
 -- the look of a call, with what comes after it
@@ -70,7 +70,7 @@ looks : (g : _) (c : After-go_begun g) → c.has_seen_all.result ≡ false → (
     IsPrefix looked.seen after.seen × IsPrefix looked.cached after.cached × (looked.steps ≤ after.steps)
     → (IsTrue (has (failures looked.seen) c.args.self.now.number) → after ≡ looked)
     → (own.seen ≡ c.go_begun.new.self.seen) ⊎ HasReadOn c.args.self.now c.args.asked (failures looked.seen) own.seen after.cached
-    → IsLook (g.W.Words.name c.args.world.now.words).limits c.args.asked c.args.self.now (g.W.Words.sight c.args.pass.now) looked own after
+    → IsLook (g.W.Words.name c.args.words.now).limits c.args.asked c.args.self.now (g.W.Words.sight c.args.pass.now) looked own after
 looks g c is own after goes_on ends sees =
     let before = g.W.Words.sight c.args.pass.now in
     let looked = g.W.Words.sight c.go_begun.new.pass in
@@ -92,15 +92,15 @@ looks g c is own after goes_on ends sees =
 
 -- the look ended the call
 answered : (g : _) (c : In-Ends g) → c.is_refused.result ≡ false
-    → Answered g.P.Meld.meld g.W.Words.alone c.args.asked (local c.args.self.now (view_of (g.W.Words.name c.args.world.now.words) (g.W.Words.sight c.args.pass.now))) c.in-Ends.reply (local c.go_begun.new.self (view_of (g.W.Words.name c.args.world.now.words) (g.W.Words.sight c.go_begun.new.pass)))
+    → Answered g.P.Meld.meld g.W.Words.alone c.args.asked (local c.args.self.now (view_of (g.W.Words.name c.args.words.now) (g.W.Words.sight c.args.pass.now))) c.in-Ends.reply (local c.go_begun.new.self (view_of (g.W.Words.name c.args.words.now) (g.W.Words.sight c.go_begun.new.pass)))
 answered g c is =
-    subst (λ next. NextIs g.P.Meld.meld g.W.Words.alone c.args.asked (local c.args.self.now (view_of (g.W.Words.name c.args.world.now.words) (g.W.Words.sight c.args.pass.now))) next [] (local c.go_begun.new.self (view_of (g.W.Words.name c.args.world.now.words) (g.W.Words.sight c.go_begun.new.pass)))) c.in-Ends.is
+    subst (λ next. NextIs g.P.Meld.meld g.W.Words.alone c.args.asked (local c.args.self.now (view_of (g.W.Words.name c.args.words.now) (g.W.Words.sight c.args.pass.now))) next [] (local c.go_begun.new.self (view_of (g.W.Words.name c.args.words.now) (g.W.Words.sight c.go_begun.new.pass)))) c.in-Ends.is
     (then g (goal.at.In-Ends g c).After-go_begun is g.W.Words.alone (λ here. here))
 
 pub returns-in-Ends-clause-ends : goal.returns-in-Ends-clause-ends
 returns-in-Ends-clause-ends g c =
     let at = goal.at.returns-in-Ends-clause-ends g c in
-    let name = g.W.Words.name c.args.world.now.words in
+    let name = g.W.Words.name c.args.words.now in
     let before = g.W.Words.sight c.args.pass.now in
     let after = g.W.Words.sight c.go_begun.new.pass in
     let turn = c.go_begun.ensures.turn [] in
@@ -115,7 +115,7 @@ returns-in-Ends-clause-pending g c = (answered g (goal.at.returns-in-Ends-clause
 pub returns-in-Ends-clause-steps : goal.returns-in-Ends-clause-steps
 returns-in-Ends-clause-steps g c =
     let at = goal.at.returns-in-Ends-clause-steps g c in
-    let limits = (g.W.Words.name c.args.world.now.words).limits in
+    let limits = (g.W.Words.name c.args.words.now).limits in
     let own = c.args.self.now in
     let before = g.W.Words.sight c.args.pass.now in
     let after = g.W.Words.sight c.go_begun.new.pass in
@@ -137,15 +137,15 @@ returns-in-Ends-clause-steps g c =
 
 -- the call goes on behind its look
 goes : (g : _) (c : In-Goes g) → c.is_refused.result ≡ false → (alone : Bool) → (IsTrue alone → IsTrue g.W.Words.alone)
-    → Stands g.P.Meld.meld alone (local c.args.self.now (view_of (g.W.Words.name c.args.world.now.words) (g.W.Words.sight c.args.pass.now))) (record { asked = c.args.asked; phase = c.in-Goes.phase; group = [] }) (local c.go_begun.new.self (view_of (g.W.Words.name c.args.world.now.words) (g.W.Words.sight c.go_begun.new.pass)))
+    → Stands g.P.Meld.meld alone (local c.args.self.now (view_of (g.W.Words.name c.args.words.now) (g.W.Words.sight c.args.pass.now))) (record { asked = c.args.asked; phase = c.in-Goes.phase; group = [] }) (local c.go_begun.new.self (view_of (g.W.Words.name c.args.words.now) (g.W.Words.sight c.go_begun.new.pass)))
 goes g c is alone only =
-    subst (λ next. NextIs g.P.Meld.meld alone c.args.asked (local c.args.self.now (view_of (g.W.Words.name c.args.world.now.words) (g.W.Words.sight c.args.pass.now))) next [] (local c.go_begun.new.self (view_of (g.W.Words.name c.args.world.now.words) (g.W.Words.sight c.go_begun.new.pass)))) c.in-Goes.is
+    subst (λ next. NextIs g.P.Meld.meld alone c.args.asked (local c.args.self.now (view_of (g.W.Words.name c.args.words.now) (g.W.Words.sight c.args.pass.now))) next [] (local c.go_begun.new.self (view_of (g.W.Words.name c.args.words.now) (g.W.Words.sight c.go_begun.new.pass)))) c.in-Goes.is
     (then g (goal.at.In-Goes g c).After-go_begun is alone only)
 
 -- it has changed nothing of the record but what was seen
 kept : (g : _) (c : In-Goes g) → c.is_refused.result ≡ false → c.go_begun.new.self ≡ record c.args.self.now { seen = c.go_begun.new.self.seen }
 kept g c is =
-    stands_own g.P.Meld.meld false (g.W.Words.name c.args.world.now.words) c.args.asked c.args.self.now (g.W.Words.sight c.args.pass.now) [] c.go_begun.new.self
+    stands_own g.P.Meld.meld false (g.W.Words.name c.args.words.now) c.args.asked c.args.self.now (g.W.Words.sight c.args.pass.now) [] c.go_begun.new.self
     (g.W.Words.sight c.go_begun.new.pass) c.in-Goes.phase
     (goes g c is false (λ here. absurd (false≢true here))).at
 
@@ -174,7 +174,7 @@ knows g c is =
 pub returns-in-Goes-clause-ends : goal.returns-in-Goes-clause-ends
 returns-in-Goes-clause-ends g c =
     let at = goal.at.returns-in-Goes-clause-ends g c in
-    let name = g.W.Words.name c.args.world.now.words in
+    let name = g.W.Words.name c.args.words.now in
     let own = c.args.self.now in
     let before = g.W.Words.sight c.args.pass.now in
     let looked = g.W.Words.sight c.go_begun.new.pass in
@@ -218,7 +218,7 @@ read_on g c is seen cached read =
 pub returns-in-Goes-clause-steps : goal.returns-in-Goes-clause-steps
 returns-in-Goes-clause-steps g c =
     let at = goal.at.returns-in-Goes-clause-steps g c in
-    let limits = (g.W.Words.name c.args.world.now.words).limits in
+    let limits = (g.W.Words.name c.args.words.now).limits in
     let own = c.args.self.now in
     let mid = c.go_begun.new.self in
     let new = c.run_on.new.self in
@@ -254,7 +254,7 @@ returns-in-Goes-clause-steps g c =
 pub returns-then-is_refused-clause-ends : goal.returns-then-is_refused-clause-ends
 returns-then-is_refused-clause-ends g c =
     let now = g.W.Words.sight c.args.pass.now in
-    whole_ends g.P.Meld.meld g.W.Words.alone (g.W.Words.name c.args.world.now.words) c.args.asked c.args.self.now now (Refused SelfFailed) c.args.self.now now
+    whole_ends g.P.Meld.meld g.W.Words.alone (g.W.Words.name c.args.words.now) c.args.asked c.args.self.now now (Refused SelfFailed) c.args.self.now now
     (record {
       of = c.requires.of;
       onward = omega arith;
@@ -284,7 +284,7 @@ returns-then-is_refused-clause-steps g c =
 pub returns-then-has_seen_all-clause-ends : goal.returns-then-has_seen_all-clause-ends
 returns-then-has_seen_all-clause-ends g c =
     let at = (goal.at.returns-then-has_seen_all-clause-ends g c).After-is_refused in
-    let name = g.W.Words.name c.args.world.now.words in
+    let name = g.W.Words.name c.args.words.now in
     let now = g.W.Words.sight c.args.pass.now in
     whole_ends g.P.Meld.meld g.W.Words.alone name c.args.asked c.args.self.now now (Refused SelfFailed) c.refuse.new.self now
     (has_seen_all g.P.Meld.meld g.W.Words.alone name c.args.asked c.args.self.now c.refuse.new.self now c.requires.of c.requires.fits
@@ -294,7 +294,7 @@ returns-then-has_seen_all-clause-ends g c =
 
 pub returns-then-has_seen_all-clause-steps : goal.returns-then-has_seen_all-clause-steps
 returns-then-has_seen_all-clause-steps g c =
-    let name = g.W.Words.name c.args.world.now.words in
+    let name = g.W.Words.name c.args.words.now in
     let now = g.W.Words.sight c.args.pass.now in
     let all = full_seen g.P.Meld.meld name c.args.self.now now c.requires.of c.requires.fits
     (eqb-true _ _ (sym c.has_seen_all.ensures.all ∙ c.if-has_seen_all.true)) in

@@ -13,13 +13,13 @@ counted g c = c.count_in-known.ensures ∙ ap₂ (λ w v. length (filter (has w)
 pub count_in-known-requires : goal.count_in-known-requires
 count_in-known-requires g c =
     let held = subst (λ (y : Held). held_at c.args.self.now y.comm ≡ Some y) (sym c.x.view_is) c.requires.held in
-    subst IsStrictlyIncreasing (sym c.deref.ensures.value) (group_rises g.P.Meld.meld (g.W.Words.name c.args.world.now.words).limits
+    subst IsStrictlyIncreasing (sym c.deref.ensures.value) (group_rises g.P.Meld.meld (g.W.Words.name c.args.words.now).limits
     (g.W.Words.sight c.args.pass.now).seen c.args.self.now c.x.inside.comm _ c.requires.fits held)
 
 pub contribution-given-requires-clause-known : goal.contribution-given-requires-clause-known
 contribution-given-requires-clause-known g c =
     let held = subst (λ (y : Held). held_at c.args.self.now y.comm ≡ Some y) (sym c.x.view_is) c.requires.held in
-    let few = known_few g.P.Meld.meld (g.W.Words.name c.args.world.now.words).limits (g.W.Words.sight c.args.pass.now).seen c.args.self.now c.x.inside.comm _
+    let few = known_few g.P.Meld.meld (g.W.Words.name c.args.words.now).limits (g.W.Words.sight c.args.pass.now).seen c.args.self.now c.x.inside.comm _
     c.requires.fits held c.requires.of.legal in
     let small = c.requires.of.may_open.in_range.ranks in
     omega (arith, few, small, counted g (goal.at.contribution-given-requires-clause-known g c).After-count_in-known)
@@ -32,7 +32,7 @@ contribution-given-requires-clause-acked g c =
 
 pub finish-requires-clause-may : goal.finish-requires-clause-may
 finish-requires-clause-may g c =
-    let limits = (g.W.Words.name c.args.world.now.words).limits in
+    let limits = (g.W.Words.name c.args.words.now).limits in
     let now = (g.W.Words.sight c.args.pass.now).seen in
     let held = subst (λ (y : Held). held_at c.args.self.now y.comm ≡ Some y) (sym c.x.view_is) c.requires.held in
     let room : c.x.inside.next_agreement < limits.rounds = subst (λ (y : Held). y.next_agreement < limits.rounds) (sym c.x.view_is) c.requires.room in

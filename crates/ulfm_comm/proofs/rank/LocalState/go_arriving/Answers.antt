@@ -39,9 +39,9 @@ arrived : (g : _) (c : After-set_arrival g) → IsTrue (has_arrived (g.W.Words.s
     c.args.self.now.number)
 arrived g c = rw (← c.number-number.ensures, ← c.comm_of-comm.ensures) c.set_arrival.ensures.stands
 
-walks : (g : _) (c : After-set_arrival g) → Walks g.P.Meld.meld g.W.Words.alone c.args.self.now.number (view_of (g.W.Words.name c.args.world.now.words) (g.W.Words.sight c.args.pass.now)) (view_of (g.W.Words.name c.args.world.now.words) (g.W.Words.sight c.set_arrival.new.pass))
+walks : (g : _) (c : After-set_arrival g) → Walks g.P.Meld.meld g.W.Words.alone c.args.self.now.number (view_of (g.W.Words.name c.args.words.now) (g.W.Words.sight c.args.pass.now)) (view_of (g.W.Words.name c.args.words.now) (g.W.Words.sight c.set_arrival.new.pass))
 walks g c =
-    walks_tried g.P.Meld.meld g.W.Words.alone (g.W.Words.name c.args.world.now.words) c.args.self.now.number (g.W.Words.sight c.args.pass.now)
+    walks_tried g.P.Meld.meld g.W.Words.alone (g.W.Words.name c.args.words.now) c.args.self.now.number (g.W.Words.sight c.args.pass.now)
     (g.W.Words.sight c.set_arrival.new.pass)
     c.set_arrival.ensures.tries.of c.set_arrival.ensures.tries.steps c.set_arrival.ensures.tries.cached c.set_arrival.result
     (Arrive (comm_of c.args.asked.now) c.args.round c.args.self.now.number) (outcome g c)
@@ -56,7 +56,7 @@ returns-then-not-set_arrival g c =
       nearer = search rules;
       spends = omega (arith, c.set_arrival.ensures.tries.steps);
       also = λ all.
-          also_ends 1 (g.W.Words.name c.args.world.now.words).limits c.args.asked.now c.args.self.now c.args.self.now (g.W.Words.sight c.args.pass.now)
+          also_ends 1 (g.W.Words.name c.args.words.now).limits c.args.asked.now c.args.self.now c.args.self.now (g.W.Words.sight c.args.pass.now)
           (g.W.Words.sight c.set_arrival.new.pass) _ (omega (arith, c.set_arrival.ensures.tries.steps)) refl;
       further = search rules;
       adds = λ not.
@@ -71,7 +71,7 @@ returns-then-not-set_arrival g c =
       turns = λ alone only old before stands.
           let at = (goal.at.returns-then-not-set_arrival g c).After-set_arrival in
           let lost = when_lost _ _ c.set_arrival.result c.if-not-set_arrival.true (outcome g at) in
-          let name = g.W.Words.name c.args.world.now.words in
+          let name = g.W.Words.name c.args.words.now in
           let own = c.args.self.now in
           let now = g.W.Words.sight c.args.pass.now in
           let after = g.W.Words.sight c.set_arrival.new.pass in
@@ -92,13 +92,13 @@ returns g c =
       nearer = search rules;
       spends = omega (arith, c.set_arrival.ensures.tries.steps);
       also = λ all.
-          also_ends 1 (g.W.Words.name c.args.world.now.words).limits c.args.asked.now c.args.self.now c.open.new.self (g.W.Words.sight c.args.pass.now)
+          also_ends 1 (g.W.Words.name c.args.words.now).limits c.args.asked.now c.args.self.now c.open.new.self (g.W.Words.sight c.args.pass.now)
           (g.W.Words.sight c.set_arrival.new.pass) _ (omega (arith, c.set_arrival.ensures.tries.steps)) (ap (λ (w : Record). w.seen) c.open.ensures);
       further = search rules;
       adds = λ not.
           let at = (goal.at.returns g c).After-set_arrival in
           let s = c.requires.stands.1 in
-          adds_arrived g.P.Meld.meld g.W.Words.alone (g.W.Words.name c.args.world.now.words).limits c.args.asked.now s.0 s.1.seen c.args.self.now
+          adds_arrived g.P.Meld.meld g.W.Words.alone (g.W.Words.name c.args.words.now).limits c.args.asked.now s.0 s.1.seen c.args.self.now
           (g.W.Words.sight c.args.pass.now).seen (g.W.Words.sight c.set_arrival.new.pass).seen
           c.requires.of.legal s.2.at.0 s.0.number c.args.round s.2.at.1 s.2.at.2 (when_won _ _ c.set_arrival.result c.if-not-set_arrival.false (outcome g at));
       sees = search rules;
@@ -108,7 +108,7 @@ returns g c =
       turns = λ alone only old before stands.
           let at = (goal.at.returns g c).After-set_arrival in
           let won = when_won _ _ c.set_arrival.result c.if-not-set_arrival.false (outcome g at) in
-          let name = g.W.Words.name c.args.world.now.words in
+          let name = g.W.Words.name c.args.words.now in
           let own = c.args.self.now in
           let now = g.W.Words.sight c.args.pass.now in
           let after = g.W.Words.sight c.set_arrival.new.pass in

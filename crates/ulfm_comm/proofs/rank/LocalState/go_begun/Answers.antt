@@ -17,22 +17,22 @@ go_looking-requires-clause-stands g c =
       (
         old,
         before,
-        begins_looking g.P.Meld.meld _ (g.W.Words.name c.args.world.now.words) c.args.asked.now old before p.0 c.args.self.now c.resume.new.self
+        begins_looking g.P.Meld.meld _ (g.W.Words.name c.args.words.now) c.args.asked.now old before p.0 c.args.self.now c.resume.new.self
             (g.W.Words.sight c.args.pass.now) c.requires.of c.resume.ensures p.1.2,
       ),
     )
 
 -- it is of a world of these limits
-ranks : (g : _) (c : After-resume g) → c.args.self.now.limits.ranks ≡ (g.W.Words.name c.args.world.now.words).limits.ranks
+ranks : (g : _) (c : After-resume g) → c.args.self.now.limits.ranks ≡ (g.W.Words.name c.args.words.now).limits.ranks
 ranks g c =
     let u = c.requires.stands.1.2 in
     ap (λ (w : Record). w.limits.ranks) u.at.1 ∙ ap (λ l. l.ranks) u.fits.same_limits
 
 -- it has as many steps left as before
-left : (g : _) (c : After-resume g) → steps_left (g.W.Words.name c.args.world.now.words).limits c.resume.new.self c.args.asked.now Looking ≤ steps_left
-    (g.W.Words.name c.args.world.now.words).limits c.args.self.now c.args.asked.now Begun
+left : (g : _) (c : After-resume g) → steps_left (g.W.Words.name c.args.words.now).limits c.resume.new.self c.args.asked.now Looking ≤ steps_left
+    (g.W.Words.name c.args.words.now).limits c.args.self.now c.args.asked.now Begun
 left g c =
-    resumed_left (g.W.Words.name c.args.world.now.words).limits c.args.self.now c.resume.new.self c.args.asked.now (ranks g c)
+    resumed_left (g.W.Words.name c.args.words.now).limits c.args.self.now c.resume.new.self c.args.asked.now (ranks g c)
     (omega (arith, c.requires.of.may_open.in_range.some_ranks)) c.resume.ensures
 
 pub returns-clause-turn : goal.returns-clause-turn
@@ -43,16 +43,16 @@ returns-clause-turn g c =
     let t = c.go_looking.ensures.turn group in
     let fewer = left g (goal.at.returns-clause-turn g c).After-resume in
     let same = ranks g (goal.at.returns-clause-turn g c).After-resume in
-    let limits = (g.W.Words.name c.args.world.now.words).limits in
+    let limits = (g.W.Words.name c.args.words.now).limits in
     let own = c.args.self.now in
     let stood = c.requires.stands in
-    let within = begun_within g.P.Meld.meld false (g.W.Words.name c.args.world.now.words) c.args.asked.now stood.1.0 stood.1.1 stood.0 own now c.requires.of
+    let within = begun_within g.P.Meld.meld false (g.W.Words.name c.args.words.now) c.args.asked.now stood.1.0 stood.1.1 stood.0 own now c.requires.of
     stood.1.2 in
     record {
-      walks = subst (λ (w : Record). Walks g.P.Meld.meld g.W.Words.alone w.number (view_of (g.W.Words.name c.args.world.now.words) now) (view_of (g.W.Words.name c.args.world.now.words) after)) c.resume.ensures t.walks;
+      walks = subst (λ (w : Record). Walks g.P.Meld.meld g.W.Words.alone w.number (view_of (g.W.Words.name c.args.words.now) now) (view_of (g.W.Words.name c.args.words.now) after)) c.resume.ensures t.walks;
       caches = subst (λ (w : Record). may_cache w c.args.asked.now ≡ false → after.caches ≡ now.caches) c.resume.ensures t.caches;
       named = t.named;
-      nearer = λ single. fewer_more (g.W.Words.name c.args.world.now.words).limits c.go_looking.new.self c.args.asked.now _ _ fewer c.go_looking.result
+      nearer = λ single. fewer_more (g.W.Words.name c.args.words.now).limits c.go_looking.new.self c.args.asked.now _ _ fewer c.go_looking.result
           (t.nearer single);
       spends = omega (arith, fewer, t.spends);
       also = also_resumes limits own c.resume.new.self c.args.asked.now same c.resume.ensures within now after c.go_looking.result c.go_looking.new.self t.also;
@@ -66,6 +66,6 @@ returns-clause-turn g c =
       leads = search rules;
       turns = λ alone only old before u.
           t.turns alone only old before
-          (begins_looking g.P.Meld.meld alone (g.W.Words.name c.args.world.now.words) c.args.asked.now old before group c.args.self.now c.resume.new.self
+          (begins_looking g.P.Meld.meld alone (g.W.Words.name c.args.words.now) c.args.asked.now old before group c.args.self.now c.resume.new.self
           (g.W.Words.sight c.args.pass.now) c.requires.of c.resume.ensures u);
     }

@@ -16,7 +16,7 @@ use Rattle.ulfm_words.specs.Steps.{view_of}
 pub load_revocation-requires-clause-within : goal.load_revocation-requires-clause-within
 load_revocation-requires-clause-within g c =
     let stands = c.requires.stands.1 in
-    checking_within g.P.Meld.meld false (g.W.Words.name c.args.world.now.words) c.args.asked.now c.args.missing c.requires.stands.0 c.args.self.now
+    checking_within g.P.Meld.meld false (g.W.Words.name c.args.words.now) c.args.asked.now c.args.missing c.requires.stands.0 c.args.self.now
     (g.W.Words.sight c.args.pass.now) c.requires.of stands.0 stands.1 stands.2
     c.comm_of-comm.result c.comm_of-comm.ensures
 
@@ -28,14 +28,14 @@ returns-in-Nobody-clause-early g c = λ group alone only found. inl (c.in-Nobody
 
 pub returns-in-Others-clause-early : goal.returns-in-Others-clause-early
 returns-in-Others-clause-early g c = λ group alone only found.
-    inr (inr (checking_early g.P.Meld.meld (g.W.Words.name c.args.world.now.words).limits alone g.W.Words.alone only c.args.asked.now c.args.missing
+    inr (inr (checking_early g.P.Meld.meld (g.W.Words.name c.args.words.now).limits alone g.W.Words.alone only c.args.asked.now c.args.missing
     found.earlier found.old found.before c.args.self.now (g.W.Words.sight c.args.pass.now).seen (g.W.Words.sight c.load_revocation.new.pass).seen
     found.polls found.checking c.load_revocation.ensures.loads.did c.comm_of-comm.result c.comm_of-comm.ensures
     (sym c.load_revocation.ensures.revoked ∙ c.if-load_revocation.false) Others c.in-Others.is c.args.self.now refl))
 
 pub returns-in-Declared-clause-early : goal.returns-in-Declared-clause-early
 returns-in-Declared-clause-early g c = λ group alone only found.
-    inr (inr (checking_early g.P.Meld.meld (g.W.Words.name c.args.world.now.words).limits alone g.W.Words.alone only c.args.asked.now c.args.missing
+    inr (inr (checking_early g.P.Meld.meld (g.W.Words.name c.args.words.now).limits alone g.W.Words.alone only c.args.asked.now c.args.missing
     found.earlier found.old found.before c.args.self.now (g.W.Words.sight c.args.pass.now).seen (g.W.Words.sight c.load_revocation.new.pass).seen
     found.polls found.checking c.load_revocation.ensures.loads.did c.comm_of-comm.result c.comm_of-comm.ensures
     (sym c.load_revocation.ensures.revoked ∙ c.if-load_revocation.false) Declared c.in-Declared.is c.close-in-Declared.new.self
@@ -43,8 +43,8 @@ returns-in-Declared-clause-early g c = λ group alone only found.
 
 -- the call ends by its load, which leaves what the rank has seen
 ends : (g : _) (c : After-load_revocation g) (reply : Reply g.row.P.Denot) (new : Record) → new.seen ≡ c.args.self.now.seen → is_of_round reply ≡ false
-    → ((group : List ℕ) → Turns g.P.Meld.meld g.W.Words.alone (under_way c.args.asked.now (Checking c.args.missing) group) (local c.args.self.now (view_of (g.W.Words.name c.args.world.now.words) (g.W.Words.sight c.args.pass.now))) (Ends reply) group (local new (view_of (g.W.Words.name c.args.world.now.words) (g.W.Words.sight c.load_revocation.new.pass))))
-    → (group : List ℕ) (whole : Bool) → TakesTurn g.P.Meld.meld g.W.Words.alone whole (under_way c.args.asked.now (Checking c.args.missing) group) (local c.args.self.now (view_of (g.W.Words.name c.args.world.now.words) (g.W.Words.sight c.args.pass.now))) (coming (Ends reply) group) (local new (view_of (g.W.Words.name c.args.world.now.words) (g.W.Words.sight c.load_revocation.new.pass)))
+    → ((group : List ℕ) → Turns g.P.Meld.meld g.W.Words.alone (under_way c.args.asked.now (Checking c.args.missing) group) (local c.args.self.now (view_of (g.W.Words.name c.args.words.now) (g.W.Words.sight c.args.pass.now))) (Ends reply) group (local new (view_of (g.W.Words.name c.args.words.now) (g.W.Words.sight c.load_revocation.new.pass))))
+    → (group : List ℕ) (whole : Bool) → TakesTurn g.P.Meld.meld g.W.Words.alone whole (under_way c.args.asked.now (Checking c.args.missing) group) (local c.args.self.now (view_of (g.W.Words.name c.args.words.now) (g.W.Words.sight c.args.pass.now))) (coming (Ends reply) group) (local new (view_of (g.W.Words.name c.args.words.now) (g.W.Words.sight c.load_revocation.new.pass)))
 ends g c reply new sees none turns = λ group whole.
     record {
       walks = search rules;
@@ -52,7 +52,7 @@ ends g c reply new sees none turns = λ group whole.
       named = search rules;
       nearer = λ not. tt;
       spends = omega (arith, c.load_revocation.ensures.loads.steps);
-      also = λ all. also_ends 1 (g.W.Words.name c.args.world.now.words).limits c.args.asked.now c.args.self.now new (g.W.Words.sight c.args.pass.now)
+      also = λ all. also_ends 1 (g.W.Words.name c.args.words.now).limits c.args.asked.now c.args.self.now new (g.W.Words.sight c.args.pass.now)
           (g.W.Words.sight c.load_revocation.new.pass) reply (omega (arith, c.load_revocation.ensures.loads.steps)) sees;
       further = search rules;
       adds = search rules;
@@ -66,7 +66,7 @@ ends g c reply new sees none turns = λ group whole.
 pub returns-then-load_revocation-clause-turn : goal.returns-then-load_revocation-clause-turn
 returns-then-load_revocation-clause-turn g c = ends g (goal.at.returns-then-load_revocation-clause-turn g c).After-load_revocation _ c.close.new.self
     (ap (λ (w : Record). w.seen) c.close.ensures) refl (λ group alone only old before stands.
-    checking_revoked g.P.Meld.meld alone (g.W.Words.name c.args.world.now.words) c.args.asked.now c.args.missing group c.args.self.now
+    checking_revoked g.P.Meld.meld alone (g.W.Words.name c.args.words.now) c.args.asked.now c.args.missing group c.args.self.now
     (g.W.Words.sight c.args.pass.now) c.requires.of old before stands
     g.W.Words.alone only (g.W.Words.sight c.load_revocation.new.pass) c.load_revocation.ensures.loads.of c.load_revocation.ensures.loads.did
     (omega (arith, c.load_revocation.ensures.loads.steps)) c.comm_of-comm.result c.comm_of-comm.ensures c.close.new.self
@@ -75,7 +75,7 @@ returns-then-load_revocation-clause-turn g c = ends g (goal.at.returns-then-load
 pub returns-in-Nobody-clause-turn : goal.returns-in-Nobody-clause-turn
 returns-in-Nobody-clause-turn g c = ends g (goal.at.returns-in-Nobody-clause-turn g c).After-load_revocation _ c.close-in-Nobody.new.self
     (ap (λ (w : Record). w.seen) c.close-in-Nobody.ensures) refl (λ group alone only old before stands.
-    checking_missing g.P.Meld.meld alone (g.W.Words.name c.args.world.now.words) c.args.asked.now c.args.missing group c.args.self.now
+    checking_missing g.P.Meld.meld alone (g.W.Words.name c.args.words.now) c.args.asked.now c.args.missing group c.args.self.now
     (g.W.Words.sight c.args.pass.now) c.requires.of old before stands
     g.W.Words.alone only (g.W.Words.sight c.load_revocation.new.pass) c.load_revocation.ensures.loads.of c.load_revocation.ensures.loads.did
     (omega (arith, c.load_revocation.ensures.loads.steps)) c.comm_of-comm.result c.comm_of-comm.ensures c.close-in-Nobody.new.self
@@ -84,7 +84,7 @@ returns-in-Nobody-clause-turn g c = ends g (goal.at.returns-in-Nobody-clause-tur
 pub returns-in-Others-clause-turn : goal.returns-in-Others-clause-turn
 returns-in-Others-clause-turn g c = ends g (goal.at.returns-in-Others-clause-turn g c).After-load_revocation _ c.args.self.now refl refl
     (λ group alone only old before stands.
-    checking_missing g.P.Meld.meld alone (g.W.Words.name c.args.world.now.words) c.args.asked.now c.args.missing group c.args.self.now
+    checking_missing g.P.Meld.meld alone (g.W.Words.name c.args.words.now) c.args.asked.now c.args.missing group c.args.self.now
     (g.W.Words.sight c.args.pass.now) c.requires.of old before stands
     g.W.Words.alone only (g.W.Words.sight c.load_revocation.new.pass) c.load_revocation.ensures.loads.of c.load_revocation.ensures.loads.did
     (omega (arith, c.load_revocation.ensures.loads.steps)) c.comm_of-comm.result c.comm_of-comm.ensures c.args.self.now
@@ -93,7 +93,7 @@ returns-in-Others-clause-turn g c = ends g (goal.at.returns-in-Others-clause-tur
 pub returns-in-Declared-clause-turn : goal.returns-in-Declared-clause-turn
 returns-in-Declared-clause-turn g c = ends g (goal.at.returns-in-Declared-clause-turn g c).After-load_revocation _ c.close-in-Declared.new.self
     (ap (λ (w : Record). w.seen) c.close-in-Declared.ensures) refl (λ group alone only old before stands.
-    checking_missing g.P.Meld.meld alone (g.W.Words.name c.args.world.now.words) c.args.asked.now c.args.missing group c.args.self.now
+    checking_missing g.P.Meld.meld alone (g.W.Words.name c.args.words.now) c.args.asked.now c.args.missing group c.args.self.now
     (g.W.Words.sight c.args.pass.now) c.requires.of old before stands
     g.W.Words.alone only (g.W.Words.sight c.load_revocation.new.pass) c.load_revocation.ensures.loads.of c.load_revocation.ensures.loads.did
     (omega (arith, c.load_revocation.ensures.loads.steps)) c.comm_of-comm.result c.comm_of-comm.ensures c.close-in-Declared.new.self

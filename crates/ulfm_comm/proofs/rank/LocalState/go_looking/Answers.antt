@@ -18,12 +18,12 @@ use Rattle.ulfm_comm.specs.Local.{stance}
 
 -- the look has ended: the loads that it has saved are left for what comes next
 ends_look : (g : _) (c : After-look_on g) → c.look_on.result ≡ true → (new : Record) (next : Next g.row.P.Denot)
-    → FewerLeft (with_look (g.W.Words.name c.args.world.now.words).limits c.look_on.new.self c.args.asked.now) (g.W.Words.name c.args.world.now.words).limits
+    → FewerLeft (with_look (g.W.Words.name c.args.words.now).limits c.look_on.new.self c.args.asked.now) (g.W.Words.name c.args.words.now).limits
     new c.args.asked.now next
-    → Spends (steps_left (g.W.Words.name c.args.world.now.words).limits c.args.self.now c.args.asked.now Looking)
-    (g.W.Words.name c.args.world.now.words).limits new c.args.asked.now next (g.W.Words.sight c.args.pass.now) (g.W.Words.sight c.look_on.new.pass)
+    → Spends (steps_left (g.W.Words.name c.args.words.now).limits c.args.self.now c.args.asked.now Looking)
+    (g.W.Words.name c.args.words.now).limits new c.args.asked.now next (g.W.Words.sight c.args.pass.now) (g.W.Words.sight c.look_on.new.pass)
 ends_look g c done new next fewer =
-    let limits = (g.W.Words.name c.args.world.now.words).limits in
+    let limits = (g.W.Words.name c.args.words.now).limits in
     let now = g.W.Words.sight c.args.pass.now in
     let after = g.W.Words.sight c.look_on.new.pass in
     looks_over limits c.args.self.now c.look_on.new.self c.args.asked.now c.look_on.ensures.kept now after
@@ -33,10 +33,10 @@ ends_look g c done new next fewer =
 -- also beside the failures that it has found
 ends_look_also : (g : _) (c : After-look_on g) → c.look_on.result ≡ true → c.look_on.new.self.seen ≡ failures (g.W.Words.sight c.look_on.new.pass).seen
     → (left : Record) (next : Next g.row.P.Denot)
-    → AlsoFollows (g.W.Words.name c.args.world.now.words).limits c.args.asked.now c.look_on.new.self next left
-    → AlsoLooks (also_left (g.W.Words.name c.args.world.now.words).limits c.args.self.now c.args.asked.now Looking) (g.W.Words.name c.args.world.now.words).limits c.args.asked.now (stance c.args.self.now (g.W.Words.sight c.args.pass.now)) next (stance left (g.W.Words.sight c.look_on.new.pass))
+    → AlsoFollows (g.W.Words.name c.args.words.now).limits c.args.asked.now c.look_on.new.self next left
+    → AlsoLooks (also_left (g.W.Words.name c.args.words.now).limits c.args.self.now c.args.asked.now Looking) (g.W.Words.name c.args.words.now).limits c.args.asked.now (stance c.args.self.now (g.W.Words.sight c.args.pass.now)) next (stance left (g.W.Words.sight c.look_on.new.pass))
 ends_look_also g c done found left next follows =
-    let limits = (g.W.Words.name c.args.world.now.words).limits in
+    let limits = (g.W.Words.name c.args.words.now).limits in
     let now = g.W.Words.sight c.args.pass.now in
     let after = g.W.Words.sight c.look_on.new.pass in
     let goes = c.look_on.ensures.goes in
@@ -50,10 +50,10 @@ ends_look_also g c done found left next follows =
 ends_loads : (g : _) (c : After-look_on g) → c.look_on.result ≡ true → c.look_on.new.self.seen ≡ failures (g.W.Words.sight c.look_on.new.pass).seen
     → (left : Record) → left.seen ≡ c.look_on.new.self.seen → (next : Next g.row.P.Denot)
     → (IsTrue (has left.seen c.args.self.now.number) → next ≡ Ends (Refused SelfFailed))
-    → LooksOn (g.W.Words.name c.args.world.now.words).limits c.args.self.now (g.W.Words.sight c.args.pass.now) next left
+    → LooksOn (g.W.Words.name c.args.words.now).limits c.args.self.now (g.W.Words.sight c.args.pass.now) next left
     (g.W.Words.sight c.look_on.new.pass)
 ends_loads g c done found left same next declared =
-    let limits = (g.W.Words.name c.args.world.now.words).limits in
+    let limits = (g.W.Words.name c.args.words.now).limits in
     let now = g.W.Words.sight c.args.pass.now in
     let after = g.W.Words.sight c.look_on.new.pass in
     let within = failures_few g.P.Meld.meld limits after.seen c.look_on.ensures.goes.of.legal in
@@ -74,7 +74,7 @@ walked goes = record { of = goes.of; own = []; did = goes.did; onward = goes.onw
 pub returns-then-not-look_on-clause-turn : goal.returns-then-not-look_on-clause-turn
 returns-then-not-look_on-clause-turn g c =
     λ group.
-    let limits = (g.W.Words.name c.args.world.now.words).limits in
+    let limits = (g.W.Words.name c.args.words.now).limits in
     let now = g.W.Words.sight c.args.pass.now in
     let after = g.W.Words.sight c.look_on.new.pass in
     let still = c.if-not-look_on.ensures.look.1 in
@@ -86,10 +86,10 @@ returns-then-not-look_on-clause-turn g c =
       caches = λ none. c.look_on.ensures.goes.caches;
       named = search rules;
       nearer = search rules;
-      spends = looks_on (g.W.Words.name c.args.world.now.words).limits c.args.self.now c.look_on.new.self c.args.asked.now c.look_on.ensures.kept
+      spends = looks_on (g.W.Words.name c.args.words.now).limits c.args.self.now c.look_on.new.self c.args.asked.now c.look_on.ensures.kept
           (g.W.Words.sight c.args.pass.now).steps (g.W.Words.sight c.look_on.new.pass).steps
-          (subst (λ done. (g.W.Words.sight c.look_on.new.pass).steps + looks_left (g.W.Words.name c.args.world.now.words).limits done c.look_on.new.self.seen ≤
-          (g.W.Words.sight c.args.pass.now).steps + looks_left (g.W.Words.name c.args.world.now.words).limits false c.args.self.now.seen)
+          (subst (λ done. (g.W.Words.sight c.look_on.new.pass).steps + looks_left (g.W.Words.name c.args.words.now).limits done c.look_on.new.self.seen ≤
+          (g.W.Words.sight c.args.pass.now).steps + looks_left (g.W.Words.name c.args.words.now).limits false c.args.self.now.seen)
           c.if-not-look_on.true c.look_on.ensures.takes.turns);
       also = also_looks_on limits c.args.self.now c.look_on.new.self c.look_on.new.self.seen c.args.asked.now c.look_on.ensures.kept now after
           c.requires.stands.1.2.at.3.1 c.if-not-look_on.ensures.look.1 turns;
@@ -129,7 +129,7 @@ returns-then-has_rank-clause-turn g c =
           (Ends (Refused SelfFailed)) tt;
       also = ends_look_also g (goal.at.returns-then-has_rank-clause-turn g c).After-look_on c.if-not-look_on.false c.if-not-look_on.ensures.look
           c.refuse.new.self (Ends (Refused SelfFailed))
-          (follows_ends (g.W.Words.name c.args.world.now.words).limits c.look_on.new.self c.args.asked.now (Refused SelfFailed) c.refuse.new.self
+          (follows_ends (g.W.Words.name c.args.words.now).limits c.look_on.new.self c.args.asked.now (Refused SelfFailed) c.refuse.new.self
           (ap (λ (w : Record). w.seen) c.refuse.ensures));
       further = search rules;
       adds = search rules;
@@ -138,7 +138,7 @@ returns-then-has_rank-clause-turn g c =
           c.refuse.new.self (ap (λ (w : Record). w.seen) c.refuse.ensures) (Ends (Refused SelfFailed)) (λ declared. refl);
       knows = λ known of. absurd (cc of);
       leads = search rules;
-      turns = let name = g.W.Words.name c.args.world.now.words in
+      turns = let name = g.W.Words.name c.args.words.now in
           let now = g.W.Words.sight c.args.pass.now in
           let after = g.W.Words.sight c.look_on.new.pass in
           λ alone only old before u.
@@ -160,7 +160,7 @@ returns-clause-turn g c =
       caches = λ none. c.look_on.ensures.goes.caches;
       named = search rules;
       nearer = λ single.
-          let name = g.W.Words.name c.args.world.now.words in
+          let name = g.W.Words.name c.args.words.now in
           let now = g.W.Words.sight c.args.pass.now in
           let after = g.W.Words.sight c.look_on.new.pass in
           let own = c.args.self.now in

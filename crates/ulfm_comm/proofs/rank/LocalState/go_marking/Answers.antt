@@ -18,7 +18,7 @@ members g c = c.deref.ensures.value ∙ ap (λ (y : Held). y.group) c.x.view_is
 pub advance-requires-clause-may : goal.advance-requires-clause-may
 advance-requires-clause-may g c =
     let stands = c.requires.stands.1 in
-    marking_may_on g.P.Meld.meld (g.W.Words.name c.args.world.now.words) c.args.asked.now c.args.marks c.args.blocks c.args.shrinks c.requires.stands.0
+    marking_may_on g.P.Meld.meld (g.W.Words.name c.args.words.now) c.args.asked.now c.args.marks c.args.blocks c.args.shrinks c.requires.stands.0
     c.args.self.now (g.W.Words.sight c.args.pass.now) c.requires.of
     c.held_comm-x.result.now c.comm_of.result c.held_comm-x.ensures c.comm_of.ensures c.deref.result.now c.failures-seen.result.now
     (members g (goal.at.advance-requires-clause-may g c).After-deref) c.failures-seen.ensures false stands.0 stands.1 stands.2
@@ -31,7 +31,7 @@ adds g c reply not =
     let s = c.requires.stands in
     let now = (g.W.Words.sight c.args.pass.now).seen in
     let after = (g.W.Words.sight c.advance.new.pass).seen in
-    adds_marked g.P.Meld.meld g.W.Words.alone (g.W.Words.name c.args.world.now.words) c.args.asked.now c.args.marks c.args.blocks c.args.shrinks s.0 s.1.0 s.1.1
+    adds_marked g.P.Meld.meld g.W.Words.alone (g.W.Words.name c.args.words.now) c.args.asked.now c.args.marks c.args.blocks c.args.shrinks s.0 s.1.0 s.1.1
     c.args.self.now (g.W.Words.sight c.args.pass.now) after c.requires.of s.1.2 reply
     (rw (← c.failures-seen.ensures) (c.advance.ensures.once not))
 
@@ -58,7 +58,7 @@ returns-then-marks-seen g c =
       knows = λ known. rw (c.advance.ensures.comm, c.advance.ensures.round) (later g (goal.at.returns-then-marks-seen g c).After-advance known);
       leads = search rules;
       turns = λ alone only old before stands.
-          marking_goes g.P.Meld.meld (g.W.Words.name c.args.world.now.words) c.args.asked.now c.args.marks c.args.blocks c.args.shrinks group c.args.self.now
+          marking_goes g.P.Meld.meld (g.W.Words.name c.args.words.now) c.args.asked.now c.args.marks c.args.blocks c.args.shrinks group c.args.self.now
           (g.W.Words.sight c.args.pass.now) c.requires.of
           c.held_comm-x.result.now c.comm_of.result c.held_comm-x.ensures c.comm_of.ensures c.deref.result.now c.failures-seen.result.now
           (members g (goal.at.returns-then-marks-seen g c).After-deref) c.failures-seen.ensures alone old before stands
@@ -74,7 +74,7 @@ pub overflow_cast-members : goal.overflow_cast-members
 overflow_cast-members g c =
     let stood = c.requires.stands in
     let stands = stood.1 in
-    let few = marking_few g.P.Meld.meld (g.W.Words.name c.args.world.now.words) c.args.asked.now c.args.marks c.args.blocks c.args.shrinks stood.0
+    let few = marking_few g.P.Meld.meld (g.W.Words.name c.args.words.now) c.args.asked.now c.args.marks c.args.blocks c.args.shrinks stood.0
     c.args.self.now (g.W.Words.sight c.args.pass.now) c.requires.of
     c.held_comm-x.result.now c.comm_of.result c.held_comm-x.ensures c.comm_of.ensures c.deref.result.now c.failures-seen.result.now
     (members g (goal.at.overflow_cast-members g c).After-deref) c.failures-seen.ensures false stands.0 stands.1 stands.2 in
@@ -84,7 +84,7 @@ pub new-requires : goal.new-requires
 new-requires g c =
     let stood = c.requires.stands in
     let stands = stood.1 in
-    let some = marking_any g.P.Meld.meld (g.W.Words.name c.args.world.now.words) c.args.asked.now c.args.marks c.args.blocks c.args.shrinks stood.0
+    let some = marking_any g.P.Meld.meld (g.W.Words.name c.args.words.now) c.args.asked.now c.args.marks c.args.blocks c.args.shrinks stood.0
     c.args.self.now (g.W.Words.sight c.args.pass.now) c.requires.of
     c.held_comm-x.result.now c.comm_of.result c.held_comm-x.ensures c.comm_of.ensures c.deref.result.now c.failures-seen.result.now
     (members g (goal.at.new-requires g c).After-deref) c.failures-seen.ensures false stands.0 stands.1 stands.2 in
@@ -95,12 +95,12 @@ returns g c =
     let stood = c.requires.stands in
     let stands = stood.1 in
     let takes = c.advance.ensures.takes in
-    let unknown = marking_unknown g.P.Meld.meld (g.W.Words.name c.args.world.now.words) c.args.asked.now c.args.marks c.args.blocks c.args.shrinks stood.0
+    let unknown = marking_unknown g.P.Meld.meld (g.W.Words.name c.args.words.now) c.args.asked.now c.args.marks c.args.blocks c.args.shrinks stood.0
     c.args.self.now (g.W.Words.sight c.args.pass.now) c.requires.of
     c.held_comm-x.result.now c.comm_of.result c.held_comm-x.ensures c.comm_of.ensures c.deref.result.now c.failures-seen.result.now
     (members g (goal.at.returns g c).After-deref) c.failures-seen.ensures false stands.0 stands.1 stands.2 in
     let held = ap (held_at c.args.self.now) (sym c.comm_of.ensures) ∙ c.held_comm-x.ensures in
-    let left = marks_read (g.W.Words.name c.args.world.now.words).limits c.args.self.now c.args.asked.now c.held_comm-x.result.now held c.args.shrinks
+    let left = marks_read (g.W.Words.name c.args.words.now).limits c.args.self.now c.args.asked.now c.held_comm-x.result.now held c.args.shrinks
     c.args.blocks c.deref.result.now c.failures-seen.result.now
     (members g (goal.at.returns g c).After-deref) c.failures-seen.ensures c.args.marks c.new.result _ _ c.len-members.result c.new.ensures
     (length_is g (goal.at.returns g c).After-len-members) unknown
@@ -120,7 +120,7 @@ returns g c =
       knows = λ known. rw (c.new.ensures, c.advance.ensures.comm, c.advance.ensures.round) (later g (goal.at.returns g c).After-advance known);
       leads = search rules;
       turns = λ alone only old before stands.
-          marking_reads g.P.Meld.meld (g.W.Words.name c.args.world.now.words) c.args.asked.now c.args.marks c.args.blocks c.args.shrinks group c.args.self.now
+          marking_reads g.P.Meld.meld (g.W.Words.name c.args.words.now) c.args.asked.now c.args.marks c.args.blocks c.args.shrinks group c.args.self.now
           (g.W.Words.sight c.args.pass.now) c.requires.of
           c.held_comm-x.result.now c.comm_of.result c.held_comm-x.ensures c.comm_of.ensures c.deref.result.now c.failures-seen.result.now
           (members g (goal.at.returns g c).After-deref) c.failures-seen.ensures alone old before stands

@@ -27,7 +27,7 @@ members g c = c.deref.ensures.value ∙ ap (λ (y : Held). y.group) c.x.view_is
 pub advance-requires : goal.advance-requires
 advance-requires g c =
     let stands = c.requires.stands in
-    peek_may g.P.Meld.meld (g.W.Words.name c.args.world.now.words) c.args.asked.now c.args.peek c.args.shrinks c.args.group.now.items c.args.self.now
+    peek_may g.P.Meld.meld (g.W.Words.name c.args.words.now) c.args.asked.now c.args.peek c.args.shrinks c.args.group.now.items c.args.self.now
     (g.W.Words.sight c.args.pass.now) c.requires.of
     c.held_comm-x.result.now c.comm_of.result c.held_comm-x.ensures c.comm_of.ensures c.deref.result.now (members g (goal.at.advance-requires g c).After-deref)
     false stands.0 stands.1 stands.2
@@ -43,7 +43,7 @@ held g c = ap (held_at c.args.self.now) (sym c.comm_of.ensures) ∙ c.held_comm-
 pub overflow_cast-members : goal.overflow_cast-members
 overflow_cast-members g c =
     let stands = c.requires.stands in
-    let few = peek_few g.P.Meld.meld (g.W.Words.name c.args.world.now.words) c.args.asked.now c.args.peek c.args.shrinks c.args.group.now.items c.args.self.now
+    let few = peek_few g.P.Meld.meld (g.W.Words.name c.args.words.now) c.args.asked.now c.args.peek c.args.shrinks c.args.group.now.items c.args.self.now
     (g.W.Words.sight c.args.pass.now) c.requires.of
     c.held_comm-x.result.now c.comm_of.result c.held_comm-x.ensures c.comm_of.ensures c.deref.result.now
     (members g (goal.at.overflow_cast-members g c).After-deref) false stands.0 stands.1 stands.2 in
@@ -52,7 +52,7 @@ overflow_cast-members g c =
 pub all-requires : goal.all-requires
 all-requires g c =
     let stands = c.requires.stands in
-    let some = peek_any g.P.Meld.meld (g.W.Words.name c.args.world.now.words) c.args.asked.now c.args.peek c.args.shrinks c.args.group.now.items c.args.self.now
+    let some = peek_any g.P.Meld.meld (g.W.Words.name c.args.words.now) c.args.asked.now c.args.peek c.args.shrinks c.args.group.now.items c.args.self.now
     (g.W.Words.sight c.args.pass.now) c.requires.of
     c.held_comm-x.result.now c.comm_of.result c.held_comm-x.ensures c.comm_of.ensures c.deref.result.now (members g (goal.at.all-requires g c).After-deref)
     false stands.0 stands.1 stands.2 in
@@ -60,17 +60,17 @@ all-requires g c =
 
 -- the loads add nothing; what comes after them leaves the failures that were seen
 peeks : (g : _) (c : After-advance g) (next : Next g.row.P.Denot) (left : List ℕ) (new : Record)
-    → (c.args.whole ≡ false → FewerLeft (steps_left (g.W.Words.name c.args.world.now.words).limits c.args.self.now c.args.asked.now
-    (Peeking c.args.peek c.args.shrinks)) (g.W.Words.name c.args.world.now.words).limits new c.args.asked.now next)
-    → Spends (steps_left (g.W.Words.name c.args.world.now.words).limits c.args.self.now c.args.asked.now (Peeking c.args.peek c.args.shrinks))
-    (g.W.Words.name c.args.world.now.words).limits new c.args.asked.now next (g.W.Words.sight c.args.pass.now) (g.W.Words.sight c.advance.new.pass)
+    → (c.args.whole ≡ false → FewerLeft (steps_left (g.W.Words.name c.args.words.now).limits c.args.self.now c.args.asked.now
+    (Peeking c.args.peek c.args.shrinks)) (g.W.Words.name c.args.words.now).limits new c.args.asked.now next)
+    → Spends (steps_left (g.W.Words.name c.args.words.now).limits c.args.self.now c.args.asked.now (Peeking c.args.peek c.args.shrinks))
+    (g.W.Words.name c.args.words.now).limits new c.args.asked.now next (g.W.Words.sight c.args.pass.now) (g.W.Words.sight c.advance.new.pass)
     → (c.args.whole ≡ true → IsFurther (Peeking c.args.peek c.args.shrinks) next) → new.seen ≡ c.args.self.now.seen → IsPast next
     → (FindsSetIn c.args.self.now c.args.asked.now (g.W.Words.sight c.args.pass.now).cached (Peeking c.args.peek c.args.shrinks)
-    → AlsoSpends (also_left (g.W.Words.name c.args.world.now.words).limits c.args.self.now c.args.asked.now (Peeking c.args.peek c.args.shrinks)) (g.W.Words.name c.args.world.now.words).limits c.args.asked.now (stance c.args.self.now (g.W.Words.sight c.args.pass.now)) next (stance new (g.W.Words.sight c.advance.new.pass)))
+    → AlsoSpends (also_left (g.W.Words.name c.args.words.now).limits c.args.self.now c.args.asked.now (Peeking c.args.peek c.args.shrinks)) (g.W.Words.name c.args.words.now).limits c.args.asked.now (stance c.args.self.now (g.W.Words.sight c.args.pass.now)) next (stance new (g.W.Words.sight c.advance.new.pass)))
     → (AreSet (g.W.Words.sight c.args.pass.now).cached c.args.peek.comm c.args.peek.round c.args.peek.blocks
     → KnowsNext c.args.self.now c.args.asked.now (g.W.Words.sight c.advance.new.pass).cached next)
-    → Turns g.P.Meld.meld g.W.Words.alone (under_way c.args.asked.now (Peeking c.args.peek c.args.shrinks) c.args.group.now.items) (local c.args.self.now (view_of (g.W.Words.name c.args.world.now.words) (g.W.Words.sight c.args.pass.now))) next left (local new (view_of (g.W.Words.name c.args.world.now.words) (g.W.Words.sight c.advance.new.pass)))
-    → TakesTurn g.P.Meld.meld g.W.Words.alone c.args.whole (under_way c.args.asked.now (Peeking c.args.peek c.args.shrinks) c.args.group.now.items) (local c.args.self.now (view_of (g.W.Words.name c.args.world.now.words) (g.W.Words.sight c.args.pass.now))) (coming next left) (local new (view_of (g.W.Words.name c.args.world.now.words) (g.W.Words.sight c.advance.new.pass)))
+    → Turns g.P.Meld.meld g.W.Words.alone (under_way c.args.asked.now (Peeking c.args.peek c.args.shrinks) c.args.group.now.items) (local c.args.self.now (view_of (g.W.Words.name c.args.words.now) (g.W.Words.sight c.args.pass.now))) next left (local new (view_of (g.W.Words.name c.args.words.now) (g.W.Words.sight c.advance.new.pass)))
+    → TakesTurn g.P.Meld.meld g.W.Words.alone c.args.whole (under_way c.args.asked.now (Peeking c.args.peek c.args.shrinks) c.args.group.now.items) (local c.args.self.now (view_of (g.W.Words.name c.args.words.now) (g.W.Words.sight c.args.pass.now))) (coming next left) (local new (view_of (g.W.Words.name c.args.words.now) (g.W.Words.sight c.advance.new.pass)))
 peeks g c next left new nearer spends further sees leads also knows turns =
     let goes = c.advance.ensures.goes in
     let now = g.W.Words.sight c.args.pass.now in
@@ -95,22 +95,22 @@ pub returns-then-not-advance : goal.returns-then-not-advance
 returns-then-not-advance g c =
     let takes = c.if-not-advance.ensures.takes in
     let after = g.W.Words.sight c.advance.new.pass in
-    let left = peeks_on (g.W.Words.name c.args.world.now.words).limits c.args.self.now c.args.asked.now c.held_comm-x.result.now
+    let left = peeks_on (g.W.Words.name c.args.words.now).limits c.args.self.now c.args.asked.now c.held_comm-x.result.now
     (held g (goal.at.returns-then-not-advance g c).After-deref) c.args.shrinks c.deref.result.now
     (members g (goal.at.returns-then-not-advance g c).After-deref) c.args.peek c.advance.new.self (g.W.Words.sight c.args.pass.now).steps after.steps
     takes.turns in
     peeks g (goal.at.returns-then-not-advance g c).After-advance _ _ _ (λ single. fewer after.steps
-    (steps_left (g.W.Words.name c.args.world.now.words).limits c.args.self.now c.args.asked.now (Peeking c.advance.new.self c.args.shrinks))
-    (g.W.Words.sight c.args.pass.now).steps (steps_left (g.W.Words.name c.args.world.now.words).limits c.args.self.now c.args.asked.now
+    (steps_left (g.W.Words.name c.args.words.now).limits c.args.self.now c.args.asked.now (Peeking c.advance.new.self c.args.shrinks))
+    (g.W.Words.sight c.args.pass.now).steps (steps_left (g.W.Words.name c.args.words.now).limits c.args.self.now c.args.asked.now
     (Peeking c.args.peek c.args.shrinks)) left takes.some) left (λ whole. absurd (false≢true (sym c.if-not-advance.true ∙ c.advance.ensures.ends whole)))
     refl refl
-    (λ all. also_peeks_on (g.W.Words.name c.args.world.now.words).limits c.args.self.now c.args.asked.now c.held_comm-x.result.now
+    (λ all. also_peeks_on (g.W.Words.name c.args.words.now).limits c.args.self.now c.args.asked.now c.held_comm-x.result.now
     (held g (goal.at.returns-then-not-advance g c).After-deref) c.args.shrinks c.deref.result.now
     (members g (goal.at.returns-then-not-advance g c).After-deref) c.args.peek c.advance.new.self (g.W.Words.sight c.args.pass.now) after
     c.advance.ensures.comm c.advance.ensures.round c.advance.ensures.front c.advance.ensures.kept all c.advance.ensures.goes.cached takes.some takes.turns)
     (λ known. rw (c.advance.ensures.comm, c.advance.ensures.round) (c.advance.ensures.sets known))
     (λ alone only old before stands.
-    peek_goes g.P.Meld.meld (g.W.Words.name c.args.world.now.words) c.args.asked.now c.args.peek c.args.shrinks c.args.group.now.items c.args.self.now
+    peek_goes g.P.Meld.meld (g.W.Words.name c.args.words.now) c.args.asked.now c.args.peek c.args.shrinks c.args.group.now.items c.args.self.now
     (g.W.Words.sight c.args.pass.now) c.requires.of
     c.held_comm-x.result.now c.comm_of.result c.held_comm-x.ensures c.comm_of.ensures c.deref.result.now
     (members g (goal.at.returns-then-not-advance g c).After-deref) alone old before stands
@@ -124,7 +124,7 @@ unread-requires-clause-peeked g c =
     (sym (length_is g (goal.at.unread-requires-clause-peeked g c).After-len-members)) ∙ sym c.in-None.ensures.whole in (
       stands.0,
       stands.1,
-      peek_unread g.P.Meld.meld (g.W.Words.name c.args.world.now.words) c.args.asked.now c.args.peek c.args.shrinks c.args.group.now.items c.args.self.now
+      peek_unread g.P.Meld.meld (g.W.Words.name c.args.words.now) c.args.asked.now c.args.peek c.args.shrinks c.args.group.now.items c.args.self.now
           (g.W.Words.sight c.args.pass.now) c.requires.of
           c.held_comm-x.result.now c.comm_of.result c.held_comm-x.ensures c.comm_of.ensures c.deref.result.now
           (members g (goal.at.unread-requires-clause-peeked g c).After-deref) false stands.0 stands.1 stands.2
@@ -139,21 +139,21 @@ returns-in-None g c =
     let here : is_whole c.advance.new.self.blocks (length c.deref.result.now) ≡ false = ap (is_whole c.advance.new.self.blocks)
     (sym (length_is g (goal.at.returns-in-None g c).After-len-members)) ∙ sym c.in-None.ensures.whole in
     peeks g (goal.at.returns-in-None g c).After-advance _ _ _
-    (λ single. peeks_past (g.W.Words.name c.args.world.now.words).limits c.args.self.now c.args.asked.now c.held_comm-x.result.now
+    (λ single. peeks_past (g.W.Words.name c.args.words.now).limits c.args.self.now c.args.asked.now c.held_comm-x.result.now
     (held g (goal.at.returns-in-None g c).After-deref) c.args.shrinks c.deref.result.now (members g (goal.at.returns-in-None g c).After-deref) c.args.peek _
     c.unread.ensures.nearer)
-    (peeks_over (g.W.Words.name c.args.world.now.words).limits c.args.self.now c.args.asked.now c.held_comm-x.result.now
+    (peeks_over (g.W.Words.name c.args.words.now).limits c.args.self.now c.args.asked.now c.held_comm-x.result.now
     (held g (goal.at.returns-in-None g c).After-deref) c.args.shrinks c.deref.result.now (members g (goal.at.returns-in-None g c).After-deref) c.args.peek _
     (g.W.Words.sight c.args.pass.now).steps after.steps c.unread.ensures.nearer (omega (arith, takes.turns)))
     (λ whole. c.unread.ensures.further) refl c.unread.ensures.past
-    (λ all. let whole = also_whole (g.W.Words.name c.args.world.now.words).limits c.args.self.now c.args.asked.now c.held_comm-x.result.now
+    (λ all. let whole = also_whole (g.W.Words.name c.args.words.now).limits c.args.self.now c.args.asked.now c.held_comm-x.result.now
     (held g (goal.at.returns-in-None g c).After-deref) c.args.shrinks c.deref.result.now (members g (goal.at.returns-in-None g c).After-deref) c.args.peek
     c.advance.new.self (g.W.Words.sight c.args.pass.now) after c.advance.ensures.comm c.advance.ensures.round c.advance.ensures.front c.advance.ensures.kept
     all (c.advance.ensures.back c.if-not-advance.false) in absurd (false≢true (sym here ∙ whole)))
     (λ known. c.unread.ensures.knows after.cached (rw (c.advance.ensures.comm, c.advance.ensures.round) (c.advance.ensures.sets known)))
     (λ alone only old before stands.
     c.unread.ensures.turns c.args.group.now.items alone old before
-    (peek_unread g.P.Meld.meld (g.W.Words.name c.args.world.now.words) c.args.asked.now c.args.peek c.args.shrinks c.args.group.now.items c.args.self.now
+    (peek_unread g.P.Meld.meld (g.W.Words.name c.args.words.now) c.args.asked.now c.args.peek c.args.shrinks c.args.group.now.items c.args.self.now
     (g.W.Words.sight c.args.pass.now) c.requires.of
     c.held_comm-x.result.now c.comm_of.result c.held_comm-x.ensures c.comm_of.ensures c.deref.result.now (members g (goal.at.returns-in-None g c).After-deref)
     alone old before stands
@@ -171,7 +171,7 @@ decided-requires-clause-read g c =
     let stands = c.requires.stands in (
       stands.0,
       stands.1,
-      peek_ends g.P.Meld.meld (g.W.Words.name c.args.world.now.words) c.args.asked.now c.args.peek c.args.shrinks c.args.group.now.items c.args.self.now
+      peek_ends g.P.Meld.meld (g.W.Words.name c.args.words.now) c.args.asked.now c.args.peek c.args.shrinks c.args.group.now.items c.args.self.now
           (g.W.Words.sight c.args.pass.now) c.requires.of
           c.held_comm-x.result.now c.comm_of.result c.held_comm-x.ensures c.comm_of.ensures c.deref.result.now
           (members g (goal.at.decided-requires-clause-read g c).After-deref) false stands.0 stands.1 stands.2
@@ -201,14 +201,14 @@ returns-in-Some g c =
     let takes = c.if-not-advance.ensures.takes in
     let after = g.W.Words.sight c.advance.new.pass in
     peeks g (goal.at.returns-in-Some g c).After-advance _ _ _
-    (λ single. peeks_fewer (g.W.Words.name c.args.world.now.words).limits c.args.self.now c.args.asked.now c.held_comm-x.result.now
+    (λ single. peeks_fewer (g.W.Words.name c.args.words.now).limits c.args.self.now c.args.asked.now c.held_comm-x.result.now
     (held g (goal.at.returns-in-Some g c).After-deref) c.args.shrinks c.deref.result.now (members g (goal.at.returns-in-Some g c).After-deref) c.args.peek _
     _ c.decided.ensures.nearer)
-    (peeks_spend (g.W.Words.name c.args.world.now.words).limits c.args.self.now c.args.asked.now c.held_comm-x.result.now
+    (peeks_spend (g.W.Words.name c.args.words.now).limits c.args.self.now c.args.asked.now c.held_comm-x.result.now
     (held g (goal.at.returns-in-Some g c).After-deref) c.args.shrinks c.deref.result.now (members g (goal.at.returns-in-Some g c).After-deref) c.args.peek _
     _ (g.W.Words.sight c.args.pass.now) after (omega (arith, takes.turns)) c.decided.ensures.nearer)
     (λ whole. below_more 5 7 (omega arith) _ c.decided.ensures.further) c.decided.ensures.sees c.decided.ensures.past
-    (λ all. also_peeks_over (g.W.Words.name c.args.world.now.words).limits c.args.self.now c.args.asked.now c.held_comm-x.result.now
+    (λ all. also_peeks_over (g.W.Words.name c.args.words.now).limits c.args.self.now c.args.asked.now c.held_comm-x.result.now
     (held g (goal.at.returns-in-Some g c).After-deref) c.args.shrinks c.deref.result.now (members g (goal.at.returns-in-Some g c).After-deref) c.args.peek
     c.advance.new.self (g.W.Words.sight c.args.pass.now) after c.advance.ensures.comm c.advance.ensures.round c.advance.ensures.front c.advance.ensures.kept
     all (omega (arith, takes.turns)) _ _ c.decided.ensures.sees c.decided.ensures.further c.decided.ensures.also)
@@ -217,7 +217,7 @@ returns-in-Some g c =
     (ap (is_whole c.advance.new.self.blocks) (sym (length_is g (goal.at.returns-in-Some g c).After-len-members)) ∙ sym c.in-Some.ensures.whole)))
     (λ alone only old before stands.
     c.decided.ensures.turns alone old before
-    (peek_ends g.P.Meld.meld (g.W.Words.name c.args.world.now.words) c.args.asked.now c.args.peek c.args.shrinks c.args.group.now.items c.args.self.now
+    (peek_ends g.P.Meld.meld (g.W.Words.name c.args.words.now) c.args.asked.now c.args.peek c.args.shrinks c.args.group.now.items c.args.self.now
     (g.W.Words.sight c.args.pass.now) c.requires.of
     c.held_comm-x.result.now c.comm_of.result c.held_comm-x.ensures c.comm_of.ensures c.deref.result.now (members g (goal.at.returns-in-Some g c).After-deref)
     alone old before stands

@@ -22,7 +22,7 @@ members g c = c.deref.ensures.value ∙ ap (λ (y : Held). y.group) c.x.view_is
 pub advance-requires : goal.advance-requires
 advance-requires g c =
     let stands = c.requires.stands in
-    reading_may g.P.Meld.meld (g.W.Words.name c.args.world.now.words) c.args.asked.now c.args.reading c.args.shrinks c.args.group.now.items c.args.self.now
+    reading_may g.P.Meld.meld (g.W.Words.name c.args.words.now) c.args.asked.now c.args.reading c.args.shrinks c.args.group.now.items c.args.self.now
     (g.W.Words.sight c.args.pass.now)
     c.held_comm-x.result.now c.comm_of.result c.held_comm-x.ensures c.comm_of.ensures c.deref.result.now (members g (goal.at.advance-requires g c).After-deref)
     false stands.0 stands.1 stands.2 c.requires.of
@@ -32,7 +32,7 @@ decided-requires-clause-read g c =
     let stands = c.requires.stands in (
       stands.0,
       stands.1,
-      reading_ends g.P.Meld.meld (g.W.Words.name c.args.world.now.words) c.args.asked.now c.args.reading c.args.shrinks c.args.group.now.items c.args.self.now
+      reading_ends g.P.Meld.meld (g.W.Words.name c.args.words.now) c.args.asked.now c.args.reading c.args.shrinks c.args.group.now.items c.args.self.now
           (g.W.Words.sight c.args.pass.now)
           c.held_comm-x.result.now c.comm_of.result c.held_comm-x.ensures c.comm_of.ensures c.deref.result.now
           (members g (goal.at.decided-requires-clause-read g c).After-deref) false stands.0 stands.1 stands.2
@@ -47,15 +47,15 @@ held g c = ap (held_at c.args.self.now) (sym c.comm_of.ensures) ∙ c.held_comm-
 
 -- the steps add nothing; what comes after them leaves the failures that were seen
 reads : (g : _) (c : After-advance g) (next : Next g.row.P.Denot) (left : List ℕ) (new : Record)
-    → (c.args.whole ≡ false → FewerLeft (steps_left (g.W.Words.name c.args.world.now.words).limits c.args.self.now c.args.asked.now
-    (Reading c.args.reading c.args.shrinks)) (g.W.Words.name c.args.world.now.words).limits new c.args.asked.now next)
-    → Spends (steps_left (g.W.Words.name c.args.world.now.words).limits c.args.self.now c.args.asked.now (Reading c.args.reading c.args.shrinks))
-    (g.W.Words.name c.args.world.now.words).limits new c.args.asked.now next (g.W.Words.sight c.args.pass.now) (g.W.Words.sight c.advance.new.pass)
+    → (c.args.whole ≡ false → FewerLeft (steps_left (g.W.Words.name c.args.words.now).limits c.args.self.now c.args.asked.now
+    (Reading c.args.reading c.args.shrinks)) (g.W.Words.name c.args.words.now).limits new c.args.asked.now next)
+    → Spends (steps_left (g.W.Words.name c.args.words.now).limits c.args.self.now c.args.asked.now (Reading c.args.reading c.args.shrinks))
+    (g.W.Words.name c.args.words.now).limits new c.args.asked.now next (g.W.Words.sight c.args.pass.now) (g.W.Words.sight c.advance.new.pass)
     → (c.args.whole ≡ true → IsFurther (Reading c.args.reading c.args.shrinks) next) → new.seen ≡ c.args.self.now.seen → IsPast next
     → (AreSet (g.W.Words.sight c.args.pass.now).cached c.args.reading.comm c.args.reading.round c.args.reading.blocks
     → KnowsNext c.args.self.now c.args.asked.now (g.W.Words.sight c.advance.new.pass).cached next)
-    → Turns g.P.Meld.meld g.W.Words.alone (under_way c.args.asked.now (Reading c.args.reading c.args.shrinks) c.args.group.now.items) (local c.args.self.now (view_of (g.W.Words.name c.args.world.now.words) (g.W.Words.sight c.args.pass.now))) next left (local new (view_of (g.W.Words.name c.args.world.now.words) (g.W.Words.sight c.advance.new.pass)))
-    → TakesTurn g.P.Meld.meld g.W.Words.alone c.args.whole (under_way c.args.asked.now (Reading c.args.reading c.args.shrinks) c.args.group.now.items) (local c.args.self.now (view_of (g.W.Words.name c.args.world.now.words) (g.W.Words.sight c.args.pass.now))) (coming next left) (local new (view_of (g.W.Words.name c.args.world.now.words) (g.W.Words.sight c.advance.new.pass)))
+    → Turns g.P.Meld.meld g.W.Words.alone (under_way c.args.asked.now (Reading c.args.reading c.args.shrinks) c.args.group.now.items) (local c.args.self.now (view_of (g.W.Words.name c.args.words.now) (g.W.Words.sight c.args.pass.now))) next left (local new (view_of (g.W.Words.name c.args.words.now) (g.W.Words.sight c.advance.new.pass)))
+    → TakesTurn g.P.Meld.meld g.W.Words.alone c.args.whole (under_way c.args.asked.now (Reading c.args.reading c.args.shrinks) c.args.group.now.items) (local c.args.self.now (view_of (g.W.Words.name c.args.words.now) (g.W.Words.sight c.args.pass.now))) (coming next left) (local new (view_of (g.W.Words.name c.args.words.now) (g.W.Words.sight c.advance.new.pass)))
 reads g c next left new nearer spends further sees leads knows turns =
     let goes = c.advance.ensures.goes in
     let now = g.W.Words.sight c.args.pass.now in
@@ -84,12 +84,12 @@ pub returns-in-None : goal.returns-in-None
 returns-in-None g c =
     let takes = c.in-None.ensures.takes in
     let after = g.W.Words.sight c.advance.new.pass in
-    let left = reads_on (g.W.Words.name c.args.world.now.words).limits c.args.self.now c.args.asked.now c.held_comm-x.result.now
+    let left = reads_on (g.W.Words.name c.args.words.now).limits c.args.self.now c.args.asked.now c.held_comm-x.result.now
     (held g (goal.at.returns-in-None g c).After-deref) c.args.shrinks c.deref.result.now (members g (goal.at.returns-in-None g c).After-deref)
     c.args.reading c.advance.new.self (g.W.Words.sight c.args.pass.now).steps after.steps takes.turns in
     reads g (goal.at.returns-in-None g c).After-advance _ _ _ (λ single. omega (arith, left, takes.some)) left (search rules) (search rules)
     (search rules) c.in-None.ensures.sets (λ alone only old before stands.
-    reading_goes g.P.Meld.meld (g.W.Words.name c.args.world.now.words) c.args.asked.now c.args.reading c.args.shrinks c.args.group.now.items c.args.self.now
+    reading_goes g.P.Meld.meld (g.W.Words.name c.args.words.now) c.args.asked.now c.args.reading c.args.shrinks c.args.group.now.items c.args.self.now
     (g.W.Words.sight c.args.pass.now)
     c.held_comm-x.result.now c.comm_of.result c.held_comm-x.ensures c.comm_of.ensures c.deref.result.now (members g (goal.at.returns-in-None g c).After-deref)
     alone old before stands
@@ -101,12 +101,12 @@ returns-in-Some-Missing g c =
     let takes = c.in-Some-Missing.ensures.takes in
     let after = g.W.Words.sight c.advance.new.pass in
     reads g (goal.at.returns-in-Some-Missing g c).After-advance _ _ _ (search rules)
-    (reads_spend (g.W.Words.name c.args.world.now.words).limits c.args.self.now c.args.asked.now c.held_comm-x.result.now
+    (reads_spend (g.W.Words.name c.args.words.now).limits c.args.self.now c.args.asked.now c.held_comm-x.result.now
     (held g (goal.at.returns-in-Some-Missing g c).After-deref) c.args.shrinks c.deref.result.now
     (members g (goal.at.returns-in-Some-Missing g c).After-deref) c.args.reading c.args.self.now (Ends Pending) (g.W.Words.sight c.args.pass.now) after
     (omega (arith, takes.turns)) tt)
     (search rules) (search rules) (search rules) (λ known of. absurd (cc of)) (λ alone only old before stands.
-    reading_pends g.P.Meld.meld (g.W.Words.name c.args.world.now.words) c.args.asked.now c.args.reading c.args.shrinks c.args.group.now.items c.args.self.now
+    reading_pends g.P.Meld.meld (g.W.Words.name c.args.words.now) c.args.asked.now c.args.reading c.args.shrinks c.args.group.now.items c.args.self.now
     (g.W.Words.sight c.args.pass.now)
     c.held_comm-x.result.now c.comm_of.result c.held_comm-x.ensures c.comm_of.ensures c.deref.result.now
     (members g (goal.at.returns-in-Some-Missing g c).After-deref) alone old before stands
@@ -134,17 +134,17 @@ returns-in-Some-All g c =
     let takes = c.in-Some-All.ensures.takes in
     let after = g.W.Words.sight c.advance.new.pass in
     reads g (goal.at.returns-in-Some-All g c).After-advance _ _ _
-    (λ single. reads_fewer (g.W.Words.name c.args.world.now.words).limits c.args.self.now c.args.asked.now c.held_comm-x.result.now
+    (λ single. reads_fewer (g.W.Words.name c.args.words.now).limits c.args.self.now c.args.asked.now c.held_comm-x.result.now
     (held g (goal.at.returns-in-Some-All g c).After-deref) c.args.shrinks c.deref.result.now (members g (goal.at.returns-in-Some-All g c).After-deref)
     c.args.reading _ _ c.decided.ensures.nearer)
-    (reads_spend (g.W.Words.name c.args.world.now.words).limits c.args.self.now c.args.asked.now c.held_comm-x.result.now
+    (reads_spend (g.W.Words.name c.args.words.now).limits c.args.self.now c.args.asked.now c.held_comm-x.result.now
     (held g (goal.at.returns-in-Some-All g c).After-deref) c.args.shrinks c.deref.result.now (members g (goal.at.returns-in-Some-All g c).After-deref)
     c.args.reading _ _ (g.W.Words.sight c.args.pass.now) after (omega (arith, takes.turns)) c.decided.ensures.nearer)
     (λ whole. c.decided.ensures.further) c.decided.ensures.sees c.decided.ensures.past
     (λ are. known g (goal.at.returns-in-Some-All g c).After-advance _ c.decided.ensures.further
     ((rw c.in-Some-All.field-0-is at c.in-Some-All.ensures.sets) are)) (λ alone only old before stands.
     c.decided.ensures.turns alone old before
-    (reading_ends g.P.Meld.meld (g.W.Words.name c.args.world.now.words) c.args.asked.now c.args.reading c.args.shrinks c.args.group.now.items c.args.self.now
+    (reading_ends g.P.Meld.meld (g.W.Words.name c.args.words.now) c.args.asked.now c.args.reading c.args.shrinks c.args.group.now.items c.args.self.now
     (g.W.Words.sight c.args.pass.now)
     c.held_comm-x.result.now c.comm_of.result c.held_comm-x.ensures c.comm_of.ensures c.deref.result.now
     (members g (goal.at.returns-in-Some-All g c).After-deref) alone old before stands

@@ -15,7 +15,7 @@ use Rattle.ulfm_comm.specs.Local.{local}
 
 pub read_on-requires-clause-may : goal.read_on-requires-clause-may
 read_on-requires-clause-may g c =
-    let name = g.W.Words.name c.args.world.now.words in
+    let name = g.W.Words.name c.args.words.now in
     let now = g.W.Words.sight c.args.pass.now in
     let stands = c.requires.stands in
     let old = stands.0 in
@@ -31,17 +31,17 @@ read_on-requires-clause-may g c =
 
 -- a call that stands on its way through the list
 abbrev StoodAt : (g : _) → After-read_on g → Bool → Record → Sight g.row.P.Denot → Type 0
-StoodAt g c alone old before = Stands g.P.Meld.meld alone (local old (view_of (g.W.Words.name c.args.world.now.words) before)) (record {
+StoodAt g c alone old before = Stands g.P.Meld.meld alone (local old (view_of (g.W.Words.name c.args.words.now) before)) (record {
   asked = c.args.asked.now;
   phase = AtReadingOn c.args.on c.args.made;
   group = c.args.group.now.items;
-}) (local c.args.self.now (view_of (g.W.Words.name c.args.world.now.words) (g.W.Words.sight c.args.pass.now)))
+}) (local c.args.self.now (view_of (g.W.Words.name c.args.words.now) (g.W.Words.sight c.args.pass.now)))
 
 -- how far the failures that are seen now reach
 at_failure : (g : _) (c : After-read_on g) (alone : Bool) (old : Record) (before : Sight g.row.P.Denot) (s : StoodAt g c alone old before)
     → AtFailure s.at.1.group c.args.made.count c.read_on.new.on c.read_on.new.self.seen
 at_failure g c alone old before s =
-    let name = g.W.Words.name c.args.world.now.words in
+    let name = g.W.Words.name c.args.words.now in
     let now = g.W.Words.sight c.args.pass.now in
     let comm = comm_of c.args.asked.now in
     c.read_on.ensures.at s.at.1
@@ -51,12 +51,12 @@ at_failure g c alone old before s =
 -- the decision's whole failed group is known
 reached : (g : _) (c : After-read_on g) (alone : Bool) → (IsTrue alone → IsTrue g.W.Words.alone) → (old : Record) (before : Sight g.row.P.Denot)
     → StoodAt g c alone old before → c.args.made.count ≤ c.read_on.new.on.found
-    → HasReached g.P.Meld.meld alone c.args.asked.now c.args.made c.read_on.new.on.reach (local old (view_of (g.W.Words.name c.args.world.now.words) before)) (local c.read_on.new.self (view_of (g.W.Words.name c.args.world.now.words) (g.W.Words.sight c.read_on.new.pass)))
+    → HasReached g.P.Meld.meld alone c.args.asked.now c.args.made c.read_on.new.on.reach (local old (view_of (g.W.Words.name c.args.words.now) before)) (local c.read_on.new.self (view_of (g.W.Words.name c.args.words.now) (g.W.Words.sight c.read_on.new.pass)))
 reached g c alone only old before s enough =
     let now = g.W.Words.sight c.args.pass.now in
     let after = g.W.Words.sight c.read_on.new.pass in
     let ensures = c.read_on.ensures in
-    has_reached g.P.Meld.meld alone (g.W.Words.name c.args.world.now.words) c.args.asked.now c.args.on c.args.made c.args.group.now.items old before
+    has_reached g.P.Meld.meld alone (g.W.Words.name c.args.words.now) c.args.asked.now c.args.on c.args.made c.args.group.now.items old before
     c.args.self.now now s c.read_on.new.self after
     (did_loosely alone g.W.Words.alone only [] now.seen after.seen ensures.goes.did) ensures.goes.onward ensures.kept ensures.goes_on ensures.begins
     c.read_on.new.on (at_failure g c alone old before s) enough
@@ -78,7 +78,7 @@ returns-then-on-made g c =
       named = search rules;
       nearer = search rules;
       spends = search rules;
-      also = λ all. also_reads_on (g.W.Words.name c.args.world.now.words).limits c.args.asked.now c.args.self.now c.read_on.new.self c.read_on.new.self
+      also = λ all. also_reads_on (g.W.Words.name c.args.words.now).limits c.args.asked.now c.args.self.now c.read_on.new.self c.read_on.new.self
           (g.W.Words.sight c.args.pass.now) (g.W.Words.sight c.read_on.new.pass) c.args.on c.args.made _ c.read_on.ensures.further refl (omega arith)
           (omega arith);
       further = search rules;
@@ -92,7 +92,7 @@ returns-then-on-made g c =
           let now = g.W.Words.sight c.args.pass.now in
           let after = g.W.Words.sight c.read_on.new.pass in
           let ensures = c.read_on.ensures in
-          reads_further g.P.Meld.meld alone (g.W.Words.name c.args.world.now.words) c.args.asked.now c.args.on c.args.made c.args.group.now.items old before
+          reads_further g.P.Meld.meld alone (g.W.Words.name c.args.words.now) c.args.asked.now c.args.on c.args.made c.args.group.now.items old before
           c.args.self.now now s c.read_on.new.self after
           (did_loosely alone g.W.Words.alone only [] now.seen after.seen ensures.goes.did) ensures.goes.onward ensures.kept ensures.goes_on ensures.begins
           c.read_on.new.on c.args.group.now.items
@@ -109,10 +109,10 @@ returns g c =
       nearer = search rules;
       spends = search rules;
       also = λ all.
-          also_reads_on (g.W.Words.name c.args.world.now.words).limits c.args.asked.now c.args.self.now c.read_on.new.self c.reached.new.self
+          also_reads_on (g.W.Words.name c.args.words.now).limits c.args.asked.now c.args.self.now c.read_on.new.self c.reached.new.self
           (g.W.Words.sight c.args.pass.now) (g.W.Words.sight c.read_on.new.pass) c.args.on c.args.made c.reached.result c.read_on.ensures.further
           c.reached.ensures.sees
-          (also_reached (g.W.Words.name c.args.world.now.words).limits c.reached.new.self c.args.asked.now c.reached.result c.reached.ensures.further
+          (also_reached (g.W.Words.name c.args.words.now).limits c.reached.new.self c.args.asked.now c.reached.result c.reached.ensures.further
           c.reached.ensures.nearer) (below_more 4 5 (omega arith) c.reached.result c.reached.ensures.further);
       further = search rules;
       adds = search rules;

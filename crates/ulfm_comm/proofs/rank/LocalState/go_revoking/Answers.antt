@@ -31,19 +31,19 @@ outcome : (g : _) (c : After-set_revocation g)
     (Did g.W.Words.alone [] (g.W.Words.sight c.args.pass.now).seen (g.W.Words.sight c.set_revocation.new.pass).seen)
 outcome g c = rw (← c.number.ensures, ← c.comm_of.ensures) c.set_revocation.ensures.tries.outcome
 
-walks : (g : _) (c : After-set_revocation g) → Walks g.P.Meld.meld g.W.Words.alone c.args.self.now.number (view_of (g.W.Words.name c.args.world.now.words) (g.W.Words.sight c.args.pass.now)) (view_of (g.W.Words.name c.args.world.now.words) (g.W.Words.sight c.set_revocation.new.pass))
+walks : (g : _) (c : After-set_revocation g) → Walks g.P.Meld.meld g.W.Words.alone c.args.self.now.number (view_of (g.W.Words.name c.args.words.now) (g.W.Words.sight c.args.pass.now)) (view_of (g.W.Words.name c.args.words.now) (g.W.Words.sight c.set_revocation.new.pass))
 walks g c =
-    walks_tried g.P.Meld.meld g.W.Words.alone (g.W.Words.name c.args.world.now.words) c.args.self.now.number (g.W.Words.sight c.args.pass.now)
+    walks_tried g.P.Meld.meld g.W.Words.alone (g.W.Words.name c.args.words.now) c.args.self.now.number (g.W.Words.sight c.args.pass.now)
     (g.W.Words.sight c.set_revocation.new.pass)
     c.set_revocation.ensures.tries.of c.set_revocation.ensures.tries.steps c.set_revocation.ensures.tries.cached c.set_revocation.result
     (Revoke (comm_of c.args.asked.now)) (outcome g c)
 
 -- the revocation is answered by whether this call made it
 answered : (g : _) (c : After-set_revocation g) (group : List ℕ)
-    → Turns g.P.Meld.meld g.W.Words.alone (under_way c.args.asked.now Revoking group) (local c.args.self.now (view_of (g.W.Words.name c.args.world.now.words) (g.W.Words.sight c.args.pass.now))) (Ends (revoked c.set_revocation.result)) group (local c.args.self.now (view_of (g.W.Words.name c.args.world.now.words) (g.W.Words.sight c.set_revocation.new.pass)))
+    → Turns g.P.Meld.meld g.W.Words.alone (under_way c.args.asked.now Revoking group) (local c.args.self.now (view_of (g.W.Words.name c.args.words.now) (g.W.Words.sight c.args.pass.now))) (Ends (revoked c.set_revocation.result)) group (local c.args.self.now (view_of (g.W.Words.name c.args.words.now) (g.W.Words.sight c.set_revocation.new.pass)))
 answered g c =
     λ group alone only old before stands.
-    let name = g.W.Words.name c.args.world.now.words in
+    let name = g.W.Words.name c.args.words.now in
     let own = c.args.self.now in
     let now = g.W.Words.sight c.args.pass.now in
     let after = g.W.Words.sight c.set_revocation.new.pass in
@@ -57,9 +57,9 @@ answered g c =
 
 -- the exchange ends the call, with this reply
 ends : (g : _) (c : After-set_revocation g) (reply : Reply g.row.P.Denot) → revoked c.set_revocation.result ≡ reply → (group : List ℕ) (whole : Bool)
-    → TakesTurn g.P.Meld.meld g.W.Words.alone whole (under_way c.args.asked.now Revoking group) (local c.args.self.now (view_of (g.W.Words.name c.args.world.now.words) (g.W.Words.sight c.args.pass.now))) (coming (Ends reply) group) (local c.args.self.now (view_of (g.W.Words.name c.args.world.now.words) (g.W.Words.sight c.set_revocation.new.pass)))
+    → TakesTurn g.P.Meld.meld g.W.Words.alone whole (under_way c.args.asked.now Revoking group) (local c.args.self.now (view_of (g.W.Words.name c.args.words.now) (g.W.Words.sight c.args.pass.now))) (coming (Ends reply) group) (local c.args.self.now (view_of (g.W.Words.name c.args.words.now) (g.W.Words.sight c.set_revocation.new.pass)))
 ends g c reply is = λ group whole.
-    let name = g.W.Words.name c.args.world.now.words in
+    let name = g.W.Words.name c.args.words.now in
     let own = c.args.self.now in
     let now = g.W.Words.sight c.args.pass.now in
     let after = g.W.Words.sight c.set_revocation.new.pass in

@@ -28,7 +28,7 @@ pub contribute-settled-requires-clause-held : goal.contribute-settled-requires-c
 contribute-settled-requires-clause-held g c =
     let s = c.requires.stands.1.2 in
     let p = s.at.0 in
-    found_there g.P.Meld.meld (g.W.Words.name c.args.world.now.words).limits (g.W.Words.sight c.args.pass.now).seen c.args.self.now c.comm_of.result
+    found_there g.P.Meld.meld (g.W.Words.name c.args.words.now).limits (g.W.Words.sight c.args.pass.now).seen c.args.self.now c.comm_of.result
     c.held_comm-x.result.now
     (fits_now _ _ _ _ _ _ _ _ p c.requires.of.legal) c.held_comm-x.ensures
 
@@ -36,16 +36,16 @@ pub contribute-settled-requires-clause-acked : goal.contribute-settled-requires-
 contribute-settled-requires-clause-acked g c =
     let s = c.requires.stands.1.2 in
     let p = s.at.0 in
-    acked_known g.P.Meld.meld (g.W.Words.name c.args.world.now.words).limits p.look c.args.self.now c.comm_of.result c.held_comm-x.result.now p.fits
+    acked_known g.P.Meld.meld (g.W.Words.name c.args.words.now).limits p.look c.args.self.now c.comm_of.result c.held_comm-x.result.now p.fits
     c.held_comm-x.ensures (seen_is _ _ _ _ _ _ _ _ p)
 
 -- the start is answered as its exchange says
 answered : (g : _) (c : After-end_start g) (group : List ℕ)
-    → Turns g.P.Meld.meld g.W.Words.alone (under_way c.args.asked.now (Settling c.args.request c.args.offer) group) (local c.args.self.now (view_of (g.W.Words.name c.args.world.now.words) (g.W.Words.sight c.args.pass.now))) (Ends (reply_of (λ _. Started) c.end_start.result)) group (local c.end_start.new.self (view_of (g.W.Words.name c.args.world.now.words) (g.W.Words.sight c.contribute-settled.new.pass)))
+    → Turns g.P.Meld.meld g.W.Words.alone (under_way c.args.asked.now (Settling c.args.request c.args.offer) group) (local c.args.self.now (view_of (g.W.Words.name c.args.words.now) (g.W.Words.sight c.args.pass.now))) (Ends (reply_of (λ _. Started) c.end_start.result)) group (local c.end_start.new.self (view_of (g.W.Words.name c.args.words.now) (g.W.Words.sight c.contribute-settled.new.pass)))
 answered g c =
     λ group alone only old before stands.
     let held = c.held_comm-x.ensures in
-    let name = g.W.Words.name c.args.world.now.words in
+    let name = g.W.Words.name c.args.words.now in
     subst (λ r. Answered g.P.Meld.meld alone c.args.asked.now (local old (view_of name before)) (reply_of (λ _. Started) r) (local c.end_start.new.self (view_of name (g.W.Words.sight c.contribute-settled.new.pass)))) (sym c.end_start.ensures.result)
     (start_answered g.P.Meld.meld alone g.W.Words.alone only name c.args.asked.now c.args.request c.args.offer group old before c.args.self.now
     (g.W.Words.sight c.args.pass.now) (g.W.Words.sight c.contribute-settled.new.pass)
@@ -62,7 +62,7 @@ adds g c =
     let held = c.held_comm-x.ensures in
     subst (λ r. Adds g.W.Words.alone c.args.self.now.seen c.args.self.now c.args.asked.now (Some (reply_of (λ _. Started) r)) now.seen after.seen)
     (sym c.end_start.ensures.result)
-    (adds_settled g.P.Meld.meld g.W.Words.alone (g.W.Words.name c.args.world.now.words) c.args.asked.now c.args.request c.args.offer s.0 s.1.0 s.1.1
+    (adds_settled g.P.Meld.meld g.W.Words.alone (g.W.Words.name c.args.words.now) c.args.asked.now c.args.request c.args.offer s.0 s.1.0 s.1.1
     c.args.self.now now after.seen s.1.2 c.held_comm-x.result.now (rw (← c.comm_of.ensures) held)
     c.contribute-settled.result c.contribute-settled.ensures.settles)
 
@@ -70,7 +70,7 @@ adds g c =
 named : (g : _) (c : After-end_start g) → IsStepOf AtSettle c.args.self.now.number (comm_of c.args.asked.now) (g.W.Words.sight c.args.pass.now)
     (g.W.Words.sight c.contribute-settled.new.pass)
 named g c =
-    let limits = (g.W.Words.name c.args.world.now.words).limits in
+    let limits = (g.W.Words.name c.args.words.now).limits in
     let now = g.W.Words.sight c.args.pass.now in
     let after = g.W.Words.sight c.contribute-settled.new.pass in
     let own = c.args.self.now in
@@ -84,10 +84,10 @@ named g c =
 
 -- the exchange ends the call, with this reply
 ends : (g : _) (c : After-end_start g) (reply : Reply g.row.P.Denot) → reply_of (λ _. Started) c.end_start.result ≡ reply → (group : List ℕ) (whole : Bool)
-    → TakesTurn g.P.Meld.meld g.W.Words.alone whole (under_way c.args.asked.now (Settling c.args.request c.args.offer) group) (local c.args.self.now (view_of (g.W.Words.name c.args.world.now.words) (g.W.Words.sight c.args.pass.now))) (coming (Ends reply) group) (local c.end_start.new.self (view_of (g.W.Words.name c.args.world.now.words) (g.W.Words.sight c.contribute-settled.new.pass)))
+    → TakesTurn g.P.Meld.meld g.W.Words.alone whole (under_way c.args.asked.now (Settling c.args.request c.args.offer) group) (local c.args.self.now (view_of (g.W.Words.name c.args.words.now) (g.W.Words.sight c.args.pass.now))) (coming (Ends reply) group) (local c.end_start.new.self (view_of (g.W.Words.name c.args.words.now) (g.W.Words.sight c.contribute-settled.new.pass)))
 ends g c reply is = λ group whole.
     record {
-      walks = walks_settled g.P.Meld.meld g.W.Words.alone (g.W.Words.name c.args.world.now.words) c.args.self.now.number (g.W.Words.sight c.args.pass.now)
+      walks = walks_settled g.P.Meld.meld g.W.Words.alone (g.W.Words.name c.args.words.now) c.args.self.now.number (g.W.Words.sight c.args.pass.now)
           (g.W.Words.sight c.contribute-settled.new.pass)
           c.contribute-settled.ensures.of c.contribute-settled.ensures.one.steps c.contribute-settled.ensures.cached c.args.self.now c.held_comm-x.result.now
           c.args.offer c.contribute-settled.result refl c.contribute-settled.ensures.settles;
@@ -96,7 +96,7 @@ ends g c reply is = λ group whole.
       nearer = λ not. tt;
       spends = omega (arith, c.contribute-settled.ensures.one.steps);
       also = λ all.
-          also_ends 1 (g.W.Words.name c.args.world.now.words).limits c.args.asked.now c.args.self.now c.end_start.new.self (g.W.Words.sight c.args.pass.now)
+          also_ends 1 (g.W.Words.name c.args.words.now).limits c.args.asked.now c.args.self.now c.end_start.new.self (g.W.Words.sight c.args.pass.now)
           (g.W.Words.sight c.contribute-settled.new.pass) reply (omega (arith, c.contribute-settled.ensures.one.steps))
           (ap (λ (w : Record). w.seen) c.end_start.ensures.leaves ∙ start_keeps c.args.self.now _ c.args.request c.contribute-settled.result);
       further = search rules;
@@ -110,7 +110,7 @@ ends g c reply is = λ group whole.
           absurd (false≢true (sym none ∙ (ap is_of_round is ∙ of)));
       leads = search rules;
       turns = λ alone only old before stands.
-          subst (λ r. Answered g.P.Meld.meld alone c.args.asked.now (local old (view_of (g.W.Words.name c.args.world.now.words) before)) r (local c.end_start.new.self (view_of (g.W.Words.name c.args.world.now.words) (g.W.Words.sight c.contribute-settled.new.pass)))) is (answered g c group alone only old before stands);
+          subst (λ r. Answered g.P.Meld.meld alone c.args.asked.now (local old (view_of (g.W.Words.name c.args.words.now) before)) r (local c.end_start.new.self (view_of (g.W.Words.name c.args.words.now) (g.W.Words.sight c.contribute-settled.new.pass)))) is (answered g c group alone only old before stands);
     }
 
 pub returns-in-Ok : goal.returns-in-Ok

@@ -19,7 +19,7 @@ use Rattle.ulfm_words.specs.Steps.{view_of}
 item : (g : _) (c : After-comm_of-comm g) → c.args.append.item ≡ OfComm c.comm_of-comm.result c.requires.stands.2.at.1.round
 item g c =
     let s = c.requires.stands in
-    item_is g.P.Meld.meld false g.W.Words.alone (λ here. absurd (cc here)) (g.W.Words.name c.args.world.now.words) c.args.asked.now c.args.append c.args.context
+    item_is g.P.Meld.meld false g.W.Words.alone (λ here. absurd (cc here)) (g.W.Words.name c.args.words.now) c.args.asked.now c.args.append c.args.context
     c.args.reach c.args.group.now.items s.0 s.1 c.args.self.now (g.W.Words.sight c.args.pass.now)
     c.requires.of s.2 c.comm_of-comm.result c.comm_of-comm.ensures
 
@@ -27,7 +27,7 @@ pub spawn-requires-clause-may : goal.spawn-requires-clause-may
 spawn-requires-clause-may g c =
     let s = c.requires.stands in (
       s.2.at.1.round,
-      may_step g.P.Meld.meld false g.W.Words.alone (λ here. absurd (cc here)) (g.W.Words.name c.args.world.now.words) c.args.asked.now c.args.append
+      may_step g.P.Meld.meld false g.W.Words.alone (λ here. absurd (cc here)) (g.W.Words.name c.args.words.now) c.args.asked.now c.args.append
           c.args.context c.args.reach c.args.group.now.items s.0 s.1 c.args.self.now (g.W.Words.sight c.args.pass.now)
           c.requires.of s.2 c.comm_of-comm.result c.comm_of-comm.ensures,
     )
@@ -35,33 +35,33 @@ spawn-requires-clause-may g c =
 pub spawn-requires-clause-holds : goal.spawn-requires-clause-holds
 spawn-requires-clause-holds g c =
     let s = c.requires.stands in
-    may_take g.P.Meld.meld false g.W.Words.alone (λ here. absurd (cc here)) (g.W.Words.name c.args.world.now.words) c.args.asked.now c.args.append
+    may_take g.P.Meld.meld false g.W.Words.alone (λ here. absurd (cc here)) (g.W.Words.name c.args.words.now) c.args.asked.now c.args.append
     c.args.context c.args.reach c.args.group.now.items s.0 s.1 c.args.self.now (g.W.Words.sight c.args.pass.now)
     c.requires.of s.2 c.comm_of-comm.result c.comm_of-comm.ensures
 
 -- what the step in the list of communicators came to, in the rank's turn
 spawns : (g : _) (c : After-spawn g) (result : Spawned) (next : Next g.row.P.Denot) (left : List ℕ) (new : Record)
-    → SpawnIs g.P.Meld.meld g.W.Words.alone (target c.comm_of-comm.result c.requires.stands.2.at.1.round c.args.context c.args.group.now.items) (seeking c.args.append (local c.args.self.now (view_of (g.W.Words.name c.args.world.now.words) (g.W.Words.sight c.args.pass.now)))) result (seeking c.spawn.new.append (local c.spawn.new.self (view_of (g.W.Words.name c.args.world.now.words) (g.W.Words.sight c.spawn.new.pass))))
-    → (c.args.whole ≡ false → FewerLeft (steps_left (g.W.Words.name c.args.world.now.words).limits c.args.self.now c.args.asked.now
-    (Spawning c.args.append c.args.context c.args.reach)) (g.W.Words.name c.args.world.now.words).limits new c.args.asked.now next)
-    → Spends (steps_left (g.W.Words.name c.args.world.now.words).limits c.args.self.now c.args.asked.now (Spawning c.args.append c.args.context c.args.reach))
-    (g.W.Words.name c.args.world.now.words).limits new c.args.asked.now next (g.W.Words.sight c.args.pass.now) (g.W.Words.sight c.spawn.new.pass)
+    → SpawnIs g.P.Meld.meld g.W.Words.alone (target c.comm_of-comm.result c.requires.stands.2.at.1.round c.args.context c.args.group.now.items) (seeking c.args.append (local c.args.self.now (view_of (g.W.Words.name c.args.words.now) (g.W.Words.sight c.args.pass.now)))) result (seeking c.spawn.new.append (local c.spawn.new.self (view_of (g.W.Words.name c.args.words.now) (g.W.Words.sight c.spawn.new.pass))))
+    → (c.args.whole ≡ false → FewerLeft (steps_left (g.W.Words.name c.args.words.now).limits c.args.self.now c.args.asked.now
+    (Spawning c.args.append c.args.context c.args.reach)) (g.W.Words.name c.args.words.now).limits new c.args.asked.now next)
+    → Spends (steps_left (g.W.Words.name c.args.words.now).limits c.args.self.now c.args.asked.now (Spawning c.args.append c.args.context c.args.reach))
+    (g.W.Words.name c.args.words.now).limits new c.args.asked.now next (g.W.Words.sight c.args.pass.now) (g.W.Words.sight c.spawn.new.pass)
     → (c.args.whole ≡ true → IsFurther (Spawning c.args.append c.args.context c.args.reach) next) → new.seen ≡ c.args.self.now.seen → IsMaking next
     → (FindsSetIn c.args.self.now c.args.asked.now (g.W.Words.sight c.args.pass.now).cached (Spawning c.args.append c.args.context c.args.reach)
-    → AlsoSpends (also_left (g.W.Words.name c.args.world.now.words).limits c.args.self.now c.args.asked.now
-    (Spawning c.args.append c.args.context c.args.reach)) (g.W.Words.name c.args.world.now.words).limits c.args.asked.now (stance c.args.self.now (g.W.Words.sight c.args.pass.now)) next (stance new (g.W.Words.sight c.spawn.new.pass)))
-    → Turns g.P.Meld.meld g.W.Words.alone (under_way c.args.asked.now (Spawning c.args.append c.args.context c.args.reach) c.args.group.now.items) (local c.args.self.now (view_of (g.W.Words.name c.args.world.now.words) (g.W.Words.sight c.args.pass.now))) next left (local new (view_of (g.W.Words.name c.args.world.now.words) (g.W.Words.sight c.spawn.new.pass)))
-    → TakesTurn g.P.Meld.meld g.W.Words.alone c.args.whole (under_way c.args.asked.now (Spawning c.args.append c.args.context c.args.reach) c.args.group.now.items) (local c.args.self.now (view_of (g.W.Words.name c.args.world.now.words) (g.W.Words.sight c.args.pass.now))) (coming next left) (local new (view_of (g.W.Words.name c.args.world.now.words) (g.W.Words.sight c.spawn.new.pass)))
+    → AlsoSpends (also_left (g.W.Words.name c.args.words.now).limits c.args.self.now c.args.asked.now
+    (Spawning c.args.append c.args.context c.args.reach)) (g.W.Words.name c.args.words.now).limits c.args.asked.now (stance c.args.self.now (g.W.Words.sight c.args.pass.now)) next (stance new (g.W.Words.sight c.spawn.new.pass)))
+    → Turns g.P.Meld.meld g.W.Words.alone (under_way c.args.asked.now (Spawning c.args.append c.args.context c.args.reach) c.args.group.now.items) (local c.args.self.now (view_of (g.W.Words.name c.args.words.now) (g.W.Words.sight c.args.pass.now))) next left (local new (view_of (g.W.Words.name c.args.words.now) (g.W.Words.sight c.spawn.new.pass)))
+    → TakesTurn g.P.Meld.meld g.W.Words.alone c.args.whole (under_way c.args.asked.now (Spawning c.args.append c.args.context c.args.reach) c.args.group.now.items) (local c.args.self.now (view_of (g.W.Words.name c.args.words.now) (g.W.Words.sight c.args.pass.now))) (coming next left) (local new (view_of (g.W.Words.name c.args.words.now) (g.W.Words.sight c.spawn.new.pass)))
 spawns g c result next left new is nearer spends further sees leads also turns =
     let s = c.requires.stands in
-    let walks = spawn_walks g.P.Meld.meld false g.W.Words.alone (λ here. absurd (cc here)) (g.W.Words.name c.args.world.now.words) c.args.asked.now
+    let walks = spawn_walks g.P.Meld.meld false g.W.Words.alone (λ here. absurd (cc here)) (g.W.Words.name c.args.words.now) c.args.asked.now
     c.args.append c.args.context c.args.reach c.args.group.now.items s.0 s.1 c.args.self.now (g.W.Words.sight c.args.pass.now)
     c.requires.of s.2 c.comm_of-comm.result c.comm_of-comm.ensures
     c.spawn.new.append c.spawn.new.self (g.W.Words.sight c.spawn.new.pass) result is in
     record {
       walks = walks;
       caches = λ none.
-          spawn_caches g.P.Meld.meld false g.W.Words.alone (λ here. absurd (cc here)) (g.W.Words.name c.args.world.now.words) c.args.asked.now c.args.append
+          spawn_caches g.P.Meld.meld false g.W.Words.alone (λ here. absurd (cc here)) (g.W.Words.name c.args.words.now) c.args.asked.now c.args.append
           c.args.context c.args.reach c.args.group.now.items s.0 s.1 c.args.self.now (g.W.Words.sight c.args.pass.now)
           c.requires.of s.2 c.comm_of-comm.result c.comm_of-comm.ensures
           c.spawn.new.append c.spawn.new.self (g.W.Words.sight c.spawn.new.pass) result is;
@@ -71,7 +71,7 @@ spawns g c result next left new is nearer spends further sees leads also turns =
       also = also;
       further = further;
       adds = λ not.
-          spawn_adds g.P.Meld.meld false g.W.Words.alone (λ here. absurd (cc here)) (g.W.Words.name c.args.world.now.words) c.args.asked.now c.args.append
+          spawn_adds g.P.Meld.meld false g.W.Words.alone (λ here. absurd (cc here)) (g.W.Words.name c.args.words.now) c.args.asked.now c.args.append
           c.args.context c.args.reach c.args.group.now.items s.0 s.1 c.args.self.now (g.W.Words.sight c.args.pass.now)
           c.requires.of s.2 c.comm_of-comm.result c.comm_of-comm.ensures
           c.spawn.new.append c.spawn.new.self (g.W.Words.sight c.spawn.new.pass) (reply_in next) result is;
@@ -90,13 +90,13 @@ returns-in-Unknown g c =
     let is = c.in-Unknown.ensures.spawns c.requires.stands.2.at.1.round (item g (goal.at.returns-in-Unknown g c).After-comm_of-comm) in
     spawns g (goal.at.returns-in-Unknown g c).After-spawn spawned.Unknown _ _ c.spawn.new.self is (search rules) (search rules) (search rules) (search rules)
     (search rules)
-    (λ all. also_spawns (g.W.Words.name c.args.world.now.words).limits c.args.asked.now c.args.self.now c.spawn.new.self (g.W.Words.sight c.args.pass.now)
+    (λ all. also_spawns (g.W.Words.name c.args.words.now).limits c.args.asked.now c.args.self.now c.spawn.new.self (g.W.Words.sight c.args.pass.now)
     (g.W.Words.sight c.spawn.new.pass) c.args.append c.spawn.new.append c.args.context c.args.reach c.in-Unknown.ensures.takes.turns is.1)
     (λ alone only old before s.
-    let here = item_is g.P.Meld.meld alone g.W.Words.alone only (g.W.Words.name c.args.world.now.words) c.args.asked.now c.args.append c.args.context
+    let here = item_is g.P.Meld.meld alone g.W.Words.alone only (g.W.Words.name c.args.words.now) c.args.asked.now c.args.append c.args.context
     c.args.reach c.args.group.now.items old before c.args.self.now (g.W.Words.sight c.args.pass.now)
     c.requires.of s c.comm_of-comm.result c.comm_of-comm.ensures in
-    spawn_goes_on g.P.Meld.meld alone g.W.Words.alone only (g.W.Words.name c.args.world.now.words) c.args.asked.now c.args.append c.args.context c.args.reach
+    spawn_goes_on g.P.Meld.meld alone g.W.Words.alone only (g.W.Words.name c.args.words.now) c.args.asked.now c.args.append c.args.context c.args.reach
     c.args.group.now.items old before c.args.self.now (g.W.Words.sight c.args.pass.now)
     c.requires.of s c.comm_of-comm.result c.comm_of-comm.ensures
     c.spawn.new.append c.spawn.new.self (g.W.Words.sight c.spawn.new.pass) c.spawn.new.group.items (c.spawn.ensures.kept c.in-Unknown.is)
@@ -107,13 +107,13 @@ returns-in-Made g c =
     let is = c.in-Made.ensures.spawns c.requires.stands.2.at.1.round (item g (goal.at.returns-in-Made g c).After-comm_of-comm) in
     spawns g (goal.at.returns-in-Made g c).After-spawn (spawned.Made c.in-Made.comm c.in-Made.size) _ _ c.spawn.new.self is (search rules) (search rules)
     (search rules) (ap (λ (w : Record). w.seen) is.1.record_is) (search rules)
-    (λ all. also_ends _ (g.W.Words.name c.args.world.now.words).limits c.args.asked.now c.args.self.now c.spawn.new.self (g.W.Words.sight c.args.pass.now)
+    (λ all. also_ends _ (g.W.Words.name c.args.words.now).limits c.args.asked.now c.args.self.now c.spawn.new.self (g.W.Words.sight c.args.pass.now)
     (g.W.Words.sight c.spawn.new.pass) _ (omega (arith, c.in-Made.ensures.takes.turns)) (ap (λ (w : Record). w.seen) is.1.record_is))
     (λ alone only old before s.
-    let here = item_is g.P.Meld.meld alone g.W.Words.alone only (g.W.Words.name c.args.world.now.words) c.args.asked.now c.args.append c.args.context
+    let here = item_is g.P.Meld.meld alone g.W.Words.alone only (g.W.Words.name c.args.words.now) c.args.asked.now c.args.append c.args.context
     c.args.reach c.args.group.now.items old before c.args.self.now (g.W.Words.sight c.args.pass.now)
     c.requires.of s c.comm_of-comm.result c.comm_of-comm.ensures in
-    spawn_makes g.P.Meld.meld alone g.W.Words.alone only (g.W.Words.name c.args.world.now.words) c.args.asked.now c.args.append c.args.context c.args.reach
+    spawn_makes g.P.Meld.meld alone g.W.Words.alone only (g.W.Words.name c.args.words.now) c.args.asked.now c.args.append c.args.context c.args.reach
     c.args.group.now.items old before c.args.self.now (g.W.Words.sight c.args.pass.now)
     c.requires.of s c.comm_of-comm.result c.comm_of-comm.ensures
     c.spawn.new.append c.spawn.new.self (g.W.Words.sight c.spawn.new.pass) c.in-Made.comm c.in-Made.size (c.in-Made.ensures.spawns s.at.1.round here))
@@ -123,13 +123,13 @@ returns-in-Full g c =
     let is = c.in-Full.ensures.spawns c.requires.stands.2.at.1.round (item g (goal.at.returns-in-Full g c).After-comm_of-comm) in
     spawns g (goal.at.returns-in-Full g c).After-spawn spawned.Full _ _ c.close.new.self is (search rules) (search rules) (search rules)
     (ap (λ (w : Record). w.seen) c.close.ensures ∙ ap (λ (w : Record). w.seen) is.1) (search rules)
-    (λ all. also_ends _ (g.W.Words.name c.args.world.now.words).limits c.args.asked.now c.args.self.now c.close.new.self (g.W.Words.sight c.args.pass.now)
+    (λ all. also_ends _ (g.W.Words.name c.args.words.now).limits c.args.asked.now c.args.self.now c.close.new.self (g.W.Words.sight c.args.pass.now)
     (g.W.Words.sight c.spawn.new.pass) _ (omega (arith, c.in-Full.ensures.takes.turns))
     (ap (λ (w : Record). w.seen) c.close.ensures ∙ ap (λ (w : Record). w.seen) is.1)) (λ alone only old before s.
-    let here = item_is g.P.Meld.meld alone g.W.Words.alone only (g.W.Words.name c.args.world.now.words) c.args.asked.now c.args.append c.args.context
+    let here = item_is g.P.Meld.meld alone g.W.Words.alone only (g.W.Words.name c.args.words.now) c.args.asked.now c.args.append c.args.context
     c.args.reach c.args.group.now.items old before c.args.self.now (g.W.Words.sight c.args.pass.now)
     c.requires.of s c.comm_of-comm.result c.comm_of-comm.ensures in
-    spawn_full g.P.Meld.meld alone g.W.Words.alone only (g.W.Words.name c.args.world.now.words) c.args.asked.now c.args.append c.args.context c.args.reach
+    spawn_full g.P.Meld.meld alone g.W.Words.alone only (g.W.Words.name c.args.words.now) c.args.asked.now c.args.append c.args.context c.args.reach
     c.args.group.now.items old before c.args.self.now (g.W.Words.sight c.args.pass.now)
     c.requires.of s c.comm_of-comm.result c.comm_of-comm.ensures
     c.spawn.new.append c.spawn.new.self (g.W.Words.sight c.spawn.new.pass) c.close.new.self (c.in-Full.ensures.spawns s.at.1.round here) c.close.ensures)

@@ -70,7 +70,7 @@ members g c = c.deref.ensures.value ∙ ap (λ (y : Held). y.group) c.x.view_is
 pub advance-requires-clause-round : goal.advance-requires-clause-round
 advance-requires-clause-round g c =
     let stands = c.requires.stands.1 in
-    waiting_may g.P.Meld.meld (g.W.Words.name c.args.world.now.words) c.args.asked.now c.args.arrivals c.requires.stands.0 c.args.self.now
+    waiting_may g.P.Meld.meld (g.W.Words.name c.args.words.now) c.args.asked.now c.args.arrivals c.requires.stands.0 c.args.self.now
     (g.W.Words.sight c.args.pass.now) c.requires.of
     c.held_comm-x.result.now c.comm_of.result c.held_comm-x.ensures c.comm_of.ensures c.deref.result.now c.failures.result.now
     (members g (goal.at.advance-requires-clause-round g c).After-deref) c.failures.ensures false stands.0 stands.1 stands.2
@@ -80,7 +80,7 @@ returns-in-None-clause-checks g c = λ group. tt
 
 pub returns-in-Some-clause-checks : goal.returns-in-Some-clause-checks
 returns-in-Some-clause-checks g c = λ group alone only old before stands.
-    waiting_checks g.P.Meld.meld (g.W.Words.name c.args.world.now.words) c.args.asked.now c.args.arrivals group c.args.self.now
+    waiting_checks g.P.Meld.meld (g.W.Words.name c.args.words.now) c.args.asked.now c.args.arrivals group c.args.self.now
     (g.W.Words.sight c.args.pass.now) c.requires.of
     c.held_comm-x.result.now c.comm_of.result c.held_comm-x.ensures c.comm_of.ensures c.deref.result.now c.failures.result.now
     (members g (goal.at.returns-in-Some-clause-checks g c).After-deref) c.failures.ensures alone old before stands
@@ -93,16 +93,16 @@ held g c = ap (held_at c.args.self.now) (sym c.comm_of.ensures) ∙ c.held_comm-
 
 -- the loads leave what the rank holds and has seen
 waits : (g : _) (c : After-advance g) (next : Next g.row.P.Denot) → (c.args.whole ≡ false
-    → FewerLeft (steps_left (g.W.Words.name c.args.world.now.words).limits c.args.self.now c.args.asked.now (Waiting c.args.arrivals))
-    (g.W.Words.name c.args.world.now.words).limits c.args.self.now c.args.asked.now next)
-    → Spends (steps_left (g.W.Words.name c.args.world.now.words).limits c.args.self.now c.args.asked.now (Waiting c.args.arrivals))
-    (g.W.Words.name c.args.world.now.words).limits c.args.self.now c.args.asked.now next (g.W.Words.sight c.args.pass.now)
+    → FewerLeft (steps_left (g.W.Words.name c.args.words.now).limits c.args.self.now c.args.asked.now (Waiting c.args.arrivals))
+    (g.W.Words.name c.args.words.now).limits c.args.self.now c.args.asked.now next)
+    → Spends (steps_left (g.W.Words.name c.args.words.now).limits c.args.self.now c.args.asked.now (Waiting c.args.arrivals))
+    (g.W.Words.name c.args.words.now).limits c.args.self.now c.args.asked.now next (g.W.Words.sight c.args.pass.now)
     (g.W.Words.sight c.advance.new.pass)
     → (c.args.whole ≡ true → IsFurther (Waiting c.args.arrivals) next) → LeadsTo (Waiting c.args.arrivals) next
     → KnowsNext c.args.self.now c.args.asked.now (g.W.Words.sight c.advance.new.pass).cached next
-    → AlsoSpends (also_left (g.W.Words.name c.args.world.now.words).limits c.args.self.now c.args.asked.now (Waiting c.args.arrivals)) (g.W.Words.name c.args.world.now.words).limits c.args.asked.now (stance c.args.self.now (g.W.Words.sight c.args.pass.now)) next (stance c.args.self.now (g.W.Words.sight c.advance.new.pass))
-    → ((group : List ℕ) → Turns g.P.Meld.meld g.W.Words.alone (under_way c.args.asked.now (Waiting c.args.arrivals) group) (local c.args.self.now (view_of (g.W.Words.name c.args.world.now.words) (g.W.Words.sight c.args.pass.now))) next group (local c.args.self.now (view_of (g.W.Words.name c.args.world.now.words) (g.W.Words.sight c.advance.new.pass))))
-    → (group : List ℕ) → TakesTurn g.P.Meld.meld g.W.Words.alone c.args.whole (under_way c.args.asked.now (Waiting c.args.arrivals) group) (local c.args.self.now (view_of (g.W.Words.name c.args.world.now.words) (g.W.Words.sight c.args.pass.now))) (coming next group) (local c.args.self.now (view_of (g.W.Words.name c.args.world.now.words) (g.W.Words.sight c.advance.new.pass)))
+    → AlsoSpends (also_left (g.W.Words.name c.args.words.now).limits c.args.self.now c.args.asked.now (Waiting c.args.arrivals)) (g.W.Words.name c.args.words.now).limits c.args.asked.now (stance c.args.self.now (g.W.Words.sight c.args.pass.now)) next (stance c.args.self.now (g.W.Words.sight c.advance.new.pass))
+    → ((group : List ℕ) → Turns g.P.Meld.meld g.W.Words.alone (under_way c.args.asked.now (Waiting c.args.arrivals) group) (local c.args.self.now (view_of (g.W.Words.name c.args.words.now) (g.W.Words.sight c.args.pass.now))) next group (local c.args.self.now (view_of (g.W.Words.name c.args.words.now) (g.W.Words.sight c.advance.new.pass))))
+    → (group : List ℕ) → TakesTurn g.P.Meld.meld g.W.Words.alone c.args.whole (under_way c.args.asked.now (Waiting c.args.arrivals) group) (local c.args.self.now (view_of (g.W.Words.name c.args.words.now) (g.W.Words.sight c.args.pass.now))) (coming next group) (local c.args.self.now (view_of (g.W.Words.name c.args.words.now) (g.W.Words.sight c.advance.new.pass)))
 waits g c next nearer spends further leads knows also turns = λ group.
     let goes = c.advance.ensures.goes in
     record {
@@ -125,7 +125,7 @@ waits g c next nearer spends further leads knows also turns = λ group.
 pub returns-in-None-clause-turn : goal.returns-in-None-clause-turn
 returns-in-None-clause-turn g c =
     let at = (goal.at.returns-in-None-clause-turn g c).After-deref in
-    let limits = (g.W.Words.name c.args.world.now.words).limits in
+    let limits = (g.W.Words.name c.args.words.now).limits in
     let now = g.W.Words.sight c.args.pass.now in
     let after = g.W.Words.sight c.advance.new.pass in
     let takes = c.in-None.ensures.takes in
@@ -136,7 +136,7 @@ returns-in-None-clause-turn g c =
     (steps_left limits c.args.self.now c.args.asked.now (Waiting c.args.arrivals)) spends takes.some) spends
     (λ whole. absurd (false≢true (sym c.in-None.ensures.done ∙ whole))) refl tt
     (also_waits limits c.args.asked.now c.args.self.now now after c.args.arrivals c.advance.new.self spends) (λ group alone only old before stands.
-    waiting_goes g.P.Meld.meld (g.W.Words.name c.args.world.now.words) c.args.asked.now c.args.arrivals group c.args.self.now
+    waiting_goes g.P.Meld.meld (g.W.Words.name c.args.words.now) c.args.asked.now c.args.arrivals group c.args.self.now
     (g.W.Words.sight c.args.pass.now) c.requires.of
     c.held_comm-x.result.now c.comm_of.result c.held_comm-x.ensures c.comm_of.ensures c.deref.result.now c.failures.result.now
     (members g (goal.at.returns-in-None-clause-turn g c).After-deref) c.failures.ensures alone old before stands
@@ -146,7 +146,7 @@ returns-in-None-clause-turn g c =
 pub returns-in-Some-clause-turn : goal.returns-in-Some-clause-turn
 returns-in-Some-clause-turn g c =
     let at = (goal.at.returns-in-Some-clause-turn g c).After-deref in
-    let limits = (g.W.Words.name c.args.world.now.words).limits in
+    let limits = (g.W.Words.name c.args.words.now).limits in
     let now = g.W.Words.sight c.args.pass.now in
     let after = g.W.Words.sight c.advance.new.pass in
     let takes = c.in-Some.ensures.takes in
@@ -155,7 +155,7 @@ returns-in-Some-clause-turn g c =
     waits g (goal.at.returns-in-Some-clause-turn g c).After-advance _ (λ single. fewer after.steps 1 now.steps
     (steps_left limits c.args.self.now c.args.asked.now (Waiting c.args.arrivals)) spends takes.some) spends (λ whole. nearest) refl tt
     (also_checks limits c.args.asked.now c.args.self.now now after c.args.arrivals c.in-Some.missing spends) (λ group alone only old before stands.
-    waiting_ends g.P.Meld.meld (g.W.Words.name c.args.world.now.words) c.args.asked.now c.args.arrivals group c.args.self.now
+    waiting_ends g.P.Meld.meld (g.W.Words.name c.args.words.now) c.args.asked.now c.args.arrivals group c.args.self.now
     (g.W.Words.sight c.args.pass.now) c.requires.of
     c.held_comm-x.result.now c.comm_of.result c.held_comm-x.ensures c.comm_of.ensures c.deref.result.now c.failures.result.now
     (members g (goal.at.returns-in-Some-clause-turn g c).After-deref) c.failures.ensures alone old before stands

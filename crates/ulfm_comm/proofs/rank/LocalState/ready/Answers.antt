@@ -7,11 +7,11 @@ use Rattle.ulfm_comm.proofs.rank.LocalState.ready.Goals as goal
 use Rattle.ulfm_comm.proofs.rank.LocalState.ready.Goals.{After-held_comm-x, After-deref}
 
 -- the record fits what was seen
-fits : (g : _) (c : After-held_comm-x g) → Fits g.P.Meld.meld (g.W.Words.name c.args.world.now.words).limits (g.W.Words.sight c.args.pass.now).seen
+fits : (g : _) (c : After-held_comm-x g) → Fits g.P.Meld.meld (g.W.Words.name c.args.words.now).limits (g.W.Words.sight c.args.pass.now).seen
     c.args.self.now
 fits g c =
     let just = c.requires.just in
-    just_fits g.P.Meld.meld false (g.W.Words.name c.args.world.now.words) c.args.asked.now just.0 just.1 c.args.self.now
+    just_fits g.P.Meld.meld false (g.W.Words.name c.args.words.now) c.args.asked.now just.0 just.1 c.args.self.now
     (g.W.Words.sight c.args.pass.now) just.2 c.requires.of
 
 -- the members that the code reads
@@ -21,7 +21,7 @@ group g c = c.deref.ensures.value ∙ ap (λ (y : Held). y.group) c.x.view_is
 pub new-arrivals-requires-clause-some : goal.new-arrivals-requires-clause-some
 new-arrivals-requires-clause-some g c =
     let at = goal.at.new-arrivals-requires-clause-some g c in
-    let member = (holds g.P.Meld.meld (g.W.Words.name c.args.world.now.words).limits (g.W.Words.sight c.args.pass.now).seen c.args.self.now
+    let member = (holds g.P.Meld.meld (g.W.Words.name c.args.words.now).limits (g.W.Words.sight c.args.pass.now).seen c.args.self.now
     c.comm_of-comm.result _ (fits g at.After-held_comm-x) c.held_comm-x.ensures).member in
     subst (λ xs. 0 < length xs) (sym (group g at.After-deref)) (some_member _ _ member)
 
@@ -29,13 +29,13 @@ pub new-arrivals-requires-clause-rises : goal.new-arrivals-requires-clause-rises
 new-arrivals-requires-clause-rises g c =
     let at = goal.at.new-arrivals-requires-clause-rises g c in
     subst IsStrictlyIncreasing (sym (group g at.After-deref))
-    (group_rises g.P.Meld.meld (g.W.Words.name c.args.world.now.words).limits (g.W.Words.sight c.args.pass.now).seen c.args.self.now c.comm_of-comm.result _
+    (group_rises g.P.Meld.meld (g.W.Words.name c.args.words.now).limits (g.W.Words.sight c.args.pass.now).seen c.args.self.now c.comm_of-comm.result _
     (fits g at.After-held_comm-x) c.held_comm-x.ensures)
 
 pub returns-in-Some-clause-turns : goal.returns-in-Some-clause-turns
 returns-in-Some-clause-turns g c = λ here alone old before just.
     let polls = c.requires.polls in
-    ready_waiting g.P.Meld.meld alone (g.W.Words.name c.args.world.now.words) c.args.asked.now old before c.args.self.now
+    ready_waiting g.P.Meld.meld alone (g.W.Words.name c.args.words.now) c.args.asked.now old before c.args.self.now
     (g.W.Words.sight c.args.pass.now) just c.requires.of here c.held_comm-x.result.now c.comm_of-comm.result c.held_comm-x.ensures c.comm_of-comm.ensures
     polls.0 polls.1 polls.2
     c.deref.result.now c.failures.result.now (group g (goal.at.returns-in-Some-clause-turns g c).After-deref) c.failures.ensures c.new-arrivals.result
@@ -45,7 +45,7 @@ returns-in-Some-clause-turns g c = λ here alone old before just.
 pub returns-clause-turns : goal.returns-clause-turns
 returns-clause-turns g c = λ here alone old before just.
     let polls = c.requires.polls in
-    ready_peeking g.P.Meld.meld alone (g.W.Words.name c.args.world.now.words) c.args.asked.now old before c.args.self.now
+    ready_peeking g.P.Meld.meld alone (g.W.Words.name c.args.words.now) c.args.asked.now old before c.args.self.now
     (g.W.Words.sight c.args.pass.now) just c.requires.of here c.held_comm-x.result.now c.comm_of-comm.result c.held_comm-x.ensures c.comm_of-comm.ensures
     polls.0 polls.1 polls.2
     c.new-peek.result c.in-Some-agreement.shrinks c.in-Some-agreement.round (sym (ap (λ (y : Held). y.request) c.x.view_is) ∙ c.in-Some-agreement.ensures)
@@ -53,7 +53,7 @@ returns-clause-turns g c = λ here alone old before just.
 
 pub returns-in-Some-clause-nearer : goal.returns-in-Some-clause-nearer
 returns-in-Some-clause-nearer g c =
-    let name = g.W.Words.name c.args.world.now.words in
+    let name = g.W.Words.name c.args.words.now in
     let polls = c.requires.polls in
     let held = ap (held_at c.args.self.now) (sym c.comm_of-comm.ensures) ∙ c.held_comm-x.ensures in
     waiting_after name.limits c.args.self.now c.args.asked.now g.P.Meld.meld (g.W.Words.sight c.args.pass.now).seen c.requires.of.legal
@@ -64,7 +64,7 @@ returns-in-Some-clause-nearer g c =
 
 pub returns-clause-nearer : goal.returns-clause-nearer
 returns-clause-nearer g c =
-    let name = g.W.Words.name c.args.world.now.words in
+    let name = g.W.Words.name c.args.words.now in
     let polls = c.requires.polls in
     let here = fits g (goal.at.returns-clause-nearer g c).After-held_comm-x in
     let held = ap (held_at c.args.self.now) (sym c.comm_of-comm.ensures) ∙ c.held_comm-x.ensures in
@@ -77,7 +77,7 @@ returns-clause-nearer g c =
 
 pub returns-in-Some-clause-also : goal.returns-in-Some-clause-also
 returns-in-Some-clause-also g c =
-    let name = g.W.Words.name c.args.world.now.words in
+    let name = g.W.Words.name c.args.words.now in
     let polls = c.requires.polls in
     let held = ap (held_at c.args.self.now) (sym c.comm_of-comm.ensures) ∙ c.held_comm-x.ensures in
     follows_waits name.limits c.args.self.now c.args.asked.now polls.0 polls.1 polls.2 (passes_none c.args.self.now c.args.asked.now c.requires.passes)
@@ -87,7 +87,7 @@ returns-in-Some-clause-also g c =
 
 pub returns-clause-also : goal.returns-clause-also
 returns-clause-also g c =
-    let name = g.W.Words.name c.args.world.now.words in
+    let name = g.W.Words.name c.args.words.now in
     let polls = c.requires.polls in
     let here = fits g (goal.at.returns-clause-also g c).After-held_comm-x in
     let held = ap (held_at c.args.self.now) (sym c.comm_of-comm.ensures) ∙ c.held_comm-x.ensures in

@@ -50,7 +50,7 @@ sees g c known =
     let own = c.args.self.now in
     let inv = c.loop-next.invariant in
     let still = inv.still in
-    let name = g.W.Words.name c.args.world.now.words in
+    let name = g.W.Words.name c.args.words.now in
     let now = g.W.Words.sight c.loop-next.pass in
     let same : polled_by {P = g.row.P.Denot} c.loop-next.self c.args.asked.now ≡ polled_by own c.args.asked.now =
     ap (λ (w : Record). polled_by w c.args.asked.now) inv.kept in
@@ -73,7 +73,7 @@ loop-next-init g c =
       still = search rules;
       kept = refl;
       spent = omega arith;
-      also = λ all. also_first (g.W.Words.name c.args.world.now.words).limits c.args.asked.now c.args.self.now now c.args.phase all;
+      also = λ all. also_first (g.W.Words.name c.args.words.now).limits c.args.asked.now c.args.self.now now c.args.phase all;
       knows = λ known. known;
       sees = λ known. inl refl;
     }
@@ -87,7 +87,7 @@ keeps own mid old new first second last = last ∙ (sym (ap (λ (w : Record). re
 pub loop-next-preserved : goal.loop-next-preserved
 loop-next-preserved g c =
     let at = (goal.at.loop-next-preserved g c).After-go in
-    let name = g.W.Words.name c.args.world.now.words in
+    let name = g.W.Words.name c.args.words.now in
     let asked = c.args.asked.now in
     let own = c.args.self.now in
     let mid = c.loop-next.self in
@@ -129,7 +129,7 @@ loop-next-smaller g c = subst (λ next. NextBelow (left c.loop-next.phase) next)
 pub returns-in-Ends : goal.returns-in-Ends
 returns-in-Ends g c =
     let at = (goal.at.returns-in-Ends g c).After-go in
-    let name = g.W.Words.name c.args.world.now.words in
+    let name = g.W.Words.name c.args.words.now in
     let asked = c.args.asked.now in
     let own = c.args.self.now in
     let mid = c.loop-next.self in

@@ -11,7 +11,7 @@ use Rattle.ulfm_comm.specs.Phase.{under_way}
 
 abbrev pub invariant-loop-next : goal.invariant-loop-next
 invariant-loop-next g l =
-    let name = g.W.Words.name l.world.words in
+    let name = g.W.Words.name l.words in
     let own = l.initial.self in
     let start = g.W.Words.sight l.initial.pass in
     let now = g.W.Words.sight l.pass in

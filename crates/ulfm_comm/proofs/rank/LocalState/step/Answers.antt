@@ -23,7 +23,7 @@ same g c = sym c.doing.view_is ∙ ap (λ phase. record {
 pub go-requires-clause-stands : goal.go-requires-clause-stands
 go-requires-clause-stands g c =
     let p = c.requires.stood in
-    let name = g.W.Words.name c.args.world.now.words in
+    let name = g.W.Words.name c.args.words.now in
     let now = g.W.Words.sight c.args.pass.now in (
       p.0,
       p.1,
@@ -33,11 +33,11 @@ go-requires-clause-stands g c =
 
 -- what came of it
 pub turned : (g : _) (c : After-go g) → (alone : Bool) → (IsTrue alone → IsTrue g.W.Words.alone) → (old : Record) → (before stood : Sight g.row.P.Denot)
-    → Stands g.P.Meld.meld alone (local old (view_of (g.W.Words.name c.args.world.now.words) before)) c.args.doing.now (local c.args.self.now (view_of (g.W.Words.name c.args.world.now.words) stood))
+    → Stands g.P.Meld.meld alone (local old (view_of (g.W.Words.name c.args.words.now) before)) c.args.doing.now (local c.args.self.now (view_of (g.W.Words.name c.args.words.now) stood))
     → Waits alone stood (g.W.Words.sight c.args.pass.now)
-    → NextIs g.P.Meld.meld alone c.doing.inside.asked (local old (view_of (g.W.Words.name c.args.world.now.words) before)) c.go.result c.go.new.group.items (local c.go.new.self (view_of (g.W.Words.name c.args.world.now.words) (g.W.Words.sight c.go.new.pass)))
+    → NextIs g.P.Meld.meld alone c.doing.inside.asked (local old (view_of (g.W.Words.name c.args.words.now) before)) c.go.result c.go.new.group.items (local c.go.new.self (view_of (g.W.Words.name c.args.words.now) (g.W.Words.sight c.go.new.pass)))
 turned g c alone only old before stood u waits =
-    let name = g.W.Words.name c.args.world.now.words in
+    let name = g.W.Words.name c.args.words.now in
     let now = g.W.Words.sight c.args.pass.now in
     c.go.ensures.turn.turns alone only old before
     (subst (λ (doing : UnderWay g.row.P.Denot). Stands g.P.Meld.meld alone (local old (view_of name before)) doing (local c.args.self.now (view_of name now)))
@@ -47,13 +47,13 @@ turned g c alone only old before stood u waits =
 pub returns-in-Goes-clause-stands : goal.returns-in-Goes-clause-stands
 returns-in-Goes-clause-stands g c =
     λ alone only old before stood u waits.
-    subst (λ next. NextIs g.P.Meld.meld alone c.doing.inside.asked (local old (view_of (g.W.Words.name c.args.world.now.words) before)) next c.go.new.group.items (local c.go.new.self (view_of (g.W.Words.name c.args.world.now.words) (g.W.Words.sight c.go.new.pass)))) c.in-Goes.is
+    subst (λ next. NextIs g.P.Meld.meld alone c.doing.inside.asked (local old (view_of (g.W.Words.name c.args.words.now) before)) next c.go.new.group.items (local c.go.new.self (view_of (g.W.Words.name c.args.words.now) (g.W.Words.sight c.go.new.pass)))) c.in-Goes.is
     (turned g (goal.at.returns-in-Goes-clause-stands g c).After-go alone only old before stood u waits)
 
 pub returns-in-Ends-clause-stands : goal.returns-in-Ends-clause-stands
 returns-in-Ends-clause-stands g c =
     λ alone only old before stood u waits.
-    let name = g.W.Words.name c.args.world.now.words in
+    let name = g.W.Words.name c.args.words.now in
     let after = g.W.Words.sight c.go.new.pass in
     subst (λ (a : Call g.row.P.Denot). Answered g.P.Meld.meld alone a (local old (view_of name before)) c.in-Ends.reply (local c.go.new.self (view_of name after)))
     (ap (λ (doing : UnderWay g.row.P.Denot). doing.asked) c.doing.view_is)
@@ -62,10 +62,10 @@ returns-in-Ends-clause-stands g c =
 
 -- what the step did
 stepped : (g : _) (c : After-go g)
-    → Stepped g.P.Meld.meld g.W.Words.alone c.args.doing.now (local c.args.self.now (view_of (g.W.Words.name c.args.world.now.words) (g.W.Words.sight c.args.pass.now))) c.go.result (local c.go.new.self (view_of (g.W.Words.name c.args.world.now.words) (g.W.Words.sight c.go.new.pass)))
+    → Stepped g.P.Meld.meld g.W.Words.alone c.args.doing.now (local c.args.self.now (view_of (g.W.Words.name c.args.words.now) (g.W.Words.sight c.args.pass.now))) c.go.result (local c.go.new.self (view_of (g.W.Words.name c.args.words.now) (g.W.Words.sight c.go.new.pass)))
 stepped g c =
     let at = (goal.at.After-go g c).After-go-arg-4-1 in
-    subst (λ (was : UnderWay g.row.P.Denot). Stepped g.P.Meld.meld g.W.Words.alone was (local c.args.self.now (view_of (g.W.Words.name c.args.world.now.words) (g.W.Words.sight c.args.pass.now))) c.go.result (local c.go.new.self (view_of (g.W.Words.name c.args.world.now.words) (g.W.Words.sight c.go.new.pass))))
+    subst (λ (was : UnderWay g.row.P.Denot). Stepped g.P.Meld.meld g.W.Words.alone was (local c.args.self.now (view_of (g.W.Words.name c.args.words.now) (g.W.Words.sight c.args.pass.now))) c.go.result (local c.go.new.self (view_of (g.W.Words.name c.args.words.now) (g.W.Words.sight c.go.new.pass))))
     (sym (same g at)) (record {
       of = c.go.ensures.turn.walks.of;
       onward = c.go.ensures.turn.walks.onward;
@@ -86,21 +86,21 @@ stepped g c =
 
 pub returns-in-Goes-clause-stepped : goal.returns-in-Goes-clause-stepped
 returns-in-Goes-clause-stepped g c =
-    subst (λ next. Stepped g.P.Meld.meld g.W.Words.alone c.args.doing.now (local c.args.self.now (view_of (g.W.Words.name c.args.world.now.words) (g.W.Words.sight c.args.pass.now))) next (local c.go.new.self (view_of (g.W.Words.name c.args.world.now.words) (g.W.Words.sight c.go.new.pass)))) c.in-Goes.is
+    subst (λ next. Stepped g.P.Meld.meld g.W.Words.alone c.args.doing.now (local c.args.self.now (view_of (g.W.Words.name c.args.words.now) (g.W.Words.sight c.args.pass.now))) next (local c.go.new.self (view_of (g.W.Words.name c.args.words.now) (g.W.Words.sight c.go.new.pass)))) c.in-Goes.is
     (stepped g (goal.at.returns-in-Goes-clause-stepped g c).After-go)
 
 pub returns-in-Ends-clause-stepped : goal.returns-in-Ends-clause-stepped
 returns-in-Ends-clause-stepped g c =
-    subst (λ next. Stepped g.P.Meld.meld g.W.Words.alone c.args.doing.now (local c.args.self.now (view_of (g.W.Words.name c.args.world.now.words) (g.W.Words.sight c.args.pass.now))) next (local c.go.new.self (view_of (g.W.Words.name c.args.world.now.words) (g.W.Words.sight c.go.new.pass)))) c.in-Ends.is
+    subst (λ next. Stepped g.P.Meld.meld g.W.Words.alone c.args.doing.now (local c.args.self.now (view_of (g.W.Words.name c.args.words.now) (g.W.Words.sight c.args.pass.now))) next (local c.go.new.self (view_of (g.W.Words.name c.args.words.now) (g.W.Words.sight c.go.new.pass)))) c.in-Ends.is
     (stepped g (goal.at.returns-in-Ends-clause-stepped g c).After-go)
 
 -- what it spent
 spent : (g : _) (c : After-go g)
-    → Spends (steps_left (g.W.Words.name c.args.world.now.words).limits c.args.self.now c.args.doing.now.asked c.args.doing.now.phase)
-    (g.W.Words.name c.args.world.now.words).limits c.go.new.self c.args.doing.now.asked c.go.result (g.W.Words.sight c.args.pass.now)
+    → Spends (steps_left (g.W.Words.name c.args.words.now).limits c.args.self.now c.args.doing.now.asked c.args.doing.now.phase)
+    (g.W.Words.name c.args.words.now).limits c.go.new.self c.args.doing.now.asked c.go.result (g.W.Words.sight c.args.pass.now)
     (g.W.Words.sight c.go.new.pass)
 spent g c =
-    let limits = (g.W.Words.name c.args.world.now.words).limits in
+    let limits = (g.W.Words.name c.args.words.now).limits in
     let at = (goal.at.After-go g c).After-go-arg-4-1 in
     subst (λ (was : UnderWay g.row.P.Denot). Spends (steps_left limits c.args.self.now was.asked was.phase) limits c.go.new.self was.asked c.go.result
     (g.W.Words.sight c.args.pass.now) (g.W.Words.sight c.go.new.pass))
@@ -108,14 +108,14 @@ spent g c =
 
 pub returns-in-Goes-clause-spends : goal.returns-in-Goes-clause-spends
 returns-in-Goes-clause-spends g c =
-    let limits = (g.W.Words.name c.args.world.now.words).limits in
+    let limits = (g.W.Words.name c.args.words.now).limits in
     subst (λ next. Spends (steps_left limits c.args.self.now c.args.doing.now.asked c.args.doing.now.phase) limits c.go.new.self c.args.doing.now.asked next
     (g.W.Words.sight c.args.pass.now) (g.W.Words.sight c.go.new.pass)) c.in-Goes.is
     (spent g (goal.at.returns-in-Goes-clause-spends g c).After-go)
 
 pub returns-in-Ends-clause-spends : goal.returns-in-Ends-clause-spends
 returns-in-Ends-clause-spends g c =
-    let limits = (g.W.Words.name c.args.world.now.words).limits in
+    let limits = (g.W.Words.name c.args.words.now).limits in
     subst (λ next. Spends (steps_left limits c.args.self.now c.args.doing.now.asked c.args.doing.now.phase) limits c.go.new.self c.args.doing.now.asked next
     (g.W.Words.sight c.args.pass.now) (g.W.Words.sight c.go.new.pass)) c.in-Ends.is
     (spent g (goal.at.returns-in-Ends-clause-spends g c).After-go)

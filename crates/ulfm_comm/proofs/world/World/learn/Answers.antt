@@ -1,5 +1,10 @@
-use Rattle.std.proofs.Common.{rules}
+use Rattle.std.proofs.Common.{subst}
+use Rattle.ulfm_words.specs.Steps.{view_of, Learns, Name}
 use Rattle.ulfm_comm.proofs.world.World.learn.Goals as goal
 
 pub returns : goal.returns
-returns g c = search rules steps 100000
+returns g c =
+    let before = g.W.Words.sight c.args.pass.now in
+    let after = g.W.Words.sight c.learn.new.pass in
+    subst (λ (n : Name). Learns g.P.Meld.meld g.W.Words.alone (g.W.OpenWords.heard c.args.told.now) (view_of n before) (view_of n after)) c.self.view_is
+    c.learn.ensures

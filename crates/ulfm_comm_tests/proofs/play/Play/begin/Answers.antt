@@ -6,12 +6,12 @@ use Rattle.ulfm_comm_tests.proofs.play.Play.begin.Goals as goal
 
 pub begin-requires-clause-sits : goal.begin-requires-clause-sits
 begin-requires-clause-sits g c =
-    let name = g.W.Words.name c.self.inside.world.words in
+    let name = c.self.inside.world in
     rw c.index_mut.ensures.value
     (each_at (Plays g.P.Meld.meld name (g.W.Words.sight c.self.inside.pass)) c.self.inside.seats.items c.args.rank _ c.self.invariant.sits (omega (arith, c.if-rank-len.false, c.len.ensures)))
 
 pub invariant_of-self : goal.invariant_of-self
 invariant_of-self g c =
-    let name = g.W.Words.name c.self.inside.world.words in
+    let name = c.self.inside.world in
     let pass = g.W.Words.sight c.self.inside.pass in
     play_next g.P.Meld.meld name pass pass c.self.inside.seats.items c.args.rank c.begin.new.self c.self.invariant c.self.invariant.of (waits_none pass) c.begin.ensures.sits

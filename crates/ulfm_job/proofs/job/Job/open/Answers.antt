@@ -2,6 +2,7 @@ use Rattle.std.proofs.Common.{[], List, ap, ◌∙◌}
 use Rattle.ulfm_model.specs.declared.limits.Limits.{Limits}
 use Rattle.ulfm_model.specs.{History.{History, first_ranks}, Records.{Record}, Runs.{State}}
 use Rattle.ulfm_model.proofs.LeftSound.{new_sound}
+use Rattle.ulfm_words.specs.Steps.{Name}
 use Rattle.ulfm_comm.specs.Counts.{records_of}
 use Rattle.ulfm_comm.proofs.Opening.{records_are}
 use Rattle.ulfm_job.proofs.job.Job.open.Goals as goal
@@ -20,6 +21,6 @@ returns g c =
     let seen = (g.W.Words.sight c.in-Ok.pass).seen in
     let records = records_of c.in_ok-world.ranks.items in
     let state : Limits → History g.row.P.Denot → List Record → State g.row.P.Denot = λ l h rs. record { limits = l; history = h; records = rs } in
-    ap (λ w. state (g.W.Words.name w).limits seen records) c.in_ok-world.ensures.world
+    ap (λ (n : Name). state n.limits seen records) c.in_ok-world.ensures.world
     ∙ (ap (λ h. state limits h records) c.in-Ok.ensures.seen ∙ ap (state limits [])
     (ap records_of c.in_ok-world.ensures.ranks ∙ records_are limits (first_ranks limits.ranks)))

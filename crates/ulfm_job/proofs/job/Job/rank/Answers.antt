@@ -8,12 +8,12 @@ use Rattle.ulfm_job.proofs.job.Job.rank.Goals.{After-as_slice-ranks}
 
 -- the ranks stand in the order of their numbers
 in_order : (g : _) (c : After-as_slice-ranks g) → map (λ (x : Record). x.number) (records_of c.as_slice-ranks.result.now) ≡ first_ranks
-    (g.W.Words.name c.self.inside.world.words).limits.ranks
+    c.self.inside.world.limits.ranks
 in_order g c = ap (λ rs. map (λ (x : Record). x.number) (records_of rs)) c.as_slice-ranks.ensures.value ∙ c.self.invariant.sound.numbers
 
 -- there are as many as the world has
-count : (g : _) (c : After-as_slice-ranks g) → length c.as_slice-ranks.result.now ≡ (g.W.Words.name c.self.inside.world.words).limits.ranks
-count g c = sym (length-map c.as_slice-ranks.result.now (λ (r : Ranked). r.own)) ∙ count_is (g.W.Words.name c.self.inside.world.words).limits.ranks
+count : (g : _) (c : After-as_slice-ranks g) → length c.as_slice-ranks.result.now ≡ c.self.inside.world.limits.ranks
+count g c = sym (length-map c.as_slice-ranks.result.now (λ (r : Ranked). r.own)) ∙ count_is c.self.inside.world.limits.ranks
     (records_of c.as_slice-ranks.result.now) (in_order g c)
 
 pub returns-then-number-ranks : goal.returns-then-number-ranks
@@ -23,7 +23,7 @@ returns-then-number-ranks g c =
 
 pub returns : goal.returns
 returns g c =
-    let limits = (g.W.Words.name c.self.inside.world.words).limits in
+    let limits = c.self.inside.world.limits in
     let ranks = c.as_slice-ranks.result.now in
     let at = (goal.at.returns g c).After-as_slice-ranks in
     let found = rank_found limits.ranks (records_of ranks) (in_order g at) c.args.number c.index-ranks-number.result.own

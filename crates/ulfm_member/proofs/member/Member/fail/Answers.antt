@@ -9,10 +9,10 @@ pub invariant_of-self : goal.invariant_of-self
 invariant_of-self g c =
     let meld = g.P.Meld.meld in
     let own = c.self.inside.rank.own in
-    let limits = (g.W.Words.name c.deref.result.now.words).limits in
+    let limits = c.deref.result.now.limits in
     let before = (g.W.Words.sight c.self.inside.pass).seen in
     let pass = g.W.Words.sight c.fail.new.pass in
-    let fits = subst (λ world. Fits meld (g.W.Words.name world.words).limits before own) (sym c.deref.ensures) c.self.invariant.fits in
+    let fits = subst (λ world. Fits meld world.limits before own) (sym c.deref.ensures) c.self.invariant.fits in
     let after = fail_fits meld limits g.W.Words.alone before pass.seen own c.args.rank _ c.fail.ensures.run fits in
-    subst (λ world. IsMember meld (record { own = own; last = c.self.inside.rank.last; view = view_of (g.W.Words.name world.words) pass })) c.deref.ensures
+    subst (λ world. IsMember meld (record { own = own; last = c.self.inside.rank.last; view = view_of world pass })) c.deref.ensures
     (record { of = c.fail.ensures.of; fits = after })

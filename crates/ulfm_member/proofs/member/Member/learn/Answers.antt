@@ -10,11 +10,11 @@ pub invariant_of-self : goal.invariant_of-self
 invariant_of-self g c =
     let meld = g.P.Meld.meld in
     let own = c.self.inside.rank.own in
-    let limits = (g.W.Words.name c.deref.result.now.words).limits in
+    let limits = c.deref.result.now.limits in
     let before = (g.W.Words.sight c.self.inside.pass).seen in
     let pass = g.W.Words.sight c.learn.new.pass in
-    let fits = subst (λ world. Fits meld (g.W.Words.name world.words).limits before own) (sym c.deref.ensures) c.self.invariant.fits in
+    let fits = subst (λ world. Fits meld world.limits before own) (sym c.deref.ensures) c.self.invariant.fits in
     let begins = did_prefix g.W.Words.alone [] before pass.seen c.learn.ensures.did in
     let after = fits_stays meld limits before pass.seen own begins c.learn.ensures.of.legal fits in
-    subst (λ world. IsMember meld (record { own = own; last = c.self.inside.rank.last; view = view_of (g.W.Words.name world.words) pass })) c.deref.ensures
+    subst (λ world. IsMember meld (record { own = own; last = c.self.inside.rank.last; view = view_of world pass })) c.deref.ensures
     (record { of = c.learn.ensures.of; fits = after })

@@ -7,9 +7,9 @@ use Rattle.ulfm_wait.proofs.future.AgreeFutureFuture.poll.Goals as goal
 -- what holds after a pending turn
 after : (g : Over) (c : goal.After-yield_now-then-is_pending g)
     → IsPending g.P.Meld.meld g.W.Words.alone c.self.inside.comm c.self.inside.value c.args.self.now
-    (member_of (g.W.Words.name c.self.inside.world.now.words) c.step-reply.new.rank (g.W.Words.sight c.step-reply.new.pass))
+    (member_of c.self.inside.world.now c.step-reply.new.rank (g.W.Words.sight c.step-reply.new.pass))
 after g c =
-    let name = g.W.Words.name c.self.inside.world.now.words in
+    let name = c.self.inside.world.now in
     opened_pends g.P.Meld.meld g.W.Words.alone c.self.inside.comm c.self.inside.value c.self.inside.held
     (λ s. member_of name s.1 (g.W.Words.sight s.0)) (c.in-Some.pass, c.in-Some.rank) c.self.inside.started c.args.self.now
     (member_of name c.step-reply.new.rank (g.W.Words.sight c.step-reply.new.pass)) c.step-reply.result c.self.view_is c.self.invariant
@@ -28,7 +28,7 @@ returns-then-is_pending-clause-same g c =
 
 pub returns-clause-value : goal.returns-clause-value
 returns-clause-value g c =
-    let name = g.W.Words.name c.self.inside.world.now.words in
+    let name = c.self.inside.world.now in
     (opened_ends g.P.Meld.meld g.W.Words.alone c.self.inside.comm c.self.inside.value c.self.inside.held
     (λ s. member_of name s.1 (g.W.Words.sight s.0)) (c.in-Some.pass, c.in-Some.rank) c.self.inside.started c.args.self.now
     c.step-reply.result c.step-reply.new.rank (g.W.Words.sight c.step-reply.new.pass) c.self.view_is

@@ -1,9 +1,9 @@
 use Rattle.std.proofs.Common.{arith, sym, ◌∙◌}
 use Rattle.std.proofs.lemmas.Grind.{common_steps}
 use Rattle.ulfm_model.specs.History.{has}
-use Rattle.ulfm_comm.proofs.Passing.{fewer_before, one_fails, one_passes}
-use Rattle.ulfm_comm.proofs.groups.put_in.Goals as goal
-use Rattle.ulfm_comm.proofs.groups.put_in.Goals.{then-is_member, else-is_member}
+use Rattle.ulfm_steps.proofs.Passing.{fewer_before, one_fails, one_passes}
+use Rattle.ulfm_steps.proofs.group.put_in.Goals as goal
+use Rattle.ulfm_steps.proofs.group.put_in.Goals.{then-is_member, else-is_member}
 
 pub loop-rank-preserved : goal.loop-rank-preserved
 loop-rank-preserved g c =

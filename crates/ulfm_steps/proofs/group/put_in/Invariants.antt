@@ -1,6 +1,6 @@
 use Rattle.std.proofs.Common.{◌≡◌, ◌≤◌, filter, length, take, vec_capacity}
 use Rattle.ulfm_model.specs.History.{has}
-use Rattle.ulfm_comm.proofs.groups.put_in.Given as goal
+use Rattle.ulfm_steps.proofs.group.put_in.Given as goal
 
 abbrev pub invariant-loop-rank : goal.invariant-loop-rank
 invariant-loop-rank g l = record {

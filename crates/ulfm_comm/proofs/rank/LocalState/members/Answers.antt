@@ -1,5 +1,0 @@
-use Rattle.std.proofs.Common.{rules}
-use Rattle.ulfm_comm.proofs.rank.LocalState.members.Goals as goal
-
-pub returns : goal.returns
-returns g c = search rules steps 400000
