@@ -6,7 +6,7 @@ are run beside it, by the toolchain's checked build, and aren't proved. With --a
 
     gate/proofs.py [--all]      the last line is 'N passed, M failed'
 
-The programs that were proved and built stay in the repository's out/.
+The programs and the archive for C that were proved and built stay in the repository's out/.
 """
 import os
 import shutil
@@ -17,6 +17,7 @@ import threading
 import time
 
 sys.dont_write_bytecode = True
+import archive
 import said
 from crates import Crates
 from lanes import processors
@@ -101,6 +102,7 @@ class Proofs:
                 passed, failed = self.prove(copy)
                 if not failed:
                     self.keep_programs(copy)
+                    failed += not archive.keep_of(copy, self.crates)
         except BaseException:
             self.is_over = True
             end_all()

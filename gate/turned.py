@@ -4,7 +4,7 @@ import re
 
 from crates import read
 
-FUNCTION = re.compile(r"^[ \t]*(?:pub(?:\([^)]*\))?[ \t]+)?(?:const[ \t]+|unsafe[ \t]+)*fn[ \t]+(\w+)", re.M)
+FUNCTION = re.compile(r"^[ \t]*(?:pub(?:\([^)]*\))?[ \t]+)?(?:const[ \t]+|unsafe[ \t]+|extern[ \t]+\S+[ \t]+)*fn[ \t]+(\w+)", re.M)
 BODY = re.compile(r"^[ \t]*(?:\{|(?:pub|fn|const|unsafe|\)).*\{)$", re.M)
 USES = re.compile(r"(?:use [^;]*;\s*)+")
 IMPL = re.compile(r"^impl\b(.*)$", re.M)

@@ -20,6 +20,14 @@ pub fn up(x: u8) -> u8
     y
 }
 
+#[unsafe(no_mangle)]
+pub extern "C" fn c_down(x: u8) -> u8
+    ensures { result ≡ down_of x }
+{
+    let less = x - 1;
+    less
+}
+
 impl<T: Copy> Counter<T> {
     pub fn next(&mut self) -> u8
     where
@@ -45,6 +53,7 @@ fn even(x: u8) -> bool {
 # the pairs of texts of each edit, and the functions that it turns; None stands for code outside one, and nothing for no code
 TURNED = {
     "body": ([("let y = x + 1", "let y = x + 2")], {"c::counts::up"}),
+    "export": ([("let less = x - 1", "let less = x - 2")], {"c::counts::c_down"}),
     "method": ([("self.count += 1", "self.count += 2")], {"c::Counter::next"}),
     "method_of_a_trait": ([("self.count + other.count", "self.count")], {"c::CounterMeld::meld"}),
     "two_functions": ([("let y = x + 1", "let y = x"), ("self.count += 1", "self.count += 2")], {"c::counts::up", "c::Counter::next"}),

@@ -1,0 +1,229 @@
+//! The calls of a rank. Each makes atomic steps on the words that all ranks share: a step is one atomic load or compare-exchange.
+//!
+//! Each begins with a look: loads of the list of declared failures, from behind those that the rank has seen to the first empty place. So with
+//! N ranks, of which it has seen v declared, a look makes N - v steps at most. A rank that was answered 1 is answered 1 for good, without a
+//! step. Besides what a call's own page says, each answers 18 where the handle holds nothing and 19 where it is the outside's; then nothing is
+//! done. A code other than 0 leaves the rank as it was, but for what its look has seen, and where the call's own page says more.
+ghost use Rattle.std.specs.Prelude.{◌≡◌, ◌≢◌, pos};
+ghost use Rattle.ulfm_c.specs.Calls.{HandleCalls, PartyCalls, RankAgrees, RankDoes, RankGets, RankPolls, RankShrinks, RankTells};
+ghost use Rattle.ulfm_c.specs.Written.{lent};
+ghost use Rattle.ulfm_comm.specs.Revokes.{revoked};
+ghost use Rattle.ulfm_model.specs.declared.call.Call.TheVariants.{Ack, Barrier, Free, IsRevoked, Revoke};
+ghost use Rattle.ulfm_model.specs.declared.reply.Reply.TheVariants.{Acked, Freed, Standing, Started};
+
+use crate::code::NO_HANDLE;
+use crate::handle::Handle;
+use crate::polled::{Flag, PolledReply};
+use std::alloc::Global;
+
+/// Starts an agree on a flag, in the rank's next agreement round of the communicator. The rank contributes the flag, how many failures it
+/// knows, and how many of them it has acknowledged. From then on the request is open, until a poll ends it. It makes the steps of a look
+/// and one more.
+///
+/// 1 where the rank is declared failed, 2 where it doesn't hold the communicator, 3 where a request is open on it, 5 where no round is
+/// left but the last, which is kept for a shrink. After these, 1 where the rank was declared and another rank had left it out of the round
+/// before it contributed, and 15 where the rank's place in the round has a contribution that isn't this call's. A code other than 0 starts
+/// no request.
+#[unsafe(no_mangle)]
+pub extern "C" fn ulfm_iagree(alloc: Global, handle: &mut Handle, comm: u16, flag: Flag) -> i32
+    ensures { HandleCalls (PartyCalls (RankAgrees comm flag)) handle.old.party handle.new.party result }
+{
+    match handle.take(alloc) {
+        None => NO_HANDLE,
+        Some(mut party) => {
+            let code = party.iagree(comm, flag);
+            *handle = Handle::of(party);
+            code
+        }
+    }
+}
+
+/// Starts a shrink of a communicator, in the rank's next agreement round of it. The rank contributes the context ids that none of its
+/// communicators has, how many failures it knows, all of which are to be left out, and how many of them it has acknowledged. From then on
+/// the request is open, until a poll ends it. It makes the steps of a look and one more.
+///
+/// 1 where the rank is declared failed, 2 where it doesn't hold the communicator, 3 where a request is open on it, 4 where the rank has a
+/// shrink open on any of its communicators, 5 where no round is left. After these, 1 and 15 as for `ulfm_iagree`. A code other than 0 starts
+/// no request.
+#[unsafe(no_mangle)]
+pub extern "C" fn ulfm_ishrink(alloc: Global, handle: &mut Handle, comm: u16) -> i32
+    ensures { HandleCalls (PartyCalls (RankShrinks comm)) handle.old.party handle.new.party result }
+{
+    match handle.take(alloc) {
+        None => NO_HANDLE,
+        Some(mut party) => {
+            let code = party.ishrink(comm);
+            *handle = Handle::of(party);
+            code
+        }
+    }
+}
+
+/// Starts a barrier, in the rank's next barrier round of the communicator: the rank has arrived. Barrier rounds are counted apart from
+/// agreement rounds. From then on the request is open, until a poll ends it. A barrier starts on a revoked communicator too; its poll then
+/// says that it is revoked. It makes the steps of a look and one more.
+///
+/// 1 where the rank is declared failed, 2 where it doesn't hold the communicator, 3 where a request is open on it, 5 where no round is
+/// left. After these, 15 where the rank has arrived in this round before. A code other than 0 starts no request.
+#[unsafe(no_mangle)]
+pub extern "C" fn ulfm_ibarrier(alloc: Global, handle: &mut Handle, comm: u16) -> i32
+    ensures { HandleCalls (PartyCalls (RankDoes (λ r. Barrier r comm) Started)) handle.old.party handle.new.party result }
+{
+    match handle.take(alloc) {
+        None => NO_HANDLE,
+        Some(mut party) => {
+            let code = party.ibarrier(comm);
+            *handle = Handle::of(party);
+            code
+        }
+    }
+}
+
+/// Asks for the reply to the request that is open on a communicator, and writes it to `reply`. It never waits: where somebody is missing
+/// who isn't known to have failed, the reply is `PENDING`, and the request stays open. Each other reply ends it.
+///
+/// 1 where the rank is declared failed, 2 where it doesn't hold the communicator, 6 where no request is open on it, 7 where some agreed and
+/// others shrank in one round. For a shrink, then: 8 where no context id is free at all contributors; 1 where the rank is in the failed
+/// group that was decided; 14 where memory for the new communicator is refused; 9 where as many communicators as the world may have were
+/// made. For a barrier: 10 where the communicator is revoked; 11 where it isn't, and a member that is known to have failed is missing. 7
+/// to 11 end the request. After 14 it is open as before, and may be polled again.
+///
+/// With N ranks, of which the rank has seen v declared, n members and M communicators, the poll of an agree makes N - v + 3n + 2 steps at
+/// most, that of a shrink N - v + 3n + 2M + 1, and that of a barrier N - v + n + 1, whatever the others do.
+#[unsafe(no_mangle)]
+pub extern "C" fn ulfm_poll(
+    alloc: Global,
+    handle: &mut Handle,
+    comm: u16,
+    reply: &mut PolledReply,
+) -> i32
+    ensures calls { HandleCalls (PartyCalls (RankPolls comm reply.new)) handle.old.party handle.new.party result }
+    ensures kept { result ≢ pos 0 → reply.new ≡ reply.old }
+{
+    match handle.take(alloc) {
+        None => NO_HANDLE,
+        Some(mut party) => {
+            let code = party.poll(comm, reply);
+            *handle = Handle::of(party);
+            code
+        }
+    }
+}
+
+/// Writes out the failed group of a communicator, in the order of the declarations: the members that are known to have failed. `ranks` gets
+/// as many as it has room for, and what is behind them in it is as it was; `count` gets the size of the whole group. It makes the steps of a
+/// look, and takes memory for the group while it runs.
+///
+/// 1 where the rank is declared failed, 2 where it doesn't hold the communicator, 14 where memory is refused.
+#[unsafe(no_mangle)]
+pub extern "C" fn ulfm_get_failed(
+    alloc: Global,
+    handle: &mut Handle,
+    comm: u16,
+    ranks: &mut [u16],
+    count: &mut usize,
+) -> i32
+    ensures calls { HandleCalls (PartyCalls (RankGets comm (lent ranks.old ranks.new count.new))) handle.old.party handle.new.party result }
+    ensures kept { result ≢ pos 0 → (ranks.new ≡ ranks.old) × (count.new ≡ count.old) }
+{
+    match handle.take(alloc) {
+        None => NO_HANDLE,
+        Some(mut party) => {
+            let code = party.get_failed(alloc, comm, ranks, count);
+            *handle = Handle::of(party);
+            code
+        }
+    }
+}
+
+/// Acknowledges the first `count` known failures of a communicator, or all that are known where `count` is greater. `acknowledged` gets how
+/// many are acknowledged now, earlier calls included. It makes the steps of a look.
+///
+/// 1 where the rank is declared failed, 2 where it doesn't hold the communicator.
+#[unsafe(no_mangle)]
+pub extern "C" fn ulfm_ack_failed(
+    alloc: Global,
+    handle: &mut Handle,
+    comm: u16,
+    count: u16,
+    acknowledged: &mut u16,
+) -> i32
+    ensures calls { HandleCalls (PartyCalls (RankTells (λ r. Ack r comm count) Acked acknowledged.new)) handle.old.party handle.new.party result }
+    ensures kept { result ≢ pos 0 → acknowledged.new ≡ acknowledged.old }
+{
+    match handle.take(alloc) {
+        None => NO_HANDLE,
+        Some(mut party) => {
+            let code = party.ack_failed(comm, count, acknowledged);
+            *handle = Handle::of(party);
+            code
+        }
+    }
+}
+
+/// Revokes a communicator, for all ranks and for good. `first` gets true where this call did so, false where it had been revoked before. A
+/// barrier that is open on it ends with 10. All other calls go on as before, so that ranks can agree on the communicator, shrink it and give
+/// it back. It makes the steps of a look and one more.
+///
+/// 1 where the rank is declared failed, 2 where it doesn't hold the communicator.
+#[unsafe(no_mangle)]
+pub extern "C" fn ulfm_revoke(
+    alloc: Global,
+    handle: &mut Handle,
+    comm: u16,
+    first: &mut bool,
+) -> i32
+    ensures calls { HandleCalls (PartyCalls (RankTells (λ r. Revoke r comm) revoked first.new)) handle.old.party handle.new.party result }
+    ensures kept { result ≢ pos 0 → first.new ≡ first.old }
+{
+    match handle.take(alloc) {
+        None => NO_HANDLE,
+        Some(mut party) => {
+            let code = party.revoke(comm, first);
+            *handle = Handle::of(party);
+            code
+        }
+    }
+}
+
+/// Whether a communicator is revoked, when this call loads the communicator's word of revocation. It makes the steps of a look and one more.
+///
+/// 1 where the rank is declared failed, 2 where it doesn't hold the communicator.
+#[unsafe(no_mangle)]
+pub extern "C" fn ulfm_is_revoked(
+    alloc: Global,
+    handle: &mut Handle,
+    comm: u16,
+    answer: &mut bool,
+) -> i32
+    ensures calls { HandleCalls (PartyCalls (RankTells (λ r. IsRevoked r comm) Standing answer.new)) handle.old.party handle.new.party result }
+    ensures kept { result ≢ pos 0 → answer.new ≡ answer.old }
+{
+    match handle.take(alloc) {
+        None => NO_HANDLE,
+        Some(mut party) => {
+            let code = party.is_revoked(comm, answer);
+            *handle = Handle::of(party);
+            code
+        }
+    }
+}
+
+/// Gives a communicator back: the rank doesn't hold it any more, and its context id is free at this rank. Each rank gives back its own, and
+/// other ranks hold the communicator as before. It makes the steps of a look.
+///
+/// 1 where the rank is declared failed, 2 where it doesn't hold the communicator, 12 where it is the world's own, 3 where a request is open
+/// on it.
+#[unsafe(no_mangle)]
+pub extern "C" fn ulfm_free(alloc: Global, handle: &mut Handle, comm: u16) -> i32
+    ensures { HandleCalls (PartyCalls (RankDoes (λ r. Free r comm) Freed)) handle.old.party handle.new.party result }
+{
+    match handle.take(alloc) {
+        None => NO_HANDLE,
+        Some(mut party) => {
+            let code = party.free(comm);
+            *handle = Handle::of(party);
+            code
+        }
+    }
+}

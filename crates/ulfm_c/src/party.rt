@@ -1,0 +1,246 @@
+//! The parties of a world, its ranks and its outside, and their calls with the codes that C sees.
+ghost use Rattle.std.specs.Prelude.{◌≡◌, ◌≢◌, pos};
+ghost use Rattle.ulfm_c.specs.Calls.{PartyCalls, PartyFails, RankAgrees, RankDoes, RankGets, RankPolls, RankShrinks, RankTells};
+ghost use Rattle.ulfm_c.specs.Reads.{PartyReads, RankHolds, RankLists, RankShows};
+ghost use Rattle.ulfm_c.specs.Written.{Lists, lent};
+ghost use Rattle.ulfm_comm.specs.Revokes.{revoked};
+ghost use Rattle.ulfm_model.specs.declared.call.Call.TheVariants.{Ack, Barrier, Free, IsRevoked, Revoke};
+ghost use Rattle.ulfm_model.specs.declared.reply.Reply.TheVariants.{Acked, Freed, Standing, Started};
+
+use crate::code::{NOT_A_RANK, code_of, refusal_code};
+use crate::polled::{Flag, PolledReply};
+use crate::written::write_list;
+use std::alloc::Global;
+use ulfm_book::BookWords;
+use ulfm_laws::FlagAnd;
+use ulfm_model::Refusal;
+
+/// A rank with its world and its pass.
+pub type Member = ulfm_member::Member<BookWords<FlagAnd>, FlagAnd, Global>;
+
+/// The outside of a world, and its pass.
+pub type Outside = ulfm_member::Outside<BookWords<FlagAnd>, FlagAnd, Global>;
+
+/// A party of a world: what a handle holds.
+#[derive(Drop)]
+pub enum Party {
+    Rank(Member),
+    Outside(Outside),
+}
+
+impl Party {
+    pub(crate) fn iagree(&mut self, comm: u16, flag: Flag) -> i32
+        ensures { PartyCalls (RankAgrees comm flag) self.old self.new result }
+    {
+        match self {
+            Party::Rank(member) => code_of(member.iagree(comm, FlagAnd { bits: flag })),
+            Party::Outside(_) => NOT_A_RANK,
+        }
+    }
+
+    pub(crate) fn ishrink(&mut self, comm: u16) -> i32
+        ensures { PartyCalls (RankShrinks comm) self.old self.new result }
+    {
+        match self {
+            Party::Rank(member) => code_of(member.ishrink(comm)),
+            Party::Outside(_) => NOT_A_RANK,
+        }
+    }
+
+    pub(crate) fn ibarrier(&mut self, comm: u16) -> i32
+        ensures { PartyCalls (RankDoes (λ r. Barrier r comm) Started) self.old self.new result }
+    {
+        match self {
+            Party::Rank(member) => code_of(member.ibarrier(comm)),
+            Party::Outside(_) => NOT_A_RANK,
+        }
+    }
+
+    pub(crate) fn free(&mut self, comm: u16) -> i32
+        ensures { PartyCalls (RankDoes (λ r. Free r comm) Freed) self.old self.new result }
+    {
+        match self {
+            Party::Rank(member) => code_of(member.free(comm)),
+            Party::Outside(_) => NOT_A_RANK,
+        }
+    }
+
+    pub(crate) fn poll(&mut self, comm: u16, reply: &mut PolledReply) -> i32
+        ensures calls { PartyCalls (RankPolls comm reply.new) self.old self.new result }
+        ensures kept { result ≢ pos 0 → reply.new ≡ reply.old }
+    {
+        match self {
+            Party::Rank(member) => match member.poll(comm) {
+                Ok(polled) => {
+                    *reply = PolledReply::of(polled);
+                    0
+                }
+                Err(refusal) => refusal_code(refusal),
+            },
+            Party::Outside(_) => NOT_A_RANK,
+        }
+    }
+
+    pub(crate) fn revoke(&mut self, comm: u16, first: &mut bool) -> i32
+        ensures calls { PartyCalls (RankTells (λ r. Revoke r comm) revoked first.new) self.old self.new result }
+        ensures kept { result ≢ pos 0 → first.new ≡ first.old }
+    {
+        match self {
+            Party::Rank(member) => match member.revoke(comm) {
+                Ok(told) => {
+                    *first = told;
+                    0
+                }
+                Err(refusal) => refusal_code(refusal),
+            },
+            Party::Outside(_) => NOT_A_RANK,
+        }
+    }
+
+    pub(crate) fn is_revoked(&mut self, comm: u16, answer: &mut bool) -> i32
+        ensures calls { PartyCalls (RankTells (λ r. IsRevoked r comm) Standing answer.new) self.old self.new result }
+        ensures kept { result ≢ pos 0 → answer.new ≡ answer.old }
+    {
+        match self {
+            Party::Rank(member) => match member.is_revoked(comm) {
+                Ok(told) => {
+                    *answer = told;
+                    0
+                }
+                Err(refusal) => refusal_code(refusal),
+            },
+            Party::Outside(_) => NOT_A_RANK,
+        }
+    }
+
+    pub(crate) fn ack_failed(&mut self, comm: u16, count: u16, acknowledged: &mut u16) -> i32
+        ensures calls { PartyCalls (RankTells (λ r. Ack r comm count) Acked acknowledged.new) self.old self.new result }
+        ensures kept { result ≢ pos 0 → acknowledged.new ≡ acknowledged.old }
+    {
+        match self {
+            Party::Rank(member) => match member.ack_failed(comm, count) {
+                Ok(told) => {
+                    *acknowledged = told;
+                    0
+                }
+                Err(refusal) => refusal_code(refusal),
+            },
+            Party::Outside(_) => NOT_A_RANK,
+        }
+    }
+
+    pub(crate) fn get_failed(
+        &mut self,
+        alloc: Global,
+        comm: u16,
+        ranks: &mut [u16],
+        count: &mut usize,
+    ) -> i32
+        ensures calls { PartyCalls (RankGets comm (lent ranks.old ranks.new count.new)) self.old self.new result }
+        ensures kept { result ≢ pos 0 → (ranks.new ≡ ranks.old) × (count.new ≡ count.old) }
+    {
+        match self {
+            Party::Rank(member) => {
+                let mut found = Vec::new(alloc);
+                match member.get_failed(comm, &mut found) {
+                    Ok(()) => {
+                        write_list(&found, ranks, count);
+                        0
+                    }
+                    Err(refusal) => refusal_code(refusal),
+                }
+            }
+            Party::Outside(_) => NOT_A_RANK,
+        }
+    }
+
+    pub(crate) fn fail(&mut self, rank: u16, first: &mut bool) -> i32
+        ensures calls { PartyFails rank first.new self.old self.new result }
+        ensures kept { result ≢ pos 0 → first.new ≡ first.old }
+    {
+        let answer = match self {
+            Party::Rank(member) => member.fail(rank),
+            Party::Outside(outside) => outside.fail(rank),
+        };
+        match answer {
+            Ok(is_first) => {
+                *first = is_first;
+                0
+            }
+            Err(refusal) => refusal_code(refusal),
+        }
+    }
+}
+
+impl Party {
+    pub(crate) fn number(&self, number: &mut u16) -> i32
+        ensures reads { PartyReads (RankShows (λ m. m.own.number) number.new) self.now result }
+        ensures kept { result ≢ pos 0 → number.new ≡ number.old }
+    {
+        match self {
+            Party::Rank(member) => {
+                *number = member.number();
+                0
+            }
+            Party::Outside(_) => NOT_A_RANK,
+        }
+    }
+
+    pub(crate) fn last_steps(&self, steps: &mut u32) -> i32
+        ensures reads { PartyReads (RankShows (λ m. m.last) steps.new) self.now result }
+        ensures kept { result ≢ pos 0 → steps.new ≡ steps.old }
+    {
+        match self {
+            Party::Rank(member) => {
+                *steps = member.last_steps();
+                0
+            }
+            Party::Outside(_) => NOT_A_RANK,
+        }
+    }
+
+    pub(crate) fn failures(&self, ranks: &mut [u16], count: &mut usize) -> i32
+        ensures reads { PartyReads (RankLists (lent ranks.old ranks.new count.new)) self.now result }
+        ensures kept { result ≢ pos 0 → (ranks.new ≡ ranks.old) × (count.new ≡ count.old) }
+    {
+        match self {
+            Party::Rank(member) => {
+                write_list(member.failures(), ranks, count);
+                0
+            }
+            Party::Outside(_) => NOT_A_RANK,
+        }
+    }
+
+    pub(crate) fn members(&self, comm: u16, ranks: &mut [u16], count: &mut usize) -> i32
+        ensures reads { PartyReads (RankHolds (λ x. Lists x.group (lent ranks.old ranks.new count.new)) comm) self.now result }
+        ensures kept { result ≢ pos 0 → (ranks.new ≡ ranks.old) × (count.new ≡ count.old) }
+    {
+        match self {
+            Party::Rank(member) => match member.members(comm) {
+                Some(group) => {
+                    write_list(group, ranks, count);
+                    0
+                }
+                None => refusal_code(Refusal::NoSuchComm),
+            },
+            Party::Outside(_) => NOT_A_RANK,
+        }
+    }
+
+    pub(crate) fn context(&self, comm: u16, context: &mut u16) -> i32
+        ensures reads { PartyReads (RankHolds (λ x. context.new ≡ x.context) comm) self.now result }
+        ensures kept { result ≢ pos 0 → context.new ≡ context.old }
+    {
+        match self {
+            Party::Rank(member) => match member.context(comm) {
+                Some(id) => {
+                    *context = u16::from(id);
+                    0
+                }
+                None => refusal_code(Refusal::NoSuchComm),
+            },
+            Party::Outside(_) => NOT_A_RANK,
+        }
+    }
+}
