@@ -16,6 +16,7 @@ HERE = os.path.dirname(os.path.dirname(os.path.abspath(__file__)))
 CRATES = ("ulfm_comm", "ulfm_job", "ulfm_member", "ulfm_book", "ulfm_wait", "ulfm_race")
 # of these crates only the functions of these tests
 SOME = {
+    "ulfm_draw": {"drawing_draw"},
     "ulfm_laws": {"meld_all_meld_all"},
     "ulfm_model": {"limits_check", "limits_size", "refusal_name", "refusal_refusal_number"},
     "ulfm_object": {"object_apply", "object_failed", "object_history", "object_members", "object_open", "object_records"},

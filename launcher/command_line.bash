@@ -1,9 +1,9 @@
 # What a command line asks for, read as crates/ulfm_command and its library clap read it: with the same faults, and the same words for them.
-# read_words WORD..     sets `asked` to run, steps, check, race, shown or bad; then `text` names the page that is shown, or is the reason why it is bad.
+# read_words WORD..     sets `asked` to run, steps, check, draw, race, shown or bad; then `text` names the page that is shown, or is the reason why it is bad.
 # gate/launcher_test.py compares this with the program, on random lines too.
 
 # the names of the commands, in the order in which they are listed
-commands=(run check race help)
+commands=(run check draw race help)
 
 # what each command is called with, where no option is known to be meant
 usage_of() {
@@ -11,6 +11,7 @@ usage_of() {
         ulfm) echo 'ulfm <COMMAND>' ;;
         run) echo 'ulfm run [OPTIONS]' ;;
         check) echo 'ulfm check' ;;
+        draw) echo 'ulfm draw [OPTIONS]' ;;
         race) echo 'ulfm race [OPTIONS] --ranks <N> --rounds <K>' ;;
         help) echo 'ulfm help [COMMAND]...' ;;
     esac
@@ -21,6 +22,7 @@ options_of() {
     case $1 in
         ulfm) echo help version ;;
         run) echo steps help ;;
+        draw) echo text ascii help ;;
         race) echo ranks rounds fail help ;;
         *) echo help ;;
     esac
@@ -134,7 +136,7 @@ refuse_word() {
 }
 
 is_command() {
-    case $1 in run | check | race | help) ;; *) return 1 ;; esac
+    case $1 in run | check | draw | race | help) ;; *) return 1 ;; esac
 }
 
 # what is wrong with a value that must be a number from $2 to $3, or nothing
@@ -205,7 +207,7 @@ take_flag() {
     fi
     take_pending || return
     case $1 in
-        steps) take_option steps ;;
+        steps | text | ascii) take_option "$1" ;;
         help) asked=shown text=$command && return 1 ;;
         version) asked=shown text=version && return 1 ;;
     esac
@@ -222,7 +224,7 @@ take_long() {
             pending=$name value=$given has_value=$value_given
             [ -z "$has_value" ] || take_pending
             ;;
-        ulfm:help | ulfm:version | run:steps | run:help | check:help | race:help) take_flag "$name" "$given" "$value_given" ;;
+        ulfm:help | ulfm:version | run:steps | run:help | check:help | draw:text | draw:ascii | draw:help | race:help) take_flag "$name" "$given" "$value_given" ;;
         *)
             take_pending
             refuse_option "$name" "$@"
@@ -280,6 +282,7 @@ enter() {
     case $command in
         run) if [ ${#used[@]} -eq 0 ]; then asked=run; else asked=steps; fi ;;
         check) asked=check ;;
+        draw) asked=draw ;;
         race) read_race ;;
     esac
 }
@@ -333,5 +336,5 @@ read_words() {
     asked=bad text=
     is_text "$@" || return 0
     walk "$@" || return 0
-    refuse_with_usage "$(usage_of ulfm)" "'ulfm' requires a subcommand but one was not provided"$'\n  [subcommands: run, check, race, help]'
+    refuse_with_usage "$(usage_of ulfm)" "'ulfm' requires a subcommand but one was not provided"$'\n  [subcommands: run, check, draw, race, help]'
 }

@@ -4,18 +4,19 @@ _ulfm() {
     local word=${COMP_WORDS[COMP_CWORD]} before=${COMP_WORDS[COMP_CWORD - 1]} command=none words i
     for ((i = 1; i < COMP_CWORD; i++)); do
         case ${COMP_WORDS[i]} in
-            run | check | race | help)
+            run | check | draw | race | help)
                 command=${COMP_WORDS[i]}
                 break
                 ;;
         esac
     done
     case $command in
-        none) words='run check race help -h --help -V --version' ;;
+        none) words='run check draw race help -h --help -V --version' ;;
         run) words='--steps -h --help' ;;
         check) words='-h --help' ;;
+        draw) words='--text --ascii -h --help' ;;
         race) words='--ranks --rounds --fail -h --help' ;;
-        help) words='run check race help' ;;
+        help) words='run check draw race help' ;;
     esac
     case $before in
         --ranks | --rounds | --fail) words= ;;

@@ -3,22 +3,27 @@ use Rattle.std.proofs.Common.{◌≡◌, ℕ, List, Err, inl, inr, subst}
 use Rattle.ulfm_laws.specs.declared.flag_and.FlagAnd.{FlagAnd}
 use Rattle.ulfm_model.specs.declared.reply.Reply.{Reply}
 use Rattle.ulfm_model.specs.History.{History}
-use Rattle.ulfm_command.specs.CommandLines.{AsksRace, Arguments}
-use Rattle.ulfm_command.specs.declared.asked.RaceOptions.{RaceOptions}
-use Rattle.ulfm_filters.specs.Statuses.{CheckedWith, PrintsWhole, RanWith, StepsRanWith, status_of}
+use Rattle.ulfm_command.specs.CommandLines.{AsksDraw, AsksRace, Arguments}
+use Rattle.ulfm_command.specs.declared.asked.{DrawOptions.{DrawOptions}, RaceOptions.{RaceOptions}}
+use Rattle.ulfm_draw.specs.declared.{drawing.Form.{Form}, sheet.Looks.{Looks}}
+use Rattle.ulfm_draw.specs.Drawings.{DrawsText}
+use Rattle.ulfm_filters.specs.Statuses.{CheckedWith, PrintsAt, PrintsWhole, RanWith, StepsRanWith, status_of, verdict_status}
 use Rattle.ulfm_race.specs.declared.plan.Plan.{Plan}
 use Rattle.ulfm_race.specs.Races.{IsOutcome}
 use Rattle.ulfm_race_text.specs.Lines.{race_text}
-use Rattle.ulfm_script.specs.declared.fault.RunFault.TheVariants.{Memory}
+use Rattle.ulfm_script.specs.declared.fault.RunFault.{RunFault}
+use Rattle.ulfm_script.specs.declared.fault.RunFault.TheVariants.{Line, Memory, Read, Write}
 use Rattle.ulfm_script.specs.Ends.{KnownText}
 use Rattle.ulfm_script.specs.Runs.{call_scripts}
 use Rattle.ulfm_script.proofs.ByteLemmas.{keeps_start}
 use Rattle.ulfm_script.proofs.RunLemmas.{ran_none}
 use Rattle.ulfm_step_script.specs.StepScripts.{step_scripts}
+use Rattle.ulfm.specs.Drawn.{DrewWith, form_of}
 use Rattle.ulfm.specs.Races.{RacedWith, plan_of}
 use Rattle.ulfm_trace.specs.declared.verdict.CheckFault.TheVariants as fault
+use Rattle.ulfm_trace.specs.declared.verdict.Verdict.{Verdict}
 use Rattle.ulfm_trace.proofs.Checking.{checked_none}
-use Rattle.ulfm.proofs.OneAnswer.{same_asked}
+use Rattle.ulfm.proofs.OneAnswer.{same_asked, same_drawn}
 
 -- a race whose lines were printed, or not all of them
 pub raced : (plan : Plan) (h : History FlagAnd) (replies : List (List (Reply FlagAnd))) (group text : List ℕ) (old new : KnownText) (status : ℕ)
@@ -44,3 +49,26 @@ steps_ran_out known out status is = (Err Memory, is, ran_none step_scripts known
 
 pub checked_out : (known out : KnownText) (status : ℕ) → status ≡ status_of (Err Memory) → CheckedWith known known out out status
 checked_out known out status is = (Err fault.Memory, checked_none known, (is, keeps_start out))
+
+-- the picture that was drawn is the one that the words ask for
+pub drew_as : (words : Arguments) (o p : DrawOptions) (looks : Looks) (known old new : KnownText) (status : ℕ) → AsksDraw words o → AsksDraw words p
+    → DrewWith (form_of o looks) known old new status → DrewWith (form_of p looks) known old new status
+drew_as words o p looks known old new status a b drew =
+    subst (λ (x : DrawOptions). DrewWith (form_of x looks) known old new status) (same_drawn words o p a b) drew
+
+-- memory was refused before anything was read or printed: to a picture
+pub draw_ran_out : (form : Form) (known out : KnownText) (status : ℕ) → status ≡ status_of (Err Memory) → DrewWith form known out out status
+draw_ran_out form known out status is = inr (inr is, keeps_start out)
+
+-- a fault, at which nothing was printed
+pub drew_none : (form : Form) (known out : KnownText) (fault : RunFault) (status : ℕ) → status ≡ status_of (Err fault) → DrewWith form known out out status
+drew_none form known out (Line number kind) status is = inr (inl is, keeps_start out)
+drew_none form known out Memory status is = inr (inr is, keeps_start out)
+drew_none form known out Read status is = inr (inr is, keeps_start out)
+drew_none form known out Write status is = inr (inr is, keeps_start out)
+
+-- a drawing that was printed, or not all of it
+pub drew : (form : Form) (known old new : KnownText) (verdict : Verdict) (shown text : List ℕ) (status : ℕ) → DrawsText known form verdict shown → text ≡ shown
+    → PrintsAt (verdict_status verdict) text old new status → DrewWith form known old new status
+drew form known old new verdict shown text status drawn is printed =
+    inl (record { verdict = verdict; shown = shown; drawn = drawn; printed = subst (λ (t : List ℕ). PrintsAt (verdict_status verdict) t old new status) is printed })

@@ -3,8 +3,8 @@ use Rattle.std.proofs.Common.{◌≡◌, ◌∙◌, ℕ, List, ◌==◌, Bool, t
 use Rattle.std.specs.Prelude.{option_map}
 use Rattle.std.proofs.lemmas.Option.{same_Some, some_pair_parts}
 use Rattle.clap.specs.Words.{Row, Text, subcommand_of}
-use Rattle.ulfm_command.specs.CommandLines.{AsksCheck, AsksRace, AsksRun, AsksSteps, IsRaceOf, NamesRunOf, Arguments, has_flag, ulfm}
-use Rattle.ulfm_command.specs.declared.asked.RaceOptions.{RaceOptions}
+use Rattle.ulfm_command.specs.CommandLines.{AsksCheck, AsksDraw, AsksRace, AsksRun, AsksSteps, IsDrawRead, IsRaceOf, NamesRunOf, Arguments, has_flag, ulfm}
+use Rattle.ulfm_command.specs.declared.asked.{DrawOptions.{DrawOptions}, RaceOptions.{RaceOptions}}
 use Rattle.ulfm_command.proofs.Numbers.{same_race}
 
 abbrev name_of : Option (Text × List Row) → Option Text
@@ -63,3 +63,37 @@ same_asked words o p a b =
     let rows : a.1.0 ≡ b.1.0 = (some_pair_parts {A = Text} {B = List Row} _ _ _ _ (sym a.1.1 ∙ b.1.1)).1 in
     let is : IsRaceOf b.1.0 o = subst (λ (r : List Row). IsRaceOf r o) rows a.1.2 in
     same_race b.1.0 o p is.ranks is.rounds is.fail b.1.2
+
+-- words that ask for a picture of a trace ask for nothing else
+no_draw : (words : Arguments) (steps : Bool) (options : DrawOptions) → NamesRunOf (subcommand_of ulfm words) steps → AsksDraw words options → ⊥
+no_draw words steps options run draw =
+    let texts : codes "draw" ≡ codes "run" = one_name _ _ _ (ap name_of draw.1.1) (run_named words steps run) in
+    let bad : true ≡ false = ap (λ (t : List ℕ). slice_index t 0 == 100) texts in
+    cc
+
+pub run_is_no_draw : (words : Arguments) (options : DrawOptions) → AsksRun words → AsksDraw words options → ⊥
+run_is_no_draw words options run draw = no_draw words false options run.1 draw
+
+pub steps_are_no_draw : (words : Arguments) (options : DrawOptions) → AsksSteps words → AsksDraw words options → ⊥
+steps_are_no_draw words options steps draw = no_draw words true options steps.1 draw
+
+pub check_is_no_draw : (words : Arguments) (options : DrawOptions) → AsksCheck words → AsksDraw words options → ⊥
+check_is_no_draw words options check draw =
+    let texts : codes "check" ≡ codes "draw" = one_name _ _ _ check.1 (ap name_of draw.1.1) in
+    let bad : true ≡ false = ap (λ (t : List ℕ). slice_index t 0 == 99) texts in
+    cc
+
+pub race_is_no_draw : (words : Arguments) (options : DrawOptions) (race : RaceOptions) → AsksRace words race → AsksDraw words options → ⊥
+race_is_no_draw words options race asks draw =
+    let texts : codes "race" ≡ codes "draw" = one_name _ _ _ (ap name_of asks.1.1) (ap name_of draw.1.1) in
+    let bad : true ≡ false = ap (λ (t : List ℕ). slice_index t 0 == 114) texts in
+    cc
+
+-- they ask for one picture
+pub same_drawn : (words : Arguments) (o p : DrawOptions) → AsksDraw words o → AsksDraw words p → o ≡ p
+same_drawn words o p a b =
+    let rows : a.1.0 ≡ b.1.0 = (some_pair_parts {A = Text} {B = List Row} _ _ _ _ (sym a.1.1 ∙ b.1.1)).1 in
+    let is : IsDrawRead b.1.0 o = subst (λ (r : List Row). IsDrawRead r o) rows a.1.2 in
+    let text : o.text ≡ p.text = sym is.text ∙ b.1.2.text in
+    let ascii : o.ascii ≡ p.ascii = sym is.ascii ∙ b.1.2.ascii in
+    ap (λ (t : Bool). record { text = t; ascii = o.ascii }) text ∙ ap (λ (t : Bool). record { text = p.text; ascii = t }) ascii

@@ -1,22 +1,26 @@
 //! Does what a command line asks for, and gives the exit status that it ends with.
 ghost use Rattle.std.specs.Prelude.{◌≡◌, ◌≤◌, ◌⊎◌, false, map, true};
 ghost use Rattle.std.specs.Io.KnownBytes.{Keeps};
-ghost use Rattle.ulfm_command.specs.CommandLines.{AsksCheck, AsksHelp, AsksRace, AsksRun, AsksSteps, AsksVersion, AsksNothing, is_in_range};
+ghost use Rattle.ulfm_command.specs.CommandLines.{AsksCheck, AsksDraw, AsksHelp, AsksRace, AsksRun, AsksSteps, AsksVersion, AsksNothing, is_in_range};
+ghost use Rattle.ulfm_command.specs.declared.asked.DrawOptions.{DrawOptions as DrawOptionsOf};
 ghost use Rattle.ulfm_command.specs.declared.asked.RaceOptions.{RaceOptions as OptionsOf};
 ghost use Rattle.ulfm_filters.specs.Notes.{bad_line, no_memory};
 ghost use Rattle.ulfm_filters.specs.Statuses.{CheckedWith, RanWith, StepsRanWith};
 ghost use Rattle.ulfm_script.specs.Written.{WritesPart};
+ghost use Rattle.ulfm.specs.Drawn.{DrewWith, form_of};
 ghost use Rattle.ulfm.specs.Races.{RacedWith, plan_of};
 
 use std::alloc::{Allocator, Global};
 use std::io::{Read, Write};
 use std::sync::Wait;
 use std::thread::Threads;
-use ulfm_command::{Asked, RaceOptions, Reason, read_words};
+use ulfm_command::{Asked, DrawOptions, RaceOptions, Reason, read_words};
+use ulfm_draw::{Form, Looks, draw};
 use ulfm_filters::{Filter, print_text, run_filter, tell, tell_bad_line, tell_fault};
 use ulfm_race::{Gate, Plan, RaceFault, Turn, race};
 use ulfm_race_text::race_lines;
 use ulfm_script::RunFault;
+use ulfm_trace::Verdict;
 
 /// The gate of the program, which lets every rank take every turn.
 struct AlwaysOpen;
@@ -32,11 +36,11 @@ impl Gate for AlwaysOpen {
 /// Does what the words of a command line ask for, the program's own name first, and gives the exit status: 0 at success and
 /// after help or the version, 1 for a line fault or an illegal trace, 2 for a bad command line, 3 where memory, reading or writing failed, or a race was
 /// held. What went wrong is told on `errors`, whose own faults are passed over, in one line. `explains` says that `errors` is a
-/// terminal: there the reason why a command line is bad stands above that line.
+/// terminal: there the reason why a command line is bad stands above that line. `looks` are those that `output` has for rows in characters.
 ///
 /// `alloc` serves the run of a script, the check of a trace and the lines of a race, `global` the reading of the words and the race itself. A race starts
 /// threads, and returns once they have ended.
-#[tactic(auto, using(crate::proofs::OneAnswer::run_is_no_race, crate::proofs::OneAnswer::steps_are_no_race, crate::proofs::OneAnswer::check_is_no_race, crate::proofs::OneAnswer::run_is_no_steps, crate::proofs::OneAnswer::run_is_no_check, crate::proofs::OneAnswer::steps_are_no_check, crate::proofs::Ends::raced_as, crate::proofs::Ends::race_ran_out))]
+#[tactic(auto, using(crate::proofs::OneAnswer::run_is_no_race, crate::proofs::OneAnswer::steps_are_no_race, crate::proofs::OneAnswer::check_is_no_race, crate::proofs::OneAnswer::run_is_no_steps, crate::proofs::OneAnswer::run_is_no_check, crate::proofs::OneAnswer::steps_are_no_check, crate::proofs::OneAnswer::run_is_no_draw, crate::proofs::OneAnswer::steps_are_no_draw, crate::proofs::OneAnswer::check_is_no_draw, crate::proofs::OneAnswer::race_is_no_draw, crate::proofs::Ends::drew_as, crate::proofs::Ends::raced_as, crate::proofs::Ends::race_ran_out))]
 pub fn answer<T: Threads + Wait + Sync, A: Allocator + Copy + Drop, R: Read, W: Write, E: Write>(
     rt: &T,
     alloc: A,
@@ -46,6 +50,7 @@ pub fn answer<T: Threads + Wait + Sync, A: Allocator + Copy + Drop, R: Read, W: 
     output: &mut W,
     errors: &mut E,
     explains: bool,
+    looks: Looks,
 ) -> u8
     ensures status { result ≤ 3 }
     ensures run { AsksRun (map (λ word. word.now) words.now) → RanWith (R.remaining input.old) (R.remaining input.new)
@@ -54,11 +59,14 @@ pub fn answer<T: Threads + Wait + Sync, A: Allocator + Copy + Drop, R: Read, W: 
         (W.contents output.old) (W.contents output.new) result }
     ensures check { AsksCheck (map (λ word. word.now) words.now) → CheckedWith (R.remaining input.old) (R.remaining input.new)
         (W.contents output.old) (W.contents output.new) result }
+    ensures draw { (options : DrawOptionsOf) → AsksDraw (map (λ word. word.now) words.now) options → DrewWith (form_of options looks)
+        (R.remaining input.old) (W.contents output.old) (W.contents output.new) result }
     ensures race { (options : OptionsOf) → AsksRace (map (λ word. word.now) words.now) options → RacedWith (plan_of options)
         (W.contents output.old) (W.contents output.new) result }
     // Nothing else reads the input.
     ensures other { (AsksRun (map (λ word. word.now) words.now) → ⊥) → (AsksSteps (map (λ word. word.now) words.now) → ⊥)
-        → (AsksCheck (map (λ word. word.now) words.now) → ⊥) → Keeps (R.remaining input.old) (R.remaining input.new) }
+        → (AsksCheck (map (λ word. word.now) words.now) → ⊥)
+        → ((options : DrawOptionsOf) → AsksDraw (map (λ word. word.now) words.now) options → ⊥) → Keeps (R.remaining input.old) (R.remaining input.new) }
     ensures help { AsksHelp (map (λ word. word.now) words.now) ⊎ AsksVersion (map (λ word. word.now) words.now) → (result ≡ 0) ⊎ (result ≡ 3) }
     // 3 where memory was refused.
     ensures bad { AsksNothing (map (λ word. word.now) words.now) → ((result ≡ 2) ⊎ (result ≡ 3))
@@ -71,10 +79,45 @@ pub fn answer<T: Threads + Wait + Sync, A: Allocator + Copy + Drop, R: Read, W: 
         Asked::Run => run_filter(alloc, Filter::Calls, input, output, errors),
         Asked::RunSteps => run_filter(alloc, Filter::Steps, input, output, errors),
         Asked::Check => run_filter(alloc, Filter::Check, input, output, errors),
+        Asked::Draw(options) => run_draw(alloc, form_of(options, looks), input, output, errors),
         Asked::Race(options) => run_race(rt, alloc, global, options, output, errors),
         Asked::Shown(text) => print_text(text.as_bytes(), output, errors),
         Asked::Bad(reason) => tell_bad(&reason, errors, explains),
         Asked::Memory => tell_fault(RunFault::Memory, errors),
+    }
+}
+
+/// How a trace is drawn by these options, on an output that has these looks.
+fn form_of(options: DrawOptions, looks: Looks) -> Form
+    ensures { result ≡ form_of options looks }
+{
+    if !options.text {
+        return Form::Picture;
+    }
+    Form::Text(if options.ascii { Looks::Ascii } else { looks })
+}
+
+/// Draws the trace of the input, and prints the picture.
+#[tactic(auto, using(crate::proofs::Ends::drew))]
+fn run_draw<A: Allocator + Copy + Drop, R: Read, W: Write, E: Write>(
+    alloc: A,
+    form: Form,
+    input: &mut R,
+    output: &mut W,
+    errors: &mut E,
+) -> u8
+    ensures status { result ≤ 3 }
+    ensures drew { DrewWith form (R.remaining input.old) (W.contents output.old) (W.contents output.new) result }
+{
+    match draw(alloc, input, form) {
+        Ok(drawn) => {
+            let status = print_text(&drawn.shown, output, errors);
+            match drawn.verdict {
+                Verdict::Illegal { .. } if status == 0 => 1,
+                _ => status,
+            }
+        }
+        Err(fault) => tell_fault(fault, errors),
     }
 }
 

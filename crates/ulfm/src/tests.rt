@@ -6,6 +6,7 @@ use std::sync::Wait;
 use std::test::Fail;
 use std::thread::Threads;
 use ulfm_devices::{FailureMode, LimitedWriter};
+use ulfm_draw::Looks;
 
 mod races;
 
@@ -21,7 +22,17 @@ fn told<T: Threads + Wait + Sync, R: Read, W: Write>(
     output: &mut W,
 ) -> (Vec<u8>, u8) {
     let mut errors = Vec::new(alloc);
-    let status = answer(rt, alloc, alloc, words, input, output, &mut errors, false);
+    let status = answer(
+        rt,
+        alloc,
+        alloc,
+        words,
+        input,
+        output,
+        &mut errors,
+        false,
+        Looks::Ascii,
+    );
     (errors, status)
 }
 
@@ -163,6 +174,7 @@ fn reasons_are_explained(rt: HostRuntime) -> Result<(), Fail> {
             &mut output,
             &mut errors,
             true,
+            Looks::Ascii,
         );
         assert!(rt; errors.starts_with(b"error: "));
         assert!(rt; errors.ends_with(b"\nulfm: bad command line\n"));
@@ -202,6 +214,7 @@ fn errors_fail(rt: HostRuntime) -> Result<(), Fail> {
             &mut output,
             &mut errors,
             false,
+            Looks::Ascii,
         );
         assert_eq!(rt; status, wanted);
     }

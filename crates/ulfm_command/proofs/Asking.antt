@@ -1,9 +1,9 @@
 -- What the command lines of the program ask for.
-use Rattle.std.proofs.Common.{◌≡◌, refl, codes, true, List, [], ◌∷◌, ℕ}
+use Rattle.std.proofs.Common.{◌≡◌, refl, codes, true, false, List, [], ◌∷◌, ℕ}
 use Rattle.clap.specs.Words.{fault_of, is_simple_and_free, is_simple}
 use Rattle.clap.specs.declared.error.kind.ErrorKind.TheVariants.{MissingRequiredArgument, MissingSubcommand, UnknownArgument, InvalidSubcommand, ValueValidation}
 use Rattle.clap.proofs.OnLiterals.{clap_on_literals}
-use Rattle.ulfm_command.specs.CommandLines.{AsksCheck, AsksHelp, AsksRun, AsksSteps, AsksVersion, ulfm}
+use Rattle.ulfm_command.specs.CommandLines.{AsksCheck, AsksDraw, AsksHelp, AsksRun, AsksSteps, AsksVersion, ulfm}
 
 -- the command is one whose faults and matches the command line crate tells
 pub is_told : is_simple_and_free ulfm ≡ true
@@ -28,6 +28,14 @@ steps_are_steps name = (refl, record { rows = _; is_run = refl; steps_is = refl 
 check_is_check : (name : List ℕ) → AsksCheck (name ∷ codes "check" ∷ [])
 unfolding clap_on_literals
 check_is_check name = (refl, refl)
+
+-- `ulfm draw`, `ulfm draw --text`, `ulfm draw --text --ascii`
+draw_is_draw : (name : List ℕ) → AsksDraw (name ∷ codes "draw" ∷ []) (record { text = false; ascii = false })
+    × AsksDraw (name ∷ codes "draw" ∷ codes "--text" ∷ []) (record { text = true; ascii = false })
+    × AsksDraw (name ∷ codes "draw" ∷ codes "--text" ∷ codes "--ascii" ∷ []) (record { text = true; ascii = true })
+unfolding clap_on_literals
+draw_is_draw name =
+    ((refl, (_, refl, record { text = refl; ascii = refl })), (refl, (_, refl, record { text = refl; ascii = refl })), (refl, (_, refl, record { text = refl; ascii = refl })))
 
 -- `ulfm --help`, `ulfm -h`, `ulfm run --help`, `ulfm race --help`
 help_is_help : (name : List ℕ) → AsksHelp (name ∷ codes "--help" ∷ []) × AsksHelp (name ∷ codes "-h" ∷ []) × AsksHelp (name ∷ codes "run" ∷ codes "--help" ∷ [])

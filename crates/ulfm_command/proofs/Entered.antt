@@ -4,8 +4,8 @@ use Rattle.clap.specs.Words.{fault_of, subcommand_of}
 use Rattle.clap.specs.declared.error.kind.ErrorKind.{ErrorKind}
 use Rattle.clap.specs.declared.error.kind.ErrorKind.TheVariants.{DisplayHelp, DisplayVersion}
 use Rattle.ulfm_command.specs.declared.asked.Asked.{Asked}
-use Rattle.ulfm_command.specs.declared.asked.Asked.TheVariants.{Run, RunSteps, Check, Race, Shown, Bad, Memory}
-use Rattle.ulfm_command.specs.CommandLines.{IsAskedBy, IsEntered, Named, NamesCheck, NamesRace, NamesRun, NamesSteps, Arguments, ulfm}
+use Rattle.ulfm_command.specs.declared.asked.Asked.TheVariants.{Run, RunSteps, Check, Draw, Race, Shown, Bad, Memory}
+use Rattle.ulfm_command.specs.CommandLines.{IsAskedBy, IsEntered, Named, NamesCheck, NamesDraw, NamesRace, NamesRun, NamesSteps, Arguments, ulfm}
 
 no_kind : (k : ErrorKind) (kinds : List ErrorKind) → kinds ≡ [] → kinds ≡ k ∷ [] → ⊥
 no_kind k kinds none one =
@@ -17,6 +17,7 @@ pub entered_is : (words : Arguments) (named : Named) (asked : Asked) → fault_o
 entered_is words named Run free is entered = (free, subst NamesRun is entered)
 entered_is words named RunSteps free is entered = (free, subst NamesSteps is entered)
 entered_is words named Check free is entered = (free, subst NamesCheck is entered)
+entered_is words named (Draw options) free is entered = (free, subst (λ (n : Named). NamesDraw n options) is entered)
 entered_is words named (Race options) free is entered = (free, subst (λ (n : Named). NamesRace n options) is entered)
 entered_is words named (Bad reason) free is entered =
     record {
@@ -24,6 +25,7 @@ entered_is words named (Bad reason) free is entered =
       no_steps = λ asks. entered.1 (subst NamesSteps (sym is) asks.1);
       no_check = λ asks. entered.2 (subst NamesCheck (sym is) asks.1);
       no_race = λ options asks. entered.3 options (subst (λ (n : Named). NamesRace n options) (sym is) asks.1);
+      no_draw = λ options asks. entered.4 options (subst (λ (n : Named). NamesDraw n options) (sym is) asks.1);
       no_help = no_kind DisplayHelp (fault_of ulfm words) free;
       no_version = no_kind DisplayVersion (fault_of ulfm words) free;
     }

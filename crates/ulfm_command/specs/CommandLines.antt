@@ -11,8 +11,8 @@ use Rattle.clap.specs.declared.builder.value_parser.ValueParser.{ValueParser}
 use Rattle.clap.specs.declared.builder.value_parser.ValueParser.TheVariants as vp
 use Rattle.clap.specs.declared.error.kind.ErrorKind.TheVariants.{DisplayHelp, DisplayVersion}
 use Rattle.ulfm_command.specs.declared.asked.Asked.{Asked}
-use Rattle.ulfm_command.specs.declared.asked.Asked.TheVariants.{Run, RunSteps, Check, Race, Shown, Bad, Memory}
-use Rattle.ulfm_command.specs.declared.asked.RaceOptions.{RaceOptions}
+use Rattle.ulfm_command.specs.declared.asked.Asked.TheVariants.{Run, RunSteps, Check, Draw, Race, Shown, Bad, Memory}
+use Rattle.ulfm_command.specs.declared.asked.{DrawOptions.{DrawOptions}, RaceOptions.{RaceOptions}}
 
 -- the words of a command line, the program's own name first
 abbrev pub Arguments : Type 0
@@ -46,6 +46,17 @@ run = with_rule (new_app (codes "run")) steps_rule
 abbrev pub check : App
 check = new_app (codes "check")
 
+-- the options that say that a picture is wanted in characters, and in ASCII alone
+abbrev pub text_rule : Rule
+text_rule = record (new_rule (codes "text")) { long = Some (codes "text"); action = Some SetTrue }
+
+abbrev pub ascii_rule : Rule
+ascii_rule = record (new_rule (codes "ascii")) { long = Some (codes "ascii"); action = Some SetTrue }
+
+-- the command that draws a trace
+abbrev pub draw : App
+draw = with_rule (with_rule (new_app (codes "draw")) text_rule) ascii_rule
+
 -- the command that runs a race
 abbrev pub race : App
 race = with_rule (with_rule (with_rule (new_app (codes "race")) ranks_rule) rounds_rule) fail_rule
@@ -57,9 +68,13 @@ readers =
     let top = record named { top = record named.top { has_version = true; subcommand_required = true } } in
     with_subcommand (with_subcommand top run.top) check.top
 
+-- the same with the one that draws what it reads
+abbrev pub drawers : App
+drawers = with_subcommand readers draw.top
+
 -- the program as a command, with all its subcommands
 abbrev pub ulfm : App
-ulfm = with_subcommand readers race.top
+ulfm = with_subcommand drawers race.top
 
 -- the command is this one, and has no global option
 abbrev pub IsCommand : App → Command → Type 0
@@ -129,6 +144,15 @@ NamesSteps named = NamesRunOf named true
 abbrev pub NamesCheck : Named → Type 0
 NamesCheck named = option_map (λ p. p.0) named ≡ Some (codes "check")
 
+-- the options of a picture, as they are given
+pub record IsDrawRead (rows : List Row) (options : DrawOptions) : Type 0 where
+  pub text : has_flag (codes "text") rows ≡ options.text
+  pub ascii : has_flag (codes "ascii") rows ≡ options.ascii
+
+-- a picture of a trace with these options was named
+abbrev pub NamesDraw : Named → DrawOptions → Type 0
+NamesDraw named options = (rows : List Row) × (named ≡ Some (codes "draw", rows)) × IsDrawRead rows options
+
 -- a race with these options was named
 abbrev pub NamesRace : Named → RaceOptions → Type 0
 NamesRace named options = (rows : List Row) × (named ≡ Some (codes "race", rows)) × IsRaceOf rows options
@@ -138,9 +162,11 @@ abbrev pub IsEntered : Named → Asked → Type 0
 IsEntered named Run = NamesRun named
 IsEntered named RunSteps = NamesSteps named
 IsEntered named Check = NamesCheck named
+IsEntered named (Draw options) = NamesDraw named options
 IsEntered named (Race options) = NamesRace named options
 IsEntered named (Bad reason) =
     (NamesRun named → ⊥) × (NamesSteps named → ⊥) × (NamesCheck named → ⊥) × ((options : RaceOptions) → NamesRace named options → ⊥)
+    × ((options : DrawOptions) → NamesDraw named options → ⊥)
 IsEntered named (Shown text) = ⊥
 IsEntered named Memory = ⊥
 
@@ -155,6 +181,10 @@ AsksSteps words = (fault_of ulfm words ≡ []) × NamesSteps (subcommand_of ulfm
 -- it finds no fault in them, and they name the judgement of a trace
 abbrev pub AsksCheck : Arguments → Type 0
 AsksCheck words = (fault_of ulfm words ≡ []) × NamesCheck (subcommand_of ulfm words)
+
+-- it finds no fault in them, and they name a picture of a trace with these options
+abbrev pub AsksDraw : Arguments → DrawOptions → Type 0
+AsksDraw words options = (fault_of ulfm words ≡ []) × NamesDraw (subcommand_of ulfm words) options
 
 -- it finds no fault in them, and they name a race with these options
 abbrev pub AsksRace : Arguments → RaceOptions → Type 0
@@ -173,6 +203,7 @@ pub record AsksNothing (words : Arguments) : Type 0 where
   pub no_run : AsksRun words → ⊥
   pub no_steps : AsksSteps words → ⊥
   pub no_check : AsksCheck words → ⊥
+  pub no_draw : (options : DrawOptions) → AsksDraw words options → ⊥
   pub no_race : (options : RaceOptions) → AsksRace words options → ⊥
   pub no_help : IsAmong DisplayHelp (fault_of ulfm words) → ⊥
   pub no_version : IsAmong DisplayVersion (fault_of ulfm words) → ⊥
@@ -182,6 +213,7 @@ pub record IsRefused (words : Arguments) : Type 0 where
   pub no_run : AsksRun words → ⊥
   pub no_steps : AsksSteps words → ⊥
   pub no_check : AsksCheck words → ⊥
+  pub no_draw : (options : DrawOptions) → AsksDraw words options → ⊥
   pub no_race : (options : RaceOptions) → AsksRace words options → ⊥
   pub no_help : AsksHelp words → ⊥
   pub no_version : AsksVersion words → ⊥
@@ -191,6 +223,7 @@ abbrev pub IsAskedBy : Arguments → Asked → Type 0
 IsAskedBy words Run = AsksRun words
 IsAskedBy words RunSteps = AsksSteps words
 IsAskedBy words Check = AsksCheck words
+IsAskedBy words (Draw options) = AsksDraw words options
 IsAskedBy words (Race options) = AsksRace words options
 IsAskedBy words (Shown text) = IsAmong DisplayHelp (fault_of ulfm words) ⊎ IsAmong DisplayVersion (fault_of ulfm words)
 IsAskedBy words (Bad reason) = IsRefused words

@@ -29,6 +29,15 @@ impl RaceOptions {
     }
 }
 
+/// The options of a picture, as `ulfm draw --text` gives them.
+#[derive(Clone, Copy, Debug, PartialEq, Eq)]
+pub struct DrawOptions {
+    /// The rows are wanted in characters, for a terminal.
+    pub text: bool,
+    /// In ASCII alone.
+    pub ascii: bool,
+}
+
 /// Why a command line is bad.
 #[derive(Drop)]
 pub enum Reason {
@@ -61,6 +70,8 @@ pub enum Asked {
     RunSteps,
     /// A trace is to be judged.
     Check,
+    /// A trace is to be drawn.
+    Draw(DrawOptions),
     /// A race is to be run, whose options are in their ranges.
     Race(RaceOptions),
     /// This text is to be shown: of help, or the version.

@@ -1,9 +1,9 @@
 //! The program's commands and their options, as the command line crate takes them.
 ghost use Rattle.std.specs.Prelude.{◌≡◌, IfOk, false};
 ghost use Rattle.clap.specs.Words.{rule_of};
-ghost use Rattle.ulfm_command.specs.CommandLines.{IsCommand, check, fail_rule, number_rule, race, ranks_rule, readers, rounds_rule, run, steps_rule, ulfm};
+ghost use Rattle.ulfm_command.specs.CommandLines.{IsCommand, ascii_rule, check, draw, drawers, fail_rule, number_rule, race, ranks_rule, readers, rounds_rule, run, steps_rule, text_rule, ulfm};
 
-use crate::texts::{CHECK_HELP, RACE_HELP, RUN_HELP, ULFM_HELP, VERSION};
+use crate::texts::{CHECK_HELP, DRAW_HELP, RACE_HELP, RUN_HELP, ULFM_HELP, VERSION};
 use clap::builder::ValueParser;
 use clap::{Arg, ArgAction, Command, value_parser};
 use std::alloc::{AllocError, Global};
@@ -114,6 +114,39 @@ fn check_command<'a>(global: Global) -> Command<'a>
         .after_help(CHECK_HELP)
 }
 
+/// That a picture is wanted in characters.
+fn text_option<'a>(global: Global) -> Arg<'a>
+    ensures rule { rule_of result ≡ text_rule }
+    ensures local { result.global ≡ false }
+{
+    Arg::new(global, "text")
+        .long("text")
+        .action(ArgAction::SetTrue)
+        .help("Draws the rows in characters, for a terminal")
+}
+
+/// That only those of ASCII are wanted.
+fn ascii_option<'a>(global: Global) -> Arg<'a>
+    ensures rule { rule_of result ≡ ascii_rule }
+    ensures local { result.global ≡ false }
+{
+    Arg::new(global, "ascii")
+        .long("ascii")
+        .action(ArgAction::SetTrue)
+        .help("With --text, uses ASCII alone, on a terminal too")
+}
+
+/// `ulfm draw`.
+fn draw_command<'a>(global: Global) -> Result<Command<'a>, AllocError>
+    ensures { IfOk result (IsCommand draw) }
+{
+    Command::new(global, "draw")
+        .about("Draws the trace on standard input: a picture for a browser, or rows for a terminal")
+        .after_help(DRAW_HELP)
+        .arg(text_option(global))?
+        .arg(ascii_option(global))
+}
+
 /// `ulfm`, which wants a subcommand, with those that read their input.
 fn reading_commands<'a>(global: Global) -> Result<Command<'a>, AllocError>
     ensures { IfOk result (IsCommand readers) }
@@ -128,9 +161,16 @@ fn reading_commands<'a>(global: Global) -> Result<Command<'a>, AllocError>
         .subcommand(check_command(global))
 }
 
+/// `ulfm` with the one that draws what it reads, too.
+fn drawing_commands<'a>(global: Global) -> Result<Command<'a>, AllocError>
+    ensures { IfOk result (IsCommand drawers) }
+{
+    reading_commands(global)?.subcommand(draw_command(global)?)
+}
+
 /// `ulfm`.
 pub(crate) fn ulfm_command<'a>(global: Global) -> Result<Command<'a>, AllocError>
     ensures { IfOk result (IsCommand ulfm) }
 {
-    reading_commands(global)?.subcommand(race_command(global)?)
+    drawing_commands(global)?.subcommand(race_command(global)?)
 }

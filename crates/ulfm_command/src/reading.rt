@@ -1,9 +1,9 @@
 //! What the words of a command line ask for.
 ghost use Rattle.std.specs.Prelude.{◌≡◌, IfOk, Some, codes, map};
 ghost use Rattle.clap.specs.Words.{FailsBy, fault_of, found_of, one_of, rows_of, subcommand_of, subcommand_rows_of};
-ghost use Rattle.ulfm_command.specs.CommandLines.{IsAskedBy, IsEntered, IsNumberRead, IsRaceRead, has_flag, ulfm};
+ghost use Rattle.ulfm_command.specs.CommandLines.{IsAskedBy, IsDrawRead, IsEntered, IsNumberRead, IsRaceRead, has_flag, ulfm};
 
-use crate::asked::{Asked, RaceOptions, Reason};
+use crate::asked::{Asked, DrawOptions, RaceOptions, Reason};
 use crate::commands::ulfm_command;
 use clap::error::ErrorKind;
 use clap::{ArgMatches, Error};
@@ -49,6 +49,8 @@ fn read_command(matches: &ArgMatches<'_>) -> Asked
                 read_run(options)
             } else if name == "check" {
                 Asked::Check
+            } else if name == "draw" {
+                Asked::Draw(read_draw(options))
             } else if name == "race" {
                 match read_race(options) {
                     Some(race) => Asked::Race(race),
@@ -70,6 +72,16 @@ fn read_run(matches: &ArgMatches<'_>) -> Asked
         Asked::RunSteps
     } else {
         Asked::Run
+    }
+}
+
+/// How a trace is to be drawn.
+fn read_draw(matches: &ArgMatches<'_>) -> DrawOptions
+    ensures { IsDrawRead (rows_of (found_of matches.now)) result }
+{
+    DrawOptions {
+        text: is_given(matches, "text"),
+        ascii: is_given(matches, "ascii"),
     }
 }
 

@@ -24,8 +24,8 @@ Exit statuses, and what standard error says:
   3  ulfm: write failed         standard output failed
   3  ulfm: held                 a rank of a race was held back
 
-'ulfm run --help' lists what a script may say, 'ulfm check --help' what a trace does, and
-'ulfm race --help' what a race prints.";
+'ulfm run --help' lists what a script may say, 'ulfm check --help' what a trace does,
+'ulfm draw --help' how it is drawn, and 'ulfm race --help' what a race prints.";
 
 /// What help of `ulfm run` shows behind its options.
 pub(crate) const RUN_HELP: &str =
@@ -140,6 +140,29 @@ A line has at most 8192 bytes without its newline, and a trace at most 5000000 l
 Exit statuses, and what standard error says:
   0  legal
   1  illegal
+  2  ulfm: bad command line     nothing was read
+  3  ulfm: out of memory        memory was refused
+  3  ulfm: read failed          standard input failed
+  3  ulfm: write failed         standard output failed";
+
+/// What help of `ulfm draw` shows behind its options.
+pub(crate) const DRAW_HELP: &str =
+    "The trace is one of 'ulfm check --help', of at most 20000 lines. The picture is an SVG file of its
+own, in which time runs down and each line of the trace has a row. A trace that is illegal is drawn
+up to its line, which is red, with the reason.
+
+With --text the same rows are drawn in characters. Behind the columns and a tab stands the line of
+the trace, so that 'cut -s -f 2-' gives the trace back. On a terminal that has them there are box
+characters and colours, but not with --ascii, and no colours where NO_COLOR is set.
+
+Example:
+
+    ulfm run --steps < examples/late_arrival.steps | ulfm draw > picture.svg
+
+Exit statuses, and what standard error says:
+  0  the trace is legal, and was drawn
+  1  the trace is illegal, and was drawn up to its line
+  1  ulfm: line 20001: lines    the trace has more lines, and nothing was drawn
   2  ulfm: bad command line     nothing was read
   3  ulfm: out of memory        memory was refused
   3  ulfm: read failed          standard input failed

@@ -2,6 +2,7 @@
 
 use crate::open::TWO;
 use std::test::Fail;
+use ulfm_draw::{Form, Looks, draw};
 use ulfm_laws::FlagAnd;
 use ulfm_model::{Call, Refusal, Reply};
 use ulfm_object::Object;
@@ -50,6 +51,18 @@ fn judged_check(rt: HostRuntime) -> Result<(), Fail> {
 
     let mut trace = b"ulfm-trace 1 1 1 2\nevent - fail 0\n".as_slice();
     assert!(rt; check(alloc, &mut trace) == Ok(Verdict::Legal));
+
+    Ok(())
+}
+
+#[test]
+fn drawing_draw(rt: HostRuntime) -> Result<(), Fail> {
+    let alloc = rt.alloc();
+
+    let mut trace = b"ulfm-trace 1 1 1 2\nevent - fail 0\n".as_slice();
+    let drawn = draw(alloc, &mut trace, Form::Text(Looks::Ascii))?;
+    assert!(rt; drawn.verdict == Verdict::Legal);
+    assert!(rt; drawn.shown.ends_with(b"\nlegal\n"));
 
     Ok(())
 }

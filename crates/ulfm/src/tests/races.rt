@@ -7,6 +7,7 @@ use std::sync::Wait;
 use std::test::Fail;
 use std::thread::Threads;
 use ulfm_devices::{FailureMode, LimitedWriter};
+use ulfm_draw::Looks;
 
 /// What a race of these words writes and tells, and its status; nothing is read.
 fn raced<T: Threads + Wait + Sync>(
@@ -195,6 +196,7 @@ fn lines_are_refused_memory(rt: HostRuntime) -> Result<(), Fail> {
         &mut output,
         &mut errors,
         false,
+        Looks::Ascii,
     );
     assert_eq!(rt; errors.as_slice(), b"ulfm: out of memory\n".as_slice());
     assert!(rt; output.is_empty());

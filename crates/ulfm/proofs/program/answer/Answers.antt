@@ -1,4 +1,4 @@
-use Rattle.ulfm.proofs.Ends.{checked_out, ran_out, steps_ran_out}
+use Rattle.ulfm.proofs.Ends.{checked_out, draw_ran_out, ran_out, steps_ran_out}
 use Rattle.ulfm.proofs.program.answer.Goals as goal
 
 pub returns-in-Race-clause-bad : goal.returns-in-Race-clause-bad
@@ -18,3 +18,18 @@ returns-in-Memory-clause-check g c asks = checked_out _ _ _ c.tell_fault.ensures
 
 pub returns-in-Race-clause-told : goal.returns-in-Race-clause-told
 returns-in-Race-clause-told g c bad clear = absurd (bad.no_race c.in-Race.options c.in-Race.ensures)
+
+pub returns-in-Draw-clause-bad : goal.returns-in-Draw-clause-bad
+returns-in-Draw-clause-bad g c bad = absurd (bad.no_draw c.in-Draw.options c.in-Draw.ensures)
+
+pub returns-in-Draw-clause-told : goal.returns-in-Draw-clause-told
+returns-in-Draw-clause-told g c bad clear = absurd (bad.no_draw c.in-Draw.options c.in-Draw.ensures)
+
+pub returns-in-Draw-clause-other : goal.returns-in-Draw-clause-other
+returns-in-Draw-clause-other g c run steps check none = absurd (none c.in-Draw.options c.in-Draw.ensures)
+
+pub returns-in-Bad-clause-draw : goal.returns-in-Bad-clause-draw
+returns-in-Bad-clause-draw g c options asks = absurd (c.in-Bad.ensures.no_draw options asks)
+
+pub returns-in-Memory-clause-draw : goal.returns-in-Memory-clause-draw
+returns-in-Memory-clause-draw g c options asks = draw_ran_out _ _ _ _ c.tell_fault.ensures.status

@@ -1,0 +1,323 @@
+//! Rows in words: a few in the lane, and a sentence for those who read or hear it.
+use crate::say::{Part, say, say_lane};
+use std::alloc::{AllocError, Allocator};
+use ulfm_laws::FlagAnd;
+use ulfm_model::call::{Call, comm_of};
+use ulfm_model::contribution::{Contribution, Offer};
+use ulfm_model::event::Event;
+use ulfm_model::reply::Reply;
+use ulfm_script::words::flag_digits;
+use ulfm_story::Row;
+use ulfm_trace_model::Line;
+
+/// The words in a row's lane.
+pub fn put_label<A: Allocator>(label: &mut Vec<u8, A>, row: &Row) -> Result<(), AllocError> {
+    match row.line {
+        Line::Called(asked) => label_call(label, &asked),
+        Line::Looked { failures, .. } => say(
+            label,
+            &[Part::Text(b"sees "), Part::Number(u32::from(failures))],
+        ),
+        Line::Happened {
+            event: Some(event),
+            ..
+        } => label_event(label, &event),
+        Line::Replied {
+            reply: Some(reply),
+            ..
+        } => label_reply(label, &reply),
+        _ => Ok(()),
+    }
+}
+
+/// The verb of a call.
+fn verb_of(asked: &Call<FlagAnd>) -> &'static [u8] {
+    match *asked {
+        Call::Fail { .. } => b"fail",
+        Call::GetFailed { .. } => b"get",
+        Call::Ack { .. } => b"ack",
+        Call::Agree { .. } => b"agree",
+        Call::Shrink { .. } => b"shrink",
+        Call::Barrier { .. } => b"barrier",
+        Call::Poll { .. } => b"poll",
+        Call::Revoke { .. } => b"revoke",
+        Call::IsRevoked { .. } => b"isrevoked",
+        Call::Free { .. } => b"free",
+    }
+}
+
+/// A call's verb and its communicator; of a declaration the rank.
+fn label_call<A: Allocator>(
+    label: &mut Vec<u8, A>,
+    asked: &Call<FlagAnd>,
+) -> Result<(), AllocError> {
+    let number = match *asked {
+        Call::Fail { rank } => rank,
+        _ => comm_of(asked),
+    };
+    say(
+        label,
+        &[
+            Part::Text(verb_of(asked)),
+            Part::Text(b" "),
+            Part::Number(u32::from(number)),
+        ],
+    )
+}
+
+/// What an event does.
+fn label_event<A: Allocator>(
+    label: &mut Vec<u8, A>,
+    event: &Event<FlagAnd>,
+) -> Result<(), AllocError> {
+    match *event {
+        Event::Fail { .. } => label.extend_from_slice(b"declared"),
+        Event::Settle { given, .. } => match given.offer {
+            Offer::Flag(flag) => label.extend_from_slice(&flag_digits(flag)),
+            Offer::Ctx(_) => label.extend_from_slice(b"ids"),
+        },
+        Event::Mark { .. } => label.extend_from_slice(b"left out"),
+        Event::Arrive { .. } => label.extend_from_slice(b"arrives"),
+        Event::Revoke { comm } => say(
+            label,
+            &[Part::Text(b"revokes "), Part::Number(u32::from(comm))],
+        ),
+        Event::Spawn { comm, .. } => say(
+            label,
+            &[Part::Text(b"makes "), Part::Number(u32::from(comm))],
+        ),
+    }
+}
+
+/// What a reply says.
+fn label_reply<A: Allocator>(
+    label: &mut Vec<u8, A>,
+    reply: &Reply<FlagAnd>,
+) -> Result<(), AllocError> {
+    let word: &[u8] = match *reply {
+        Reply::Agreed { value, raised, .. } => {
+            label.extend_from_slice(&flag_digits(value))?;
+            if raised { b" raised" } else { b"" }
+        }
+        Reply::Shrunk { comm, .. } => {
+            return say(
+                label,
+                &[Part::Text(b"gets "), Part::Number(u32::from(comm))],
+            );
+        }
+        Reply::FailedGroup { count } => {
+            return say(
+                label,
+                &[Part::Text(b"failed "), Part::Number(u32::from(count))],
+            );
+        }
+        Reply::Acked { count } => {
+            return say(
+                label,
+                &[Part::Text(b"acked "), Part::Number(u32::from(count))],
+            );
+        }
+        Reply::Refused(refusal) => refusal.name().as_bytes(),
+        ref other => plain_word(other),
+    };
+    label.extend_from_slice(word)
+}
+
+/// The word of a reply that has no number.
+fn plain_word(reply: &Reply<FlagAnd>) -> &'static [u8] {
+    match *reply {
+        Reply::Started => b"started",
+        Reply::Pending => b"pending",
+        Reply::Done => b"done",
+        Reply::Declared => b"declared",
+        Reply::AlreadyFailed => b"already-failed",
+        Reply::Revoked => b"revoked",
+        Reply::AlreadyRevoked => b"already-revoked",
+        Reply::Standing { revoked } => { if revoked { b"yes" } else { b"no" } }
+        Reply::Freed => b"freed",
+        _ => b"",
+    }
+}
+
+/// What stands behind so many spaces.
+fn behind_words(line: &[u8], spaces: usize) -> &[u8] {
+    let mut seen = 0usize;
+    for (i, byte) in line.iter().enumerate() {
+        if *byte == b' ' {
+            seen = seen.saturating_add(1);
+            if seen == spaces {
+                return &line[i + 1..];
+            }
+        }
+    }
+    &[]
+}
+
+/// A row as a sentence, behind the number of its line.
+pub fn put_title<A: Allocator>(
+    title: &mut Vec<u8, A>,
+    number: u32,
+    row: &Row,
+    line: &[u8],
+) -> Result<(), AllocError> {
+    say(
+        title,
+        &[
+            Part::Text(b"line "),
+            Part::Number(number),
+            Part::Text(b": "),
+        ],
+    )?;
+    say_lane(title, row.lane)?;
+    match row.line {
+        Line::Called(_) => say(
+            title,
+            &[Part::Text(b" calls "), Part::Text(behind_words(line, 1))],
+        ),
+        Line::Looked { failures, .. } => say(
+            title,
+            &[
+                Part::Text(b" sees "),
+                Part::Number(u32::from(failures)),
+                Part::Text(b" declared"),
+            ],
+        ),
+        Line::Happened { event, .. } => match event {
+            Some(event) => title_event(title, &event),
+            None => Ok(()),
+        },
+        Line::Replied { point, .. } => say(
+            title,
+            &[
+                Part::Text(b" is answered "),
+                Part::Text(behind_words(line, 3)),
+                Part::Text(b", at the point after event "),
+                Part::Number(point),
+            ],
+        ),
+    }
+}
+
+/// An event as a sentence, behind who makes it.
+fn title_event<A: Allocator>(
+    title: &mut Vec<u8, A>,
+    event: &Event<FlagAnd>,
+) -> Result<(), AllocError> {
+    match *event {
+        Event::Fail { rank } => {
+            title_of(title, b" declares ", rank)?;
+            title.extend_from_slice(b" failed")
+        }
+        Event::Settle {
+            comm,
+            round,
+            given,
+            ..
+        } => {
+            title_given(title, &given)?;
+            title_round(title, b" to round ", round, comm)?;
+            title_counts(title, &given)
+        }
+        Event::Mark {
+            comm,
+            round,
+            rank,
+            ..
+        } => {
+            title_of(title, b" leaves ", rank)?;
+            title_round(title, b" out of round ", round, comm)
+        }
+        Event::Arrive { comm, round, .. } => {
+            title_round(title, b" arrives in barrier round ", round, comm)
+        }
+        Event::Revoke { comm } => say(
+            title,
+            &[
+                Part::Text(b" revokes communicator "),
+                Part::Number(u32::from(comm)),
+            ],
+        ),
+        Event::Spawn {
+            comm,
+            parent,
+            round,
+        } => {
+            say(
+                title,
+                &[
+                    Part::Text(b" makes communicator "),
+                    Part::Number(u32::from(comm)),
+                ],
+            )?;
+            title_round(title, b" of round ", round, parent)
+        }
+    }
+}
+
+/// A rank, behind what is done to it.
+fn title_of<A: Allocator>(
+    title: &mut Vec<u8, A>,
+    verb: &[u8],
+    rank: u16,
+) -> Result<(), AllocError> {
+    say(
+        title,
+        &[
+            Part::Text(verb),
+            Part::Text(b"rank "),
+            Part::Number(u32::from(rank)),
+        ],
+    )
+}
+
+/// A round and its communicator, behind what they are to the event.
+fn title_round<A: Allocator>(
+    title: &mut Vec<u8, A>,
+    before: &[u8],
+    round: u16,
+    comm: u16,
+) -> Result<(), AllocError> {
+    say(
+        title,
+        &[
+            Part::Text(before),
+            Part::Number(u32::from(round)),
+            Part::Text(b" of "),
+            Part::Number(u32::from(comm)),
+        ],
+    )
+}
+
+/// What is contributed.
+fn title_given<A: Allocator>(
+    title: &mut Vec<u8, A>,
+    given: &Contribution<FlagAnd>,
+) -> Result<(), AllocError> {
+    match given.offer {
+        Offer::Flag(flag) => {
+            title.extend_from_slice(b" contributes the flag ")?;
+            title.extend_from_slice(&flag_digits(flag))
+        }
+        Offer::Ctx(mask) => {
+            title.extend_from_slice(b" contributes the context ids ")?;
+            title.extend_from_slice(&flag_digits(FlagAnd { bits: mask.bits }))
+        }
+    }
+}
+
+/// What is known by who contributes.
+fn title_counts<A: Allocator>(
+    title: &mut Vec<u8, A>,
+    given: &Contribution<FlagAnd>,
+) -> Result<(), AllocError> {
+    say(
+        title,
+        &[
+            Part::Text(b", knowing "),
+            Part::Number(u32::from(given.known.count)),
+            Part::Text(b" failures, of which "),
+            Part::Number(u32::from(given.acked.count)),
+            Part::Text(b" are acknowledged"),
+        ],
+    )
+}
