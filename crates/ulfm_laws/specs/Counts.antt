@@ -23,7 +23,9 @@ known_meld x y = record { count = max x.count y.count; in_range = max-le x.in_ra
 
 -- equal counts of known failures are the same
 pub same_known : (x y : Known) → x.count ≡ y.count → x ≡ y
-same_known x y = same_by_number (λ n. n ≤ 1024) (λ n. le_prop) (λ n in_range. record { count = n; in_range = in_range }) x.count y.count x.in_range y.in_range
+same_known x y =
+    same_by_number (record { Fits = λ n. n ≤ 1024; one_way = λ n. le_prop; value = λ n in_range. record { count = n; in_range = in_range } })
+    x.in_range y.in_range
 
 -- the greatest of three, in either grouping
 max_assoc : (a b c : ℕ) → max (max a b) c ≡ max a (max b c)
@@ -66,8 +68,11 @@ acked_meld x y = record {
 -- equal counts of acknowledged failures are the same
 pub same_acked : (x y : Acked) → x.count ≡ y.count → x ≡ y
 same_acked x y =
-    same_by_number (λ n. IsTrue (is_acked_count n)) (λ n. Bool-set _ _) (λ n in_range. record { count = n; in_range = in_range })
-    x.count y.count x.in_range y.in_range
+    same_by_number (record {
+      Fits = λ n. IsTrue (is_acked_count n);
+      one_way = λ n. Bool-set _ _;
+      value = λ n in_range. record { count = n; in_range = in_range };
+    }) x.in_range y.in_range
 
 -- everyone is the most that can be acknowledged
 pub acked_le : (n : ℕ) → IsTrue (is_acked_count n) → n ≤ 2047

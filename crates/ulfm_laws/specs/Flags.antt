@@ -18,7 +18,8 @@ flag_meld x y = record { bits = bit_and x.bits y.bits; fits = lt_of_le_of_lt (an
 
 -- flags with the same bits are the same
 pub same_flag : (x y : FlagAnd) → x.bits ≡ y.bits → x ≡ y
-same_flag x y = same_by_number (λ n. n < 2 ^ 32) (λ n. le_prop) (λ n fits. record { bits = n; fits = fits }) x.bits y.bits x.fits y.fits
+same_flag x y =
+    same_by_number (record { Fits = λ n. n < 2 ^ 32; one_way = λ n. le_prop; value = λ n fits. record { bits = n; fits = fits } }) x.fits y.fits
 
 pub flag_lawful : IsLawful flag_unit flag_meld
 flag_lawful = record {

@@ -7,12 +7,17 @@ use Rattle.std.proofs.lemmas.Nat.{and_comm, and_mask}
 abbrev pub is_acked_count : ℕ → Bool
 is_acked_count n = nat_le n 1024 || (n == 2047)
 
+-- what makes a value of a number: which numbers fit, that they fit in one way alone, and the value of a number that fits
+pub record Numbered (P : Type 0) : Type 1 where
+  pub Fits : ℕ → Type 0
+  pub one_way : (n : ℕ) → IsProp (Fits n)
+  pub value : (n : ℕ) → Fits n → P
+
 -- a value that is a number with a fact about it is known by its number
-pub same_by_number : {P : Type 0} (Fits : ℕ → Type 0) → ((n : ℕ) → IsProp (Fits n)) → (value : (n : ℕ) → Fits n → P)
-    → (m n : ℕ) (fit : Fits m) (fits : Fits n) → m ≡ n → value m fit ≡ value n fits
-same_by_number {P} Fits prop value m n fit fits e =
-    let Same : ℕ → Type 0 = λ k. (other : Fits k) → value m fit ≡ value k other in
-    subst Same e (λ other. ap (value m) (prop m fit other)) fits
+pub same_by_number : {P : Type 0} (kind : Numbered P) {m n : ℕ} (fit : kind.Fits m) (fits : kind.Fits n) → m ≡ n → kind.value m fit ≡ kind.value n fits
+same_by_number kind {m} {n} fit fits e =
+    let Same : ℕ → Type 0 = λ k. (other : kind.Fits k) → kind.value m fit ≡ kind.value k other in
+    subst Same e (λ other. ap (kind.value m) (kind.one_way m fit other)) fits
 
 -- a word of 32 bits has no bit but those of ffffffff
 pub ones-and : (word : ℕ) → word < 2 ^ 32 → bit_and 0xffff_ffff word ≡ word
