@@ -10,7 +10,8 @@ use Rattle.ulfm_script.specs.declared.line_kind.LineKind.{LineKind}
 use Rattle.ulfm_script.specs.declared.line_kind.LineKind.TheVariants.{Words}
 use Rattle.ulfm_script.specs.{Calls.{call_of}, Printed.{reply_text}, Steps.{◌>>=◌}, Words.{next_word, first_word}}
 use Rattle.ulfm_lines.specs.EventReading.{event_of}
-use Rattle.ulfm_lines.specs.Fields.{Field, both, caller_field, comm_field, error_field, flag_field, label_field, labelled, number_field, over, point_field, rank_field, whole}
+use Rattle.ulfm_lines.specs.Fields.{Field, both, caller_field, comm_field, error_field, flag_field, label_field, labelled, number_field, over}
+use Rattle.ulfm_lines.specs.Fields.{point_field, rank_field, whole}
 use Rattle.ulfm_lines.specs.LineTexts.{TraceLine}
 use Rattle.ulfm_trace_model.specs.declared.line.Line.TheVariants.{Called, Looked, Happened, Replied}
 

@@ -144,7 +144,7 @@ module _ (name : Name) (pass : Sight FlagAnd) (seats : List FlagSeat) (now : Tra
           other_sits s other (stands.each s other is) (ap (λ c. same_caller c (Caller.Rank s)) mine ∙ ranks_differ r s (λ same. differ (sym same)))
 
 -- a whole declaration
-module _ (name : Name) (pass later : Sight FlagAnd) (seats : List FlagSeat) (now : Traced FlagAnd) (stands : StandsFor name pass seats now) (r : ℕ) (reply : Reply FlagAnd) (tells : TellsFail flag_meld name r pass reply later)
+module _ (name : Name) (pass later : Sight FlagAnd) (seats : List FlagSeat) (now : Traced FlagAnd) (stands : StandsFor name pass seats now) (r : ℕ) (reply : Reply FlagAnd) (tells : TellsFail flag_meld r (view_of name pass) reply (view_of name later))
     (of : IsView flag_meld (view_of name later)) (onward : pass.steps ≤ later.steps) where
   abbrev failed : List (Told FlagAnd)
   failed = fail_piece r (length later.seen) reply

@@ -138,5 +138,5 @@ module _ {P : Type 0} (meld : P → P → P) (name : Name) (r : ℕ) (old : Sigh
     by_answer (inr (inr (is, own, out))) =
         subst (Tells meld name r old new now limits history free) (sym is) (runs_unknown meld name r old new now limits history free (nothing_added own) out)
 
-pub tells_fail : {P : Type 0} (meld : P → P → P) (name : Name) (r : ℕ) (old : Sight P) (reply : Reply P) (new : Sight P) → Fails meld true r (view_of name old) reply (view_of name new) → TellsFail meld name r old reply new
+pub tells_fail : {P : Type 0} (meld : P → P → P) (name : Name) (r : ℕ) (old : Sight P) (reply : Reply P) (new : Sight P) → Fails meld true r (view_of name old) reply (view_of name new) → TellsFail meld r (view_of name old) reply (view_of name new)
 tells_fail meld name r old reply new fails = λ now limits history free. by_answer meld name r old reply new fails now limits history free fails.run.answer

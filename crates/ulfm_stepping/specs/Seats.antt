@@ -5,7 +5,7 @@ use Rattle.ulfm_model.specs.declared.{call.Call.{Call}, event.Caller.{Caller}, e
 use Rattle.ulfm_model.specs.declared.{reply.Reply.{Reply}, reply.Reply.TheVariants.{FailedGroup, Shrunk}, step_name.StepName.{StepName}}
 use Rattle.ulfm_model.specs.{Answers.{comm_of, polled_by, traits_of}, History.{History, failures, members}}
 use Rattle.ulfm_model.specs.Records.{Fits, Held, Record, held_at, is_shrink, new_record}
-use Rattle.ulfm_words.specs.Steps.{view_of, IsView, Name, Sight}
+use Rattle.ulfm_words.specs.Steps.{view_of, IsView, Name, Sight, View}
 use Rattle.ulfm_comm.specs.{Calls.{wants_memory}, Counts.{Counted}, Phase.{UnderWay, is_looking, next_step}, StepsLeft.{MakesStep, steps_left}}
 use Rattle.ulfm_comm.specs.declared.phases.phase.Phase.{Phase}
 use Rattle.ulfm_trace_model.specs.declared.line.{Line.{Line}, Line.TheVariants.{Called, Happened, Looked, Replied}}
@@ -62,6 +62,10 @@ wants_in (Some reply) = wants_memory reply
 -- what the lines so far say, and what the pass has seen, fit where a rank stands
 abbrev pub Sits : {P : Type 0} → (P → P → P) → Name → Traced P → Sight P → Seated P → Type 0
 Sits meld name now pass seat = SitsAt meld name now pass seat.own seat.found seat.call
+
+-- .. what a caller's view is of
+abbrev pub SitsIn : {P : Type 0} → (P → P → P) → Traced P → View P → Seated P → Type 0
+SitsIn meld now view seat = Sits meld view.words now view.pass seat
 
 -- the line of a look that has ended in so many failures, if one has
 abbrev pub look_piece : {P : Type 0} → ℕ → Option ℕ → List (Told P)
@@ -140,6 +144,10 @@ pub record TellsPiece {P : Type 0} (meld : P → P → P) (name : Name) (old : S
   pub sits : (now : Traced P) → Sits meld name now before old → Sits meld name (said_by now piece) after new
   pub next : GoesOrEnds name.limits after.seen piece old new told.reply
 
+-- .. between two views of its caller
+abbrev pub TellsPieceIn : {P : Type 0} → (P → P → P) → Seated P → View P → StepTold P → Seated P → View P → Type 0
+TellsPieceIn meld old before told new after = TellsPiece meld before.words old before.pass told new after.pass
+
 -- the lines of a call that begins: its own, and that of its reply where it is answered at once
 abbrev pub begun_piece : {P : Type 0} → ℕ → Call P → Option (Answer P) → List (Told P)
 begun_piece r asked answer = called asked ∷ reply_piece r [] answer
@@ -158,6 +166,10 @@ pub record TellsBegin {P : Type 0} (meld : P → P → P) (name : Name) (old : S
   pub legal : (now : Traced P) → Sits meld name now pass old → AreLegalAfter meld now (begun_piece old.own.number asked answer)
   pub sits : (now : Traced P) → Sits meld name now pass old → Sits meld name (said_by now (begun_piece old.own.number asked answer)) pass new
   pub next : IsUnderWay asked new answer
+
+-- .. in a view of its caller
+abbrev pub TellsBeginIn : {P : Type 0} → (P → P → P) → Seated P → View P → Call P → Option (Answer P) → Seated P → Type 0
+TellsBeginIn meld old view asked answer new = TellsBegin meld view.words old view.pass asked answer new
 
 -- the call polls a shrink
 abbrev pub CallPollsShrink : {P : Type 0} → Record → Option (UnderWay P) → Type 0

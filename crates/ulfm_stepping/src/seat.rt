@@ -4,8 +4,8 @@ ghost use Rattle.ulfm_model.specs.{Answers.{traits_of}, History.{History, has}};
 ghost use Rattle.ulfm_model.specs.declared.event.Caller.TheVariants.{Rank as OfRank};
 ghost use Rattle.ulfm_trace_model.specs.Traces.{Traced, listed};
 ghost use Rattle.ulfm_words.specs.Steps.{IsView};
-ghost use Rattle.ulfm_words.specs.Steps.{view_of};
-ghost use Rattle.ulfm_stepping.specs.Seats.{MayList, CallPollsShrink, Sits, TellsBegin, TellsPiece, asked_in, has_looked, next_in, wants_in};
+ghost use Rattle.ulfm_words.specs.Steps.{steps_in, view_of};
+ghost use Rattle.ulfm_stepping.specs.Seats.{MayList, CallPollsShrink, SitsIn, TellsBeginIn, TellsPieceIn, asked_in, has_looked, next_in, wants_in};
 ghost use Rattle.ulfm_stepping.specs.Stepping.{is_early as early_reply, point_of as point_by};
 
 use crate::events::event_at;
@@ -137,7 +137,7 @@ impl<P: Packed, A: Allocator + Copy + Drop> Seat<P, A> {
         requires mine { (traits_of asked).by ≡ OfRank self.old.own.number }
         requires closed { self.old.call ≡ None }
         requires of { IsView P.meld (view_of world.now pass.now) }
-        ensures { TellsBegin P.meld world.now self.old pass.now asked result self.new }
+        ensures { TellsBeginIn P.meld self.old (view_of world.now pass.now) asked result self.new }
     {
         let _ = world;
         let doing = self.rank.begin(asked);
@@ -170,11 +170,11 @@ impl<P: Packed, A: Allocator + Copy + Drop> Seat<P, A> {
         pass: &mut PlainPass<P, A>,
     ) -> Result<StepTold<P>, AllocError>
         requires of { IsView P.meld (view_of world.now pass.old) }
-        requires sits { (now : Traced P) × Sits P.meld world.now now pass.old self.old }
+        requires sits { (now : Traced P) × SitsIn P.meld now (view_of world.now pass.old) self.old }
         requires open { IsTrue (is_some self.old.call) }
         ensures of { IsView P.meld (view_of world.now pass.new) }
-        ensures onward { pass.old.steps ≤ pass.new.steps }
-        ensures tells { IfOk result (λ told. TellsPiece P.meld world.now self.old pass.old told self.new pass.new) }
+        ensures onward { steps_in (view_of world.now pass.old) ≤ steps_in (view_of world.now pass.new) }
+        ensures tells { IfOk result (λ told. TellsPieceIn P.meld self.old (view_of world.now pass.old) told self.new (view_of world.now pass.new)) }
         ensures memory { OnErr result (CallPollsShrink self.old.own self.old.call) }
     {
         let Some(mut doing) = self.call.take() else {

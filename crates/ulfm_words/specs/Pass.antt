@@ -1,7 +1,9 @@
 -- How the words and the journal of a plain pass are tied.
-use Rattle.std.specs.Prelude.{◌≡◌, ◌≢◌, ℕ, ◌+◌, ◌*◌, ◌≤◌, ◌==◌, ◌&&◌, if◌then◌else◌, Bool, not, true, false, List, [], ◌∷◌, length, count_by, slice_get, slice_index, take, filter_map, Option, Some, None}
+use Rattle.std.specs.Prelude.{◌≡◌, ◌≢◌, ℕ, ◌+◌, ◌*◌, ◌≤◌, ◌==◌, ◌&&◌, if◌then◌else◌, Bool, not, true, false, List, [], ◌∷◌, length, count_by}
+use Rattle.std.specs.Prelude.{slice_get, slice_index, take, filter_map, Option, Some, None}
 use Rattle.std.specs.List.{AllByRecursion}
-use Rattle.ulfm_model.specs.declared.{block.Block.{Block}, block.Side.{Side}, block.Side.TheVariants.{Front, Back}, event.Entry.{Entry}, limits.Limits.{Limits}, place.Place.{Place}}
+use Rattle.ulfm_model.specs.declared.{block.Block.{Block}, block.Side.{Side}, block.Side.TheVariants.{Front, Back}, event.Entry.{Entry}}
+use Rattle.ulfm_model.specs.declared.{limits.Limits.{Limits}, place.Place.{Place}}
 use Rattle.ulfm_model.specs.{Blocks.{IsBlockWithin, IsCached, has_block}, History.{History, IsLegal}, Words.{MayOpen, place_of, size_of, word_at, word_of}}
 use Rattle.ulfm_words.specs.declared.{plain.Setting.{Setting}, step.Last.{Last}, step.Site.{Site}, step.Step.{Step}}
 use Rattle.ulfm_words.specs.{Entries.{entry_of}, Places.{IsWithin, key_in}, Steps.{Name, Sight}}
@@ -72,7 +74,14 @@ module _ {P : Type 0} (unpack : ℕ → Option P) (limits : Limits) where
   -- what contracts see of a plain pass
   abbrev pub sight_of : List ℕ → List Setting → List (Last × Bool) → Sight P
   sight_of words journal trail =
-      record { name = plain_name limits; seen = entries words journal; cached = cached_by trail; caches = caches_in trail; steps = length trail; last = last_of trail }
+      record {
+        name = plain_name limits;
+        seen = entries words journal;
+        cached = cached_by trail;
+        caches = caches_in trail;
+        steps = length trail;
+        last = last_of trail;
+      }
 
 -- the words are those of the journal's history, which is legal; no more are set and not set than the world has, and the journal has room
 -- for as many
