@@ -42,13 +42,6 @@ consumes_keeps (Some us) None c xs h k = absurd h
 consumes_keeps (Some us) (Some vs) None xs h k = absurd k
 consumes_keeps (Some us) (Some vs) (Some ws) xs h k = h ∙ ap (λ (t : List ℕ). xs ++ t) (sym k)
 
--- bytes kept, and then some consumed
-pub keeps_consumes : (a b c : Option (List ℕ)) (xs : List ℕ) → Keeps a b → Consumes b c xs → Consumes a c xs
-keeps_consumes None b c xs h k = tt
-keeps_consumes (Some us) None c xs h k = absurd h
-keeps_consumes (Some us) (Some vs) None xs h k = absurd k
-keeps_consumes (Some us) (Some vs) (Some ws) xs h k = sym h ∙ k
-
 -- no byte is appended
 pub appends_start : (a : Option (List ℕ)) → Appends a a []
 appends_start None = tt
@@ -123,30 +116,6 @@ pub kept_empty : (xs zs : List ℕ) (s e : ℕ) (old new : Option (List ℕ)) �
 kept_empty xs zs s e None new h k = tt
 kept_empty xs zs s e (Some us) None h k = absurd k
 kept_empty xs zs s e (Some us) (Some vs) h k = rw (none_pending xs s e h, none_pending zs s e h) k
-
--- the first pending byte is taken
-pub takes_one : (xs : List ℕ) (s e : ℕ) (known : Option (List ℕ)) → s < e → e ≤ length xs → Consumes (prepend_known (slice_range xs s e) known) (prepend_known (slice_range xs (s + 1) e) known) (get_or xs s 0 ∷ [])
-takes_one xs s e None h k = tt
-takes_one xs s e (Some us) h k = rw (some_pending xs s e h k) refl
-
--- a line without a newline, and one more byte of it
-pub no_newline_push : (xs : List ℕ) (x : ℕ) → AllByRecursion (λ y. y ≢ 10) xs → x ≢ 10 → AllByRecursion (λ y. y ≢ 10) (xs ++ x ∷ [])
-no_newline_push [] x h k = (k, tt)
-no_newline_push (y ∷ ys) x h k = (h.0, no_newline_push ys x h.1 k)
-
--- the first n bytes of a line, with one byte more
-pub kept_more : (n : ℕ) (kept done : List ℕ) (x : ℕ) → kept ≡ take n done → length kept < n → kept ++ x ∷ [] ≡ take n (done ++ x ∷ [])
-kept_more n kept done x e h =
-    let short : length done ≤ n = omega (arith, ap length e, length-take n done) in
-    let shorter : length (done ++ x ∷ []) ≤ n = omega (arith, ap length e, length-take n done, length-append done (x ∷ [])) in
-    let whole : kept ≡ done = e ∙ take_all n done short in
-    rw (whole, take_all n (done ++ x ∷ []) shorter) refl
-
--- the same where n bytes of the line are kept already
-pub kept_full : (n : ℕ) (kept done : List ℕ) (x : ℕ) → kept ≡ take n done → n ≤ length kept → kept ≡ take n (done ++ x ∷ [])
-kept_full n kept done x e h =
-    let long : n ≤ length done = omega (arith, ap length e, length-take n done) in
-    e ∙ sym (take-append-le n done (x ∷ []) long)
 
 -- the rest of a slice, as its range shows it
 rest_is : (i : ℕ) (bytes : List ℕ) → take (length bytes - i) (drop i bytes) ≡ drop i bytes

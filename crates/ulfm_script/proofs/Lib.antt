@@ -1,4 +1,5 @@
 pub mod ByteLemmas
+pub mod LineParts
 pub mod CallLemmas
 pub mod HeaderLemmas
 pub mod Hexadecimal

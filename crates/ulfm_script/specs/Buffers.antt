@@ -1,5 +1,5 @@
 -- What is read and not yet taken, and what is still to be written.
-use Rattle.std.specs.Prelude.{◌≡◌, ◌≢◌, ℕ, ◌<◌, List, [], ◌∷◌, ◌++◌, length, take, slice_range, Option, Some, None, Result, Ok, Err}
+use Rattle.std.specs.Prelude.{◌≡◌, ◌≢◌, ℕ, ◌<◌, Bool, true, false, List, [], ◌∷◌, ◌++◌, length, take, slice_range, Option, Some, None, Result, Ok, Err}
 use Rattle.std.specs.List.{AllByRecursion}
 use Rattle.std.specs.Io.KnownBytes.{Keeps, Appends, Consumes, IsAtEnd, prepend_known}
 use Rattle.ulfm_script.specs.Written.{IsBeginning, Outgoing, WritesPart}
@@ -23,15 +23,20 @@ abbrev pub Fills : Option (List ℕ) → Option (List ℕ) → List ℕ → Resu
 Fills old new bytes (Ok done) = Keeps old new × (bytes ≡ [] → IsAtEnd new)
 Fills old new bytes (Err fault) = Keeps old new × (bytes ≡ []) × (fault ≡ Read)
 
--- a byte was taken, if there is one; these bytes are pending then
-abbrev pub TakesByte : Option (List ℕ) → Option (List ℕ) → List ℕ → Result (Option ℕ) RunFault → Type 0
-TakesByte old new bytes (Ok None) = Keeps old new × IsAtEnd new
-TakesByte old new bytes (Ok (Some byte)) = Consumes old new (byte ∷ [])
-TakesByte old new bytes (Err fault) = Keeps old new × (bytes ≡ []) × (fault ≡ Read)
-
 -- a line, without its newline
 abbrev pub HasNoNewline : List ℕ → Type 0
 HasNoNewline xs = AllByRecursion (λ x. x ≢ 10) xs
+
+-- further bytes of a line came: where so many of its first bytes were kept before, as many are kept with these
+abbrev pub KeepsFirst : ℕ → List ℕ → List ℕ → List ℕ → Type 0
+KeepsFirst most old bytes new = (before : List ℕ) → old ≡ take most before → new ≡ take most (before ++ bytes)
+
+-- Of the pending bytes those of a line were taken, and so many of its first bytes are kept: up to its newline, which was taken too, or all, where none
+-- of them is a newline. None was taken where memory ran out.
+abbrev pub TakesPart : {E : Type 0} → ℕ → List ℕ → List ℕ → List ℕ → List ℕ → Result Bool E → Type 0
+TakesPart most old new before kept (Ok true) = (part : List ℕ) × HasNoNewline part × (old ≡ part ++ 10 ∷ new) × KeepsFirst most before part kept
+TakesPart most old new before kept (Ok false) = HasNoNewline old × (new ≡ []) × KeepsFirst most before old kept
+TakesPart most old new before kept (Err error) = new ≡ old
 
 -- bytes of one line: the line and its newline begin with them
 abbrev pub IsOfLine : List ℕ → Type 0

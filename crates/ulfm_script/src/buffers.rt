@@ -4,6 +4,7 @@ ghost use Rattle.std.specs.Io.KnownBytes.{Keeps};
 ghost use Rattle.ulfm_script.specs.Written.{WritesAll};
 
 use crate::fault::RunFault;
+use memchr::memchr;
 use std::alloc::{AllocError, Allocator};
 use std::io::{Read, Write};
 
@@ -34,7 +35,7 @@ pub enum LineEnd {
 }
 
 impl<A: Allocator> Input<A> {
-    ghost use Rattle.ulfm_script.specs.Buffers.{pending, unread, Fills, TakesByte, TakesLine};
+    ghost use Rattle.ulfm_script.specs.Buffers.{pending, unread, Fills, KeepsFirst, TakesLine, TakesPart};
 
     /// Nothing is read yet. Only memory can be refused, for 8 KB.
     pub fn new(alloc: A) -> Result<Input<A>, AllocError>
@@ -73,19 +74,34 @@ impl<A: Allocator> Input<A> {
         }
     }
 
-    /// Takes the next byte, if there is one.
-    fn next_byte<R: Read>(&mut self, reader: &mut R) -> Result<Option<u8>, RunFault>
-        ensures { TakesByte (unread R.remaining self.old reader.old) (unread R.remaining self.new reader.new) (pending self.new) result }
+    /// Puts further bytes of a line behind those that are kept of it, of which there may be so many.
+    #[inline(always)]
+    fn keep_first(line: &mut Vec<u8, A>, bytes: &[u8], kept: usize) -> Result<(), AllocError>
+        ensures { OnOk result (KeepsFirst kept line.old.items bytes.now line.new.items) }
     {
-        if let Err(fault) = self.fill(reader) {
-            return Err(fault);
+        let room = kept.saturating_sub(line.len());
+        line.extend_from_slice(&bytes[..bytes.len().min(room)])
+    }
+
+    /// Takes the pending bytes of a line, and puts as many of them behind what is kept of it as there may be: up to its newline, which is
+    /// taken too, or all. Whether the newline was among them.
+    #[inline(always)]
+    fn take_part(&mut self, line: &mut Vec<u8, A>, kept: usize) -> Result<bool, AllocError>
+        ensures { TakesPart kept (pending self.old) (pending self.new) line.old.items line.new.items result }
+    {
+        let rest = &self.bytes[self.start..self.end];
+        match memchr(b'\n', rest) {
+            Some(at) => {
+                Self::keep_first(line, &rest[..at], kept)?;
+                self.start += at + 1;
+                Ok(true)
+            }
+            None => {
+                Self::keep_first(line, rest, kept)?;
+                self.start = self.end;
+                Ok(false)
+            }
         }
-        if self.start == self.end {
-            return Ok(None);
-        }
-        let byte = self.bytes[self.start];
-        self.start += 1;
-        Ok(Some(byte))
     }
 
     /// Takes a line up to its newline, and keeps as many of its first bytes as `kept` says, in place of what the vector held: one more
@@ -104,23 +120,20 @@ impl<A: Allocator> Input<A> {
     {
         line.clear();
         // no line has as many bytes as this loop has turns
-        'bytes: for _ in 0..u64::MAX {
-            match self.next_byte(reader) {
-                Err(fault) => return Err(fault),
-                Ok(Some(b'\n')) => return Ok(LineEnd::Newline),
-                Ok(Some(byte)) => {
-                    if line.len() < kept {
-                        if line.push(byte).is_err() {
-                            return Err(RunFault::Memory);
-                        }
-                    }
+        'parts: for _ in 0..u64::MAX {
+            if let Err(fault) = self.fill(reader) {
+                return Err(fault);
+            }
+            if self.start == self.end {
+                if line.is_empty() {
+                    return Ok(LineEnd::Done);
                 }
-                Ok(None) => {
-                    if line.is_empty() {
-                        return Ok(LineEnd::Done);
-                    }
-                    return Ok(LineEnd::Cut);
-                }
+                return Ok(LineEnd::Cut);
+            }
+            match self.take_part(line, kept) {
+                Err(_) => return Err(RunFault::Memory),
+                Ok(true) => return Ok(LineEnd::Newline),
+                Ok(false) => {}
             }
         }
         Err(RunFault::Memory)
