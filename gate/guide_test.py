@@ -2,7 +2,7 @@
 """Runs the commands of docs/GUIDE.md on a copy of the repository, and compares what they print.
 
 A block ```sh has commands; the block ```text behind it, if one comes before the next commands, is what they must print. Of the blocks
-```rust the first is the program that docs/first_crate takes, and each other stands in the recovery's source. The copy has the built program,
+```rust the first is the program that docs/first_crate takes, and each other stands in the source of a recovery. The copy has the built program,
 where there is one, and nothing else that was built. The guide's refusals are those of the model, by number and name, docs/FORMATS.md prints
 them as the model does, and docs/MPI.md names each. The guide and docs/LIMITATIONS.md have each greatest limit, and each call on a member, on the
 outside or of `ulfm_wait` that the guide or docs/MPI.md shows is one of the library. The last line is 'N passed, M failed'.
@@ -17,7 +17,7 @@ import tempfile
 
 HERE = os.path.dirname(os.path.dirname(os.path.abspath(__file__)))
 PROGRAM = "crates/ulfm/out/ulfm"
-RECOVERY = "crates/ulfm_recovery_example/src/main.rt"
+RECOVERIES = [f"crates/ulfm_{it}_example/src/main.rt" for it in ("recovery", "recovery_loop")]
 REFUSED = re.compile(r"^\| (\d+) \| `(\w+)` \|", re.M)
 NUMBERED = re.compile(r"Refusal::(\w+) => (\d+),")
 PRINTED = re.compile(r"Refusal::(\w+) => \"([a-z-]+)\",")
@@ -64,7 +64,7 @@ def passes(command, wanted, copy):
 def stands_in(source, shown):
     if shown in source:
         return True
-    print(f"not in {RECOVERY}:\n{shown}")
+    print(f"not in {RECOVERIES}:\n{shown}")
     return False
 
 
@@ -118,10 +118,10 @@ def read(file):
 
 
 def main():
-    guide, recovery = read("docs/GUIDE.md"), read(RECOVERY)
+    guide, recoveries = read("docs/GUIDE.md"), "".join(map(read, RECOVERIES))
     mpi, refusals, limits = read("docs/MPI.md"), read("crates/ulfm_model/src/refusal.rt"), read("crates/ulfm_model/src/limits.rt")
     shown = [body for kind, body in BLOCK.findall(guide) if kind == "rust"][1:]
-    results = [stands_in(recovery, it) for it in shown]
+    results = [stands_in(recoveries, it) for it in shown]
     results += [has_refusals(guide, refusals), prints_refusals(read("docs/FORMATS.md"), refusals), names_refusals(mpi, refusals)]
     results += [has_limits(it, read(it), limits) for it in ("docs/GUIDE.md", "docs/LIMITATIONS.md")]
     results += [has_calls(it, read(it)) for it in ("docs/GUIDE.md", "docs/MPI.md")]

@@ -132,7 +132,7 @@ def main():
 
     # what pages and examples call is there: the exports, and the header's own functions in C
     there = set(prototypes) | set(re.findall(r"static inline \w+ (ulfm_\w+)\(", code))
-    for page in ("docs/C.md", "c/ulfm.3", "c/examples/first.c", "c/examples/recovery.c", "c/examples/processes.c", "c/examples/ulfm.rs"):
+    for page in ("docs/C.md", "c/ulfm.3", "c/examples/first.c", "c/examples/recovery.c", "c/examples/loop.c", "c/examples/processes.c", "c/examples/ulfm.rs"):
         same(f"calls of {page}", sorted(set(re.findall(r"\b(ulfm_\w+)\(", read(TOP, page))) - there), [])
 
     same("exports.txt", read(C, "exports.txt").split(), sorted(prototypes))

@@ -82,13 +82,15 @@ def programs_run():
         for _ in range(OFTEN):
             runs(name, [f"out/{name}"], wanted_of("recovery"))
     for _ in range(OFTEN):
+        runs("loop", ["out/loop"], wanted_of("loop"))
+    for _ in range(OFTEN):
         runs("processes", ["out/processes"], wanted_of("processes"))
     if there(RUSTC):
         runs("the wrapper in Rust", ["make", "-s", "out/recovery_rust"])
         for _ in range(OFTEN):
             runs("recovery in Rust", ["out/recovery_rust"], wanted_of("recovery_rust"))
     if there("valgrind"):
-        for name in ("recovery", "codes", "memory", "shared"):
+        for name in ("recovery", "loop", "codes", "memory", "shared"):
             runs(f"valgrind of {name}", ["valgrind", "-q", "--leak-check=full", "--show-leak-kinds=all", "--errors-for-leak-kinds=all", "--error-exitcode=9", f"out/{name}"])
 
 

@@ -1,0 +1,159 @@
+//! Five ranks work, two of them stop one after the other, and the others recover in a loop, each rank in a thread of its own.
+//!
+//! Rank 4 stops before it has contributed anything. The others' agree ends when it is declared failed, and raises an error at all of
+//! them alike. They acknowledge the failure, revoke the communicator, shrink it, and agree on the new one. There rank 3 stops: the agree
+//! raises an error again, and so they go round once more, until an agree is clean. Each line that is printed is the same however the
+//! threads are scheduled.
+#![tactic(auto)]
+
+use std::alloc::{AllocError, Global};
+use std::io;
+use std::sync::Wait;
+use std::thread::{self, Threads};
+use ulfm_book::BookWords;
+use ulfm_comm::Polled;
+use ulfm_laws::FlagAnd;
+use ulfm_model::{Limits, Refusal};
+
+type Shared = BookWords<FlagAnd>;
+
+type Member = ulfm_member::Member<Shared, FlagAnd, Global>;
+
+/// Five ranks, three communicators to be made, and rounds for an agree and a shrink on each.
+const LIMITS: Limits = Limits {
+    ranks: 5,
+    comms: 4,
+    rounds: 2,
+};
+
+/// The communicator of all ranks.
+const WORLD: u16 = 0;
+
+/// What a rank saw on its way.
+#[derive(Drop)]
+struct Way {
+    /// What the agree on each communicator gave, from that of all ranks on.
+    agreed: Vec<Polled<FlagAnd>>,
+    /// The communicator on which the rank goes on; none where it stopped.
+    comm: Option<u16>,
+}
+
+/// The flag of a rank: the five lowest bits without that of its number.
+fn flag(rank: u16) -> FlagAnd {
+    let own = 1u32 << (u32::from(rank) % 32);
+    FlagAnd {
+        bits: 0b11111 & !own,
+    }
+}
+
+/// The communicator on which a rank stops, if it does.
+fn stops_on(rank: u16) -> Option<u16> {
+    match rank {
+        4 => Some(0),
+        3 => Some(1),
+        _ => None,
+    }
+}
+
+/// Acknowledges the failures that the rank has seen.
+fn acknowledge(member: &mut Member, comm: u16) -> Result<u16, Refusal> {
+    let count = u16::try_from(member.failures().len()).unwrap_or(u16::MAX);
+    member.ack_failed(comm, count)
+}
+
+/// The communicator that a shrink makes.
+fn shrink<R: Wait>(rt: &R, member: &mut Member, comm: u16) -> Result<u16, Refusal> {
+    match ulfm_wait::shrink(rt, member, comm)? {
+        Polled::Shrunk { comm, .. } => Ok(comm),
+        _ => Err(Refusal::NoSuchComm),
+    }
+}
+
+/// Agrees on one communicator after the other, until an agree is clean. All survivors go the same way, since whether they go on hangs on
+/// what they agreed on, which is the same for all of them.
+fn recover<R: Wait>(rt: &R, alloc: Global, member: &mut Member) -> Result<Way, Refusal> {
+    let rank = member.number();
+    let Ok(mut agreed) = Vec::with_capacity(alloc, usize::from(LIMITS.comms)) else {
+        return Err(Refusal::OutOfMemory);
+    };
+    let mut comm = WORLD;
+    for _ in 0..LIMITS.comms {
+        if stops_on(rank) == Some(comm) {
+            // its process ends; whoever notices it declares the rank, here its own thread
+            member.fail(rank)?;
+            return Ok(Way { agreed, comm: None });
+        }
+        let reply = ulfm_wait::agree(rt, member, comm, flag(rank))?;
+        if agreed.push(reply).is_err() {
+            return Err(Refusal::OutOfMemory);
+        }
+        if let Polled::Agreed { raised: false, .. } = reply {
+            return Ok(Way {
+                agreed,
+                comm: Some(comm),
+            });
+        }
+        acknowledge(member, comm)?;
+        // whoever is in a barrier on it leaves that
+        member.revoke(comm)?;
+        comm = shrink(rt, member, comm)?;
+    }
+    Ok(Way { agreed, comm: None })
+}
+
+fn recover_all<R: Threads + Wait + Sync>(
+    rt: &R,
+    alloc: Global,
+    all: Vec<Member>,
+) -> Result<Vec<(Member, Result<Way, Refusal>)>, AllocError> {
+    thread::map_vec(
+        rt,
+        all,
+        &|mut member| {
+            let way = recover(rt, alloc, &mut member);
+            (member, way)
+        },
+    )
+}
+
+fn print_reply<R: Print>(rt: &R, reply: &Polled<FlagAnd>) -> io::Result<()> {
+    match reply {
+        Polled::Agreed {
+            value,
+            failed,
+            raised,
+        } => {
+            let error = if *raised { "raised" } else { "clean" };
+            println!(rt; "  agreed {:05b} failed {failed} {error}", value.bits)
+        }
+        _ => println!(rt; "  another reply"),
+    }
+}
+
+fn print_way<R: Print>(rt: &R, member: &Member, way: &Way) -> io::Result<()> {
+    for reply in &way.agreed {
+        print_reply(rt, reply)?;
+    }
+    match way.comm {
+        Some(comm) => println!(rt;
+            "  goes on with communicator {comm}, members {:?}",
+            member.members(comm)
+        ),
+        None => println!(rt; "  stops"),
+    }
+}
+
+fn main(rt: HostRuntime) -> anyhow::Result<()> {
+    let alloc = rt.alloc();
+    let words: Shared = BookWords::open(alloc, LIMITS)?;
+    let (_outside, members) = ulfm_member::open(alloc, words)?;
+    let ways = recover_all(&rt, alloc, members)?;
+    for (member, way) in &ways {
+        println!(rt; "rank {}", member.number())?;
+        match way {
+            Ok(way) => print_way(&rt, member, way)?,
+            Err(refusal) => println!(rt; "  refused {refusal}")?,
+        }
+    }
+    Ok(())
+}
