@@ -94,7 +94,8 @@ enum ulfm_code {
     ULFM_ERR_WORLD_KEPT = 12,     /* communicator 0 isn't given back */
     ULFM_ERR_RANK = 13,           /* MPI_ERR_RANK: the world has no such rank */
     ULFM_ERR_NO_MEM = 14,         /* MPI_ERR_NO_MEM: free some, and make the same call again */
-    ULFM_ERR_TWICE = 15,          /* two callers used one rank. It doesn't come where the rules above are kept */
+    ULFM_ERR_TWICE = 15,          /* another has contributed as this rank. No call answers it while the rules above are kept: only a
+                                     rank's one handle contributes for it */
     ULFM_ERR_OUT_OF_RANGE = 16,   /* a limit of ulfm_open is 0 or too great */
     ULFM_ERR_TOO_LARGE = 17,      /* the limits' size is above ULFM_MAX_SIZE */
     ULFM_ERR_HANDLE = 18,         /* the handle holds nothing: it was never opened, or it is closed */
@@ -209,6 +210,18 @@ int ulfm_ack_failed(ulfm_handle *rank, uint16_t comm, uint16_t count, uint16_t *
  * id does. ULFM_ERR_WORLD_KEPT of communicator 0, ULFM_ERR_BUSY. At most N - v steps. MPI: MPI_Comm_free, which is collective. */
 int ulfm_free(ulfm_handle *rank, uint16_t comm) ULFM_NONNULL;
 
+/* ------------------------------------------------------------------------------------------------ whom a rank waits for
+ * PROVED: whoever is listed was missing at some moment of the call, whoever isn't has come by its end; within its steps, and nothing else
+ * changes. The caller owes rules 1 to 6. */
+
+/* Who is missing in the round of the request that is open on the communicator, in the members' order: of an agree or a shrink whoever
+ * has neither contributed nor was left out as declared, of a barrier whoever hasn't arrived. Whoever is listed may have come since; a
+ * member that is declared is listed until somebody's poll leaves it out. Writes the first `room` of them, and `count` is how many
+ * there are. It is no call of the rank's: it looks for no failure, is answered also where the rank is declared, and ulfm_last_steps
+ * doesn't count it. ULFM_ERR_HANDLE, ULFM_ERR_NOT_A_RANK, ULFM_ERR_COMM, ULFM_ERR_IDLE, ULFM_ERR_NO_MEM. n steps.
+ * Any thread, one call at a time on one handle. MPI: nothing. */
+int ulfm_missing(ulfm_handle *rank, uint16_t comm, uint16_t *ranks, size_t room, size_t *count) ULFM_NONNULL;
+
 /* ------------------------------------------------------------------------------------------------ what a rank knows
  * PROVED: what is written is so, and nothing changes. The caller owes rules 1 to 6.
  *
@@ -291,8 +304,8 @@ ULFM_NONNULL static inline int ulfm_wait(ulfm_handle *rank, uint16_t comm, ulfm_
     }
 }
 
-/* The same with at most `polls` polls, 1 or more. ULFM_ERR_PENDING after that: the request is still open, so call it again, or find
- * out who is missing. `reply` is then ULFM_PENDING. */
+/* The same with at most `polls` polls, 1 or more. ULFM_ERR_PENDING after that: the request is still open. ulfm_missing tells whom it
+ * waits for; declare whoever is dead, and call this again. `reply` is then ULFM_PENDING. */
 ULFM_NONNULL static inline int ulfm_wait_for(ulfm_handle *rank, uint16_t comm, uint64_t polls, ulfm_reply *reply)
 {
     for (;;) {
@@ -324,8 +337,8 @@ ULFM_NONNULL static inline int ulfm_agree(ulfm_handle *rank, uint16_t comm, ulfm
     return code == ULFM_SUCCESS ? ulfm_agreed(&reply, flag) : code;
 }
 
-/* The same with at most `polls` polls. After ULFM_ERR_PENDING the agree is still open, and the flag is contributed: go on by
- * ulfm_wait_for and ulfm_agreed. */
+/* The same with at most `polls` polls. After ULFM_ERR_PENDING the agree is still open, and the flag is contributed: ulfm_missing tells
+ * who hasn't contributed. Go on by ulfm_wait_for and ulfm_agreed. */
 ULFM_NONNULL static inline int ulfm_agree_for(ulfm_handle *rank, uint16_t comm, uint64_t polls, ulfm_flag *flag)
 {
     ulfm_reply reply = ULFM_REPLY_INIT;

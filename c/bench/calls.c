@@ -1,8 +1,12 @@
-/* What single calls cost through C, in one thread: the least of several means, in nanoseconds a call. */
+/* What single calls cost through C, in one thread: the least of several means, in nanoseconds a call.
+ *
+ *     calls             measures
+ *     calls --rounds    1,000 rounds of four ranks and a question each, for a profiler that counts instructions */
 #include "ulfm.h"
 
 #include <stdio.h>
 #include <stdlib.h>
+#include <string.h>
 #include <time.h>
 
 enum { CALLS = 4000, REPEATS = 25 };
@@ -86,8 +90,26 @@ static void measure(const char *what, uint16_t count, void (*call)(void))
     printf("%-60s %8.0f ns\n", what, least);
 }
 
-int main(void)
+/* 1,000 agrees of four ranks, each of whom asks whether it is revoked. */
+static void rounds(void)
 {
+    opened(4);
+    for (int round = 0; round < 1000; round++) {
+        agree_of_four();
+        for (int rank = 0; rank < 4; rank++) {
+            bool is;
+            wants(ulfm_is_revoked(&ranks[rank], 0, &is), ULFM_SUCCESS);
+        }
+    }
+    closed(4);
+}
+
+int main(int count, char **words)
+{
+    if (count == 2 && strcmp(words[1], "--rounds") == 0) {
+        rounds();
+        return 0;
+    }
     measure("a poll that is refused (idle), world of 1", 1, refused);
     measure("ulfm_is_revoked, world of 1", 1, is_revoked);
     measure("ulfm_get_failed of an empty group, world of 1", 1, get_failed);

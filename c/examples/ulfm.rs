@@ -32,6 +32,7 @@ extern "C" {
     fn ulfm_poll(rank: *mut Handle, comm: u16, reply: *mut Reply) -> c_int;
     fn ulfm_revoke(rank: *mut Handle, comm: u16, first: *mut bool) -> c_int;
     fn ulfm_get_failed(rank: *mut Handle, comm: u16, ranks: *mut u16, room: usize, count: *mut usize) -> c_int;
+    fn ulfm_missing(rank: *mut Handle, comm: u16, ranks: *mut u16, room: usize, count: *mut usize) -> c_int;
     fn ulfm_ack_failed(rank: *mut Handle, comm: u16, count: u16, acknowledged: *mut u16) -> c_int;
     fn ulfm_free(rank: *mut Handle, comm: u16) -> c_int;
     fn ulfm_strerror(code: c_int) -> *const c_char;
@@ -130,6 +131,14 @@ impl Rank {
     pub fn failed(&mut self, comm: u16) -> Result<Vec<u16>, Code> {
         let (mut ranks, mut count) = (vec![0; 1024], 0);
         checked(unsafe { ulfm_get_failed(&mut self.0, comm, ranks.as_mut_ptr(), ranks.len(), &mut count) })?;
+        ranks.truncate(count);
+        Ok(ranks)
+    }
+
+    /// Who is missing in the open round.
+    pub fn missing(&mut self, comm: u16) -> Result<Vec<u16>, Code> {
+        let (mut ranks, mut count) = (vec![0; 1024], 0);
+        checked(unsafe { ulfm_missing(&mut self.0, comm, ranks.as_mut_ptr(), ranks.len(), &mut count) })?;
         ranks.truncate(count);
         Ok(ranks)
     }

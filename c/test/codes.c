@@ -56,7 +56,7 @@ static void all_answer(ulfm_handle *handle, uint16_t comm, int code)
     EQUAL(is, true);
 }
 
-/* The calls that read what a rank keeps answer this code, and write nothing. Two of them name a communicator. */
+/* The calls that read what a rank keeps answer this code, and write nothing. Three of them name a communicator. */
 static void reads_answer(ulfm_handle *handle, uint16_t comm, int code, int code_of_comm)
 {
     uint16_t list[1] = {UNTOUCHED}, number = UNTOUCHED;
@@ -64,6 +64,7 @@ static void reads_answer(ulfm_handle *handle, uint16_t comm, int code, int code_
     size_t count = UNTOUCHED;
     EQUAL(ulfm_members(handle, comm, list, 1, &count), code_of_comm);
     EQUAL(ulfm_context(handle, comm, &number), code_of_comm);
+    EQUAL(ulfm_missing(handle, comm, list, 1, &count), code_of_comm);
     if (code != ULFM_SUCCESS) {
         EQUAL(ulfm_rank(handle, &number), code);
         EQUAL(ulfm_failures(handle, list, 1, &count), code);
@@ -288,6 +289,61 @@ static void lists_are_cut(void)
     closed(4);
 }
 
+/* Who is missing in a round, as one after the other comes into it. */
+static void missing_are_told(void)
+{
+    uint16_t list[4] = {UNTOUCHED, UNTOUCHED, UNTOUCHED, UNTOUCHED};
+    uint32_t steps = 0;
+    size_t count = UNTOUCHED;
+    ulfm_reply reply;
+    bool first;
+    opened(4, 2, 3);
+    EQUAL(ulfm_missing(&ranks[0], 0, list, 4, &count), ULFM_ERR_IDLE);
+    EQUAL(ulfm_missing(&ranks[0], 1, list, 4, &count), ULFM_ERR_COMM);
+    EQUAL(count + list[0], 2 * UNTOUCHED);
+    EQUAL(ulfm_iagree(&ranks[0], 0, 1), ULFM_SUCCESS);
+    EQUAL(ulfm_missing(&ranks[0], 0, list, 2, &count), ULFM_SUCCESS);
+    EQUAL(count, 3);
+    EQUAL(list[0] * 10 + list[1], 12);
+    EQUAL(list[2], UNTOUCHED);
+    EQUAL(ulfm_missing(&ranks[1], 0, list, 4, &count), ULFM_ERR_IDLE);
+    EQUAL(ulfm_iagree(&ranks[2], 0, 1), ULFM_SUCCESS);
+    EQUAL(ulfm_missing(&ranks[0], 0, list, 4, &count), ULFM_SUCCESS);
+    EQUAL(count, 2);
+    EQUAL(list[0] * 10 + list[1], 13);
+    EQUAL(list[2], UNTOUCHED);
+    EQUAL(ulfm_last_steps(&ranks[0], &steps), ULFM_SUCCESS);
+    EQUAL(steps, 2); /* those of its start */
+    /* who is declared is left out by a poll, and then isn't missing */
+    EQUAL(ulfm_fail(&outside, 3, &first), ULFM_SUCCESS);
+    EQUAL(ulfm_missing(&ranks[2], 0, list, 0, &count), ULFM_SUCCESS);
+    EQUAL(count, 2);
+    EQUAL(ulfm_poll(&ranks[2], 0, &reply), ULFM_SUCCESS);
+    EQUAL(reply.kind, ULFM_PENDING);
+    EQUAL(ulfm_missing(&ranks[0], 0, list, 4, &count), ULFM_SUCCESS);
+    EQUAL(count, 1);
+    EQUAL(list[0], 1);
+    /* also a rank that is declared is answered, and the last to come leaves nobody */
+    EQUAL(ulfm_iagree(&ranks[1], 0, 1), ULFM_SUCCESS);
+    EQUAL(ulfm_fail(&outside, 0, &first), ULFM_SUCCESS);
+    EQUAL(ulfm_missing(&ranks[0], 0, list, 4, &count), ULFM_SUCCESS);
+    EQUAL(count, 0);
+    EQUAL(list[0], 1);
+    EQUAL(ulfm_poll(&ranks[1], 0, &reply), ULFM_SUCCESS);
+    EQUAL(reply.kind, ULFM_AGREED);
+    EQUAL(ulfm_ibarrier(&ranks[1], 0), ULFM_SUCCESS);
+    EQUAL(ulfm_missing(&ranks[1], 0, list, 4, &count), ULFM_SUCCESS);
+    EQUAL(count, 3);
+    EQUAL(list[0] * 100 + list[1] * 10 + list[2], 23);
+    EQUAL(ulfm_ishrink(&ranks[2], 0), ULFM_ERR_BUSY);
+    EQUAL(ulfm_poll(&ranks[2], 0, &reply), ULFM_SUCCESS);
+    EQUAL(ulfm_ishrink(&ranks[2], 0), ULFM_SUCCESS);
+    EQUAL(ulfm_missing(&ranks[2], 0, list, 4, &count), ULFM_SUCCESS);
+    EQUAL(count, 3);
+    EQUAL(list[0] * 100 + list[1] * 10 + list[2], 13);
+    closed(4);
+}
+
 /* What a rank knows of itself, also where it is declared. */
 static void ranks_know_themselves(void)
 {
@@ -357,6 +413,7 @@ int main(void)
     requests_are_checked();
     contexts_are_used_up();
     lists_are_cut();
+    missing_are_told();
     ranks_know_themselves();
     codes_have_texts();
     return checks_end();

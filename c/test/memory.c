@@ -65,7 +65,7 @@ static int opened(ulfm_handle *outside, ulfm_handle *ranks)
     return code;
 }
 
-/* An agree, two failures, the failed group, a shrink, and an agree on the new communicator. */
+/* An agree, two failures, the failed group, a shrink, who is missing in it, and an agree on the new communicator. */
 static void run(void)
 {
     ulfm_handle outside = ULFM_HANDLE_NULL, ranks[RANKS] = {ULFM_HANDLE_NULL};
@@ -92,6 +92,13 @@ static void run(void)
         EQUAL(count, 2);
         EQUAL(failed[0] * 10 + failed[1], 13);
         EQUAL(ulfm_ishrink(&ranks[rank], 0), ULFM_SUCCESS);
+        uint16_t missing[RANKS] = {9};
+        while (again(code = ulfm_missing(&ranks[rank], 0, missing, RANKS, &count))) {
+            EQUAL(count, 2);
+            EQUAL(missing[0], 9);
+        }
+        EQUAL(code, ULFM_SUCCESS);
+        EQUAL(count, 4 - rank / 2);
     }
     for (int rank = 0; rank < RANKS; rank += 2) {
         while (again(code = ulfm_poll(&ranks[rank], 0, &reply)))

@@ -11,7 +11,7 @@ use Rattle.ulfm_comm.specs.Calls.{reply_of}
 use Rattle.ulfm_comm.specs.Excludes.{Excludes}
 use Rattle.ulfm_comm.specs.Fails.{Fails, declared}
 use Rattle.ulfm_comm.specs.declared.calls.polled.Polled.{Polled}
-use Rattle.ulfm_member.specs.Members.{Membership, MemberCalls, MemberFails, MemberGets, MemberPolls}
+use Rattle.ulfm_member.specs.Members.{Membership, MemberCalls, MemberFails, MemberGets, MemberMisses, MemberPolls}
 use Rattle.ulfm_c.specs.Codes.{code}
 use Rattle.ulfm_c.specs.Written.{Lent, Lists, WritesPolled}
 use Rattle.ulfm_c.specs.declared.polled.PolledReply.{PolledReply}
@@ -71,6 +71,14 @@ pub record RankGets (comm : ℕ) (out : Lent) (old new : Membership FlagAnd) (an
   pub group : IfOk reply (λ _. found ≡ failed old.view.words.limits.ranks new.view.pass.seen comm)
   pub code_is : answered ≡ code reply
   pub written : IfOk reply (λ _. Lists found out)
+
+-- a question who is missing in the round of the open request, whose answer is written out where the code is 0
+pub record RankMisses (comm : ℕ) (out : Lent) (old new : Membership FlagAnd) (answered : ℤ) : Type 0 where
+  pub reply : Result (Unit {0}) Refusal
+  pub missing : List ℕ
+  pub misses : MemberMisses flag_meld false comm old reply missing new
+  pub code_is : answered ≡ code reply
+  pub written : IfOk reply (λ _. Lists missing out)
 
 -- a declaration through a rank's handle
 pub record RankFails (rank : ℕ) (first : Bool) (old new : Membership FlagAnd) (answered : ℤ) : Type 0 where

@@ -3,9 +3,10 @@
 //! Each begins with a look: loads of the list of declared failures, from behind those that the rank has seen to the first empty place. So with
 //! N ranks, of which it has seen v declared, a look makes N - v steps at most. A rank that was answered 1 is answered 1 for good, without a
 //! step. Besides what a call's own page says, each answers 18 where the handle holds nothing and 19 where it is the outside's; then nothing is
-//! done. A code other than 0 leaves the rank as it was, but for what its look has seen, and where the call's own page says more.
+//! done. A code other than 0 leaves the rank as it was, but for what its look has seen, and where the call's own page says more. 15 says that
+//! another has contributed as this rank. It doesn't come while C keeps its rules, since a rank has one handle, so no page names it.
 ghost use Rattle.std.specs.Prelude.{◌≡◌, ◌≢◌, pos};
-ghost use Rattle.ulfm_c.specs.Calls.{HandleCalls, PartyCalls, RankAgrees, RankDoes, RankGets, RankPolls, RankShrinks, RankTells};
+ghost use Rattle.ulfm_c.specs.Calls.{HandleCalls, PartyCalls, RankAgrees, RankDoes, RankGets, RankMisses, RankPolls, RankShrinks, RankTells};
 ghost use Rattle.ulfm_c.specs.Written.{lent};
 ghost use Rattle.ulfm_comm.specs.Revokes.{revoked};
 ghost use Rattle.ulfm_model.specs.declared.call.Call.TheVariants.{Ack, Barrier, Free, IsRevoked, Revoke};
@@ -22,8 +23,7 @@ use std::alloc::Global;
 ///
 /// 1 where the rank is declared failed, 2 where it doesn't hold the communicator, 3 where a request is open on it, 5 where no round is
 /// left but the last, which is kept for a shrink. After these, 1 where the rank was declared and another rank had left it out of the round
-/// before it contributed, and 15 where the rank's place in the round has a contribution that isn't this call's. A code other than 0 starts
-/// no request.
+/// before it contributed. A code other than 0 starts no request.
 #[unsafe(no_mangle)]
 pub extern "C" fn ulfm_iagree(alloc: Global, handle: &mut Handle, comm: u16, flag: Flag) -> i32
     ensures { HandleCalls (PartyCalls (RankAgrees comm flag)) handle.old.party handle.new.party result }
@@ -43,8 +43,8 @@ pub extern "C" fn ulfm_iagree(alloc: Global, handle: &mut Handle, comm: u16, fla
 /// the request is open, until a poll ends it. It makes the steps of a look and one more.
 ///
 /// 1 where the rank is declared failed, 2 where it doesn't hold the communicator, 3 where a request is open on it, 4 where the rank has a
-/// shrink open on any of its communicators, 5 where no round is left. After these, 1 and 15 as for `ulfm_iagree`. A code other than 0 starts
-/// no request.
+/// shrink open on any of its communicators, 5 where no round is left. After these, 1 as for `ulfm_iagree`. A code other than 0 starts no
+/// request.
 #[unsafe(no_mangle)]
 pub extern "C" fn ulfm_ishrink(alloc: Global, handle: &mut Handle, comm: u16) -> i32
     ensures { HandleCalls (PartyCalls (RankShrinks comm)) handle.old.party handle.new.party result }
@@ -64,7 +64,7 @@ pub extern "C" fn ulfm_ishrink(alloc: Global, handle: &mut Handle, comm: u16) ->
 /// says that it is revoked. It makes the steps of a look and one more.
 ///
 /// 1 where the rank is declared failed, 2 where it doesn't hold the communicator, 3 where a request is open on it, 5 where no round is
-/// left. After these, 15 where the rank has arrived in this round before. A code other than 0 starts no request.
+/// left. A code other than 0 starts no request.
 #[unsafe(no_mangle)]
 pub extern "C" fn ulfm_ibarrier(alloc: Global, handle: &mut Handle, comm: u16) -> i32
     ensures { HandleCalls (PartyCalls (RankDoes (λ r. Barrier r comm) Started)) handle.old.party handle.new.party result }
@@ -130,6 +130,35 @@ pub extern "C" fn ulfm_get_failed(
         None => NO_HANDLE,
         Some(mut party) => {
             let code = party.get_failed(alloc, comm, ranks, count);
+            *handle = Handle::of(party);
+            code
+        }
+    }
+}
+
+/// Writes out who is missing in the round of the request that is open on a communicator, in the members' order: of an agree or a shrink the
+/// members who have neither contributed nor were marked as left out, of a barrier those who haven't arrived. Whoever is listed was missing
+/// when its place was loaded, and may have come since; whoever isn't has come. `ranks` gets as many as it has room for, and what is behind
+/// them in it is as it was; `count` gets how many there are. It is no call of the rank: it makes no look, what the rank keeps is as it was,
+/// and `ulfm_last_steps` doesn't count it. Where the communicator has n members it makes n steps, and takes memory for n ranks while it runs.
+///
+/// 2 where the rank doesn't hold the communicator, 6 where no request is open on it, 14 where memory is refused. A rank that is declared
+/// failed is answered like any other.
+#[unsafe(no_mangle)]
+pub extern "C" fn ulfm_missing(
+    alloc: Global,
+    handle: &mut Handle,
+    comm: u16,
+    ranks: &mut [u16],
+    count: &mut usize,
+) -> i32
+    ensures calls { HandleCalls (PartyCalls (RankMisses comm (lent ranks.old ranks.new count.new))) handle.old.party handle.new.party result }
+    ensures kept { result ≢ pos 0 → (ranks.new ≡ ranks.old) × (count.new ≡ count.old) }
+{
+    match handle.take(alloc) {
+        None => NO_HANDLE,
+        Some(mut party) => {
+            let code = party.missing(alloc, comm, ranks, count);
             *handle = Handle::of(party);
             code
         }

@@ -1,6 +1,6 @@
 //! The parties of a world, its ranks and its outside, and their calls with the codes that C sees.
 ghost use Rattle.std.specs.Prelude.{◌≡◌, ◌≢◌, pos};
-ghost use Rattle.ulfm_c.specs.Calls.{PartyCalls, PartyFails, RankAgrees, RankDoes, RankGets, RankPolls, RankShrinks, RankTells};
+ghost use Rattle.ulfm_c.specs.Calls.{PartyCalls, PartyFails, RankAgrees, RankDoes, RankGets, RankMisses, RankPolls, RankShrinks, RankTells};
 ghost use Rattle.ulfm_c.specs.Reads.{PartyReads, RankHolds, RankLists, RankShows};
 ghost use Rattle.ulfm_c.specs.Written.{Lists, lent};
 ghost use Rattle.ulfm_comm.specs.Revokes.{revoked};
@@ -143,6 +143,31 @@ impl Party {
             Party::Rank(member) => {
                 let mut found = Vec::new(alloc);
                 match member.get_failed(comm, &mut found) {
+                    Ok(()) => {
+                        write_list(&found, ranks, count);
+                        0
+                    }
+                    Err(refusal) => refusal_code(refusal),
+                }
+            }
+            Party::Outside(_) => NOT_A_RANK,
+        }
+    }
+
+    pub(crate) fn missing(
+        &mut self,
+        alloc: Global,
+        comm: u16,
+        ranks: &mut [u16],
+        count: &mut usize,
+    ) -> i32
+        ensures calls { PartyCalls (RankMisses comm (lent ranks.old ranks.new count.new)) self.old self.new result }
+        ensures kept { result ≢ pos 0 → (ranks.new ≡ ranks.old) × (count.new ≡ count.old) }
+    {
+        match self {
+            Party::Rank(member) => {
+                let mut found = Vec::new(alloc);
+                match member.missing(comm, &mut found) {
                     Ok(()) => {
                         write_list(&found, ranks, count);
                         0

@@ -34,3 +34,4 @@ pub mod Agreement
 pub mod Peeking
 pub mod Ready
 pub mod Begins
+pub mod Misses

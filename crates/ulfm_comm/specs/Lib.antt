@@ -18,6 +18,7 @@ pub mod AlsoLeft
 pub mod Agreement
 pub mod Phase
 pub mod Missing
+pub mod Misses
 pub mod Known
 pub mod Step
 pub mod Counts

@@ -6,6 +6,7 @@ mod fail;
 mod free;
 mod get_failed;
 mod is_revoked;
+mod missing;
 mod poll;
 pub mod polled;
 mod replies;

@@ -196,6 +196,19 @@ fn member_get_failed(rt: HostRuntime) -> Result<(), Fail> {
 }
 
 #[test]
+fn member_missing(rt: HostRuntime) -> Result<(), Fail> {
+    let alloc = rt.alloc();
+    let (_, mut member) = two(&rt, alloc)?;
+
+    member.iagree(0, FlagAnd { bits: 0b0110 })?;
+    let mut found = Vec::new(alloc);
+    member.missing(0, &mut found)?;
+    assert_eq!(rt; found.as_slice(), [1].as_slice());
+
+    Ok(())
+}
+
+#[test]
 fn member_ack_failed(rt: HostRuntime) -> Result<(), Fail> {
     let (_, mut member) = two(&rt, rt.alloc())?;
 

@@ -158,6 +158,20 @@ fn rank_get_failed(rt: HostRuntime) -> Result<(), Fail> {
 }
 
 #[test]
+fn rank_missing(rt: HostRuntime) -> Result<(), Fail> {
+    let alloc = rt.alloc();
+    let (_, member) = two(&rt, alloc)?;
+    let (world, mut rank, mut pass) = member.into_parts();
+
+    rank.ibarrier(&world, &mut pass, 0)?;
+    let mut found = Vec::new(alloc);
+    rank.missing(&world, &mut pass, 0, &mut found)?;
+    assert_eq!(rt; found.as_slice(), [1].as_slice());
+
+    Ok(())
+}
+
+#[test]
 fn rank_ack_failed(rt: HostRuntime) -> Result<(), Fail> {
     let (_, mut member) = two(&rt, rt.alloc())?;
     member.fail(1)?;

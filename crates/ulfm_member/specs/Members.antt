@@ -1,9 +1,9 @@
 -- A `Member`, that is a rank of a world with the pass that it calls with, and what its calls promise.
-use Rattle.std.specs.Prelude.{◌≡◌, ℕ, Bool, Result, IfOk}
+use Rattle.std.specs.Prelude.{◌≡◌, ℕ, Bool, List, Result, IfOk, OnErr}
 use Rattle.ulfm_model.specs.declared.{call.Call.{Call}, call.Call.TheVariants.{Poll}, refusal.Refusal.{Refusal}, reply.Reply.{Reply}}
-use Rattle.ulfm_model.specs.Records.{Fits, Record}
+use Rattle.ulfm_model.specs.Records.{Fits, Record, held_at}
 use Rattle.ulfm_words.specs.Steps.{Heard, IsNew, IsView, Learns, Name, View, view_of}
-use Rattle.ulfm_comm.specs.{Calls.{Calls, Gets}, Counts.{TakesSteps}, Fails.{Fails}, Polls.{EndsIn, Polls}}
+use Rattle.ulfm_comm.specs.{Calls.{Calls, Gets}, Counts.{TakesSteps}, Fails.{Fails}, Misses.{EndsHeld, TellsMissing}, Polls.{EndsIn, Polls}}
 use Rattle.ulfm_comm.specs.declared.calls.polled.Polled.{Polled}
 use Rattle.ulfm_comm.specs.Local.{Local, local}
 
@@ -45,6 +45,17 @@ pub record MemberGets {P : Type 0} (meld : P → P → P) (alone : Bool) (asked 
   pub words : new.view.words ≡ old.view.words
   pub gets : Gets meld alone asked (local_of old) count result (after_call old new)
   pub steps : TakesSteps asked (local_of old) new.last (after_call old new)
+
+-- A member tells who is missing in the round of its open request on communicator c, as its rank tells it, or is refused without a step. Its record,
+-- and the steps of its rank's last call, are as they were.
+pub record MemberMisses {P : Type 0} (meld : P → P → P) (alone : Bool) (c : ℕ) (old : Membership P) (result : Result (Unit {0}) Refusal)
+    (missing : List ℕ) (new : Membership P) : Type 0 where
+  pub words : new.view.words ≡ old.view.words
+  pub own : new.own ≡ old.own
+  pub last : new.last ≡ old.last
+  pub ends : EndsHeld (held_at old.own c) result
+  pub tells : IfOk result (λ _. TellsMissing meld alone old.own c old.view (view_of old.view.words new.view.pass) missing)
+  pub kept : OnErr result (new.view.pass ≡ old.view.pass)
 
 -- a member's poll on communicator c, within its bound of steps
 pub record MemberPolls {P : Type 0} (meld : P → P → P) (alone : Bool) (c : ℕ) (old : Membership P) (result : Result (Polled P) Refusal) (new : Membership P)

@@ -11,8 +11,9 @@ ghost use Rattle.ulfm_words.specs.Steps.{view_of, Tells};
 ghost use Rattle.ulfm_comm.specs.Calls.{reply_of};
 ghost use Rattle.ulfm_comm.specs.Excludes.{Excludes};
 ghost use Rattle.ulfm_comm.specs.Fails.{declared};
+ghost use Rattle.ulfm_comm.specs.Misses.{size_held};
 ghost use Rattle.ulfm_comm.specs.Revokes.{revoked};
-ghost use Rattle.ulfm_member.specs.Members.{IsMember, MemberCalls, MemberFails, MemberGets, MemberLearns, MemberPolls};
+ghost use Rattle.ulfm_member.specs.Members.{IsMember, MemberCalls, MemberFails, MemberGets, MemberLearns, MemberMisses, MemberPolls};
 
 use std::alloc::Allocator;
 use std::marker::Model;
@@ -275,6 +276,26 @@ where
     {
         self.rank
             .get_failed(&self.world, &mut self.pass, comm, found)
+    }
+
+    /// Puts the members who are missing in the round of the open request on a communicator into a vector, as `Rank::missing`.
+    ///
+    /// ```
+    /// member.iagree(0, FlagAnd { bits: 0b0110 })?;
+    /// let mut found = Vec::new(alloc);
+    /// member.missing(0, &mut found)?;
+    /// assert_eq!(rt; found.as_slice(), [1].as_slice());
+    /// ```
+    pub fn missing<B: Allocator>(
+        &mut self,
+        comm: u16,
+        found: &mut Vec<u16, B>,
+    ) -> Result<(), Refusal>
+        ensures misses { MemberMisses P.meld W.alone comm self.old result found.new.items self.new }
+        ensures kept { OnErr result (found.new.items ≡ found.old.items) }
+        ensures memory { result ≡ Err NoMemory → vec_capacity found.old < size_held (held_at self.old.own comm) }
+    {
+        self.rank.missing(&self.world, &mut self.pass, comm, found)
     }
 
     /// Acknowledges the first `count` failures of a communicator, as `Rank::ack_failed`.

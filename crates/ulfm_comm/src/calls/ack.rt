@@ -26,7 +26,7 @@ impl<P: Packed, A: Allocator + Copy> Rank<P, A> {
     /// // There is one failure to acknowledge, however many are asked for.
     /// assert!(rt; rank.ack_failed(&world, &mut pass, 0, 9) == Ok(1));
     /// ```
-    #[inline(never)]
+    #[inline]
     pub fn ack_failed<W: Words<P, A>>(
         &mut self,
         world: &World<W, P, A>,

@@ -30,7 +30,7 @@ impl<P: Packed, A: Allocator + Copy> Rank<P, A> {
     /// // A communicator has one request of a rank at a time.
     /// assert!(rt; rank.iagree(&world, &mut pass, 0, flag) == Err(Refusal::Busy));
     /// ```
-    #[inline(never)]
+    #[inline]
     pub fn iagree<W: Words<P, A>>(
         &mut self,
         world: &World<W, P, A>,

@@ -28,7 +28,7 @@ impl<P: Packed, A: Allocator + Copy> Rank<P, A> {
     /// // Rank 1 was declared failed before, and can't arrive any more.
     /// assert!(rt; rank.poll(&world, &mut pass, 0) == Err(Refusal::ProcFailed));
     /// ```
-    #[inline(never)]
+    #[inline]
     pub fn ibarrier<W: Words<P, A>>(
         &mut self,
         world: &World<W, P, A>,

@@ -30,7 +30,7 @@ impl<P: Packed, A: Allocator + Copy> Rank<P, A> {
     /// assert!(rt; rank.members(1).is_none());
     /// assert!(rt; rank.free(&world, &mut pass, 0) == Err(Refusal::WorldKept));
     /// ```
-    #[inline(never)]
+    #[inline]
     pub fn free<W: Words<P, A>>(
         &mut self,
         world: &World<W, P, A>,

@@ -30,7 +30,7 @@ impl<P: Packed, A: Allocator + Copy> Rank<P, A> {
     /// rank.get_failed(&world, &mut pass, 0, &mut found)?;
     /// assert_eq!(rt; found.as_slice(), [1].as_slice());
     /// ```
-    #[inline(never)]
+    #[inline]
     pub fn get_failed<W: Words<P, A>, B: Allocator>(
         &mut self,
         world: &World<W, P, A>,

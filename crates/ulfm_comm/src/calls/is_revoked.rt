@@ -25,7 +25,7 @@ impl<P: Packed, A: Allocator + Copy> Rank<P, A> {
     /// rank.revoke(&world, &mut pass, 0)?;
     /// assert!(rt; rank.is_revoked(&world, &mut pass, 0) == Ok(true));
     /// ```
-    #[inline(never)]
+    #[inline]
     pub fn is_revoked<W: Words<P, A>>(
         &mut self,
         world: &World<W, P, A>,

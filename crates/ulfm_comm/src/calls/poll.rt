@@ -54,7 +54,7 @@ impl<P: Packed, A: Allocator + Copy> Rank<P, A> {
     /// };
     /// assert!(rt; rank.poll(&world, &mut pass, 0) == Ok(agreed));
     /// ```
-    #[inline(never)]
+    #[inline]
     pub fn poll<W: Words<P, A>>(
         &mut self,
         world: &World<W, P, A>,

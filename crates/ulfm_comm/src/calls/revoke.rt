@@ -25,7 +25,7 @@ impl<P: Packed, A: Allocator + Copy> Rank<P, A> {
     /// assert!(rt; rank.revoke(&world, &mut pass, 0) == Ok(true));
     /// assert!(rt; rank.revoke(&world, &mut pass, 0) == Ok(false));
     /// ```
-    #[inline(never)]
+    #[inline]
     pub fn revoke<W: Words<P, A>>(
         &mut self,
         world: &World<W, P, A>,

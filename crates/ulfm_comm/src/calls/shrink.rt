@@ -38,7 +38,7 @@ impl<P: Packed, A: Allocator + Copy> Rank<P, A> {
     /// };
     /// assert!(rt; rank.poll(&world, &mut pass, 0) == Ok(alone));
     /// ```
-    #[inline(never)]
+    #[inline]
     pub fn ishrink<W: Words<P, A>>(
         &mut self,
         world: &World<W, P, A>,

@@ -1,0 +1,119 @@
+ghost use Rattle.std.specs.Prelude.{◌≡◌, ◌+◌, ◌<◌, ◌≤◌, [], false, Err, IfOk, OnErr, length, vec_capacity};
+ghost use Rattle.ulfm_model.specs.Records.{held_at};
+ghost use Rattle.ulfm_model.specs.declared.refusal.Refusal.TheVariants.{OutOfMemory as NoMemory};
+ghost use Rattle.ulfm_words.specs.Places.{IsCell};
+ghost use Rattle.ulfm_words.specs.Steps.{view_of, IsView, Goes, limits_in, seen_in, steps_in};
+ghost use Rattle.ulfm_steps.specs.Rounds.{IsRoundIn};
+ghost use Rattle.ulfm_comm.specs.Local.{local, FitsView};
+ghost use Rattle.ulfm_comm.specs.Misses.{AreMissing, EndsHeld, TellsMissing, has_come, round_in, size_held};
+
+use crate::rank::Rank;
+use crate::world::World;
+use std::alloc::Allocator;
+use ulfm_laws::meld::Packed;
+use ulfm_model::call::Request;
+use ulfm_model::refusal::Refusal;
+use ulfm_words::{Words, load_arrival, load_summary};
+
+// Whether a member has come into the round of a request, by one load of its place.
+#[inline(always)]
+fn load_come<P: Packed, A: Allocator, W: Words<P, A>>(
+    words: &W,
+    pass: &mut W::Pass,
+    comm: u16,
+    request: Request,
+    rank: u16,
+) -> bool
+    requires of { IsView P.meld (view_of (W.name words.now) (W.sight pass.old)) }
+    requires within { IsCell (limits_in (view_of (W.name words.now) (W.sight pass.old))) comm (round_in request) rank }
+    ensures goes { Goes P.meld W.alone false 1 (view_of (W.name words.now) (W.sight pass.old)) (view_of (W.name words.now) (W.sight pass.new)) }
+    ensures steps { steps_in (view_of (W.name words.now) (W.sight pass.new)) ≡ steps_in (view_of (W.name words.now) (W.sight pass.old)) + 1 }
+    ensures come { result ≡ has_come (seen_in (view_of (W.name words.now) (W.sight pass.new))) comm request rank }
+{
+    match request {
+        Request::Agree { round } => load_summary(words, pass, comm, round, rank).is_some(),
+        Request::Shrink { round } => load_summary(words, pass, comm, round, rank).is_some(),
+        Request::Barrier { round } => load_arrival(words, pass, comm, round, rank),
+    }
+}
+
+// Puts those members into a vector whose place in the round of a request is empty. It has room for all.
+fn put_missing<P: Packed, A: Allocator, W: Words<P, A>, B: Allocator>(
+    words: &W,
+    pass: &mut W::Pass,
+    comm: u16,
+    request: Request,
+    group: &[u16],
+    found: &mut Vec<u16, B>,
+)
+    requires of { IsView P.meld (view_of (W.name words.now) (W.sight pass.old)) }
+    requires round { IsRoundIn (view_of (W.name words.now) (W.sight pass.old)) comm (round_in request) group.now }
+    requires empty { found.old.items ≡ [] }
+    requires room { length group.now ≤ vec_capacity found.old }
+    ensures goes { Goes P.meld W.alone false (length group.now) (view_of (W.name words.now) (W.sight pass.old))
+        (view_of (W.name words.now) (W.sight pass.new)) }
+    ensures steps { steps_in (view_of (W.name words.now) (W.sight pass.new))
+        ≡ steps_in (view_of (W.name words.now) (W.sight pass.old)) + length group.now }
+    ensures are { AreMissing comm request group.now (seen_in (view_of (W.name words.now) (W.sight pass.old)))
+        (seen_in (view_of (W.name words.now) (W.sight pass.new))) found.new.items }
+{
+    for rank in group {
+        if !load_come(words, pass, comm, request, *rank) {
+            let _ = found.push(*rank);
+        }
+    }
+}
+
+impl<P: Packed, A: Allocator> Rank<P, A> {
+    /// Puts the members who are missing in the round of the open request on a communicator into a vector, in the members' order, so that
+    /// whoever waits can tell for whom. What the vector held is dropped. Of an agree or a shrink those are missing who have neither
+    /// contributed nor were marked as left out; of a barrier those who haven't arrived. A member that was declared failed is among them
+    /// until somebody's poll marks it. Each member's place is loaded once, in order: whoever is listed was missing when its place was
+    /// loaded, and may have come since; whoever isn't has come.
+    ///
+    /// It is no call of the rank: it makes no look, `last_steps` doesn't count it, and what the rank keeps is as it was. It makes n
+    /// steps, where the communicator has n members, and none where it is refused.
+    ///
+    /// `NoSuchComm` where the rank doesn't hold the communicator, `Idle` where no request is open on it, `OutOfMemory` where the vector
+    /// has less room than the communicator has members and its growth is refused. After a refusal the vector is as it was. A rank that
+    /// is declared failed is answered like any other.
+    ///
+    /// ```
+    /// rank.ibarrier(&world, &mut pass, 0)?;
+    /// let mut found = Vec::new(alloc);
+    /// rank.missing(&world, &mut pass, 0, &mut found)?;
+    /// assert_eq!(rt; found.as_slice(), [1].as_slice());
+    /// ```
+    #[inline(never)]
+    pub fn missing<W: Words<P, A>, B: Allocator>(
+        &self,
+        world: &World<W, P, A>,
+        pass: &mut W::Pass,
+        comm: u16,
+        found: &mut Vec<u16, B>,
+    ) -> Result<(), Refusal>
+        requires of { IsView P.meld (view_of world.now (W.sight pass.old)) }
+        requires fits { FitsView P.meld (local self.now.own (view_of world.now (W.sight pass.old))) }
+        ensures ends { EndsHeld (held_at self.now.own comm) result }
+        ensures tells { IfOk result (λ _. TellsMissing P.meld W.alone self.now.own comm (view_of world.now (W.sight pass.old))
+            (view_of world.now (W.sight pass.new)) found.new.items) }
+        ensures kept { OnErr result ((found.new.items ≡ found.old.items) × (W.sight pass.new ≡ W.sight pass.old)) }
+        ensures memory { result ≡ Err NoMemory → vec_capacity found.old < size_held (held_at self.now.own comm) }
+        ensures of { IsView P.meld (view_of world.now (W.sight pass.new)) }
+        ensures fits { FitsView P.meld (local self.now.own (view_of world.now (W.sight pass.new))) }
+    {
+        let Some(x) = self.own.held(comm) else {
+            return Err(Refusal::NoSuchComm);
+        };
+        let Some(request) = x.request else {
+            return Err(Refusal::Idle);
+        };
+        let more = x.group.len().saturating_sub(found.len());
+        if found.reserve(more).is_err() {
+            return Err(Refusal::OutOfMemory);
+        }
+        found.clear();
+        put_missing(&world.words, pass, comm, request, &x.group, found);
+        Ok(())
+    }
+}
