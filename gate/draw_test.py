@@ -6,11 +6,12 @@ three pictures look.
 
 PROGRAM is crates/ulfm/out/ulfm, if it isn't given. `--keep` writes the pictures and text forms of docs/pictures anew. Of each generated trace the
 picture is read by a parser that isn't ours, and has a title for each row; the text form without its columns is the trace, up to its bad line; and
-both say the verdict that `ulfm check` prints. The last line is 'N passed, M failed'.
+both say the verdict that `ulfm check` prints. On a pseudo-terminal the text form is compared with what `gate/drawn_rows.py` makes by the rules. The last line is 'N passed, M failed'.
 """
 import argparse
 import html
 import os
+import pty
 import random
 import re
 import shutil
@@ -18,12 +19,14 @@ import struct
 import subprocess
 import sys
 import tempfile
+import tty
 from xml.etree import ElementTree
 
 TOP = os.path.dirname(os.path.dirname(os.path.realpath(__file__)))
 sys.path.insert(0, os.path.join(TOP, "bench"))
 from fuzz import changed, script  # noqa: E402
 from traces import pending, shrinks  # noqa: E402
+from drawn_rows import drawn  # noqa: E402
 
 PICTURES = os.path.join(TOP, "docs/pictures")
 SVG = "{http://www.w3.org/2000/svg}"
@@ -121,6 +124,50 @@ def kept(program, keep):
             holds(f"{file} is what the program draws", os.path.exists(file) and open(file, "rb").read() == shown)
 
 
+def on_terminal(program, text, words, variables):
+    """What is printed on a terminal, for these words over a text, with these variables and no others."""
+    ours, its = pty.openpty()
+    tty.setraw(its)
+    process = subprocess.Popen([program, *words], stdin=subprocess.PIPE, stdout=its, stderr=subprocess.DEVNULL, env=variables)
+    os.close(its)
+    process.stdin.write(text)
+    process.stdin.close()
+    printed = b""
+    while True:
+        try:
+            piece = os.read(ours, 65536)
+        except OSError:  # the terminal's other end was closed
+            piece = b""
+        if not piece:
+            break
+        printed += piece
+    os.close(ours)
+    process.wait(timeout=120)
+    return printed
+
+
+def looks_right(program):
+    """The text form, on a terminal of each kind and beside one, is what the rules say, byte for byte."""
+    utf8 = {"TERM": "xterm-256color", "LC_ALL": "C.UTF-8"}
+    kinds = (
+        ("colours", (), utf8),
+        ("colours", (), {"TERM": "xterm-256color", "LANG": "en_US.UTF-8", "NO_COLOR": ""}),
+        ("colours", (), {"TERM": "xterm", "LC_ALL": "", "LC_CTYPE": "de_DE.utf8", "LANG": "C"}),
+        ("boxes", (), utf8 | {"NO_COLOR": "1"}),
+        ("ascii", ("--ascii",), utf8),
+        ("ascii", (), utf8 | {"TERM": "dumb"}),
+        ("ascii", (), {"TERM": "xterm-256color", "LC_ALL": "C", "LANG": "en_US.UTF-8"}),
+        ("ascii", (), {"TERM": "xterm-256color"}),
+    )
+    for name in ("recovery_of_three", "late_arrival", "mark_comes_first", "decision_of_nobody", "revoked_between_loads", "illegal_reply"):
+        text = open(os.path.join(PICTURES, name + ".trace"), "rb").read()
+        verdict = ran(program, text, "check")[0].decode()
+        for looks, words, variables in kinds:
+            found = on_terminal(program, text, ("draw", "--text", *words), variables)
+            holds(f"{name} on a terminal with {variables} and {words} is drawn in {looks}", found == drawn(text, verdict, looks))
+        holds(f"{name} into a pipe is drawn in ASCII", ran(program, text, "draw", "--text")[0] == drawn(text, verdict, "ascii"))
+
+
 def same_as_examples():
     """The traces of the worked step scripts are what their scripts give."""
     for script_file in sorted(os.listdir(os.path.join(TOP, "examples"))):
@@ -197,6 +244,7 @@ def main():
     same_as_examples()
     kept(program, asked.keep)
     stands_out()
+    looks_right(program)
     verdicts = {True: 0, False: 0}
     for text in traces(program, asked.traces, rng):
         wrong = fits(program, text)

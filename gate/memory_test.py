@@ -4,8 +4,8 @@
 A line of 1,000,000,000 letters, in a script of calls, a script of steps and a trace, is found too long within 32 MB in all, with nothing printed but
 what the lines before print. A script whose replies list a thousand failed ranks again and again prints more than 32 MB several times over, within 32 MB
 in all: what it prints isn't kept. And each allocation of a run is refused in turn, by a `malloc` of this test that is loaded before the C library's:
-that one alone, and with all behind it; of scripts, a trace and a race of threads. Each such run ends within a minute, tells that it is out of memory and
-has printed a beginning of its output, of a verdict or a race nothing; or, where one alone was refused, it had asked for less and prints all. The last
+that one alone, and with all behind it; of scripts, a trace, pictures and a race of threads. Each such run ends within a minute, tells that it is out of memory and
+has printed a beginning of its output, of a verdict, a picture or a race nothing; or, where one alone was refused, it had asked for less and prints all. The last
 run is one in which none is refused.
 
     gate/memory_test.py [PROGRAM]      the last line is 'N passed, M failed'
@@ -28,11 +28,20 @@ LONG = (
 LISTED = 1000
 LISTS = 30_000
 RACE = b"round 0 agreed fffffff8 failed 0 clean\nround 1 agreed fffffff1 failed 0 clean\nshrunk 1 context 1 members 0 1 2\n"
+# words of a run, the file that it reads and the one that has its output, and its status
 REFUSED = (
-    *((["run"], f"{name}.ulfm") for name in ("one_rank", "shrinks_keep_order", "acknowledgements_count", "refusals_in_order")),
-    (["run", "--steps"], "contribution_in_flight.steps"),
-    (["check"], "trace_judged_a.trace"),
-    (["race", "--ranks", "3", "--rounds", "2"], None),
+    *(
+        (["run"], f"examples/{name}.ulfm", f"examples/{name}.out", 0)
+        for name in ("one_rank", "shrinks_keep_order", "acknowledgements_count", "refusals_in_order")
+    ),
+    (["run", "--steps"], "examples/contribution_in_flight.steps", "examples/contribution_in_flight.out", 0),
+    (["check"], "examples/trace_judged_a.trace", "examples/trace_judged_a.out", 0),
+    *(
+        (words, f"docs/pictures/{name}.trace", f"docs/pictures/{name}.{end}", status)
+        for name, status in (("recovery_of_three", 0), ("late_arrival", 0), ("illegal_reply", 1))
+        for words, end in ((["draw"], "svg"), (["draw", "--text"], "txt"))
+    ),
+    (["race", "--ranks", "3", "--rounds", "2"], None, None, 0),
 )
 REFUSING = r"""
 #include <errno.h>
@@ -128,18 +137,17 @@ def ran(library, words, text, first, last):
 
 
 def is_refused(said, words, output):
-    """Whether memory is told, and a beginning of the output was written, of a verdict or a race nothing."""
-    return said[1:] == (b"ulfm: out of memory\n", 3) and output.startswith(said[0]) and not (said[0] and words[0] in ("check", "race"))
+    """Whether memory is told, and a beginning of the output was written, of a verdict, a picture or a race nothing."""
+    return said[1:] == (b"ulfm: out of memory\n", 3) and output.startswith(said[0]) and not (said[0] and words[0] in ("check", "draw", "race"))
 
 
-def refused(library, words, name):
+def refused(library, words, read, printed, status):
     """What is wrong with runs whose memory is refused, or None."""
     text, output = b"", RACE
-    if name:
-        example = os.path.join(HERE, "examples", name)
-        with open(example, "rb") as it, open(os.path.splitext(example)[0] + ".out", "rb") as of:
+    if read:
+        with open(os.path.join(HERE, read), "rb") as it, open(os.path.join(HERE, printed), "rb") as of:
             text, output = it.read(), of.read()
-    whole = (output, b"", 0)
+    whole = (output, b"", status)
     for number in range(1, 10000):
         # this one alone, and it with all behind it; how many a race asks for hangs on its schedule, so each run tells for itself
         runs = [(what, *ran(library, words, text, number, last)) for what, last in (("", number), (" and all behind it", 1 << 60))]
@@ -166,8 +174,8 @@ def main():
     faults["a long output"] = long_output()
     with tempfile.TemporaryDirectory() as folder:
         library = refusing_library(folder)
-        for words, name in REFUSED:
-            faults[f"memory refused to {name or 'a race'}"] = refused(library, words, name)
+        for words, read, printed, status in REFUSED:
+            faults[f"memory refused to {' '.join(words)} of {read or 'nothing'}"] = refused(library, words, read, printed, status)
     for name, fault in faults.items():
         if fault:
             print(f"{name}: {fault}")

@@ -1,3 +1,4 @@
 pub mod Columns
 pub mod Drawings
 pub mod Forms
+pub mod Words

@@ -9,6 +9,7 @@ use crate::picture::{line_at, lines_of};
 use crate::say::say_number;
 use crate::sheet::{Looks, put_row, put_words};
 use std::alloc::{AllocError, Allocator};
+use ulfm_model::Limits;
 use ulfm_model::event::Event;
 use ulfm_model::reply::Reply;
 use ulfm_story::{Note, Row, Story, split_line, tell_story};
@@ -49,7 +50,8 @@ fn own_lines(text: &[u8], verdict: Verdict) -> usize
 
 /// The text form of a trace with this verdict: up to its bad line, if it has one.
 ///
-/// Each line of the trace stands behind its columns and a tab, so that `cut -s -f 2-` gives the trace back. The last line is that of the verdict.
+/// Each line of the trace stands behind its columns and a tab, so that `cut -s -f 2-` gives the trace back. The last
+/// line is that of the verdict.
 pub fn draw_text<A: Allocator + Copy + Drop>(
     alloc: A,
     text: &[u8],
@@ -60,7 +62,7 @@ pub fn draw_text<A: Allocator + Copy + Drop>(
 {
     let mut sheet = Vec::new(alloc);
     put_rows(alloc, &mut sheet, text, verdict, looks)?;
-    put_legend(&mut sheet)?;
+    put_legend(alloc, &mut sheet, looks)?;
     let line = verdict_line(alloc, verdict)?;
     sheet.extend_from_slice(&line)?;
     Ok(sheet)
@@ -76,15 +78,26 @@ fn put_rows<A: Allocator + Copy + Drop>(
 ) -> Result<(), AllocError>
     ensures { OnOk result (Gives sheet.old.items [] → Gives sheet.new.items (own_lines verdict text.now)) }
 {
-    match tell_story(alloc, text, lines_of(verdict))? {
-        Some(story) => {
-            put_table(alloc, sheet, &story, text, verdict, looks)?;
-            Ok(())
-        }
-        None => {
-            put_bare(sheet, text, own_lines(text, verdict))?;
-            Ok(())
-        }
+    let story = match tell_story(alloc, text, lines_of(verdict))? {
+        Some(story) => story,
+        None => nothing_told(alloc),
+    };
+    put_table(alloc, sheet, &story, text, verdict, looks)
+}
+
+/// The story of a text that has no header: nothing.
+fn nothing_told<A: Allocator + Copy>(alloc: A) -> Story<A> {
+    Story {
+        limits: Limits {
+            ranks: 0,
+            comms: 0,
+            rounds: 0,
+        },
+        rows: Vec::new(alloc),
+        bars: Vec::new(alloc),
+        notes: Vec::new(alloc),
+        declared: Vec::new(alloc),
+        lanes: Vec::new(alloc),
     }
 }
 
@@ -114,38 +127,57 @@ fn put_table<A: Allocator + Copy + Drop>(
     Ok(())
 }
 
-/// Lines without columns.
-fn put_bare<A: Allocator>(
-    sheet: &mut Vec<u8, A>,
-    text: &[u8],
-    lines: usize,
-) -> Result<(), AllocError>
-    ensures { OnOk result (Gives sheet.old.items [] → Gives sheet.new.items (lines_taken [] lines text.now)) }
-{
-    let mut left = text;
-    'lines: for number in 0..lines {
-        let Some((line, behind)) = split_line(left) else {
-            return Ok(());
-        };
-        put_row(sheet, b"", line)?;
-        left = behind;
-    }
-    Ok(())
-}
+/// The signs of what happens, each with its meaning.
+const HAPPENINGS: [(u8, &str); 8] = [
+    (b'+', "call"),
+    (b'o', "look"),
+    (b'C', "contribution"),
+    (b'X', "left out"),
+    (b'F', "declared"),
+    (b'A', "arrival"),
+    (b'R', "revocation"),
+    (b'N', "new communicator"),
+];
 
-/// What the characters mean.
-fn put_legend<A: Allocator>(sheet: &mut Vec<u8, A>) -> Result<(), AllocError>
+/// The signs of replies, and of how things stand.
+const STANDINGS: [(u8, &str); 6] = [
+    (b'*', "answered"),
+    (b'?', "pending"),
+    (b'!', "refused"),
+    (b'|', "under way"),
+    (b':', "declared before"),
+    (b'=', "decided, or all arrived"),
+];
+
+/// What the signs mean, as they look.
+fn put_legend<A: Allocator + Copy>(
+    alloc: A,
+    sheet: &mut Vec<u8, A>,
+    looks: Looks,
+) -> Result<(), AllocError>
     ensures { OnOk result ((given : List ℕ) → Gives sheet.old.items given → Gives sheet.new.items given) }
 {
     put_words(sheet, b"")?;
-    put_words(
-        sheet,
-        b"+ call  o look  C contribution  X left out  F declared  A arrival  R revocation  N new communicator",
-    )?;
-    put_words(
-        sheet,
-        b"* answered  ? pending  ! refused  | under way  : declared before  = decided, or all arrived",
-    )
+    put_words(sheet, &signs_said(alloc, &HAPPENINGS, looks)?)?;
+    put_words(sheet, &signs_said(alloc, &STANDINGS, looks)?)
+}
+
+/// Signs as they look, each with its meaning.
+fn signs_said<A: Allocator + Copy>(
+    alloc: A,
+    signs: &[(u8, &str)],
+    looks: Looks,
+) -> Result<Vec<u8, A>, AllocError> {
+    let mut words = Vec::new(alloc);
+    for (i, (sign, meaning)) in signs.iter().enumerate() {
+        if i > 0 {
+            words.extend_from_slice(b"  ")?;
+        }
+        put_cell(&mut words, *sign, looks)?;
+        words.extend_from_slice(b" ")?;
+        words.extend_from_slice(meaning.as_bytes())?;
+    }
+    Ok(words)
 }
 
 impl<A: Allocator + Copy + Drop> Table<'_, A> {
@@ -169,7 +201,8 @@ impl<A: Allocator + Copy + Drop> Table<'_, A> {
         Ok(())
     }
 
-    /// The row of a line, with so many lines before it: above it the names of the lanes from time to time, below it what is noted.
+    /// The row of a line, with so many lines before it: above it the names of the lanes from time to time, below it
+    /// what is noted.
     fn put_line(
         &mut self,
         sheet: &mut Vec<u8, A>,
@@ -177,7 +210,8 @@ impl<A: Allocator + Copy + Drop> Table<'_, A> {
         line: &[u8],
     ) -> Result<(), AllocError>
         requires { HasNoNewline line.now }
-        ensures { OnOk result ((given : List ℕ) → Gives sheet.old.items given → Gives sheet.new.items (given ++ (line.now ++ 10 ∷ []))) }
+        ensures { OnOk result ((given : List ℕ) → Gives sheet.old.items given
+            → Gives sheet.new.items (given ++ (line.now ++ 10 ∷ []))) }
     {
         self.put_names(sheet, number)?;
         self.set_columns(number)?;

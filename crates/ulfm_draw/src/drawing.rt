@@ -32,8 +32,8 @@ pub struct Drawn<A: Allocator> {
 
 /// Draws the trace that the reader gives: up to its bad line, if it is illegal.
 ///
-/// At most 20,000 lines are drawn. A trace that is legal so far and goes on is the fault `Lines` in line 20,001. Want of memory and an error of
-/// the reader are faults too.
+/// At most 20,000 lines are drawn. A trace that is legal so far and goes on is the fault `Lines` in line 20,001. Want
+/// of memory and an error of the reader are faults too.
 ///
 /// ```
 /// let mut trace = b"ulfm-trace 1 1 1 2\nevent - fail 0\n".as_slice();

@@ -1,4 +1,7 @@
 //! Rows in words: a few in the lane, and a sentence for those who read or hear it.
+ghost use Rattle.std.specs.Prelude.{OnOk};
+ghost use Rattle.ulfm_draw.specs.Words.{Appends};
+
 use crate::say::{Part, say, say_lane};
 use std::alloc::{AllocError, Allocator};
 use ulfm_laws::FlagAnd;
@@ -11,13 +14,12 @@ use ulfm_story::Row;
 use ulfm_trace_model::Line;
 
 /// The words in a row's lane.
-pub fn put_label<A: Allocator>(label: &mut Vec<u8, A>, row: &Row) -> Result<(), AllocError> {
+pub fn put_label<A: Allocator>(label: &mut Vec<u8, A>, row: &Row) -> Result<(), AllocError>
+    ensures { OnOk result (Appends label.old.items label.new.items) }
+{
     match row.line {
         Line::Called(asked) => label_call(label, &asked),
-        Line::Looked { failures, .. } => say(
-            label,
-            &[Part::Text(b"sees "), Part::Number(u32::from(failures))],
-        ),
+        Line::Looked { failures, .. } => say_counted(label, b"sees ", failures),
         Line::Happened {
             event: Some(event),
             ..
@@ -26,8 +28,19 @@ pub fn put_label<A: Allocator>(label: &mut Vec<u8, A>, row: &Row) -> Result<(), 
             reply: Some(reply),
             ..
         } => label_reply(label, &reply),
-        _ => Ok(()),
+        _ => say(label, &[]),
     }
+}
+
+/// Appends a word and a number.
+fn say_counted<A: Allocator>(
+    words: &mut Vec<u8, A>,
+    word: &[u8],
+    number: u16,
+) -> Result<(), AllocError>
+    ensures { OnOk result (Appends words.old.items words.new.items) }
+{
+    say(words, &[Part::Text(word), Part::Number(u32::from(number))])
 }
 
 /// The verb of a call.
@@ -47,21 +60,17 @@ fn verb_of(asked: &Call<FlagAnd>) -> &'static [u8] {
 }
 
 /// A call's verb and its communicator; of a declaration the rank.
-fn label_call<A: Allocator>(
-    label: &mut Vec<u8, A>,
-    asked: &Call<FlagAnd>,
-) -> Result<(), AllocError> {
+fn label_call<A: Allocator>(label: &mut Vec<u8, A>, asked: &Call<FlagAnd>) -> Result<(), AllocError>
+    ensures { OnOk result (Appends label.old.items label.new.items) }
+{
     let number = match *asked {
         Call::Fail { rank } => rank,
         _ => comm_of(asked),
     };
+    let number = Part::Number(u32::from(number));
     say(
         label,
-        &[
-            Part::Text(verb_of(asked)),
-            Part::Text(b" "),
-            Part::Number(u32::from(number)),
-        ],
+        &[Part::Text(verb_of(asked)), Part::Text(b" "), number],
     )
 }
 
@@ -69,23 +78,19 @@ fn label_call<A: Allocator>(
 fn label_event<A: Allocator>(
     label: &mut Vec<u8, A>,
     event: &Event<FlagAnd>,
-) -> Result<(), AllocError> {
+) -> Result<(), AllocError>
+    ensures { OnOk result (Appends label.old.items label.new.items) }
+{
     match *event {
-        Event::Fail { .. } => label.extend_from_slice(b"declared"),
+        Event::Fail { .. } => say(label, &[Part::Text(b"declared")]),
         Event::Settle { given, .. } => match given.offer {
-            Offer::Flag(flag) => label.extend_from_slice(&flag_digits(flag)),
-            Offer::Ctx(_) => label.extend_from_slice(b"ids"),
+            Offer::Flag(flag) => say(label, &[Part::Text(&flag_digits(flag))]),
+            Offer::Ctx(_) => say(label, &[Part::Text(b"ids")]),
         },
-        Event::Mark { .. } => label.extend_from_slice(b"left out"),
-        Event::Arrive { .. } => label.extend_from_slice(b"arrives"),
-        Event::Revoke { comm } => say(
-            label,
-            &[Part::Text(b"revokes "), Part::Number(u32::from(comm))],
-        ),
-        Event::Spawn { comm, .. } => say(
-            label,
-            &[Part::Text(b"makes "), Part::Number(u32::from(comm))],
-        ),
+        Event::Mark { .. } => say(label, &[Part::Text(b"left out")]),
+        Event::Arrive { .. } => say(label, &[Part::Text(b"arrives")]),
+        Event::Revoke { comm } => say_counted(label, b"revokes ", comm),
+        Event::Spawn { comm, .. } => say_counted(label, b"makes ", comm),
     }
 }
 
@@ -93,34 +98,20 @@ fn label_event<A: Allocator>(
 fn label_reply<A: Allocator>(
     label: &mut Vec<u8, A>,
     reply: &Reply<FlagAnd>,
-) -> Result<(), AllocError> {
-    let word: &[u8] = match *reply {
+) -> Result<(), AllocError>
+    ensures { OnOk result (Appends label.old.items label.new.items) }
+{
+    match *reply {
         Reply::Agreed { value, raised, .. } => {
-            label.extend_from_slice(&flag_digits(value))?;
-            if raised { b" raised" } else { b"" }
+            let word: &[u8] = if raised { b" raised" } else { b"" };
+            say(label, &[Part::Text(&flag_digits(value)), Part::Text(word)])
         }
-        Reply::Shrunk { comm, .. } => {
-            return say(
-                label,
-                &[Part::Text(b"gets "), Part::Number(u32::from(comm))],
-            );
-        }
-        Reply::FailedGroup { count } => {
-            return say(
-                label,
-                &[Part::Text(b"failed "), Part::Number(u32::from(count))],
-            );
-        }
-        Reply::Acked { count } => {
-            return say(
-                label,
-                &[Part::Text(b"acked "), Part::Number(u32::from(count))],
-            );
-        }
-        Reply::Refused(refusal) => refusal.name().as_bytes(),
-        ref other => plain_word(other),
-    };
-    label.extend_from_slice(word)
+        Reply::Shrunk { comm, .. } => say_counted(label, b"gets ", comm),
+        Reply::FailedGroup { count } => say_counted(label, b"failed ", count),
+        Reply::Acked { count } => say_counted(label, b"acked ", count),
+        Reply::Refused(refusal) => say(label, &[Part::Text(refusal.name().as_bytes())]),
+        ref other => say(label, &[Part::Text(plain_word(other))]),
+    }
 }
 
 /// The word of a reply that has no number.
@@ -154,22 +145,34 @@ fn behind_words(line: &[u8], spaces: usize) -> &[u8] {
 }
 
 /// A row as a sentence, behind the number of its line.
+#[tactic(auto, using(crate::proofs::Appending::appends_then))]
 pub fn put_title<A: Allocator>(
     title: &mut Vec<u8, A>,
     number: u32,
     row: &Row,
     line: &[u8],
-) -> Result<(), AllocError> {
-    say(
-        title,
-        &[
-            Part::Text(b"line "),
-            Part::Number(number),
-            Part::Text(b": "),
-        ],
-    )?;
+) -> Result<(), AllocError>
+    ensures { OnOk result (Appends title.old.items title.new.items) }
+{
+    let head = [
+        Part::Text(b"line "),
+        Part::Number(number),
+        Part::Text(b": "),
+    ];
+    say(title, &head)?;
     say_lane(title, row.lane)?;
-    match row.line {
+    title_line(title, &row.line, line)
+}
+
+/// A line as a sentence, behind whose it is.
+fn title_line<A: Allocator>(
+    title: &mut Vec<u8, A>,
+    told: &Line<FlagAnd>,
+    line: &[u8],
+) -> Result<(), AllocError>
+    ensures { OnOk result (Appends title.old.items title.new.items) }
+{
+    match *told {
         Line::Called(_) => say(
             title,
             &[Part::Text(b" calls "), Part::Text(behind_words(line, 1))],
@@ -184,7 +187,7 @@ pub fn put_title<A: Allocator>(
         ),
         Line::Happened { event, .. } => match event {
             Some(event) => title_event(title, &event),
-            None => Ok(()),
+            None => say(title, &[]),
         },
         Line::Replied { point, .. } => say(
             title,
@@ -199,14 +202,17 @@ pub fn put_title<A: Allocator>(
 }
 
 /// An event as a sentence, behind who makes it.
+#[tactic(auto, using(crate::proofs::Appending::appends_then))]
 fn title_event<A: Allocator>(
     title: &mut Vec<u8, A>,
     event: &Event<FlagAnd>,
-) -> Result<(), AllocError> {
+) -> Result<(), AllocError>
+    ensures { OnOk result (Appends title.old.items title.new.items) }
+{
     match *event {
         Event::Fail { rank } => {
             title_of(title, b" declares ", rank)?;
-            title.extend_from_slice(b" failed")
+            say(title, &[Part::Text(b" failed")])
         }
         Event::Settle {
             comm,
@@ -230,36 +236,22 @@ fn title_event<A: Allocator>(
         Event::Arrive { comm, round, .. } => {
             title_round(title, b" arrives in barrier round ", round, comm)
         }
-        Event::Revoke { comm } => say(
-            title,
-            &[
-                Part::Text(b" revokes communicator "),
-                Part::Number(u32::from(comm)),
-            ],
-        ),
+        Event::Revoke { comm } => say_counted(title, b" revokes communicator ", comm),
         Event::Spawn {
             comm,
             parent,
             round,
         } => {
-            say(
-                title,
-                &[
-                    Part::Text(b" makes communicator "),
-                    Part::Number(u32::from(comm)),
-                ],
-            )?;
+            say_counted(title, b" makes communicator ", comm)?;
             title_round(title, b" of round ", round, parent)
         }
     }
 }
 
 /// A rank, behind what is done to it.
-fn title_of<A: Allocator>(
-    title: &mut Vec<u8, A>,
-    verb: &[u8],
-    rank: u16,
-) -> Result<(), AllocError> {
+fn title_of<A: Allocator>(title: &mut Vec<u8, A>, verb: &[u8], rank: u16) -> Result<(), AllocError>
+    ensures { OnOk result (Appends title.old.items title.new.items) }
+{
     say(
         title,
         &[
@@ -276,7 +268,9 @@ fn title_round<A: Allocator>(
     before: &[u8],
     round: u16,
     comm: u16,
-) -> Result<(), AllocError> {
+) -> Result<(), AllocError>
+    ensures { OnOk result (Appends title.old.items title.new.items) }
+{
     say(
         title,
         &[
@@ -292,24 +286,29 @@ fn title_round<A: Allocator>(
 fn title_given<A: Allocator>(
     title: &mut Vec<u8, A>,
     given: &Contribution<FlagAnd>,
-) -> Result<(), AllocError> {
-    match given.offer {
-        Offer::Flag(flag) => {
-            title.extend_from_slice(b" contributes the flag ")?;
-            title.extend_from_slice(&flag_digits(flag))
-        }
+) -> Result<(), AllocError>
+    ensures { OnOk result (Appends title.old.items title.new.items) }
+{
+    let (words, digits) = match given.offer {
+        Offer::Flag(flag) => (b" contributes the flag ".as_slice(), flag_digits(flag)),
         Offer::Ctx(mask) => {
-            title.extend_from_slice(b" contributes the context ids ")?;
-            title.extend_from_slice(&flag_digits(FlagAnd { bits: mask.bits }))
+            let bits = FlagAnd { bits: mask.bits };
+            (
+                b" contributes the context ids ".as_slice(),
+                flag_digits(bits),
+            )
         }
-    }
+    };
+    say(title, &[Part::Text(words), Part::Text(&digits)])
 }
 
 /// What is known by who contributes.
 fn title_counts<A: Allocator>(
     title: &mut Vec<u8, A>,
     given: &Contribution<FlagAnd>,
-) -> Result<(), AllocError> {
+) -> Result<(), AllocError>
+    ensures { OnOk result (Appends title.old.items title.new.items) }
+{
     say(
         title,
         &[

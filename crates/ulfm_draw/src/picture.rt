@@ -396,7 +396,7 @@ fn draw_bad_line<A: Allocator + Copy + Drop>(
     draw_number(&mut group, words, number, 44, y)?;
     words.clear();
     put_shown(words, line_at(scene.text, number))?;
-    words.extend_from_slice(b"   ")?;
+    words.extend_from_slice(b": ")?;
     words.extend_from_slice(&told)?;
     group.put(Leaf::Words, b"w", &[scene.layout.text, y + 4], words)?;
     group.close()

@@ -1,4 +1,5 @@
-//! The text form while it is written: rows, each of which ends in a line of the trace behind a tab, and lines without one.
+//! The text form while it is written: rows, each of which ends in a line of the trace behind a tab, and lines without
+//! one.
 ghost use Rattle.std.specs.Prelude.{◌≡◌, ◌++◌, ◌∷◌, [], List, ℕ, OnOk, map};
 ghost use Rattle.ulfm_draw.specs.Columns.{Gives, column_of};
 ghost use Rattle.ulfm_script.specs.Buffers.{HasNoNewline};
@@ -24,7 +25,8 @@ pub(crate) fn put_row<A: Allocator>(
     line: &[u8],
 ) -> Result<(), AllocError>
     requires { HasNoNewline line.now }
-    ensures { OnOk result ((given : List ℕ) → Gives sheet.old.items given → Gives sheet.new.items (given ++ (line.now ++ 10 ∷ []))) }
+    ensures { OnOk result ((given : List ℕ) → Gives sheet.old.items given
+        → Gives sheet.new.items (given ++ (line.now ++ 10 ∷ []))) }
 {
     put_columns(sheet, columns)?;
     sheet.extend_from_slice(b"\t")?;

@@ -1,4 +1,7 @@
 //! Calls, each from the row of its line to that of its reply.
+ghost use Rattle.std.specs.Prelude.{◌≡◌};
+ghost use Rattle.ulfm_story.specs.Bars.{is_of_round, tone_of};
+
 use ulfm_laws::FlagAnd;
 use ulfm_model::{Refusal, Reply};
 
@@ -35,7 +38,9 @@ pub struct Bar {
 }
 
 /// What a reply says of its call.
-pub fn tone_of(reply: &Reply<FlagAnd>) -> Tone {
+pub fn tone_of(reply: &Reply<FlagAnd>) -> Tone
+    ensures { result ≡ tone_of reply.now }
+{
     match *reply {
         Reply::Started => Tone::Started,
         Reply::Pending => Tone::Pending,
@@ -45,8 +50,10 @@ pub fn tone_of(reply: &Reply<FlagAnd>) -> Tone {
     }
 }
 
-/// Whether a reply is what a round decided.
-pub fn is_of_round(reply: &Reply<FlagAnd>) -> bool {
+/// Whether a reply is what a round decided for all. That a rank had no memory for its part is no decision.
+pub fn is_of_round(reply: &Reply<FlagAnd>) -> bool
+    ensures { result ≡ is_of_round reply.now }
+{
     matches!(
         reply,
         Reply::Agreed { .. }

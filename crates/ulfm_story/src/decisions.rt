@@ -14,8 +14,8 @@ use ulfm_script::words::flag_digits;
 
 /// What a round decides by these events, in words: none where some member isn't settled yet.
 ///
-/// The round 0 of communicator 0, in which rank 0 offered the flag 0000000f and rank 1 is left out, as one failure of which rank 0 had
-/// acknowledged none, is told as `round 0 of 0: agreed 0000000f failed 1 raised`.
+/// The round 0 of communicator 0, in which rank 0 offered the flag 0000000f and rank 1 is left out, as one failure of
+/// which rank 0 had acknowledged none, is told as `round 0 of 0: agreed 0000000f failed 1 raised`.
 pub fn decision_words<A: Allocator + Copy + Drop>(
     alloc: A,
     ranks: u16,

@@ -1,16 +1,18 @@
-//! What a trace tells, row by row, as pictures of it show it: whose line it is, which calls are under way, who is declared, and what rounds
-//! decide.
+//! What a trace tells, row by row, as pictures of it show it: whose line it is, which calls are under way, who is
+//! declared, and what rounds decide.
 #![tactic(auto)]
 
 pub mod bars;
+mod calls;
 pub mod decisions;
+mod rounds;
 pub mod rows;
 pub mod story;
-pub mod telling;
+mod telling;
 pub mod text;
 
 pub use bars::{Bar, Tone};
 pub use decisions::decision_words;
 pub use rows::{Note, Row};
 pub use story::{Story, tell_story};
-pub use text::{Beginning, MOST_LINES, read_text, split_line};
+pub use text::{Beginning, MOST_LINES, read_lines, read_text, split_line};

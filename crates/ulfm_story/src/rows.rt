@@ -1,6 +1,11 @@
 //! The rows of a picture, one for each line of the trace behind its header.
+ghost use Rattle.std.specs.Prelude.{◌≡◌, ◌<◌, ◌^◌};
+ghost use Rattle.ulfm_model.specs.Answers.{traits_of};
+ghost use Rattle.ulfm_story.specs.Rows.{caller_lane, event_target, rank_lane};
+
 use std::alloc::Allocator;
 use ulfm_laws::FlagAnd;
+use ulfm_model::call::{Call, rank_of};
 use ulfm_model::event::{Caller, Event};
 use ulfm_trace_model::Line;
 
@@ -33,21 +38,44 @@ pub struct Note<A: Allocator> {
     pub last: u16,
 }
 
+/// A count as a number of 16 bits; the greatest where it has more.
+pub(crate) fn short(count: usize) -> u16
+    ensures { count < 2 ^ 16 → result ≡ count }
+{
+    u16::try_from(count).unwrap_or(u16::MAX)
+}
+
 /// The lane of a rank.
-pub fn lane_of_rank(rank: u16) -> u16 {
+pub fn lane_of_rank(rank: u16) -> u16
+    ensures { result ≡ rank_lane rank }
+{
     rank.saturating_add(1)
 }
 
 /// The lane of a caller.
-pub fn lane_of(by: Caller) -> u16 {
+pub fn lane_of(by: Caller) -> u16
+    ensures { result ≡ caller_lane by }
+{
     match by {
         Caller::Outside => OUTSIDE,
         Caller::Rank(rank) => lane_of_rank(rank),
     }
 }
 
+/// Who makes a call.
+pub(crate) fn caller_of(asked: &Call<FlagAnd>) -> Caller
+    ensures { result ≡ (traits_of asked.now).by }
+{
+    match *asked {
+        Call::Fail { .. } => Caller::Outside,
+        _ => Caller::Rank(rank_of(asked)),
+    }
+}
+
 /// Whom an event declares or leaves out.
-pub fn target_of(event: &Event<FlagAnd>) -> Option<u16> {
+pub fn target_of(event: &Event<FlagAnd>) -> Option<u16>
+    ensures { result ≡ event_target event.now }
+{
     match *event {
         Event::Fail { rank } | Event::Mark { rank, .. } => Some(lane_of_rank(rank)),
         _ => None,

@@ -1,8 +1,13 @@
 //! A trace, told.
+ghost use Rattle.std.specs.Prelude.{◌≡◌, ◌-◌, [], IfOk, OnOk, min};
+ghost use Rattle.ulfm_model.specs.declared.limits.Limits.{Limits};
+ghost use Rattle.ulfm_story.specs.Tellings.{IsTold, TellsLines};
+ghost use Rattle.ulfm_story.specs.Traces.{TellsStory};
+
 use crate::bars::Bar;
-use crate::rows::{Note, Row};
+use crate::rows::{Note, Row, short};
 use crate::telling::Telling;
-use crate::text::split_line;
+use crate::text::{MOST_LINES, split_line};
 use std::alloc::{AllocError, Allocator};
 use ulfm_lines::read_line;
 use ulfm_model::Limits;
@@ -16,7 +21,7 @@ pub struct Story<A: Allocator> {
     pub rows: Vec<Row, A>,
     /// The calls, in the order of their replies, and then those without one.
     pub bars: Vec<Bar, A>,
-    /// What rounds decided, in the order of their rows.
+    /// What rounds decided, and where all had arrived, in the order of their rows.
     pub notes: Vec<Note<A>, A>,
     /// The lanes of those who are declared, with the row from which on they are.
     pub declared: Vec<(u16, u16), A>,
@@ -24,14 +29,20 @@ pub struct Story<A: Allocator> {
     pub lanes: Vec<u16, A>,
 }
 
-/// Tells the first so many lines of a trace, the header among them; nothing where there is no header. A line that isn't of the grammar ends it.
+/// Tells the first so many lines of a trace, at most 20,000, the header among them; nothing where there is no header. A
+/// line that isn't of the grammar ends it.
+///
+/// Each round that is decided is noted at the row whose event settles its last member, in the words of the decision by
+/// the events down to that row.
 ///
 /// The trace `ulfm-trace 1 2 1 2` with the line `event - fail 1` has one row, and rank 1 is declared from there on.
 pub fn tell_story<A: Allocator + Copy + Drop>(
     alloc: A,
     text: &[u8],
     lines: u32,
-) -> Result<Option<Story<A>>, AllocError> {
+) -> Result<Option<Story<A>>, AllocError>
+    ensures { IfOk result (TellsStory text.now lines) }
+{
     if lines == 0 {
         return Ok(None);
     }
@@ -43,9 +54,8 @@ pub fn tell_story<A: Allocator + Copy + Drop>(
     };
     let mut telling = Telling::new(alloc, limits)?;
     tell_lines(alloc, &mut telling, rest, lines)?;
-    telling.close()?;
-    let lanes = telling.lanes()?;
-    Ok(Some(story_of(telling, lanes)))
+    let story = story_of(telling)?;
+    Ok(Some(story))
 }
 
 /// Tells the lines behind the header.
@@ -54,10 +64,14 @@ fn tell_lines<A: Allocator + Copy + Drop>(
     telling: &mut Telling<A>,
     text: &[u8],
     lines: u32,
-) -> Result<(), AllocError> {
+) -> Result<(), AllocError>
+    ensures { (limits : Limits) → IsTold limits telling.old []
+        → OnOk result (TellsLines limits text.now (min lines 20000 - 1) telling.new) }
+{
     let mut group = Vec::new(alloc);
     let mut left = text;
-    for _ in 1..lines {
+    let most = lines.min(MOST_LINES).saturating_sub(1);
+    'lines: for number in 0..most {
         let Some((line, behind)) = split_line(left) else {
             return Ok(());
         };
@@ -70,22 +84,27 @@ fn tell_lines<A: Allocator + Copy + Drop>(
     Ok(())
 }
 
-/// What was told, with the lanes that are drawn.
-fn story_of<A: Allocator + Copy + Drop>(telling: Telling<A>, lanes: Vec<u16, A>) -> Story<A> {
+/// What was told, with the calls that have no reply, and the lanes that are drawn.
+fn story_of<A: Allocator + Copy + Drop>(telling: Telling<A>) -> Result<Story<A>, AllocError>
+    ensures { IfOk result (λ story. (story.limits ≡ telling.limits)
+        × (story.rows.items ≡ telling.rows.items) × (story.notes.items ≡ telling.notes.items)) }
+{
     let Telling {
+        alloc,
         limits,
         rows,
-        bars,
         notes,
-        declared,
+        mut calls,
         ..
     } = telling;
-    Story {
+    calls.close(short(rows.len().saturating_sub(1)))?;
+    let lanes = calls.lanes(alloc, limits.ranks)?;
+    Ok(Story {
         limits,
         rows,
-        bars,
+        bars: calls.bars,
         notes,
-        declared,
+        declared: calls.declared,
         lanes,
-    }
+    })
 }

@@ -20,30 +20,45 @@ pub struct Beginning<A: Allocator> {
     pub is_whole: bool,
 }
 
-/// Reads a text as far as a picture goes: at most one line behind the 20,000th and behind one that is too long, and 8 KB ahead.
+/// Reads a text as far as a picture goes: at most one line behind the 20,000th and behind one that is too long, and 8
+/// KB ahead.
 ///
-/// Of three lines it gives all, and `is_whole`. Memory is taken for what is kept, for 8 KB of the reader's bytes and for one line.
+/// Of three lines it gives all, and `is_whole`. Memory is taken for what is kept, for 8 KB of the reader's bytes and
+/// for one line.
 pub fn read_text<A: Allocator + Copy, R: Read>(
     alloc: A,
     reader: &mut R,
 ) -> Result<Beginning<A>, RunFault>
     ensures { IfOk result (λ begun. BeginsText (R.remaining reader.old) begun.is_whole begun.text.items) }
 {
-    let mut input = Input::new(alloc)?;
-    read_through(alloc, &mut input, reader)
+    read_lines(alloc, reader, MOST_LINES)
 }
 
-/// Reads a text as [`read_text`] does, through a buffer.
+/// Reads a text as [`read_text`] does, with this number in place of 20,000.
+pub fn read_lines<A: Allocator + Copy, R: Read>(
+    alloc: A,
+    reader: &mut R,
+    most: u32,
+) -> Result<Beginning<A>, RunFault>
+    ensures { IfOk result (λ begun. BeginsText (R.remaining reader.old) begun.is_whole begun.text.items) }
+{
+    let mut input = Input::new(alloc)?;
+    read_through(alloc, &mut input, reader, most)
+}
+
+/// Reads a text as [`read_lines`] does, through a buffer.
 fn read_through<A: Allocator + Copy, R: Read>(
     alloc: A,
     input: &mut Input<A>,
     reader: &mut R,
+    most: u32,
 ) -> Result<Beginning<A>, RunFault>
-    ensures { IfOk result (λ begun. BeginsUnread (unread R.remaining input.old reader.old) begun.is_whole begun.text.items) }
+    ensures { IfOk result (λ begun. BeginsUnread (unread R.remaining input.old reader.old)
+        begun.is_whole begun.text.items) }
 {
     let mut text = Vec::new(alloc);
     let mut line = Vec::with_capacity(alloc, LONGEST + 1)?;
-    'lines: for _ in 0..MOST_LINES {
+    'lines: for _ in 0..most {
         match input.read_line(reader, &mut line, LONGEST + 1)? {
             LineEnd::Done => return Ok(whole(text)),
             LineEnd::Cut => {

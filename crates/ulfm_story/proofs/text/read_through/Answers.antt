@@ -1,7 +1,5 @@
 use Rattle.std.proofs.Common.{arith, length, ◌<◌, ◌≤◌}
-use Rattle.std.specs.Io.KnownBytes.{Consumes}
 use Rattle.ulfm_script.specs.Buffers.{unread}
-use Rattle.ulfm_script.proofs.ByteLemmas.{consumes_start}
 use Rattle.ulfm_story.proofs.Beginnings.{all_of, begins_so, cut_kept, line_more, long_kept}
 use Rattle.ulfm_story.proofs.text.read_through.Goals as goal
 
