@@ -1,5 +1,6 @@
 pub mod Calls
 pub mod Codes
+pub mod Lends
 pub mod Opens
 pub mod Owned
 pub mod Reads

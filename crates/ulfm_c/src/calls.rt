@@ -25,16 +25,12 @@ use std::alloc::Global;
 /// left but the last, which is kept for a shrink. After these, 1 where the rank was declared and another rank had left it out of the round
 /// before it contributed. A code other than 0 starts no request.
 #[unsafe(no_mangle)]
-pub extern "C" fn ulfm_iagree(alloc: Global, handle: &mut Handle, comm: u16, flag: Flag) -> i32
+pub extern "C" fn ulfm_iagree(handle: &mut Handle, comm: u16, flag: Flag) -> i32
     ensures { HandleCalls (PartyCalls (RankAgrees comm flag)) handle.old.party handle.new.party result }
 {
-    match handle.take(alloc) {
+    match handle.party() {
         None => NO_HANDLE,
-        Some(mut party) => {
-            let code = party.iagree(comm, flag);
-            *handle = Handle::of(party);
-            code
-        }
+        Some(party) => party.iagree(comm, flag),
     }
 }
 
@@ -46,16 +42,12 @@ pub extern "C" fn ulfm_iagree(alloc: Global, handle: &mut Handle, comm: u16, fla
 /// shrink open on any of its communicators, 5 where no round is left. After these, 1 as for `ulfm_iagree`. A code other than 0 starts no
 /// request.
 #[unsafe(no_mangle)]
-pub extern "C" fn ulfm_ishrink(alloc: Global, handle: &mut Handle, comm: u16) -> i32
+pub extern "C" fn ulfm_ishrink(handle: &mut Handle, comm: u16) -> i32
     ensures { HandleCalls (PartyCalls (RankShrinks comm)) handle.old.party handle.new.party result }
 {
-    match handle.take(alloc) {
+    match handle.party() {
         None => NO_HANDLE,
-        Some(mut party) => {
-            let code = party.ishrink(comm);
-            *handle = Handle::of(party);
-            code
-        }
+        Some(party) => party.ishrink(comm),
     }
 }
 
@@ -66,16 +58,12 @@ pub extern "C" fn ulfm_ishrink(alloc: Global, handle: &mut Handle, comm: u16) ->
 /// 1 where the rank is declared failed, 2 where it doesn't hold the communicator, 3 where a request is open on it, 5 where no round is
 /// left. A code other than 0 starts no request.
 #[unsafe(no_mangle)]
-pub extern "C" fn ulfm_ibarrier(alloc: Global, handle: &mut Handle, comm: u16) -> i32
+pub extern "C" fn ulfm_ibarrier(handle: &mut Handle, comm: u16) -> i32
     ensures { HandleCalls (PartyCalls (RankDoes (λ r. Barrier r comm) Started)) handle.old.party handle.new.party result }
 {
-    match handle.take(alloc) {
+    match handle.party() {
         None => NO_HANDLE,
-        Some(mut party) => {
-            let code = party.ibarrier(comm);
-            *handle = Handle::of(party);
-            code
-        }
+        Some(party) => party.ibarrier(comm),
     }
 }
 
@@ -91,22 +79,13 @@ pub extern "C" fn ulfm_ibarrier(alloc: Global, handle: &mut Handle, comm: u16) -
 /// With N ranks, of which the rank has seen v declared, n members and M communicators, the poll of an agree makes N - v + 3n + 2 steps at
 /// most, that of a shrink N - v + 3n + 2M + 1, and that of a barrier N - v + n + 1, whatever the others do.
 #[unsafe(no_mangle)]
-pub extern "C" fn ulfm_poll(
-    alloc: Global,
-    handle: &mut Handle,
-    comm: u16,
-    reply: &mut PolledReply,
-) -> i32
+pub extern "C" fn ulfm_poll(handle: &mut Handle, comm: u16, reply: &mut PolledReply) -> i32
     ensures calls { HandleCalls (PartyCalls (RankPolls comm reply.new)) handle.old.party handle.new.party result }
     ensures kept { result ≢ pos 0 → reply.new ≡ reply.old }
 {
-    match handle.take(alloc) {
+    match handle.party() {
         None => NO_HANDLE,
-        Some(mut party) => {
-            let code = party.poll(comm, reply);
-            *handle = Handle::of(party);
-            code
-        }
+        Some(party) => party.poll(comm, reply),
     }
 }
 
@@ -126,13 +105,9 @@ pub extern "C" fn ulfm_get_failed(
     ensures calls { HandleCalls (PartyCalls (RankGets comm (lent ranks.old ranks.new count.new))) handle.old.party handle.new.party result }
     ensures kept { result ≢ pos 0 → (ranks.new ≡ ranks.old) × (count.new ≡ count.old) }
 {
-    match handle.take(alloc) {
+    match handle.party() {
         None => NO_HANDLE,
-        Some(mut party) => {
-            let code = party.get_failed(alloc, comm, ranks, count);
-            *handle = Handle::of(party);
-            code
-        }
+        Some(party) => party.get_failed(alloc, comm, ranks, count),
     }
 }
 
@@ -155,13 +130,9 @@ pub extern "C" fn ulfm_missing(
     ensures calls { HandleCalls (PartyCalls (RankMisses comm (lent ranks.old ranks.new count.new))) handle.old.party handle.new.party result }
     ensures kept { result ≢ pos 0 → (ranks.new ≡ ranks.old) × (count.new ≡ count.old) }
 {
-    match handle.take(alloc) {
+    match handle.party() {
         None => NO_HANDLE,
-        Some(mut party) => {
-            let code = party.missing(alloc, comm, ranks, count);
-            *handle = Handle::of(party);
-            code
-        }
+        Some(party) => party.missing(alloc, comm, ranks, count),
     }
 }
 
@@ -171,7 +142,6 @@ pub extern "C" fn ulfm_missing(
 /// 1 where the rank is declared failed, 2 where it doesn't hold the communicator.
 #[unsafe(no_mangle)]
 pub extern "C" fn ulfm_ack_failed(
-    alloc: Global,
     handle: &mut Handle,
     comm: u16,
     count: u16,
@@ -180,13 +150,9 @@ pub extern "C" fn ulfm_ack_failed(
     ensures calls { HandleCalls (PartyCalls (RankTells (λ r. Ack r comm count) Acked acknowledged.new)) handle.old.party handle.new.party result }
     ensures kept { result ≢ pos 0 → acknowledged.new ≡ acknowledged.old }
 {
-    match handle.take(alloc) {
+    match handle.party() {
         None => NO_HANDLE,
-        Some(mut party) => {
-            let code = party.ack_failed(comm, count, acknowledged);
-            *handle = Handle::of(party);
-            code
-        }
+        Some(party) => party.ack_failed(comm, count, acknowledged),
     }
 }
 
@@ -196,22 +162,13 @@ pub extern "C" fn ulfm_ack_failed(
 ///
 /// 1 where the rank is declared failed, 2 where it doesn't hold the communicator.
 #[unsafe(no_mangle)]
-pub extern "C" fn ulfm_revoke(
-    alloc: Global,
-    handle: &mut Handle,
-    comm: u16,
-    first: &mut bool,
-) -> i32
+pub extern "C" fn ulfm_revoke(handle: &mut Handle, comm: u16, first: &mut bool) -> i32
     ensures calls { HandleCalls (PartyCalls (RankTells (λ r. Revoke r comm) revoked first.new)) handle.old.party handle.new.party result }
     ensures kept { result ≢ pos 0 → first.new ≡ first.old }
 {
-    match handle.take(alloc) {
+    match handle.party() {
         None => NO_HANDLE,
-        Some(mut party) => {
-            let code = party.revoke(comm, first);
-            *handle = Handle::of(party);
-            code
-        }
+        Some(party) => party.revoke(comm, first),
     }
 }
 
@@ -219,22 +176,13 @@ pub extern "C" fn ulfm_revoke(
 ///
 /// 1 where the rank is declared failed, 2 where it doesn't hold the communicator.
 #[unsafe(no_mangle)]
-pub extern "C" fn ulfm_is_revoked(
-    alloc: Global,
-    handle: &mut Handle,
-    comm: u16,
-    answer: &mut bool,
-) -> i32
+pub extern "C" fn ulfm_is_revoked(handle: &mut Handle, comm: u16, answer: &mut bool) -> i32
     ensures calls { HandleCalls (PartyCalls (RankTells (λ r. IsRevoked r comm) Standing answer.new)) handle.old.party handle.new.party result }
     ensures kept { result ≢ pos 0 → answer.new ≡ answer.old }
 {
-    match handle.take(alloc) {
+    match handle.party() {
         None => NO_HANDLE,
-        Some(mut party) => {
-            let code = party.is_revoked(comm, answer);
-            *handle = Handle::of(party);
-            code
-        }
+        Some(party) => party.is_revoked(comm, answer),
     }
 }
 
@@ -244,15 +192,11 @@ pub extern "C" fn ulfm_is_revoked(
 /// 1 where the rank is declared failed, 2 where it doesn't hold the communicator, 12 where it is the world's own, 3 where a request is open
 /// on it.
 #[unsafe(no_mangle)]
-pub extern "C" fn ulfm_free(alloc: Global, handle: &mut Handle, comm: u16) -> i32
+pub extern "C" fn ulfm_free(handle: &mut Handle, comm: u16) -> i32
     ensures { HandleCalls (PartyCalls (RankDoes (λ r. Free r comm) Freed)) handle.old.party handle.new.party result }
 {
-    match handle.take(alloc) {
+    match handle.party() {
         None => NO_HANDLE,
-        Some(mut party) => {
-            let code = party.free(comm);
-            *handle = Handle::of(party);
-            code
-        }
+        Some(party) => party.free(comm),
     }
 }

@@ -23,6 +23,21 @@ impl Model for Handle {
 }
 
 impl Handle {
+    ghost use Rattle.std.specs.Borrow.{sem};
+    ghost use Rattle.ulfm_c.specs.Lends.{lends_party};
+
+    // What it holds, lent: what is left there is what it holds afterwards, and its pointer is as it was.
+    pub(crate) fn party(&mut self) -> Option<&mut Party>
+        ensures* writes_back { sem 𝓛 (lends_party self.entry result) }
+        ensures lent { MatchOption result (self.old.party ≡ None) (λ p. self.old.party ≡ Some p.now) }
+    {
+        let at = self.at;
+        if at == ptr::null_mut() {
+            return None;
+        }
+        Some(unsafe { &mut *(at as *mut Party) })
+    }
+
     // The box, for C to hold.
     pub(crate) fn of(party: Box<Party>) -> Handle
         ensures { result.party ≡ Some party.value }

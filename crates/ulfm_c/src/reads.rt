@@ -6,45 +6,31 @@ ghost use Rattle.ulfm_c.specs.Written.{Lists, lent};
 
 use crate::code::NO_HANDLE;
 use crate::handle::Handle;
-use std::alloc::Global;
 
 /// The rank's number, 0 to 1023.
 #[unsafe(no_mangle)]
-pub extern "C" fn ulfm_rank(alloc: Global, handle: &mut Handle, number: &mut u16) -> i32
+pub extern "C" fn ulfm_rank(handle: &mut Handle, number: &mut u16) -> i32
     ensures reads { HandleReads (PartyReads (RankShows (λ m. m.own.number) number.new)) handle.old.party result }
     ensures same { handle.new.party ≡ handle.old.party }
     ensures kept { result ≢ pos 0 → number.new ≡ number.old }
 {
-    match handle.take(alloc) {
+    match handle.party() {
         None => NO_HANDLE,
-        Some(party) => {
-            let code = party.number(number);
-            *handle = Handle::of(party);
-            code
-        }
+        Some(party) => party.number(number),
     }
 }
 
 /// All ranks that this rank has seen to be declared failed, in the order of the declarations. `ranks` gets as many as it has room for, and
 /// what is behind them in it is as it was; `count` gets how many there are.
 #[unsafe(no_mangle)]
-pub extern "C" fn ulfm_failures(
-    alloc: Global,
-    handle: &mut Handle,
-    ranks: &mut [u16],
-    count: &mut usize,
-) -> i32
+pub extern "C" fn ulfm_failures(handle: &mut Handle, ranks: &mut [u16], count: &mut usize) -> i32
     ensures reads { HandleReads (PartyReads (RankLists (lent ranks.old ranks.new count.new))) handle.old.party result }
     ensures same { handle.new.party ≡ handle.old.party }
     ensures kept { result ≢ pos 0 → (ranks.new ≡ ranks.old) × (count.new ≡ count.old) }
 {
-    match handle.take(alloc) {
+    match handle.party() {
         None => NO_HANDLE,
-        Some(party) => {
-            let code = party.failures(ranks, count);
-            *handle = Handle::of(party);
-            code
-        }
+        Some(party) => party.failures(ranks, count),
     }
 }
 
@@ -52,7 +38,6 @@ pub extern "C" fn ulfm_failures(
 /// was; `count` gets how many there are. 2 where this rank doesn't hold the communicator.
 #[unsafe(no_mangle)]
 pub extern "C" fn ulfm_members(
-    alloc: Global,
     handle: &mut Handle,
     comm: u16,
     ranks: &mut [u16],
@@ -62,52 +47,35 @@ pub extern "C" fn ulfm_members(
     ensures same { handle.new.party ≡ handle.old.party }
     ensures kept { result ≢ pos 0 → (ranks.new ≡ ranks.old) × (count.new ≡ count.old) }
 {
-    match handle.take(alloc) {
+    match handle.party() {
         None => NO_HANDLE,
-        Some(party) => {
-            let code = party.members(comm, ranks, count);
-            *handle = Handle::of(party);
-            code
-        }
+        Some(party) => party.members(comm, ranks, count),
     }
 }
 
 /// The context id of a communicator, 0 to 31. No two communicators that a rank holds have the same id. 2 where this rank doesn't hold the
 /// communicator.
 #[unsafe(no_mangle)]
-pub extern "C" fn ulfm_context(
-    alloc: Global,
-    handle: &mut Handle,
-    comm: u16,
-    context: &mut u16,
-) -> i32
+pub extern "C" fn ulfm_context(handle: &mut Handle, comm: u16, context: &mut u16) -> i32
     ensures reads { HandleReads (PartyReads (RankHolds (λ x. context.new ≡ x.context) comm)) handle.old.party result }
     ensures same { handle.new.party ≡ handle.old.party }
     ensures kept { result ≢ pos 0 → context.new ≡ context.old }
 {
-    match handle.take(alloc) {
+    match handle.party() {
         None => NO_HANDLE,
-        Some(party) => {
-            let code = party.context(comm, context);
-            *handle = Handle::of(party);
-            code
-        }
+        Some(party) => party.context(comm, context),
     }
 }
 
 /// How many atomic steps the rank's last call made, 0 before any. `ulfm_fail` isn't a call of the rank, and isn't counted.
 #[unsafe(no_mangle)]
-pub extern "C" fn ulfm_last_steps(alloc: Global, handle: &mut Handle, steps: &mut u32) -> i32
+pub extern "C" fn ulfm_last_steps(handle: &mut Handle, steps: &mut u32) -> i32
     ensures reads { HandleReads (PartyReads (RankShows (λ m. m.last) steps.new)) handle.old.party result }
     ensures same { handle.new.party ≡ handle.old.party }
     ensures kept { result ≢ pos 0 → steps.new ≡ steps.old }
 {
-    match handle.take(alloc) {
+    match handle.party() {
         None => NO_HANDLE,
-        Some(party) => {
-            let code = party.last_steps(steps);
-            *handle = Handle::of(party);
-            code
-        }
+        Some(party) => party.last_steps(steps),
     }
 }

@@ -43,17 +43,13 @@ pub extern "C" fn ulfm_open(
 ///
 /// 13 where the world doesn't have the rank, 18 where the handle holds nothing.
 #[unsafe(no_mangle)]
-pub extern "C" fn ulfm_fail(alloc: Global, handle: &mut Handle, rank: u16, first: &mut bool) -> i32
+pub extern "C" fn ulfm_fail(handle: &mut Handle, rank: u16, first: &mut bool) -> i32
     ensures calls { HandleCalls (PartyFails rank first.new) handle.old.party handle.new.party result }
     ensures kept { result ≢ pos 0 → first.new ≡ first.old }
 {
-    match handle.take(alloc) {
+    match handle.party() {
         None => NO_HANDLE,
-        Some(mut party) => {
-            let code = party.fail(rank, first);
-            *handle = Handle::of(party);
-            code
-        }
+        Some(party) => party.fail(rank, first),
     }
 }
 
