@@ -1,5 +1,5 @@
 # What a command line asks for, read as crates/ulfm_command and its library clap read it: with the same faults, and the same words for them.
-# read_words WORD..     sets `asked` to run, steps, check, draw, race, shown or bad; then `text` names the page that is shown, or is the reason why it is bad.
+# read_words WORD..     sets `asked` to run, echo, steps, check, explain, draw, race, shown or bad; then `text` names the page that is shown, or is the reason why it is bad.
 # gate/launcher_test.py compares this with the program, on random lines too.
 
 # the names of the commands, in the order in which they are listed
@@ -10,7 +10,7 @@ usage_of() {
     case $1 in
         ulfm) echo 'ulfm <COMMAND>' ;;
         run) echo 'ulfm run [OPTIONS]' ;;
-        check) echo 'ulfm check' ;;
+        check) echo 'ulfm check [OPTIONS]' ;;
         draw) echo 'ulfm draw [OPTIONS]' ;;
         race) echo 'ulfm race [OPTIONS] --ranks <N> --rounds <K>' ;;
         help) echo 'ulfm help [COMMAND]...' ;;
@@ -21,7 +21,8 @@ usage_of() {
 options_of() {
     case $1 in
         ulfm) echo help version ;;
-        run) echo steps help ;;
+        run) echo steps echo help ;;
+        check) echo explain help ;;
         draw) echo text ascii help ;;
         race) echo ranks rounds fail help ;;
         *) echo help ;;
@@ -207,7 +208,7 @@ take_flag() {
     fi
     take_pending || return
     case $1 in
-        steps | text | ascii) take_option "$1" ;;
+        steps | echo | explain | text | ascii) take_option "$1" ;;
         help) asked=shown text=$command && return 1 ;;
         version) asked=shown text=version && return 1 ;;
     esac
@@ -224,7 +225,7 @@ take_long() {
             pending=$name value=$given has_value=$value_given
             [ -z "$has_value" ] || take_pending
             ;;
-        ulfm:help | ulfm:version | run:steps | run:help | check:help | draw:text | draw:ascii | draw:help | race:help) take_flag "$name" "$given" "$value_given" ;;
+        ulfm:help | ulfm:version | run:steps | run:echo | run:help | check:explain | check:help | draw:text | draw:ascii | draw:help | race:help) take_flag "$name" "$given" "$value_given" ;;
         *)
             take_pending
             refuse_option "$name" "$@"
@@ -280,8 +281,8 @@ enter() {
     fi
     walk "$@" && take_pending || return
     case $command in
-        run) if [ ${#used[@]} -eq 0 ]; then asked=run; else asked=steps; fi ;;
-        check) asked=check ;;
+        run) case " ${used[*]} " in *' steps '*) asked=steps ;; *' echo '*) asked=echo ;; *) asked=run ;; esac ;;
+        check) case " ${used[*]} " in *' explain '*) asked=explain ;; *) asked=check ;; esac ;;
         draw) asked=draw ;;
         race) read_race ;;
     esac

@@ -12,8 +12,8 @@ _ulfm() {
     done
     case $command in
         none) words='run check draw race help -h --help -V --version' ;;
-        run) words='--steps -h --help' ;;
-        check) words='-h --help' ;;
+        run) words='--steps --echo -h --help' ;;
+        check) words='--explain -h --help' ;;
         draw) words='--text --ascii -h --help' ;;
         race) words='--ranks --rounds --fail -h --help' ;;
         help) words='run check draw race help' ;;

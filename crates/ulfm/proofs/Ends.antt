@@ -7,7 +7,9 @@ use Rattle.ulfm_command.specs.CommandLines.{AsksDraw, AsksRace, Arguments}
 use Rattle.ulfm_command.specs.declared.asked.{DrawOptions.{DrawOptions}, RaceOptions.{RaceOptions}}
 use Rattle.ulfm_draw.specs.declared.{drawing.Form.{Form}, sheet.Looks.{Looks}}
 use Rattle.ulfm_draw.specs.Drawings.{DrawsText}
-use Rattle.ulfm_filters.specs.Statuses.{CheckedWith, PrintsAt, PrintsWhole, RanWith, StepsRanWith, status_of, verdict_status}
+use Rattle.ulfm_echo.specs.Echoes.{echo_scripts}
+use Rattle.ulfm_explain.specs.Explained.{ExplainsText}
+use Rattle.ulfm_filters.specs.Statuses.{CheckedWith, EchoedWith, PrintsAt, PrintsWhole, RanWith, StepsRanWith, status_of, verdict_status}
 use Rattle.ulfm_race.specs.declared.plan.Plan.{Plan}
 use Rattle.ulfm_race.specs.Races.{IsOutcome}
 use Rattle.ulfm_race_text.specs.Lines.{race_text}
@@ -19,6 +21,7 @@ use Rattle.ulfm_script.proofs.ByteLemmas.{keeps_start}
 use Rattle.ulfm_script.proofs.RunLemmas.{ran_none}
 use Rattle.ulfm_step_script.specs.StepScripts.{step_scripts}
 use Rattle.ulfm.specs.Drawn.{DrewWith, form_of}
+use Rattle.ulfm.specs.Explained.{ExplainedWith}
 use Rattle.ulfm.specs.Races.{RacedWith, plan_of}
 use Rattle.ulfm_trace.specs.declared.verdict.CheckFault.TheVariants as fault
 use Rattle.ulfm_trace.specs.declared.verdict.Verdict.{Verdict}
@@ -43,6 +46,9 @@ race_ran_out plan out status is = inr (is, keeps_start out)
 -- to a script of calls, to one of single steps, and to a trace
 pub ran_out : (known out : KnownText) (status : ℕ) → status ≡ status_of (Err Memory) → RanWith known known out out status
 ran_out known out status is = (Err Memory, is, ran_none call_scripts known out)
+
+pub echo_ran_out : (known out : KnownText) (status : ℕ) → status ≡ status_of (Err Memory) → EchoedWith known known out out status
+echo_ran_out known out status is = (Err Memory, is, ran_none echo_scripts known out)
 
 pub steps_ran_out : (known out : KnownText) (status : ℕ) → status ≡ status_of (Err Memory) → StepsRanWith known known out out status
 steps_ran_out known out status is = (Err Memory, is, ran_none step_scripts known out)
@@ -72,3 +78,20 @@ pub drew : (form : Form) (known old new : KnownText) (verdict : Verdict) (shown 
     → PrintsAt (verdict_status verdict) text old new status → DrewWith form known old new status
 drew form known old new verdict shown text status drawn is printed =
     inl (record { verdict = verdict; shown = shown; drawn = drawn; printed = subst (λ (t : List ℕ). PrintsAt (verdict_status verdict) t old new status) is printed })
+
+-- memory was refused before anything was read or printed: to an explanation
+pub explain_ran_out : (known out : KnownText) (status : ℕ) → status ≡ status_of (Err Memory) → ExplainedWith known out out status
+explain_ran_out known out status is = inr (inr is, keeps_start out)
+
+-- a fault, at which nothing was explained
+pub told_none : (known out : KnownText) (fault : RunFault) (status : ℕ) → status ≡ status_of (Err fault) → ExplainedWith known out out status
+told_none known out (Line number kind) status is = inr (inl is, keeps_start out)
+told_none known out Memory status is = inr (inr is, keeps_start out)
+told_none known out Read status is = inr (inr is, keeps_start out)
+told_none known out Write status is = inr (inr is, keeps_start out)
+
+-- an explanation that was printed, or not all of it
+pub told_trace : (known old new : KnownText) (verdict : Verdict) (shown text : List ℕ) (status : ℕ) → ExplainsText known verdict shown → text ≡ shown
+    → PrintsAt (verdict_status verdict) text old new status → ExplainedWith known old new status
+told_trace known old new verdict shown text status explained is printed =
+    inl (record { verdict = verdict; shown = shown; explained = explained; printed = subst (λ (t : List ℕ). PrintsAt (verdict_status verdict) t old new status) is printed })

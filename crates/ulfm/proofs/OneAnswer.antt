@@ -3,7 +3,7 @@ use Rattle.std.proofs.Common.{◌≡◌, ◌∙◌, ℕ, List, ◌==◌, Bool, t
 use Rattle.std.specs.Prelude.{option_map}
 use Rattle.std.proofs.lemmas.Option.{same_Some, some_pair_parts}
 use Rattle.clap.specs.Words.{Row, Text, subcommand_of}
-use Rattle.ulfm_command.specs.CommandLines.{AsksCheck, AsksDraw, AsksRace, AsksRun, AsksSteps, IsDrawRead, IsRaceOf, NamesRunOf, Arguments, has_flag, ulfm}
+use Rattle.ulfm_command.specs.CommandLines.{AsksCheck, AsksDraw, AsksEcho, AsksExplain, AsksRace, AsksRun, AsksSteps, IsDrawRead, IsRaceOf, NamesCheckOf, NamesRunOf, Arguments, has_flag, ulfm}
 use Rattle.ulfm_command.specs.declared.asked.{DrawOptions.{DrawOptions}, RaceOptions.{RaceOptions}}
 use Rattle.ulfm_command.proofs.Numbers.{same_race}
 
@@ -17,6 +17,9 @@ one_name named t u a b = same_Some {A = List ℕ} _ _ (sym a ∙ b)
 run_named : (words : Arguments) (steps : Bool) → NamesRunOf (subcommand_of ulfm words) steps → name_of (subcommand_of ulfm words) ≡ Some (codes "run")
 run_named words steps asks = ap name_of asks.is_run
 
+check_named : (words : Arguments) (explain : Bool) → NamesCheckOf (subcommand_of ulfm words) explain → name_of (subcommand_of ulfm words) ≡ Some (codes "check")
+check_named words explain asks = ap name_of asks.is_check
+
 -- words that ask for a run, of calls or of steps, ask for no race
 no_race : (words : Arguments) (steps : Bool) (options : RaceOptions) → NamesRunOf (subcommand_of ulfm words) steps → AsksRace words options → ⊥
 no_race words steps options run race =
@@ -25,36 +28,77 @@ no_race words steps options run race =
     cc
 
 pub run_is_no_race : (words : Arguments) (options : RaceOptions) → AsksRun words → AsksRace words options → ⊥
-run_is_no_race words options run race = no_race words false options run.1 race
+run_is_no_race words options run race = no_race words false options run.1.calls race
+
+pub echo_is_no_race : (words : Arguments) (options : RaceOptions) → AsksEcho words → AsksRace words options → ⊥
+echo_is_no_race words options echo race = no_race words false options echo.1.calls race
 
 pub steps_are_no_race : (words : Arguments) (options : RaceOptions) → AsksSteps words → AsksRace words options → ⊥
 steps_are_no_race words options steps race = no_race words true options steps.1 race
 
 -- nor do they ask for the judgement of a trace
-no_check : (words : Arguments) (steps : Bool) → NamesRunOf (subcommand_of ulfm words) steps → AsksCheck words → ⊥
-no_check words steps run check =
-    let texts : codes "check" ≡ codes "run" = one_name _ _ _ check.1 (run_named words steps run) in
+no_check : (words : Arguments) (steps explain : Bool) → NamesRunOf (subcommand_of ulfm words) steps → NamesCheckOf (subcommand_of ulfm words) explain → ⊥
+no_check words steps explain run check =
+    let texts : codes "check" ≡ codes "run" = one_name _ _ _ (check_named words explain check) (run_named words steps run) in
     let bad : true ≡ false = ap (λ (t : List ℕ). slice_index t 0 == 99) texts in
     cc
 
 pub run_is_no_check : (words : Arguments) → AsksRun words → AsksCheck words → ⊥
-run_is_no_check words run check = no_check words false run.1 check
+run_is_no_check words run check = no_check words false false run.1.calls check.1
+
+pub echo_is_no_check : (words : Arguments) → AsksEcho words → AsksCheck words → ⊥
+echo_is_no_check words echo check = no_check words false false echo.1.calls check.1
 
 pub steps_are_no_check : (words : Arguments) → AsksSteps words → AsksCheck words → ⊥
-steps_are_no_check words steps check = no_check words true steps.1 check
+steps_are_no_check words steps check = no_check words true false steps.1 check.1
+
+pub run_is_no_explain : (words : Arguments) → AsksRun words → AsksExplain words → ⊥
+run_is_no_explain words run explain = no_check words false true run.1.calls explain.1
+
+pub echo_is_no_explain : (words : Arguments) → AsksEcho words → AsksExplain words → ⊥
+echo_is_no_explain words echo explain = no_check words false true echo.1.calls explain.1
+
+pub steps_are_no_explain : (words : Arguments) → AsksSteps words → AsksExplain words → ⊥
+steps_are_no_explain words steps explain = no_check words true true steps.1 explain.1
 
 -- words that ask for the judgement of a trace ask for no race
-pub check_is_no_race : (words : Arguments) (options : RaceOptions) → AsksCheck words → AsksRace words options → ⊥
-check_is_no_race words options check race =
-    let texts : codes "check" ≡ codes "race" = one_name _ _ _ check.1 (ap name_of race.1.1) in
+judged_is_no_race : (words : Arguments) (explain : Bool) (options : RaceOptions) → NamesCheckOf (subcommand_of ulfm words) explain → AsksRace words options → ⊥
+judged_is_no_race words explain options check race =
+    let texts : codes "check" ≡ codes "race" = one_name _ _ _ (check_named words explain check) (ap name_of race.1.1) in
     let bad : true ≡ false = ap (λ (t : List ℕ). slice_index t 0 == 99) texts in
     cc
 
+pub check_is_no_race : (words : Arguments) (options : RaceOptions) → AsksCheck words → AsksRace words options → ⊥
+check_is_no_race words options check race = judged_is_no_race words false options check.1 race
+
+pub explain_is_no_race : (words : Arguments) (options : RaceOptions) → AsksExplain words → AsksRace words options → ⊥
+explain_is_no_race words options explain race = judged_is_no_race words true options explain.1 race
+
+-- a trace is only judged, or it is explained too
+pub check_is_no_explain : (words : Arguments) → AsksCheck words → AsksExplain words → ⊥
+check_is_no_explain words check explain =
+    let rows : check.1.rows ≡ explain.1.rows = (some_pair_parts {A = Text} {B = List Row} _ _ _ _ (sym check.1.is_check ∙ explain.1.is_check)).1 in
+    let bad : false ≡ true = sym check.1.explain_is ∙ (ap (has_flag (codes "explain")) rows ∙ explain.1.explain_is) in
+    cc
+
 -- a script is one of calls or one of steps
+calls_are_no_steps : (words : Arguments) → NamesRunOf (subcommand_of ulfm words) false → NamesRunOf (subcommand_of ulfm words) true → ⊥
+calls_are_no_steps words run steps =
+    let rows : run.rows ≡ steps.rows = (some_pair_parts {A = Text} {B = List Row} _ _ _ _ (sym run.is_run ∙ steps.is_run)).1 in
+    let bad : false ≡ true = sym run.steps_is ∙ (ap (has_flag (codes "steps")) rows ∙ steps.steps_is) in
+    cc
+
 pub run_is_no_steps : (words : Arguments) → AsksRun words → AsksSteps words → ⊥
-run_is_no_steps words run steps =
-    let rows : run.1.rows ≡ steps.1.rows = (some_pair_parts {A = Text} {B = List Row} _ _ _ _ (sym run.1.is_run ∙ steps.1.is_run)).1 in
-    let bad : false ≡ true = sym run.1.steps_is ∙ (ap (has_flag (codes "steps")) rows ∙ steps.1.steps_is) in
+run_is_no_steps words run steps = calls_are_no_steps words run.1.calls steps.1
+
+pub echo_is_no_steps : (words : Arguments) → AsksEcho words → AsksSteps words → ⊥
+echo_is_no_steps words echo steps = calls_are_no_steps words echo.1.calls steps.1
+
+-- and its calls are printed, or they aren't
+pub run_is_no_echo : (words : Arguments) → AsksRun words → AsksEcho words → ⊥
+run_is_no_echo words run echo =
+    let rows : run.1.calls.rows ≡ echo.1.calls.rows = (some_pair_parts {A = Text} {B = List Row} _ _ _ _ (sym run.1.calls.is_run ∙ echo.1.calls.is_run)).1 in
+    let bad : false ≡ true = sym run.1.echo_is ∙ (ap (has_flag (codes "echo")) rows ∙ echo.1.echo_is) in
     cc
 
 -- they ask for one race
@@ -72,16 +116,25 @@ no_draw words steps options run draw =
     cc
 
 pub run_is_no_draw : (words : Arguments) (options : DrawOptions) → AsksRun words → AsksDraw words options → ⊥
-run_is_no_draw words options run draw = no_draw words false options run.1 draw
+run_is_no_draw words options run draw = no_draw words false options run.1.calls draw
+
+pub echo_is_no_draw : (words : Arguments) (options : DrawOptions) → AsksEcho words → AsksDraw words options → ⊥
+echo_is_no_draw words options echo draw = no_draw words false options echo.1.calls draw
 
 pub steps_are_no_draw : (words : Arguments) (options : DrawOptions) → AsksSteps words → AsksDraw words options → ⊥
 steps_are_no_draw words options steps draw = no_draw words true options steps.1 draw
 
-pub check_is_no_draw : (words : Arguments) (options : DrawOptions) → AsksCheck words → AsksDraw words options → ⊥
-check_is_no_draw words options check draw =
-    let texts : codes "check" ≡ codes "draw" = one_name _ _ _ check.1 (ap name_of draw.1.1) in
+judged_is_no_draw : (words : Arguments) (explain : Bool) (options : DrawOptions) → NamesCheckOf (subcommand_of ulfm words) explain → AsksDraw words options → ⊥
+judged_is_no_draw words explain options check draw =
+    let texts : codes "check" ≡ codes "draw" = one_name _ _ _ (check_named words explain check) (ap name_of draw.1.1) in
     let bad : true ≡ false = ap (λ (t : List ℕ). slice_index t 0 == 99) texts in
     cc
+
+pub check_is_no_draw : (words : Arguments) (options : DrawOptions) → AsksCheck words → AsksDraw words options → ⊥
+check_is_no_draw words options check draw = judged_is_no_draw words false options check.1 draw
+
+pub explain_is_no_draw : (words : Arguments) (options : DrawOptions) → AsksExplain words → AsksDraw words options → ⊥
+explain_is_no_draw words options explain draw = judged_is_no_draw words true options explain.1 draw
 
 pub race_is_no_draw : (words : Arguments) (options : DrawOptions) (race : RaceOptions) → AsksRace words race → AsksDraw words options → ⊥
 race_is_no_draw words options race asks draw =

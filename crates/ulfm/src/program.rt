@@ -1,13 +1,14 @@
 //! Does what a command line asks for, and gives the exit status that it ends with.
 ghost use Rattle.std.specs.Prelude.{◌≡◌, ◌≤◌, ◌⊎◌, false, map, true};
 ghost use Rattle.std.specs.Io.KnownBytes.{Keeps};
-ghost use Rattle.ulfm_command.specs.CommandLines.{AsksCheck, AsksDraw, AsksHelp, AsksRace, AsksRun, AsksSteps, AsksVersion, AsksNothing, is_in_range};
+ghost use Rattle.ulfm_command.specs.CommandLines.{AsksCheck, AsksDraw, AsksEcho, AsksExplain, AsksHelp, AsksRace, AsksRun, AsksSteps, AsksVersion, AsksNothing, is_in_range};
 ghost use Rattle.ulfm_command.specs.declared.asked.DrawOptions.{DrawOptions as DrawOptionsOf};
 ghost use Rattle.ulfm_command.specs.declared.asked.RaceOptions.{RaceOptions as OptionsOf};
 ghost use Rattle.ulfm_filters.specs.Notes.{bad_line, no_memory};
-ghost use Rattle.ulfm_filters.specs.Statuses.{CheckedWith, RanWith, StepsRanWith};
+ghost use Rattle.ulfm_filters.specs.Statuses.{CheckedWith, EchoedWith, RanWith, StepsRanWith};
 ghost use Rattle.ulfm_script.specs.Written.{WritesPart};
 ghost use Rattle.ulfm.specs.Drawn.{DrewWith, form_of};
+ghost use Rattle.ulfm.specs.Explained.{ExplainedWith};
 ghost use Rattle.ulfm.specs.Races.{RacedWith, plan_of};
 
 use std::alloc::{Allocator, Global};
@@ -16,6 +17,7 @@ use std::sync::Wait;
 use std::thread::Threads;
 use ulfm_command::{Asked, DrawOptions, RaceOptions, Reason, read_words};
 use ulfm_draw::{Form, Looks, draw};
+use ulfm_explain::explain;
 use ulfm_filters::{Filter, print_text, run_filter, tell, tell_bad_line, tell_fault};
 use ulfm_race::{Gate, Plan, RaceFault, Turn, race};
 use ulfm_race_text::race_lines;
@@ -40,7 +42,7 @@ impl Gate for AlwaysOpen {
 ///
 /// `alloc` serves the run of a script, the check of a trace and the lines of a race, `global` the reading of the words and the race itself. A race starts
 /// threads, and returns once they have ended.
-#[tactic(auto, using(crate::proofs::OneAnswer::run_is_no_race, crate::proofs::OneAnswer::steps_are_no_race, crate::proofs::OneAnswer::check_is_no_race, crate::proofs::OneAnswer::run_is_no_steps, crate::proofs::OneAnswer::run_is_no_check, crate::proofs::OneAnswer::steps_are_no_check, crate::proofs::OneAnswer::run_is_no_draw, crate::proofs::OneAnswer::steps_are_no_draw, crate::proofs::OneAnswer::check_is_no_draw, crate::proofs::OneAnswer::race_is_no_draw, crate::proofs::Ends::drew_as, crate::proofs::Ends::raced_as, crate::proofs::Ends::race_ran_out))]
+#[tactic(auto, using(crate::proofs::OneAnswer::run_is_no_echo, crate::proofs::OneAnswer::run_is_no_steps, crate::proofs::OneAnswer::run_is_no_check, crate::proofs::OneAnswer::run_is_no_explain, crate::proofs::OneAnswer::run_is_no_draw, crate::proofs::OneAnswer::run_is_no_race, crate::proofs::OneAnswer::echo_is_no_steps, crate::proofs::OneAnswer::echo_is_no_check, crate::proofs::OneAnswer::echo_is_no_explain, crate::proofs::OneAnswer::echo_is_no_draw, crate::proofs::OneAnswer::echo_is_no_race, crate::proofs::OneAnswer::steps_are_no_check, crate::proofs::OneAnswer::steps_are_no_explain, crate::proofs::OneAnswer::steps_are_no_draw, crate::proofs::OneAnswer::steps_are_no_race, crate::proofs::OneAnswer::check_is_no_explain, crate::proofs::OneAnswer::check_is_no_draw, crate::proofs::OneAnswer::check_is_no_race, crate::proofs::OneAnswer::explain_is_no_draw, crate::proofs::OneAnswer::explain_is_no_race, crate::proofs::OneAnswer::race_is_no_draw, crate::proofs::Ends::drew_as, crate::proofs::Ends::raced_as, crate::proofs::Ends::race_ran_out))]
 pub fn answer<T: Threads + Wait + Sync, A: Allocator + Copy + Drop, R: Read, W: Write, E: Write>(
     rt: &T,
     alloc: A,
@@ -55,9 +57,13 @@ pub fn answer<T: Threads + Wait + Sync, A: Allocator + Copy + Drop, R: Read, W: 
     ensures status { result ≤ 3 }
     ensures run { AsksRun (map (λ word. word.now) words.now) → RanWith (R.remaining input.old) (R.remaining input.new)
         (W.contents output.old) (W.contents output.new) result }
+    ensures echo { AsksEcho (map (λ word. word.now) words.now) → EchoedWith (R.remaining input.old) (R.remaining input.new)
+        (W.contents output.old) (W.contents output.new) result }
     ensures steps { AsksSteps (map (λ word. word.now) words.now) → StepsRanWith (R.remaining input.old) (R.remaining input.new)
         (W.contents output.old) (W.contents output.new) result }
     ensures check { AsksCheck (map (λ word. word.now) words.now) → CheckedWith (R.remaining input.old) (R.remaining input.new)
+        (W.contents output.old) (W.contents output.new) result }
+    ensures explain { AsksExplain (map (λ word. word.now) words.now) → ExplainedWith (R.remaining input.old)
         (W.contents output.old) (W.contents output.new) result }
     ensures draw { (options : DrawOptionsOf) → AsksDraw (map (λ word. word.now) words.now) options → DrewWith (form_of options looks)
         (R.remaining input.old) (W.contents output.old) (W.contents output.new) result }
@@ -65,7 +71,8 @@ pub fn answer<T: Threads + Wait + Sync, A: Allocator + Copy + Drop, R: Read, W: 
         (W.contents output.old) (W.contents output.new) result }
     // Nothing else reads the input.
     ensures other { (AsksRun (map (λ word. word.now) words.now) → ⊥) → (AsksSteps (map (λ word. word.now) words.now) → ⊥)
-        → (AsksCheck (map (λ word. word.now) words.now) → ⊥)
+        → (AsksCheck (map (λ word. word.now) words.now) → ⊥) → (AsksEcho (map (λ word. word.now) words.now) → ⊥)
+        → (AsksExplain (map (λ word. word.now) words.now) → ⊥)
         → ((options : DrawOptionsOf) → AsksDraw (map (λ word. word.now) words.now) options → ⊥) → Keeps (R.remaining input.old) (R.remaining input.new) }
     ensures help { AsksHelp (map (λ word. word.now) words.now) ⊎ AsksVersion (map (λ word. word.now) words.now) → (result ≡ 0) ⊎ (result ≡ 3) }
     // 3 where memory was refused.
@@ -77,8 +84,10 @@ pub fn answer<T: Threads + Wait + Sync, A: Allocator + Copy + Drop, R: Read, W: 
 {
     match read_words(global, words) {
         Asked::Run => run_filter(alloc, Filter::Calls, input, output, errors),
+        Asked::RunEchoed => run_filter(alloc, Filter::Echoed, input, output, errors),
         Asked::RunSteps => run_filter(alloc, Filter::Steps, input, output, errors),
         Asked::Check => run_filter(alloc, Filter::Check, input, output, errors),
+        Asked::Explain => run_explain(alloc, input, output, errors),
         Asked::Draw(options) => run_draw(alloc, form_of(options, looks), input, output, errors),
         Asked::Race(options) => run_race(rt, alloc, global, options, output, errors),
         Asked::Shown(text) => print_text(text.as_bytes(), output, errors),
@@ -115,6 +124,32 @@ fn run_draw<A: Allocator + Copy + Drop, R: Read, W: Write, E: Write>(
             match drawn.verdict {
                 Verdict::Illegal { .. } if status == 0 => 1,
                 _ => status,
+            }
+        }
+        Err(fault) => tell_fault(fault, errors),
+    }
+}
+
+/// Judges the trace of the input, and prints the verdict, with its reason where it is illegal.
+#[tactic(auto, using(crate::proofs::Ends::told_trace, crate::proofs::Ends::told_none))]
+fn run_explain<A: Allocator + Copy + Drop, R: Read, W: Write, E: Write>(
+    alloc: A,
+    input: &mut R,
+    output: &mut W,
+    errors: &mut E,
+) -> u8
+    ensures status { result ≤ 3 }
+    ensures told { ExplainedWith (R.remaining input.old) (W.contents output.old) (W.contents output.new) result }
+{
+    match explain(alloc, input) {
+        Ok(told) => {
+            let status = print_text(&told.shown, output, errors);
+            if status != 0 {
+                return status;
+            }
+            match told.verdict {
+                Verdict::Legal => 0,
+                Verdict::Illegal { .. } => 1,
             }
         }
         Err(fault) => tell_fault(fault, errors),

@@ -74,11 +74,34 @@ fn require(holds: bool) -> Result<(), Fail> {
 /// A text through each of the filters, by the words that name it.
 #[test]
 fn words_name_filters(rt: HostRuntime) -> Result<(), Fail> {
-    let rows: [(&[&str], &str, (&[u8], &[u8], u8)); 3] = [
+    let rows: [(&[&str], &str, (&[u8], &[u8], u8)); 6] = [
         (
             &["ulfm", "run"],
             SCRIPT,
             (b"started\nagreed 000000ff failed 0 clean\n", b"", 0),
+        ),
+        (
+            &["ulfm", "run", "--echo"],
+            SCRIPT,
+            (
+                b"agree 0 0 000000ff -> started\npoll 0 0 -> agreed 000000ff failed 0 clean\n",
+                b"",
+                0,
+            ),
+        ),
+        (
+            &["ulfm", "run", "--echo", "--steps"],
+            "ulfm-steps 1 2 1 2\ncall agree 0 0 00000001\n",
+            (b"ulfm-trace 1 2 1 2\ncall agree 0 0 00000001\n", b"", 0),
+        ),
+        (
+            &["ulfm", "check", "--explain"],
+            "ulfm-trace 1 2 1 2\nlook 1 0\n",
+            (
+                b"illegal line 2 call\n  line 2: look 1 0\n  wrong: the caller, since rank 1 has no call under way\n",
+                b"",
+                1,
+            ),
         ),
         (
             &["ulfm", "run", "--steps"],

@@ -3,7 +3,7 @@ use Rattle.std.proofs.Common.{◌≡◌, refl, codes, true, false, List, [], ◌
 use Rattle.clap.specs.Words.{fault_of, is_simple_and_free, is_simple}
 use Rattle.clap.specs.declared.error.kind.ErrorKind.TheVariants.{MissingRequiredArgument, MissingSubcommand, UnknownArgument, InvalidSubcommand, ValueValidation}
 use Rattle.clap.proofs.OnLiterals.{clap_on_literals}
-use Rattle.ulfm_command.specs.CommandLines.{AsksCheck, AsksDraw, AsksHelp, AsksRun, AsksSteps, AsksVersion, ulfm}
+use Rattle.ulfm_command.specs.CommandLines.{AsksCheck, AsksDraw, AsksEcho, AsksExplain, AsksHelp, AsksRun, AsksSteps, AsksVersion, ulfm}
 
 -- the command is one whose faults and matches the command line crate tells
 pub is_told : is_simple_and_free ulfm ≡ true
@@ -17,7 +17,12 @@ is_matched = refl
 -- `ulfm run`
 run_is_run : (name : List ℕ) → AsksRun (name ∷ codes "run" ∷ [])
 unfolding clap_on_literals
-run_is_run name = (refl, record { rows = _; is_run = refl; steps_is = refl })
+run_is_run name = (refl, record { calls = record { rows = _; is_run = refl; steps_is = refl }; echo_is = refl })
+
+-- `ulfm run --echo`
+echo_is_echo : (name : List ℕ) → AsksEcho (name ∷ codes "run" ∷ codes "--echo" ∷ [])
+unfolding clap_on_literals
+echo_is_echo name = (refl, record { calls = record { rows = _; is_run = refl; steps_is = refl }; echo_is = refl })
 
 -- `ulfm run --steps`
 steps_are_steps : (name : List ℕ) → AsksSteps (name ∷ codes "run" ∷ codes "--steps" ∷ [])
@@ -27,7 +32,12 @@ steps_are_steps name = (refl, record { rows = _; is_run = refl; steps_is = refl 
 -- `ulfm check`
 check_is_check : (name : List ℕ) → AsksCheck (name ∷ codes "check" ∷ [])
 unfolding clap_on_literals
-check_is_check name = (refl, refl)
+check_is_check name = (refl, record { rows = _; is_check = refl; explain_is = refl })
+
+-- `ulfm check --explain`
+explain_is_explain : (name : List ℕ) → AsksExplain (name ∷ codes "check" ∷ codes "--explain" ∷ [])
+unfolding clap_on_literals
+explain_is_explain name = (refl, record { rows = _; is_check = refl; explain_is = refl })
 
 -- `ulfm draw`, `ulfm draw --text`, `ulfm draw --text --ascii`
 draw_is_draw : (name : List ℕ) → AsksDraw (name ∷ codes "draw" ∷ []) (record { text = false; ascii = false })

@@ -11,7 +11,7 @@ use Rattle.clap.specs.declared.builder.value_parser.ValueParser.{ValueParser}
 use Rattle.clap.specs.declared.builder.value_parser.ValueParser.TheVariants as vp
 use Rattle.clap.specs.declared.error.kind.ErrorKind.TheVariants.{DisplayHelp, DisplayVersion}
 use Rattle.ulfm_command.specs.declared.asked.Asked.{Asked}
-use Rattle.ulfm_command.specs.declared.asked.Asked.TheVariants.{Run, RunSteps, Check, Draw, Race, Shown, Bad, Memory}
+use Rattle.ulfm_command.specs.declared.asked.Asked.TheVariants.{Run, RunEchoed, RunSteps, Check, Explain, Draw, Race, Shown, Bad, Memory}
 use Rattle.ulfm_command.specs.declared.asked.{DrawOptions.{DrawOptions}, RaceOptions.{RaceOptions}}
 
 -- the words of a command line, the program's own name first
@@ -38,13 +38,21 @@ fail_rule = number_rule (codes "fail") (vp.Signed (pos 0) (pos 63))
 abbrev pub steps_rule : Rule
 steps_rule = record (new_rule (codes "steps")) { long = Some (codes "steps"); action = Some SetTrue }
 
+-- the option that says that each call is to be printed before its reply
+abbrev pub echo_rule : Rule
+echo_rule = record (new_rule (codes "echo")) { long = Some (codes "echo"); action = Some SetTrue }
+
 -- the command that runs a script
 abbrev pub run : App
-run = with_rule (new_app (codes "run")) steps_rule
+run = with_rule (with_rule (new_app (codes "run")) steps_rule) echo_rule
+
+-- the option that says that the reason is to be explained
+abbrev pub explain_rule : Rule
+explain_rule = record (new_rule (codes "explain")) { long = Some (codes "explain"); action = Some SetTrue }
 
 -- the command that judges a trace
 abbrev pub check : App
-check = new_app (codes "check")
+check = with_rule (new_app (codes "check")) explain_rule
 
 -- the options that say that a picture is wanted in characters, and in ASCII alone
 abbrev pub text_rule : Rule
@@ -61,14 +69,18 @@ draw = with_rule (with_rule (new_app (codes "draw")) text_rule) ascii_rule
 abbrev pub race : App
 race = with_rule (with_rule (with_rule (new_app (codes "race")) ranks_rule) rounds_rule) fail_rule
 
--- the program as a command that has a version and subcommands, of which one must be given: those that read their input
-abbrev pub readers : App
-readers =
+-- the program as a command that has a version and subcommands, of which one must be given: the one that runs scripts
+abbrev pub runners : App
+runners =
     let named = new_app (codes "ulfm") in
     let top = record named { top = record named.top { has_version = true; subcommand_required = true } } in
-    with_subcommand (with_subcommand top run.top) check.top
+    with_subcommand top run.top
 
--- the same with the one that draws what it reads
+-- the same with the one that judges traces
+abbrev pub readers : App
+readers = with_subcommand runners check.top
+
+-- the same with the one that draws them
 abbrev pub drawers : App
 drawers = with_subcommand readers draw.top
 
@@ -132,17 +144,36 @@ pub record NamesRunOf (named : Named) (steps : Bool) : Type 0 where
   pub is_run : named ≡ Some (codes "run", rows)
   pub steps_is : has_flag (codes "steps") rows ≡ steps
 
+-- a run of a call script was named, with its calls printed or without
+pub record NamesCallsOf (named : Named) (echo : Bool) : Type 0 where
+  pub calls : NamesRunOf named false
+  pub echo_is : has_flag (codes "echo") calls.rows ≡ echo
+
 -- a run of a call script was named
 abbrev pub NamesRun : Named → Type 0
-NamesRun named = NamesRunOf named false
+NamesRun named = NamesCallsOf named false
 
--- a run of a step script was named
+-- a run of a call script was named, and its calls are to be printed
+abbrev pub NamesEcho : Named → Type 0
+NamesEcho named = NamesCallsOf named true
+
+-- a run of a step script was named, whose trace has its calls anyhow
 abbrev pub NamesSteps : Named → Type 0
 NamesSteps named = NamesRunOf named true
 
+-- the judgement of a trace was named, with its reason explained or without
+pub record NamesCheckOf (named : Named) (explain : Bool) : Type 0 where
+  pub rows : List Row
+  pub is_check : named ≡ Some (codes "check", rows)
+  pub explain_is : has_flag (codes "explain") rows ≡ explain
+
 -- the judgement of a trace was named
 abbrev pub NamesCheck : Named → Type 0
-NamesCheck named = option_map (λ p. p.0) named ≡ Some (codes "check")
+NamesCheck named = NamesCheckOf named false
+
+-- the judgement of a trace was named, and its reason is to be explained
+abbrev pub NamesExplain : Named → Type 0
+NamesExplain named = NamesCheckOf named true
 
 -- the options of a picture, as they are given
 pub record IsDrawRead (rows : List Row) (options : DrawOptions) : Type 0 where
@@ -160,19 +191,25 @@ NamesRace named options = (rows : List Row) × (named ≡ Some (codes "race", ro
 -- the command that was named asks for this
 abbrev pub IsEntered : Named → Asked → Type 0
 IsEntered named Run = NamesRun named
+IsEntered named RunEchoed = NamesEcho named
 IsEntered named RunSteps = NamesSteps named
 IsEntered named Check = NamesCheck named
+IsEntered named Explain = NamesExplain named
 IsEntered named (Draw options) = NamesDraw named options
 IsEntered named (Race options) = NamesRace named options
 IsEntered named (Bad reason) =
     (NamesRun named → ⊥) × (NamesSteps named → ⊥) × (NamesCheck named → ⊥) × ((options : RaceOptions) → NamesRace named options → ⊥)
-    × ((options : DrawOptions) → NamesDraw named options → ⊥)
+    × ((options : DrawOptions) → NamesDraw named options → ⊥) × (NamesEcho named → ⊥) × (NamesExplain named → ⊥)
 IsEntered named (Shown text) = ⊥
 IsEntered named Memory = ⊥
 
 -- the command line crate finds no fault in the words, and they name a run of a call script
 abbrev pub AsksRun : Arguments → Type 0
 AsksRun words = (fault_of ulfm words ≡ []) × NamesRun (subcommand_of ulfm words)
+
+-- it finds no fault in them, and they name a run of a call script whose calls are to be printed
+abbrev pub AsksEcho : Arguments → Type 0
+AsksEcho words = (fault_of ulfm words ≡ []) × NamesEcho (subcommand_of ulfm words)
 
 -- it finds no fault in them, and they name a run of a step script
 abbrev pub AsksSteps : Arguments → Type 0
@@ -181,6 +218,10 @@ AsksSteps words = (fault_of ulfm words ≡ []) × NamesSteps (subcommand_of ulfm
 -- it finds no fault in them, and they name the judgement of a trace
 abbrev pub AsksCheck : Arguments → Type 0
 AsksCheck words = (fault_of ulfm words ≡ []) × NamesCheck (subcommand_of ulfm words)
+
+-- it finds no fault in them, and they name the judgement of a trace whose reason is to be explained
+abbrev pub AsksExplain : Arguments → Type 0
+AsksExplain words = (fault_of ulfm words ≡ []) × NamesExplain (subcommand_of ulfm words)
 
 -- it finds no fault in them, and they name a picture of a trace with these options
 abbrev pub AsksDraw : Arguments → DrawOptions → Type 0
@@ -201,8 +242,10 @@ AsksVersion words = fault_of ulfm words ≡ DisplayVersion ∷ []
 -- there is nothing that the words ask for
 pub record AsksNothing (words : Arguments) : Type 0 where
   pub no_run : AsksRun words → ⊥
+  pub no_echo : AsksEcho words → ⊥
   pub no_steps : AsksSteps words → ⊥
   pub no_check : AsksCheck words → ⊥
+  pub no_explain : AsksExplain words → ⊥
   pub no_draw : (options : DrawOptions) → AsksDraw words options → ⊥
   pub no_race : (options : RaceOptions) → AsksRace words options → ⊥
   pub no_help : IsAmong DisplayHelp (fault_of ulfm words) → ⊥
@@ -211,8 +254,10 @@ pub record AsksNothing (words : Arguments) : Type 0 where
 -- the words were read as bad: there is nothing that they ask for alone
 pub record IsRefused (words : Arguments) : Type 0 where
   pub no_run : AsksRun words → ⊥
+  pub no_echo : AsksEcho words → ⊥
   pub no_steps : AsksSteps words → ⊥
   pub no_check : AsksCheck words → ⊥
+  pub no_explain : AsksExplain words → ⊥
   pub no_draw : (options : DrawOptions) → AsksDraw words options → ⊥
   pub no_race : (options : RaceOptions) → AsksRace words options → ⊥
   pub no_help : AsksHelp words → ⊥
@@ -221,8 +266,10 @@ pub record IsRefused (words : Arguments) : Type 0 where
 -- the words were read as asking for this
 abbrev pub IsAskedBy : Arguments → Asked → Type 0
 IsAskedBy words Run = AsksRun words
+IsAskedBy words RunEchoed = AsksEcho words
 IsAskedBy words RunSteps = AsksSteps words
 IsAskedBy words Check = AsksCheck words
+IsAskedBy words Explain = AsksExplain words
 IsAskedBy words (Draw options) = AsksDraw words options
 IsAskedBy words (Race options) = AsksRace words options
 IsAskedBy words (Shown text) = IsAmong DisplayHelp (fault_of ulfm words) ⊎ IsAmong DisplayVersion (fault_of ulfm words)

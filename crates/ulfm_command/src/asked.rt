@@ -66,10 +66,14 @@ impl fmt::Display for Reason {
 pub enum Asked {
     /// A script of calls is to be run.
     Run,
+    /// A script of calls is to be run, and each call printed before its reply.
+    RunEchoed,
     /// A script of single steps is to be run.
     RunSteps,
     /// A trace is to be judged.
     Check,
+    /// A trace is to be judged, and where it is illegal the reason is to be explained.
+    Explain,
     /// A trace is to be drawn.
     Draw(DrawOptions),
     /// A race is to be run, whose options are in their ranges.

@@ -1,7 +1,7 @@
 //! The program's commands and their options, as the command line crate takes them.
 ghost use Rattle.std.specs.Prelude.{◌≡◌, IfOk, false};
 ghost use Rattle.clap.specs.Words.{rule_of};
-ghost use Rattle.ulfm_command.specs.CommandLines.{IsCommand, ascii_rule, check, draw, drawers, fail_rule, number_rule, race, ranks_rule, readers, rounds_rule, run, steps_rule, text_rule, ulfm};
+ghost use Rattle.ulfm_command.specs.CommandLines.{IsCommand, ascii_rule, check, draw, drawers, echo_rule, explain_rule, fail_rule, number_rule, race, ranks_rule, readers, rounds_rule, run, runners, steps_rule, text_rule, ulfm};
 
 use crate::texts::{CHECK_HELP, DRAW_HELP, RACE_HELP, RUN_HELP, ULFM_HELP, VERSION};
 use clap::builder::ValueParser;
@@ -91,6 +91,17 @@ fn steps_option<'a>(global: Global) -> Arg<'a>
         .help("Runs a script of single atomic steps, and prints its trace")
 }
 
+/// That each call is to be printed before its reply.
+fn echo_option<'a>(global: Global) -> Arg<'a>
+    ensures rule { rule_of result ≡ echo_rule }
+    ensures local { result.global ≡ false }
+{
+    Arg::new(global, "echo")
+        .long("echo")
+        .action(ArgAction::SetTrue)
+        .help("Prints each call before its reply; with --steps the trace has them anyhow")
+}
+
 /// `ulfm run`.
 fn run_command<'a>(global: Global) -> Result<Command<'a>, AllocError>
     ensures { IfOk result (IsCommand run) }
@@ -100,18 +111,31 @@ fn run_command<'a>(global: Global) -> Result<Command<'a>, AllocError>
             "Runs the script on standard input: of calls, each of which prints a line, or of single steps",
         )
         .after_help(RUN_HELP)
-        .arg(steps_option(global))
+        .arg(steps_option(global))?
+        .arg(echo_option(global))
+}
+
+/// That the reason of a verdict is to be explained.
+fn explain_option<'a>(global: Global) -> Arg<'a>
+    ensures rule { rule_of result ≡ explain_rule }
+    ensures local { result.global ≡ false }
+{
+    Arg::new(global, "explain")
+        .long("explain")
+        .action(ArgAction::SetTrue)
+        .help("Says of an illegal trace what is wrong, and what would have been legal")
 }
 
 /// `ulfm check`.
-fn check_command<'a>(global: Global) -> Command<'a>
-    ensures { IsCommand check result }
+fn check_command<'a>(global: Global) -> Result<Command<'a>, AllocError>
+    ensures { IfOk result (IsCommand check) }
 {
     Command::new(global, "check")
         .about(
             "Judges the trace on standard input: whether it is legal, or which line can't be, and why",
         )
         .after_help(CHECK_HELP)
+        .arg(explain_option(global))
 }
 
 /// That a picture is wanted in characters.
@@ -147,9 +171,9 @@ fn draw_command<'a>(global: Global) -> Result<Command<'a>, AllocError>
         .arg(ascii_option(global))
 }
 
-/// `ulfm`, which wants a subcommand, with those that read their input.
-fn reading_commands<'a>(global: Global) -> Result<Command<'a>, AllocError>
-    ensures { IfOk result (IsCommand readers) }
+/// `ulfm`, which wants a subcommand, with the one that runs scripts.
+fn running_commands<'a>(global: Global) -> Result<Command<'a>, AllocError>
+    ensures { IfOk result (IsCommand runners) }
 {
     Command::new(global, "ulfm")
         .bin_name("ulfm")?
@@ -157,8 +181,14 @@ fn reading_commands<'a>(global: Global) -> Result<Command<'a>, AllocError>
         .after_help(ULFM_HELP)
         .version(VERSION)
         .subcommand_required(true)
-        .subcommand(run_command(global)?)?
-        .subcommand(check_command(global))
+        .subcommand(run_command(global)?)
+}
+
+/// `ulfm` with the one that judges traces, too.
+fn reading_commands<'a>(global: Global) -> Result<Command<'a>, AllocError>
+    ensures { IfOk result (IsCommand readers) }
+{
+    running_commands(global)?.subcommand(check_command(global)?)
 }
 
 /// `ulfm` with the one that draws what it reads, too.

@@ -48,7 +48,7 @@ fn read_command(matches: &ArgMatches<'_>) -> Asked
             if name == "run" {
                 read_run(options)
             } else if name == "check" {
-                Asked::Check
+                read_check(options)
             } else if name == "draw" {
                 Asked::Draw(read_draw(options))
             } else if name == "race" {
@@ -70,8 +70,21 @@ fn read_run(matches: &ArgMatches<'_>) -> Asked
 {
     if is_given(matches, "steps") {
         Asked::RunSteps
+    } else if is_given(matches, "echo") {
+        Asked::RunEchoed
     } else {
         Asked::Run
+    }
+}
+
+/// Whether the reason of a verdict is to be explained.
+fn read_check(matches: &ArgMatches<'_>) -> Asked
+    ensures { IsEntered (Some (codes "check", rows_of (found_of matches.now))) result }
+{
+    if is_given(matches, "explain") {
+        Asked::Explain
+    } else {
+        Asked::Check
     }
 }
 

@@ -72,6 +72,9 @@ line is 'ulfm-steps 1 RANKS COMMS ROUNDS', and each further line is one of these
 K is one of list, settle, arrive, revoke, revocation, block, mark, slot, cache, comm, spawn,
 arrival.
 
+With --echo each line is 'CALL -> REPLY', the call as the script spells it. A trace has its calls,
+so that --steps prints the same with --echo.
+
 Nothing appears before the input ends or 8192 bytes of output are full.
 
 Examples:
@@ -136,6 +139,13 @@ or none), look (not due, or another number), event (may not happen), own (not it
 to make), reply (no answer at its point).
 
 A line has at most 8192 bytes without its newline, and a trace at most 5000000 lines.
+
+With --explain the answer's line comes first, as ever. Behind it, where the trace is illegal, each
+line 'legal: X' has a line X that is legal in the bad one's place; there may be none, and there are
+at most four. Then come notes, each behind two spaces: the bad line, what is wrong with it (the
+text, the call, the caller, the look, the event, the point, the group or the answer), the call and
+its look, the communicator and its round, and the events that matter to it, each behind its number.
+The trace is kept in memory then.
 
 Exit statuses, and what standard error says:
   0  legal

@@ -1,8 +1,9 @@
 -- How a filter did its work, behind an exit status.
 use Rattle.std.specs.Prelude.{◌≡◌, ◌⊎◌, ℕ, List, Result, Ok, Err}
 use Rattle.std.specs.Io.KnownBytes.{Appends, Keeps}
+use Rattle.ulfm_echo.specs.Echoes.{RunsEchoed}
 use Rattle.ulfm_filters.specs.declared.filter.Filter.{Filter}
-use Rattle.ulfm_filters.specs.declared.filter.Filter.TheVariants.{Calls, Steps, Check}
+use Rattle.ulfm_filters.specs.declared.filter.Filter.TheVariants.{Calls, Echoed, Steps, Check}
 use Rattle.ulfm_filters.specs.Notes.{TellsEnd, TellsVerdict, no_memory, no_read}
 use Rattle.ulfm_script.specs.declared.fault.RunFault.{RunFault}
 use Rattle.ulfm_script.specs.declared.fault.RunFault.TheVariants.{Line, Memory, Read, Write}
@@ -25,6 +26,10 @@ status_of (Err Write) = 3
 -- a script was run, and the status says how it ended: what the input had and has left, what the output had and has
 abbrev pub RanWith : KnownText → KnownText → KnownText → KnownText → ℕ → Type 0
 RanWith known left old new status = (result : Result (Unit {0}) RunFault) × (status ≡ status_of result) × RunsBuffered known left old new result
+
+-- a script was run, each call was printed before its reply, and the status says how that ended
+abbrev pub EchoedWith : KnownText → KnownText → KnownText → KnownText → ℕ → Type 0
+EchoedWith known left old new status = (result : Result (Unit {0}) RunFault) × (status ≡ status_of result) × RunsEchoed known left old new result
 
 -- a script of single steps was run, and the status says how it ended
 abbrev pub StepsRanWith : KnownText → KnownText → KnownText → KnownText → ℕ → Type 0
@@ -59,6 +64,7 @@ CheckedWith known left old new status = (end : CheckEnd) × Checks known left en
 -- a filter did what it is for, and the status says how that ended
 abbrev pub Filtered : Filter → KnownText → KnownText → KnownText → KnownText → ℕ → Type 0
 Filtered Calls known left old new status = RanWith known left old new status
+Filtered Echoed known left old new status = EchoedWith known left old new status
 Filtered Steps known left old new status = StepsRanWith known left old new status
 Filtered Check known left old new status = CheckedWith known left old new status
 
@@ -83,6 +89,8 @@ CheckedTelling old new status =
 abbrev pub FilteredTelling : Filter → Streams → Streams → ℕ → Type 0
 FilteredTelling Calls old new status =
     (end : RunEnd) × (status ≡ status_of end) × RunsBuffered old.input new.input old.output new.output end × TellsEnd end old.errors new.errors
+FilteredTelling Echoed old new status =
+    (end : RunEnd) × (status ≡ status_of end) × RunsEchoed old.input new.input old.output new.output end × TellsEnd end old.errors new.errors
 FilteredTelling Steps old new status =
     (end : RunEnd) × (status ≡ status_of end) × RunsSteps old.input new.input old.output new.output end × TellsEnd end old.errors new.errors
 FilteredTelling Check old new status = CheckedTelling old new status

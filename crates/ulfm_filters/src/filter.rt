@@ -6,7 +6,8 @@ ghost use Rattle.ulfm_filters.specs.Statuses.{CheckedTelling, CheckedWith, Filte
 use crate::telling::{print_text, tell_fault};
 use std::alloc::Allocator;
 use std::io::{Read, Write};
-use ulfm_run::{run_calls, run_steps};
+use ulfm_echo::run_echoed;
+use ulfm_run::{WordsMachine, run_calls, run_steps};
 use ulfm_script::RunFault;
 use ulfm_trace::{CheckFault, Verdict, check, verdict_line};
 
@@ -15,6 +16,8 @@ use ulfm_trace::{CheckFault, Verdict, check, verdict_line};
 pub enum Filter {
     /// A script of calls is run.
     Calls,
+    /// A script of calls is run, and each call printed before its reply.
+    Echoed,
     /// A script of single steps is run.
     Steps,
     /// A trace is judged.
@@ -40,6 +43,10 @@ pub fn run_filter<A: Allocator + Copy + Drop, R: Read, W: Write, E: Write>(
 {
     match filter {
         Filter::Calls => tell_end(run_calls(alloc, input, output), errors),
+        Filter::Echoed => tell_end(
+            run_echoed::<WordsMachine<A>, A, R, W>(alloc, input, output),
+            errors,
+        ),
         Filter::Steps => tell_end(run_steps(alloc, input, output), errors),
         Filter::Check => run_check(alloc, input, output, errors),
     }

@@ -1,0 +1,3 @@
+pub mod Echoing
+pub mod Spelling
+pub mod Taken

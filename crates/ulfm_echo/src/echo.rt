@@ -1,0 +1,112 @@
+//! Scripts of calls, run on anything that answers its calls, with each call's own line before its reply.
+ghost use Rattle.std.specs.Prelude.{◌≡◌, ◌++◌, ℕ, List, OnOk};
+ghost use Rattle.ulfm_echo.specs.Echoes.{EchoesFrom, RunsEchoed, echo_scripts, echoed_line};
+ghost use Rattle.ulfm_model.specs.Runs.{new_state};
+ghost use Rattle.ulfm_script.specs.Runs.{PrintsReply};
+ghost use Rattle.ulfm_script.specs.Spelling.{IsSpelled};
+
+use std::alloc::{AllocError, Allocator};
+use std::io::{Read, Write};
+use ulfm_laws::FlagAnd;
+use ulfm_model::{Call, Limits};
+use ulfm_script::{
+    HeaderKind, Interpreter, LastGroup, LineKind, Machine, RunFault, end_of, print_call,
+    print_reply, read_call, run_text,
+};
+
+/// The bytes of most calls with their replies.
+const ROOM: usize = 96;
+
+/// Runs the script that the reader gives on a new machine, writes a line for each call, and flushes the writer.
+///
+/// The line is the call's own, as the script spells it, then ` -> `, and then what [`ulfm_script::run_script`] prints for it. What is written at `Ok`
+/// and at each fault is told there too: only the calls' own lines come before each reply.
+///
+/// Over `ulfm 1 1 1 2`, `agree 0 0 000000ff`, `poll 0 0` it writes `agree 0 0 000000ff -> started` and
+/// `poll 0 0 -> agreed 000000ff failed 0 clean`.
+pub fn run_echoed<M: Machine<A>, A: Allocator + Copy, R: Read, W: Write>(
+    alloc: A,
+    reader: &mut R,
+    writer: &mut W,
+) -> Result<(), RunFault>
+    ensures { RunsEchoed (R.remaining reader.old) (R.remaining reader.new) (W.contents writer.old) (W.contents writer.new) result }
+{
+    end_of(run_text::<EchoLines<M, A>, A, R, W>(alloc, (), reader, writer))
+}
+
+/// A machine, and the lines of its replies behind their calls.
+#[derive(Drop)]
+struct EchoLines<M, A: Allocator> {
+    machine: M,
+    group: Vec<u16, A>,
+    last: LastGroup<A>,
+    text: Vec<u8, A>,
+}
+
+impl<M: Machine<A>, A: Allocator + Copy> Interpreter<A> for EchoLines<M, A> {
+    type Plan = ();
+
+    ghost lang = { echo_scripts };
+
+    ghost HasRun = { λ plan it limits calls out. (plain : List ℕ) × EchoesFrom (new_state limits) calls out plain (M.state it.machine) };
+
+    ghost text = { λ it. it.text.items };
+
+    fn kind() -> HeaderKind {
+        HeaderKind::Calls
+    }
+
+    fn open(alloc: A, limits: Limits, _plan: ()) -> Result<Self, AllocError> {
+        let text = Vec::with_capacity(alloc, ROOM)?;
+        let machine = M::open(alloc, limits)?;
+        Ok(EchoLines {
+            machine,
+            group: Vec::new(alloc),
+            last: LastGroup::new(alloc),
+            text,
+        })
+    }
+
+    fn run(&mut self, line: &[u8]) -> Result<Result<(), LineKind>, AllocError> {
+        match read_call(line) {
+            Ok(call) => {
+                answer(
+                    &mut self.machine,
+                    &call,
+                    &mut self.group,
+                    &mut self.last,
+                    &mut self.text,
+                )?;
+                Ok(Ok(()))
+            }
+            Err(kind) => Ok(Err(kind)),
+        }
+    }
+
+    fn text(&self) -> &[u8] {
+        &self.text
+    }
+
+    ghost prints = { λ plan it limits calls out ran. (ran.0, M.state it.machine, ran.1) };
+}
+
+/// Answers a call by the machine, and makes the line that it prints, with the call before.
+fn answer<M: Machine<A>, A: Allocator>(
+    machine: &mut M,
+    call: &Call<FlagAnd>,
+    group: &mut Vec<u16, A>,
+    last: &mut LastGroup<A>,
+    text: &mut Vec<u8, A>,
+) -> Result<(), AllocError>
+    requires { IsSpelled call.now }
+    ensures { OnOk result ((line : List ℕ) × PrintsReply (M.state machine.old) call.now (M.state machine.new) line
+        × (text.new.items ≡ echoed_line call.now line)) }
+{
+    let reply = machine.apply(call, group)?;
+    text.clear();
+    print_call(text, call)?;
+    text.extend_from_slice(b" -> ")?;
+    print_reply(text, &reply, group, last)?;
+    text.push(b'\n')?;
+    Ok(())
+}
