@@ -1,5 +1,5 @@
 #!/usr/bin/env python3
-"""Joins the files that tools/ulfm_log.c wrote into one log, for `ulfm check --observed`.
+"""Joins the files that tools/ulfm_log.c wrote into one log of calls and replies (docs/TRACES.md).
 
     tools/join_logs.py [--order time|ranks] NAME     NAME.0, NAME.1 and so on are the files; the log goes to standard output
 
