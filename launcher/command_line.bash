@@ -1,9 +1,9 @@
 # What a command line asks for, read as crates/ulfm_command and its library clap read it: with the same faults, and the same words for them.
-# read_words WORD..     sets `asked` to run, echo, steps, check, explain, draw, race, shown or bad; then `text` names the page that is shown, or is the reason why it is bad.
+# read_words WORD..     sets `asked` to run, echo, steps, check, explain, draw, explore, race, shown or bad; then `text` names the page that is shown, or is the reason why it is bad.
 # gate/launcher_test.py compares this with the program, on random lines too.
 
 # the names of the commands, in the order in which they are listed
-commands=(run check draw race help)
+commands=(run check draw explore race help)
 
 # what each command is called with, where no option is known to be meant
 usage_of() {
@@ -12,6 +12,7 @@ usage_of() {
         run) echo 'ulfm run [OPTIONS]' ;;
         check) echo 'ulfm check [OPTIONS]' ;;
         draw) echo 'ulfm draw [OPTIONS]' ;;
+        explore) echo 'ulfm explore [OPTIONS]' ;;
         race) echo 'ulfm race [OPTIONS] --ranks <N> --rounds <K>' ;;
         help) echo 'ulfm help [COMMAND]...' ;;
     esac
@@ -24,6 +25,7 @@ options_of() {
         run) echo steps echo help ;;
         check) echo explain help ;;
         draw) echo text ascii help ;;
+        explore) echo most outcome help ;;
         race) echo ranks rounds fail help ;;
         *) echo help ;;
     esac
@@ -35,6 +37,8 @@ shown_option() {
         ranks) echo '--ranks <N>' ;;
         rounds) echo '--rounds <K>' ;;
         fail) echo '--fail <R>' ;;
+        most) echo '--most <STATES>' ;;
+        outcome) echo '--outcome <N>' ;;
         *) echo "--$1" ;;
     esac
 }
@@ -137,7 +141,7 @@ refuse_word() {
 }
 
 is_command() {
-    case $1 in run | check | draw | race | help) ;; *) return 1 ;; esac
+    case $1 in run | check | draw | explore | race | help) ;; *) return 1 ;; esac
 }
 
 # what is wrong with a value that must be a number from $2 to $3, or nothing
@@ -159,7 +163,7 @@ fault_of_number() {
     else
         value=${value:-0}
         [ "$which" = large ] || [ "$value" = 0 ] || value=-$value
-        [ ${#value} -le 4 ] && [ "$value" -ge "$2" ] && [ "$value" -le "$3" ] || echo "$value is not in $2..=$3"
+        [ ${#value} -le 10 ] && [ "$value" -ge "$2" ] && [ "$value" -le "$3" ] || echo "$value is not in $2..=$3"
     fi
 }
 
@@ -178,6 +182,7 @@ take_pending() {
         ranks) fault=$(fault_of_number "$value" 1 64) ;;
         rounds) fault=$(fault_of_number "$value" 1 1000) ;;
         fail) fault=$(fault_of_number "$value" 0 63) ;;
+        most | outcome) fault=$(fault_of_number "$value" 1 1000000000) ;;
     esac
     if [ -n "$fault" ]; then
         refuse "invalid value '$value' for '$shown': $fault"
@@ -220,12 +225,12 @@ take_long() {
     case $1 in *=*) name=${1%%=*} given=${1#*=} value_given=yes ;; esac
     shift
     case $command:$name in
-        race:ranks | race:rounds | race:fail)
+        race:ranks | race:rounds | race:fail | explore:most | explore:outcome)
             take_pending || return
             pending=$name value=$given has_value=$value_given
             [ -z "$has_value" ] || take_pending
             ;;
-        ulfm:help | ulfm:version | run:steps | run:echo | run:help | check:explain | check:help | draw:text | draw:ascii | draw:help | race:help) take_flag "$name" "$given" "$value_given" ;;
+        ulfm:help | ulfm:version | run:steps | run:echo | run:help | check:explain | check:help | draw:text | draw:ascii | draw:help | explore:help | race:help) take_flag "$name" "$given" "$value_given" ;;
         *)
             take_pending
             refuse_option "$name" "$@"
@@ -284,6 +289,7 @@ enter() {
         run) case " ${used[*]} " in *' steps '*) asked=steps ;; *' echo '*) asked=echo ;; *) asked=run ;; esac ;;
         check) case " ${used[*]} " in *' explain '*) asked=explain ;; *) asked=check ;; esac ;;
         draw) asked=draw ;;
+        explore) asked=explore ;;
         race) read_race ;;
     esac
 }
@@ -337,5 +343,5 @@ read_words() {
     asked=bad text=
     is_text "$@" || return 0
     walk "$@" || return 0
-    refuse_with_usage "$(usage_of ulfm)" "'ulfm' requires a subcommand but one was not provided"$'\n  [subcommands: run, check, draw, race, help]'
+    refuse_with_usage "$(usage_of ulfm)" "'ulfm' requires a subcommand but one was not provided"$'\n  [subcommands: run, check, draw, explore, race, help]'
 }

@@ -1,14 +1,15 @@
 -- How a run or a race ended, by what its parts gave.
-use Rattle.std.proofs.Common.{◌≡◌, ℕ, List, Err, inl, inr, subst}
+use Rattle.std.proofs.Common.{◌≡◌, ◌⊎◌, ℕ, Bool, true, false, List, Some, Err, inl, inr, refl, subst, sym}
 use Rattle.ulfm_laws.specs.declared.flag_and.FlagAnd.{FlagAnd}
 use Rattle.ulfm_model.specs.declared.reply.Reply.{Reply}
 use Rattle.ulfm_model.specs.History.{History}
-use Rattle.ulfm_command.specs.CommandLines.{AsksDraw, AsksRace, Arguments}
-use Rattle.ulfm_command.specs.declared.asked.{DrawOptions.{DrawOptions}, RaceOptions.{RaceOptions}}
+use Rattle.ulfm_command.specs.CommandLines.{AsksDraw, AsksExplore, AsksRace, Arguments}
+use Rattle.ulfm_command.specs.declared.asked.{DrawOptions.{DrawOptions}, ExploreOptions.{ExploreOptions}, RaceOptions.{RaceOptions}}
 use Rattle.ulfm_draw.specs.declared.{drawing.Form.{Form}, sheet.Looks.{Looks}}
 use Rattle.ulfm_draw.specs.Drawings.{DrawsText}
 use Rattle.ulfm_echo.specs.Echoes.{echo_scripts}
 use Rattle.ulfm_explain.specs.Explained.{ExplainsText}
+use Rattle.ulfm_explore.specs.Shows.{IsShown}
 use Rattle.ulfm_filters.specs.Statuses.{CheckedWith, EchoedWith, PrintsAt, PrintsWhole, RanWith, StepsRanWith, status_of, verdict_status}
 use Rattle.ulfm_race.specs.declared.plan.Plan.{Plan}
 use Rattle.ulfm_race.specs.Races.{IsOutcome}
@@ -22,11 +23,12 @@ use Rattle.ulfm_script.proofs.RunLemmas.{ran_none}
 use Rattle.ulfm_step_script.specs.StepScripts.{step_scripts}
 use Rattle.ulfm.specs.Drawn.{DrewWith, form_of}
 use Rattle.ulfm.specs.Explained.{ExplainedWith}
+use Rattle.ulfm.specs.Explored.{ExploredWith, at_status, whole_status}
 use Rattle.ulfm.specs.Races.{RacedWith, plan_of}
 use Rattle.ulfm_trace.specs.declared.verdict.CheckFault.TheVariants as fault
 use Rattle.ulfm_trace.specs.declared.verdict.Verdict.{Verdict}
 use Rattle.ulfm_trace.proofs.Checking.{checked_none}
-use Rattle.ulfm.proofs.OneAnswer.{same_asked, same_drawn}
+use Rattle.ulfm.proofs.OneAnswer.{same_asked, same_drawn, same_explored}
 
 -- a race whose lines were printed, or not all of them
 pub raced : (plan : Plan) (h : History FlagAnd) (replies : List (List (Reply FlagAnd))) (group text : List ℕ) (old new : KnownText) (status : ℕ)
@@ -95,3 +97,35 @@ pub told_trace : (known old new : KnownText) (verdict : Verdict) (shown text : L
     → PrintsAt (verdict_status verdict) text old new status → ExplainedWith known old new status
 told_trace known old new verdict shown text status explained is printed =
     inl (record { verdict = verdict; shown = shown; explained = explained; printed = subst (λ (t : List ℕ). PrintsAt (verdict_status verdict) t old new status) is printed })
+
+-- the exploration that was made is the one that the words ask for
+pub explored_as : (words : Arguments) (o p : ExploreOptions) (old new : KnownText) (status : ℕ) → AsksExplore words o → AsksExplore words p
+    → ExploredWith o old new status → ExploredWith p old new status
+explored_as words o p old new status a b ended = subst (λ (x : ExploreOptions). ExploredWith x old new status) (same_explored words o p a b) ended
+
+-- memory was refused before anything was read or printed: to an exploration
+pub explore_ran_out : (options : ExploreOptions) (out : KnownText) (status : ℕ) → status ≡ status_of (Err Memory) → ExploredWith options out out status
+explore_ran_out options out status is = inr (inr (inl is), keeps_start out)
+
+-- a fault, at which nothing was printed
+pub explored_none : (options : ExploreOptions) (out : KnownText) (status : ℕ) → (status ≡ 1) ⊎ ((status ≡ 3) ⊎ (status ≡ 5)) → ExploredWith options out out status
+explored_none options out status is = inr (is, keeps_start out)
+
+-- the status of a text that was printed, or not all of it
+at_its : (is_whole : Bool) (text : List ℕ) (old new : KnownText) (status : ℕ) → PrintsWhole text old new status
+    → PrintsAt (whole_status is_whole) text old new (at_status is_whole status)
+at_its true text old new status printed = printed
+at_its false text old new status (inl printed) = inl (subst (λ (s : ℕ). at_status false s ≡ 4) (sym printed.0) refl, printed.1)
+at_its false text old new status (inr printed) = inr (subst (λ (s : ℕ). at_status false s ≡ 3) (sym printed.0) refl, printed.1)
+
+-- what was found, which was printed, or not all of it
+pub explored : (options : ExploreOptions) (old new : KnownText) (shown text : List ℕ) (is_whole : Bool) (status : ℕ)
+    → ((number : ℕ) → options.outcome ≡ Some number → IsShown shown) → text ≡ shown → PrintsWhole text old new status
+    → ExploredWith options old new (at_status is_whole status)
+explored options old new shown text is_whole status script is printed =
+    inl (record {
+      text = shown;
+      is_whole = is_whole;
+      script = script;
+      printed = subst (λ (t : List ℕ). PrintsAt (whole_status is_whole) t old new (at_status is_whole status)) is (at_its is_whole text old new status printed);
+    })

@@ -3,9 +3,9 @@ use Rattle.std.proofs.Common.{◌≡◌, ◌∙◌, ℕ, List, ◌==◌, Bool, t
 use Rattle.std.specs.Prelude.{option_map}
 use Rattle.std.proofs.lemmas.Option.{same_Some, some_pair_parts}
 use Rattle.clap.specs.Words.{Row, Text, subcommand_of}
-use Rattle.ulfm_command.specs.CommandLines.{AsksCheck, AsksDraw, AsksEcho, AsksExplain, AsksRace, AsksRun, AsksSteps, IsDrawRead, IsRaceOf, NamesCheckOf, NamesRunOf, Arguments, has_flag, ulfm}
-use Rattle.ulfm_command.specs.declared.asked.{DrawOptions.{DrawOptions}, RaceOptions.{RaceOptions}}
-use Rattle.ulfm_command.proofs.Numbers.{same_race}
+use Rattle.ulfm_command.specs.CommandLines.{AsksCheck, AsksDraw, AsksEcho, AsksExplain, AsksExplore, AsksRace, AsksRun, AsksSteps, IsDrawRead, IsExploreOf, IsRaceOf, NamesCheckOf, NamesRunOf, Arguments, has_flag, ulfm}
+use Rattle.ulfm_command.specs.declared.asked.{DrawOptions.{DrawOptions}, ExploreOptions.{ExploreOptions}, RaceOptions.{RaceOptions}}
+use Rattle.ulfm_command.proofs.Numbers.{same_explore, same_race}
 
 abbrev name_of : Option (Text × List Row) → Option Text
 name_of named = option_map (λ p. p.0) named
@@ -150,3 +150,53 @@ same_drawn words o p a b =
     let text : o.text ≡ p.text = sym is.text ∙ b.1.2.text in
     let ascii : o.ascii ≡ p.ascii = sym is.ascii ∙ b.1.2.ascii in
     ap (λ (t : Bool). record { text = t; ascii = o.ascii }) text ∙ ap (λ (t : Bool). record { text = p.text; ascii = t }) ascii
+
+-- words that ask for an exploration ask for nothing else
+no_explore : (words : Arguments) (options : ExploreOptions) (t : Text) → name_of (subcommand_of ulfm words) ≡ Some t → AsksExplore words options → t ≡ codes "explore"
+no_explore words options t named explore = one_name _ _ _ named (ap name_of explore.1.1)
+
+runs_no_explore : (words : Arguments) (steps : Bool) (options : ExploreOptions) → NamesRunOf (subcommand_of ulfm words) steps → AsksExplore words options → ⊥
+runs_no_explore words steps options run explore =
+    let texts : codes "run" ≡ codes "explore" = no_explore words options _ (run_named words steps run) explore in
+    let bad : true ≡ false = ap (λ (t : List ℕ). slice_index t 0 == 114) texts in
+    cc
+
+pub run_is_no_explore : (words : Arguments) (options : ExploreOptions) → AsksRun words → AsksExplore words options → ⊥
+run_is_no_explore words options run explore = runs_no_explore words false options run.1.calls explore
+
+pub echo_is_no_explore : (words : Arguments) (options : ExploreOptions) → AsksEcho words → AsksExplore words options → ⊥
+echo_is_no_explore words options echo explore = runs_no_explore words false options echo.1.calls explore
+
+pub steps_are_no_explore : (words : Arguments) (options : ExploreOptions) → AsksSteps words → AsksExplore words options → ⊥
+steps_are_no_explore words options steps explore = runs_no_explore words true options steps.1 explore
+
+judged_is_no_explore : (words : Arguments) (explain : Bool) (options : ExploreOptions) → NamesCheckOf (subcommand_of ulfm words) explain → AsksExplore words options → ⊥
+judged_is_no_explore words explain options check explore =
+    let texts : codes "check" ≡ codes "explore" = no_explore words options _ (check_named words explain check) explore in
+    let bad : true ≡ false = ap (λ (t : List ℕ). slice_index t 0 == 99) texts in
+    cc
+
+pub check_is_no_explore : (words : Arguments) (options : ExploreOptions) → AsksCheck words → AsksExplore words options → ⊥
+check_is_no_explore words options check explore = judged_is_no_explore words false options check.1 explore
+
+pub explain_is_no_explore : (words : Arguments) (options : ExploreOptions) → AsksExplain words → AsksExplore words options → ⊥
+explain_is_no_explore words options explain explore = judged_is_no_explore words true options explain.1 explore
+
+pub draw_is_no_explore : (words : Arguments) (options : ExploreOptions) (draw : DrawOptions) → AsksDraw words draw → AsksExplore words options → ⊥
+draw_is_no_explore words options draw asks explore =
+    let texts : codes "draw" ≡ codes "explore" = no_explore words options _ (ap name_of asks.1.1) explore in
+    let bad : true ≡ false = ap (λ (t : List ℕ). slice_index t 0 == 100) texts in
+    cc
+
+pub race_is_no_explore : (words : Arguments) (options : ExploreOptions) (race : RaceOptions) → AsksRace words race → AsksExplore words options → ⊥
+race_is_no_explore words options race asks explore =
+    let texts : codes "race" ≡ codes "explore" = no_explore words options _ (ap name_of asks.1.1) explore in
+    let bad : true ≡ false = ap (λ (t : List ℕ). slice_index t 0 == 114) texts in
+    cc
+
+-- they ask for one exploration
+pub same_explored : (words : Arguments) (o p : ExploreOptions) → AsksExplore words o → AsksExplore words p → o ≡ p
+same_explored words o p a b =
+    let rows : a.1.0 ≡ b.1.0 = (some_pair_parts {A = Text} {B = List Row} _ _ _ _ (sym a.1.1 ∙ b.1.1)).1 in
+    let is : IsExploreOf b.1.0 o = subst (λ (r : List Row). IsExploreOf r o) rows a.1.2 in
+    same_explore b.1.0 o p is b.1.2

@@ -1,24 +1,28 @@
 //! Does what a command line asks for, and gives the exit status that it ends with.
 ghost use Rattle.std.specs.Prelude.{◌≡◌, ◌≤◌, ◌⊎◌, false, map, true};
 ghost use Rattle.std.specs.Io.KnownBytes.{Keeps};
-ghost use Rattle.ulfm_command.specs.CommandLines.{AsksCheck, AsksDraw, AsksEcho, AsksExplain, AsksHelp, AsksRace, AsksRun, AsksSteps, AsksVersion, AsksNothing, is_in_range};
+ghost use Rattle.ulfm_command.specs.CommandLines.{AsksCheck, AsksDraw, AsksEcho, AsksExplain, AsksExplore, AsksHelp, AsksRace, AsksRun, AsksSteps, AsksVersion, AsksNothing, is_in_range};
 ghost use Rattle.ulfm_command.specs.declared.asked.DrawOptions.{DrawOptions as DrawOptionsOf};
+ghost use Rattle.ulfm_command.specs.declared.asked.ExploreOptions.{ExploreOptions as ExploreOptionsOf};
 ghost use Rattle.ulfm_command.specs.declared.asked.RaceOptions.{RaceOptions as OptionsOf};
 ghost use Rattle.ulfm_filters.specs.Notes.{bad_line, no_memory};
 ghost use Rattle.ulfm_filters.specs.Statuses.{CheckedWith, EchoedWith, RanWith, StepsRanWith};
 ghost use Rattle.ulfm_script.specs.Written.{WritesPart};
 ghost use Rattle.ulfm.specs.Drawn.{DrewWith, form_of};
 ghost use Rattle.ulfm.specs.Explained.{ExplainedWith};
+ghost use Rattle.ulfm.specs.Explored.{ExploredWith, at_status};
 ghost use Rattle.ulfm.specs.Races.{RacedWith, plan_of};
 
 use std::alloc::{Allocator, Global};
 use std::io::{Read, Write};
 use std::sync::Wait;
 use std::thread::Threads;
-use ulfm_command::{Asked, DrawOptions, RaceOptions, Reason, read_words};
+use ulfm_command::{Asked, DrawOptions, ExploreOptions, RaceOptions, Reason, read_words};
 use ulfm_draw::{Form, Looks, draw};
 use ulfm_explain::explain;
+use ulfm_explore::{ExploreFault, explore};
 use ulfm_filters::{Filter, print_text, run_filter, tell, tell_bad_line, tell_fault};
+use ulfm_programs::ProgramFault;
 use ulfm_race::{Gate, Plan, RaceFault, Turn, race};
 use ulfm_race_text::race_lines;
 use ulfm_script::RunFault;
@@ -37,12 +41,12 @@ impl Gate for AlwaysOpen {
 
 /// Does what the words of a command line ask for, the program's own name first, and gives the exit status: 0 at success and
 /// after help or the version, 1 for a line fault or an illegal trace, 2 for a bad command line, 3 where memory, reading or writing failed, or a race was
-/// held. What went wrong is told on `errors`, whose own faults are passed over, in one line. `explains` says that `errors` is a
+/// held; of an exploration also 4 where not all schedules were tried, and 5 where an outcome wasn't confirmed. What went wrong is told on `errors`, whose own faults are passed over, in one line. `explains` says that `errors` is a
 /// terminal: there the reason why a command line is bad stands above that line. `looks` are those that `output` has for rows in characters.
 ///
 /// `alloc` serves the run of a script, the check of a trace and the lines of a race, `global` the reading of the words and the race itself. A race starts
 /// threads, and returns once they have ended.
-#[tactic(auto, using(crate::proofs::OneAnswer::run_is_no_echo, crate::proofs::OneAnswer::run_is_no_steps, crate::proofs::OneAnswer::run_is_no_check, crate::proofs::OneAnswer::run_is_no_explain, crate::proofs::OneAnswer::run_is_no_draw, crate::proofs::OneAnswer::run_is_no_race, crate::proofs::OneAnswer::echo_is_no_steps, crate::proofs::OneAnswer::echo_is_no_check, crate::proofs::OneAnswer::echo_is_no_explain, crate::proofs::OneAnswer::echo_is_no_draw, crate::proofs::OneAnswer::echo_is_no_race, crate::proofs::OneAnswer::steps_are_no_check, crate::proofs::OneAnswer::steps_are_no_explain, crate::proofs::OneAnswer::steps_are_no_draw, crate::proofs::OneAnswer::steps_are_no_race, crate::proofs::OneAnswer::check_is_no_explain, crate::proofs::OneAnswer::check_is_no_draw, crate::proofs::OneAnswer::check_is_no_race, crate::proofs::OneAnswer::explain_is_no_draw, crate::proofs::OneAnswer::explain_is_no_race, crate::proofs::OneAnswer::race_is_no_draw, crate::proofs::Ends::drew_as, crate::proofs::Ends::raced_as, crate::proofs::Ends::race_ran_out))]
+#[tactic(auto, using(crate::proofs::OneAnswer::run_is_no_echo, crate::proofs::OneAnswer::run_is_no_steps, crate::proofs::OneAnswer::run_is_no_check, crate::proofs::OneAnswer::run_is_no_explain, crate::proofs::OneAnswer::run_is_no_draw, crate::proofs::OneAnswer::run_is_no_race, crate::proofs::OneAnswer::echo_is_no_steps, crate::proofs::OneAnswer::echo_is_no_check, crate::proofs::OneAnswer::echo_is_no_explain, crate::proofs::OneAnswer::echo_is_no_draw, crate::proofs::OneAnswer::echo_is_no_race, crate::proofs::OneAnswer::steps_are_no_check, crate::proofs::OneAnswer::steps_are_no_explain, crate::proofs::OneAnswer::steps_are_no_draw, crate::proofs::OneAnswer::steps_are_no_race, crate::proofs::OneAnswer::check_is_no_explain, crate::proofs::OneAnswer::check_is_no_draw, crate::proofs::OneAnswer::check_is_no_race, crate::proofs::OneAnswer::explain_is_no_draw, crate::proofs::OneAnswer::explain_is_no_race, crate::proofs::OneAnswer::race_is_no_draw, crate::proofs::Ends::drew_as, crate::proofs::Ends::raced_as, crate::proofs::Ends::race_ran_out, crate::proofs::OneAnswer::run_is_no_explore, crate::proofs::OneAnswer::echo_is_no_explore, crate::proofs::OneAnswer::steps_are_no_explore, crate::proofs::OneAnswer::check_is_no_explore, crate::proofs::OneAnswer::explain_is_no_explore, crate::proofs::OneAnswer::draw_is_no_explore, crate::proofs::OneAnswer::race_is_no_explore, crate::proofs::Ends::explored_as, crate::proofs::Ends::explore_ran_out))]
 pub fn answer<T: Threads + Wait + Sync, A: Allocator + Copy + Drop, R: Read, W: Write, E: Write>(
     rt: &T,
     alloc: A,
@@ -54,7 +58,8 @@ pub fn answer<T: Threads + Wait + Sync, A: Allocator + Copy + Drop, R: Read, W: 
     explains: bool,
     looks: Looks,
 ) -> u8
-    ensures status { result ≤ 3 }
+    ensures status { ((options : ExploreOptionsOf) → AsksExplore (map (λ word. word.now) words.now) options → ⊥) → result ≤ 3 }
+    ensures explored { result ≤ 5 }
     ensures run { AsksRun (map (λ word. word.now) words.now) → RanWith (R.remaining input.old) (R.remaining input.new)
         (W.contents output.old) (W.contents output.new) result }
     ensures echo { AsksEcho (map (λ word. word.now) words.now) → EchoedWith (R.remaining input.old) (R.remaining input.new)
@@ -67,13 +72,16 @@ pub fn answer<T: Threads + Wait + Sync, A: Allocator + Copy + Drop, R: Read, W: 
         (W.contents output.old) (W.contents output.new) result }
     ensures draw { (options : DrawOptionsOf) → AsksDraw (map (λ word. word.now) words.now) options → DrewWith (form_of options looks)
         (R.remaining input.old) (W.contents output.old) (W.contents output.new) result }
+    ensures explore { (options : ExploreOptionsOf) → AsksExplore (map (λ word. word.now) words.now) options → ExploredWith options
+        (W.contents output.old) (W.contents output.new) result }
     ensures race { (options : OptionsOf) → AsksRace (map (λ word. word.now) words.now) options → RacedWith (plan_of options)
         (W.contents output.old) (W.contents output.new) result }
     // Nothing else reads the input.
     ensures other { (AsksRun (map (λ word. word.now) words.now) → ⊥) → (AsksSteps (map (λ word. word.now) words.now) → ⊥)
         → (AsksCheck (map (λ word. word.now) words.now) → ⊥) → (AsksEcho (map (λ word. word.now) words.now) → ⊥)
         → (AsksExplain (map (λ word. word.now) words.now) → ⊥)
-        → ((options : DrawOptionsOf) → AsksDraw (map (λ word. word.now) words.now) options → ⊥) → Keeps (R.remaining input.old) (R.remaining input.new) }
+        → ((options : DrawOptionsOf) → AsksDraw (map (λ word. word.now) words.now) options → ⊥)
+        → ((options : ExploreOptionsOf) → AsksExplore (map (λ word. word.now) words.now) options → ⊥) → Keeps (R.remaining input.old) (R.remaining input.new) }
     ensures help { AsksHelp (map (λ word. word.now) words.now) ⊎ AsksVersion (map (λ word. word.now) words.now) → (result ≡ 0) ⊎ (result ≡ 3) }
     // 3 where memory was refused.
     ensures bad { AsksNothing (map (λ word. word.now) words.now) → ((result ≡ 2) ⊎ (result ≡ 3))
@@ -89,6 +97,7 @@ pub fn answer<T: Threads + Wait + Sync, A: Allocator + Copy + Drop, R: Read, W: 
         Asked::Check => run_filter(alloc, Filter::Check, input, output, errors),
         Asked::Explain => run_explain(alloc, input, output, errors),
         Asked::Draw(options) => run_draw(alloc, form_of(options, looks), input, output, errors),
+        Asked::Explore(options) => run_explore(alloc, options, input, output, errors),
         Asked::Race(options) => run_race(rt, alloc, global, options, output, errors),
         Asked::Shown(text) => print_text(text.as_bytes(), output, errors),
         Asked::Bad(reason) => tell_bad(&reason, errors, explains),
@@ -153,6 +162,57 @@ fn run_explain<A: Allocator + Copy + Drop, R: Read, W: Write, E: Write>(
             }
         }
         Err(fault) => tell_fault(fault, errors),
+    }
+}
+
+/// So many states there may be, where nothing else is said.
+const MOST_STATES: u32 = 5_000_000;
+
+/// Explores the program of the input, and prints what was found.
+#[tactic(auto, using(crate::proofs::Ends::explored, crate::proofs::Ends::explored_none))]
+fn run_explore<A: Allocator + Copy + Drop, R: Read, W: Write, E: Write>(
+    alloc: A,
+    options: ExploreOptions,
+    input: &mut R,
+    output: &mut W,
+    errors: &mut E,
+) -> u8
+    ensures status { result ≤ 5 }
+    ensures explored { ExploredWith options (W.contents output.old) (W.contents output.new) result }
+{
+    let plan = ulfm_explore::Plan {
+        most: options.most.unwrap_or(MOST_STATES),
+        outcome: options.outcome,
+    };
+    match explore(alloc, input, plan) {
+        Ok(told) => {
+            let status = print_text(&told.text, output, errors);
+            status_at(told.is_whole, status)
+        }
+        Err(fault) => tell_unexplored(fault, errors),
+    }
+}
+
+/// The status of an exploration whose text was printed at this one: 4 in place of 0 where not all schedules were tried.
+fn status_at(is_whole: bool, status: u8) -> u8
+    ensures { result ≡ at_status is_whole status }
+{
+    if status == 0 && !is_whole { 4 } else { status }
+}
+
+/// Tells why a program wasn't explored, and gives the status.
+fn tell_unexplored<E: Write>(fault: ExploreFault, errors: &mut E) -> u8
+    ensures { (result ≡ 1) ⊎ ((result ≡ 3) ⊎ (result ≡ 5)) }
+{
+    let _ = writeln!(errors, "ulfm: {fault}");
+    match fault {
+        ExploreFault::Program(fault) => match fault {
+            ProgramFault::Line { .. } => 1,
+            ProgramFault::Memory | ProgramFault::Read => 3,
+        },
+        ExploreFault::NoSuchOutcome => 1,
+        ExploreFault::Memory => 3,
+        ExploreFault::Unconfirmed => 5,
     }
 }
 

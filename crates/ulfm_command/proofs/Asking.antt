@@ -1,9 +1,9 @@
 -- What the command lines of the program ask for.
-use Rattle.std.proofs.Common.{◌≡◌, refl, codes, true, false, List, [], ◌∷◌, ℕ}
+use Rattle.std.proofs.Common.{◌≡◌, refl, codes, true, false, List, [], ◌∷◌, ℕ, None}
 use Rattle.clap.specs.Words.{fault_of, is_simple_and_free, is_simple}
 use Rattle.clap.specs.declared.error.kind.ErrorKind.TheVariants.{MissingRequiredArgument, MissingSubcommand, UnknownArgument, InvalidSubcommand, ValueValidation}
 use Rattle.clap.proofs.OnLiterals.{clap_on_literals}
-use Rattle.ulfm_command.specs.CommandLines.{AsksCheck, AsksDraw, AsksEcho, AsksExplain, AsksHelp, AsksRun, AsksSteps, AsksVersion, ulfm}
+use Rattle.ulfm_command.specs.CommandLines.{AsksCheck, AsksDraw, AsksEcho, AsksExplain, AsksExplore, AsksHelp, AsksRun, AsksSteps, AsksVersion, ulfm}
 
 -- the command is one whose faults and matches the command line crate tells
 pub is_told : is_simple_and_free ulfm ≡ true
@@ -46,6 +46,11 @@ draw_is_draw : (name : List ℕ) → AsksDraw (name ∷ codes "draw" ∷ []) (re
 unfolding clap_on_literals
 draw_is_draw name =
     ((refl, (_, refl, record { text = refl; ascii = refl })), (refl, (_, refl, record { text = refl; ascii = refl })), (refl, (_, refl, record { text = refl; ascii = refl })))
+
+-- `ulfm explore`
+explore_is_explore : (name : List ℕ) → AsksExplore (name ∷ codes "explore" ∷ []) (record { most = None; outcome = None })
+unfolding clap_on_literals
+explore_is_explore name = (refl, (_, refl, record { most = refl; outcome = refl }))
 
 -- `ulfm --help`, `ulfm -h`, `ulfm run --help`, `ulfm race --help`
 help_is_help : (name : List ℕ) → AsksHelp (name ∷ codes "--help" ∷ []) × AsksHelp (name ∷ codes "-h" ∷ []) × AsksHelp (name ∷ codes "run" ∷ codes "--help" ∷ [])

@@ -4,8 +4,8 @@ use Rattle.clap.specs.Words.{fault_of, subcommand_of}
 use Rattle.clap.specs.declared.error.kind.ErrorKind.{ErrorKind}
 use Rattle.clap.specs.declared.error.kind.ErrorKind.TheVariants.{DisplayHelp, DisplayVersion}
 use Rattle.ulfm_command.specs.declared.asked.Asked.{Asked}
-use Rattle.ulfm_command.specs.declared.asked.Asked.TheVariants.{Run, RunEchoed, RunSteps, Check, Explain, Draw, Race, Shown, Bad, Memory}
-use Rattle.ulfm_command.specs.CommandLines.{IsAskedBy, IsEntered, Named, NamesCheck, NamesDraw, NamesEcho, NamesExplain, NamesRace, NamesRun, NamesSteps, Arguments, ulfm}
+use Rattle.ulfm_command.specs.declared.asked.Asked.TheVariants.{Run, RunEchoed, RunSteps, Check, Explain, Draw, Explore, Race, Shown, Bad, Memory}
+use Rattle.ulfm_command.specs.CommandLines.{IsAskedBy, IsEntered, Named, NamesCheck, NamesDraw, NamesEcho, NamesExplain, NamesExplore, NamesRace, NamesRun, NamesSteps, Arguments, ulfm}
 
 no_kind : (k : ErrorKind) (kinds : List ErrorKind) → kinds ≡ [] → kinds ≡ k ∷ [] → ⊥
 no_kind k kinds none one =
@@ -20,6 +20,7 @@ entered_is words named RunSteps free is entered = (free, subst NamesSteps is ent
 entered_is words named Check free is entered = (free, subst NamesCheck is entered)
 entered_is words named Explain free is entered = (free, subst NamesExplain is entered)
 entered_is words named (Draw options) free is entered = (free, subst (λ (n : Named). NamesDraw n options) is entered)
+entered_is words named (Explore options) free is entered = (free, subst (λ (n : Named). NamesExplore n options) is entered)
 entered_is words named (Race options) free is entered = (free, subst (λ (n : Named). NamesRace n options) is entered)
 entered_is words named (Bad reason) free is entered =
     record {
@@ -30,6 +31,7 @@ entered_is words named (Bad reason) free is entered =
       no_draw = λ options asks. entered.4 options (subst (λ (n : Named). NamesDraw n options) (sym is) asks.1);
       no_echo = λ asks. entered.5 (subst NamesEcho (sym is) asks.1);
       no_explain = λ asks. entered.6 (subst NamesExplain (sym is) asks.1);
+      no_explore = λ options asks. entered.7 options (subst (λ (n : Named). NamesExplore n options) (sym is) asks.1);
       no_help = no_kind DisplayHelp (fault_of ulfm words) free;
       no_version = no_kind DisplayVersion (fault_of ulfm words) free;
     }

@@ -4,8 +4,8 @@ use Rattle.std.proofs.lemmas.Option.{same_Some}
 use Rattle.std.specs.Str.Parse.{ParsesUnsigned}
 use Rattle.clap.specs.Matches.{TriesOne}
 use Rattle.clap.specs.Words.{Row, one_of}
-use Rattle.ulfm_command.specs.CommandLines.{IsNumberRead, IsOptional, IsRaceOf}
-use Rattle.ulfm_command.specs.declared.asked.RaceOptions.{RaceOptions}
+use Rattle.ulfm_command.specs.CommandLines.{IsCountRead, IsExploreOf, IsNumberRead, IsOptional, IsOptionalCount, IsRaceOf}
+use Rattle.ulfm_command.specs.declared.asked.{ExploreOptions.{ExploreOptions}, RaceOptions.{RaceOptions}}
 
 -- an option that is read by a parser of 16 bits is read as its number
 pub is_read : (E : Type 0) (G : List ℕ → Result ℕ E → Type 0) → ((t : List ℕ) (x : Result ℕ E) → G t x → ParsesUnsigned 16 10 t x)
@@ -19,6 +19,21 @@ is_read E G only (Some t) (Ok (Some n)) none value =
 is_read E G only (Some t) (Err e) none value = refuses
   where
     refuses : (number : Option ℕ) → IsOptional (Some t) number → ⊥
+    refuses None nothing = nothing
+    refuses (Some n) is = only t (Err e) (value t refl) (is.0, is.1)
+
+-- an option that is read by a parser of 32 bits is read as its number
+pub is_counted : (E : Type 0) (G : List ℕ → Result ℕ E → Type 0) → ((t : List ℕ) (x : Result ℕ E) → G t x → ParsesUnsigned 32 10 t x)
+    → (given : Option (List ℕ)) (r : Result (Option ℕ) E) → (given ≡ None → r ≡ Ok None)
+    → ((t : List ℕ) → given ≡ Some t → TriesOne G t r) → IsCountRead given r
+is_counted E G only None r none value = subst (λ (x : Result (Option ℕ) E). IsCountRead None x) (sym (none refl)) refl
+is_counted E G only (Some t) (Ok None) none value = absurd (value t refl)
+is_counted E G only (Some t) (Ok (Some n)) none value =
+    let parsed = only t (Ok n) (value t refl) in
+    (parsed.0.0, parsed.0.1, parsed.1)
+is_counted E G only (Some t) (Err e) none value = refuses
+  where
+    refuses : (number : Option ℕ) → IsOptionalCount (Some t) number → ⊥
     refuses None nothing = nothing
     refuses (Some n) is = only t (Err e) (value t refl) (is.0, is.1)
 
@@ -40,3 +55,19 @@ same_race rows o p ranks rounds fail other =
     let b : o.rounds ≡ p.rounds = same_Some {A = ℕ} _ _ (same_option _ _ _ rounds other.rounds) in
     let c : o.fail ≡ p.fail = same_option _ _ _ fail other.fail in
     ap (λ x. made x o.rounds o.fail) a ∙ (ap (λ x. made p.ranks x o.fail) b ∙ ap (λ x. made p.ranks p.rounds x) c)
+
+pub same_count : (given : Option (List ℕ)) (m n : Option ℕ) → IsOptionalCount given m → IsOptionalCount given n → m ≡ n
+same_count None m n a b = a ∙ sym b
+same_count (Some t) None n a b = absurd a
+same_count (Some t) (Some m) None a b = absurd b
+same_count (Some t) (Some m) (Some n) a b = ap Some (a.2 ∙ sym b.2)
+
+abbrev explored : Option ℕ → Option ℕ → ExploreOptions
+explored a b = record { most = a; outcome = b }
+
+-- the options of an exploration are read in one way
+pub same_explore : (rows : List Row) (o p : ExploreOptions) → IsExploreOf rows o → IsExploreOf rows p → o ≡ p
+same_explore rows o p a b =
+    let most : o.most ≡ p.most = same_count _ _ _ a.most b.most in
+    let outcome : o.outcome ≡ p.outcome = same_count _ _ _ a.outcome b.outcome in
+    ap (λ x. explored x o.outcome) most ∙ ap (λ x. explored p.most x) outcome

@@ -11,8 +11,8 @@ use Rattle.clap.specs.declared.builder.value_parser.ValueParser.{ValueParser}
 use Rattle.clap.specs.declared.builder.value_parser.ValueParser.TheVariants as vp
 use Rattle.clap.specs.declared.error.kind.ErrorKind.TheVariants.{DisplayHelp, DisplayVersion}
 use Rattle.ulfm_command.specs.declared.asked.Asked.{Asked}
-use Rattle.ulfm_command.specs.declared.asked.Asked.TheVariants.{Run, RunEchoed, RunSteps, Check, Explain, Draw, Race, Shown, Bad, Memory}
-use Rattle.ulfm_command.specs.declared.asked.{DrawOptions.{DrawOptions}, RaceOptions.{RaceOptions}}
+use Rattle.ulfm_command.specs.declared.asked.Asked.TheVariants.{Run, RunEchoed, RunSteps, Check, Explain, Draw, Explore, Race, Shown, Bad, Memory}
+use Rattle.ulfm_command.specs.declared.asked.{DrawOptions.{DrawOptions}, ExploreOptions.{ExploreOptions}, RaceOptions.{RaceOptions}}
 
 -- the words of a command line, the program's own name first
 abbrev pub Arguments : Type 0
@@ -65,6 +65,17 @@ ascii_rule = record (new_rule (codes "ascii")) { long = Some (codes "ascii"); ac
 abbrev pub draw : App
 draw = with_rule (with_rule (new_app (codes "draw")) text_rule) ascii_rule
 
+-- the options that say how many states there may be, and of which outcome the script is wanted
+abbrev pub most_rule : Rule
+most_rule = number_rule (codes "most") (vp.Signed (pos 1) (pos 1000000000))
+
+abbrev pub outcome_rule : Rule
+outcome_rule = number_rule (codes "outcome") (vp.Signed (pos 1) (pos 1000000000))
+
+-- the command that explores a program of ranks
+abbrev pub explore : App
+explore = with_rule (with_rule (new_app (codes "explore")) most_rule) outcome_rule
+
 -- the command that runs a race
 abbrev pub race : App
 race = with_rule (with_rule (with_rule (new_app (codes "race")) ranks_rule) rounds_rule) fail_rule
@@ -84,9 +95,13 @@ readers = with_subcommand runners check.top
 abbrev pub drawers : App
 drawers = with_subcommand readers draw.top
 
+-- the same with the one that explores what it reads
+abbrev pub explorers : App
+explorers = with_subcommand drawers explore.top
+
 -- the program as a command, with all its subcommands
 abbrev pub ulfm : App
-ulfm = with_subcommand drawers race.top
+ulfm = with_subcommand explorers race.top
 
 -- the command is this one, and has no global option
 abbrev pub IsCommand : App → Command → Type 0
@@ -107,6 +122,22 @@ IsOptional (Some text) (Some n) = IsNumber text n
 abbrev pub IsNumberRead : {E : Type 0} → Option Text → Result (Option ℕ) E → Type 0
 IsNumberRead given (Ok number) = IsOptional given number
 IsNumberRead given (Err error) = (number : Option ℕ) → IsOptional given number → ⊥
+
+-- a text is a number of 32 bits in decimal, perhaps behind a plus
+abbrev pub IsCount : Text → ℕ → Type 0
+IsCount text n =
+    IsNumeral 10 (without_leading_plus text) × (digits_value 10 (without_leading_plus text) < 2 ^ 32) × (n ≡ digits_value 10 (without_leading_plus text))
+
+-- an option that isn't given, or that has this number of 32 bits
+abbrev pub IsOptionalCount : Option Text → Option ℕ → Type 0
+IsOptionalCount None number = number ≡ None
+IsOptionalCount (Some text) None = ⊥
+IsOptionalCount (Some text) (Some n) = IsCount text n
+
+-- the same as it is read, where a text that is no such number is an error
+abbrev pub IsCountRead : {E : Type 0} → Option Text → Result (Option ℕ) E → Type 0
+IsCountRead given (Ok number) = IsOptionalCount given number
+IsCountRead given (Err error) = (number : Option ℕ) → IsOptionalCount given number → ⊥
 
 -- a rank of the race is declared, or none
 abbrev pub fail_is_in : ℕ → Option ℕ → Bool
@@ -184,6 +215,20 @@ pub record IsDrawRead (rows : List Row) (options : DrawOptions) : Type 0 where
 abbrev pub NamesDraw : Named → DrawOptions → Type 0
 NamesDraw named options = (rows : List Row) × (named ≡ Some (codes "draw", rows)) × IsDrawRead rows options
 
+-- the options of an exploration, as they are given
+pub record IsExploreOf (rows : List Row) (options : ExploreOptions) : Type 0 where
+  pub most : IsOptionalCount (one_of (codes "most") rows) options.most
+  pub outcome : IsOptionalCount (one_of (codes "outcome") rows) options.outcome
+
+-- the options of an exploration as they are read: none where there are none
+abbrev pub IsExploreRead : List Row → Option ExploreOptions → Type 0
+IsExploreRead rows None = (options : ExploreOptions) → IsExploreOf rows options → ⊥
+IsExploreRead rows (Some options) = IsExploreOf rows options
+
+-- an exploration with these options was named
+abbrev pub NamesExplore : Named → ExploreOptions → Type 0
+NamesExplore named options = (rows : List Row) × (named ≡ Some (codes "explore", rows)) × IsExploreOf rows options
+
 -- a race with these options was named
 abbrev pub NamesRace : Named → RaceOptions → Type 0
 NamesRace named options = (rows : List Row) × (named ≡ Some (codes "race", rows)) × IsRaceOf rows options
@@ -196,10 +241,12 @@ IsEntered named RunSteps = NamesSteps named
 IsEntered named Check = NamesCheck named
 IsEntered named Explain = NamesExplain named
 IsEntered named (Draw options) = NamesDraw named options
+IsEntered named (Explore options) = NamesExplore named options
 IsEntered named (Race options) = NamesRace named options
 IsEntered named (Bad reason) =
     (NamesRun named → ⊥) × (NamesSteps named → ⊥) × (NamesCheck named → ⊥) × ((options : RaceOptions) → NamesRace named options → ⊥)
     × ((options : DrawOptions) → NamesDraw named options → ⊥) × (NamesEcho named → ⊥) × (NamesExplain named → ⊥)
+    × ((options : ExploreOptions) → NamesExplore named options → ⊥)
 IsEntered named (Shown text) = ⊥
 IsEntered named Memory = ⊥
 
@@ -227,6 +274,10 @@ AsksExplain words = (fault_of ulfm words ≡ []) × NamesExplain (subcommand_of 
 abbrev pub AsksDraw : Arguments → DrawOptions → Type 0
 AsksDraw words options = (fault_of ulfm words ≡ []) × NamesDraw (subcommand_of ulfm words) options
 
+-- it finds no fault in them, and they name an exploration with these options
+abbrev pub AsksExplore : Arguments → ExploreOptions → Type 0
+AsksExplore words options = (fault_of ulfm words ≡ []) × NamesExplore (subcommand_of ulfm words) options
+
 -- it finds no fault in them, and they name a race with these options
 abbrev pub AsksRace : Arguments → RaceOptions → Type 0
 AsksRace words options = (fault_of ulfm words ≡ []) × NamesRace (subcommand_of ulfm words) options
@@ -247,6 +298,7 @@ pub record AsksNothing (words : Arguments) : Type 0 where
   pub no_check : AsksCheck words → ⊥
   pub no_explain : AsksExplain words → ⊥
   pub no_draw : (options : DrawOptions) → AsksDraw words options → ⊥
+  pub no_explore : (options : ExploreOptions) → AsksExplore words options → ⊥
   pub no_race : (options : RaceOptions) → AsksRace words options → ⊥
   pub no_help : IsAmong DisplayHelp (fault_of ulfm words) → ⊥
   pub no_version : IsAmong DisplayVersion (fault_of ulfm words) → ⊥
@@ -259,6 +311,7 @@ pub record IsRefused (words : Arguments) : Type 0 where
   pub no_check : AsksCheck words → ⊥
   pub no_explain : AsksExplain words → ⊥
   pub no_draw : (options : DrawOptions) → AsksDraw words options → ⊥
+  pub no_explore : (options : ExploreOptions) → AsksExplore words options → ⊥
   pub no_race : (options : RaceOptions) → AsksRace words options → ⊥
   pub no_help : AsksHelp words → ⊥
   pub no_version : AsksVersion words → ⊥
@@ -271,6 +324,7 @@ IsAskedBy words RunSteps = AsksSteps words
 IsAskedBy words Check = AsksCheck words
 IsAskedBy words Explain = AsksExplain words
 IsAskedBy words (Draw options) = AsksDraw words options
+IsAskedBy words (Explore options) = AsksExplore words options
 IsAskedBy words (Race options) = AsksRace words options
 IsAskedBy words (Shown text) = IsAmong DisplayHelp (fault_of ulfm words) ⊎ IsAmong DisplayVersion (fault_of ulfm words)
 IsAskedBy words (Bad reason) = IsRefused words

@@ -38,6 +38,15 @@ pub struct DrawOptions {
     pub ascii: bool,
 }
 
+/// The options of an exploration, as `ulfm explore --most 1000000 --outcome 2` gives them.
+#[derive(Clone, Copy, Debug, PartialEq, Eq)]
+pub struct ExploreOptions {
+    /// How many states there may be at most, 1 to 1,000,000,000, if that is said.
+    pub most: Option<u32>,
+    /// The number of the outcome whose script alone is wanted, counted from 1, if one is.
+    pub outcome: Option<u32>,
+}
+
 /// Why a command line is bad.
 #[derive(Drop)]
 pub enum Reason {
@@ -76,6 +85,8 @@ pub enum Asked {
     Explain,
     /// A trace is to be drawn.
     Draw(DrawOptions),
+    /// A program of ranks is to be explored.
+    Explore(ExploreOptions),
     /// A race is to be run, whose options are in their ranges.
     Race(RaceOptions),
     /// This text is to be shown: of help, or the version.

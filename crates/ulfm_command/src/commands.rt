@@ -1,9 +1,9 @@
 //! The program's commands and their options, as the command line crate takes them.
 ghost use Rattle.std.specs.Prelude.{◌≡◌, IfOk, false};
 ghost use Rattle.clap.specs.Words.{rule_of};
-ghost use Rattle.ulfm_command.specs.CommandLines.{IsCommand, ascii_rule, check, draw, drawers, echo_rule, explain_rule, fail_rule, number_rule, race, ranks_rule, readers, rounds_rule, run, runners, steps_rule, text_rule, ulfm};
+ghost use Rattle.ulfm_command.specs.CommandLines.{IsCommand, ascii_rule, check, draw, drawers, echo_rule, explain_rule, explore, explorers, fail_rule, most_rule, number_rule, outcome_rule, race, ranks_rule, readers, rounds_rule, run, runners, steps_rule, text_rule, ulfm};
 
-use crate::texts::{CHECK_HELP, DRAW_HELP, RACE_HELP, RUN_HELP, ULFM_HELP, VERSION};
+use crate::texts::{CHECK_HELP, DRAW_HELP, EXPLORE_HELP, RACE_HELP, RUN_HELP, ULFM_HELP, VERSION};
 use clap::builder::ValueParser;
 use clap::{Arg, ArgAction, Command, value_parser};
 use std::alloc::{AllocError, Global};
@@ -171,6 +171,49 @@ fn draw_command<'a>(global: Global) -> Result<Command<'a>, AllocError>
         .arg(ascii_option(global))
 }
 
+/// How many states there may be.
+fn most_option<'a>(global: Global) -> Arg<'a>
+    ensures rule { rule_of result ≡ most_rule }
+    ensures local { result.global ≡ false }
+{
+    let parser = value_parser!(u32).range(1..=1_000_000_000);
+    number_option(
+        global,
+        "most",
+        "STATES",
+        "How many states there may be at most, 5000000 if it isn't said",
+        parser,
+    )
+}
+
+/// Which outcome's script is wanted.
+fn outcome_option<'a>(global: Global) -> Arg<'a>
+    ensures rule { rule_of result ≡ outcome_rule }
+    ensures local { result.global ≡ false }
+{
+    let parser = value_parser!(u32).range(1..=1_000_000_000);
+    number_option(
+        global,
+        "outcome",
+        "N",
+        "Prints the script of outcome N alone",
+        parser,
+    )
+}
+
+/// `ulfm explore`.
+fn explore_command<'a>(global: Global) -> Result<Command<'a>, AllocError>
+    ensures { IfOk result (IsCommand explore) }
+{
+    Command::new(global, "explore")
+        .about(
+            "Tries every schedule and every failure of the program on standard input, and prints its outcomes",
+        )
+        .after_help(EXPLORE_HELP)
+        .arg(most_option(global))?
+        .arg(outcome_option(global))
+}
+
 /// `ulfm`, which wants a subcommand, with the one that runs scripts.
 fn running_commands<'a>(global: Global) -> Result<Command<'a>, AllocError>
     ensures { IfOk result (IsCommand runners) }
@@ -198,9 +241,16 @@ fn drawing_commands<'a>(global: Global) -> Result<Command<'a>, AllocError>
     reading_commands(global)?.subcommand(draw_command(global)?)
 }
 
+/// `ulfm` with the one that explores what it reads, too.
+fn exploring_commands<'a>(global: Global) -> Result<Command<'a>, AllocError>
+    ensures { IfOk result (IsCommand explorers) }
+{
+    drawing_commands(global)?.subcommand(explore_command(global)?)
+}
+
 /// `ulfm`.
 pub(crate) fn ulfm_command<'a>(global: Global) -> Result<Command<'a>, AllocError>
     ensures { IfOk result (IsCommand ulfm) }
 {
-    drawing_commands(global)?.subcommand(race_command(global)?)
+    exploring_commands(global)?.subcommand(race_command(global)?)
 }

@@ -6,6 +6,6 @@ mod commands;
 pub mod reading;
 mod texts;
 
-pub use asked::{Asked, DrawOptions, RaceOptions, Reason};
+pub use asked::{Asked, DrawOptions, ExploreOptions, RaceOptions, Reason};
 pub use reading::read_words;
 pub use texts::VERSION;

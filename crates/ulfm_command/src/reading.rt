@@ -1,9 +1,9 @@
 //! What the words of a command line ask for.
 ghost use Rattle.std.specs.Prelude.{◌≡◌, IfOk, Some, codes, map};
 ghost use Rattle.clap.specs.Words.{FailsBy, fault_of, found_of, one_of, rows_of, subcommand_of, subcommand_rows_of};
-ghost use Rattle.ulfm_command.specs.CommandLines.{IsAskedBy, IsDrawRead, IsEntered, IsNumberRead, IsRaceRead, has_flag, ulfm};
+ghost use Rattle.ulfm_command.specs.CommandLines.{IsAskedBy, IsCountRead, IsDrawRead, IsEntered, IsExploreRead, IsNumberRead, IsRaceRead, has_flag, ulfm};
 
-use crate::asked::{Asked, DrawOptions, RaceOptions, Reason};
+use crate::asked::{Asked, DrawOptions, ExploreOptions, RaceOptions, Reason};
 use crate::commands::ulfm_command;
 use clap::error::ErrorKind;
 use clap::{ArgMatches, Error};
@@ -51,6 +51,11 @@ fn read_command(matches: &ArgMatches<'_>) -> Asked
                 read_check(options)
             } else if name == "draw" {
                 Asked::Draw(read_draw(options))
+            } else if name == "explore" {
+                match read_explore(options) {
+                    Some(explore) => Asked::Explore(explore),
+                    None => Asked::Bad(Reason::NoCommand),
+                }
             } else if name == "race" {
                 match read_race(options) {
                     Some(race) => Asked::Race(race),
@@ -107,6 +112,26 @@ fn is_given(matches: &ArgMatches<'_>, name: &str) -> bool
         Ok(None) => false,
         Err(_) => false,
     }
+}
+
+/// The options of an exploration.
+fn read_explore(matches: &ArgMatches<'_>) -> Option<ExploreOptions>
+    ensures { IsExploreRead (rows_of (found_of matches.now)) result }
+{
+    let Ok(most) = read_count(matches, "most") else {
+        return None;
+    };
+    let Ok(outcome) = read_count(matches, "outcome") else {
+        return None;
+    };
+    Some(ExploreOptions { most, outcome })
+}
+
+/// The number of 32 bits of an option, if it is given.
+fn read_count(matches: &ArgMatches<'_>, name: &str) -> Result<Option<u32>, ParseIntError>
+    ensures { IsCountRead (one_of name.now (rows_of (found_of matches.now))) result }
+{
+    matches.try_get_one::<u32>(name)
 }
 
 /// The options of a race, if they are in their ranges.

@@ -178,6 +178,48 @@ Exit statuses, and what standard error says:
   3  ulfm: read failed          standard input failed
   3  ulfm: write failed         standard output failed";
 
+/// What help of `ulfm explore` shows behind its options.
+pub(crate) const EXPLORE_HELP: &str =
+    "A program gives each rank its calls, one behind another. The first line is 'ulfm-explore 1 RANKS
+COMMS ROUNDS', of at most 8 ranks, 8 communicators and 15 rounds. '#' begins a remark. Each further
+line is one of these:
+
+  may die R ..       R may be declared at any moment, and makes no step from then on
+  may fail R ..      R may be declared at any moment, and goes on until it is refused
+  most N             at most N ranks are declared so
+  rank R .., rank all    the lines behind it are the program of each of these
+  get C, ack C N, agree C F, shrink C, barrier C, poll C, revoke C, isrevoked C, free C
+                     a call; C is a number, or cur: the last that the rank got from a shrink
+  wait C             polls until the reply isn't pending
+  fail R             the rank declares R
+  quiet CALL         the reply isn't part of the outcome
+  at NAME, go NAME, if WORDS go NAME    jumps; if: where WORDS stand in the last reply, _ is any
+  say WORDS, end     words of the rank's own; the program's end
+  alike R ..         is there an outcome in which two of these ended with other words?
+  ended R ..         is there one in which one of these waits for good?
+  find R WORDS       is there one in which all such lines hold?
+
+Each outcome is printed once, with what became of each rank: ended, out (it was refused, since it
+is declared), died, stuck. Then each question's answer: none, or an outcome and a script of steps
+for 'ulfm run --steps'. Each outcome was shown by the step engine. That there are no others rests
+on tests.
+
+Example:
+
+    ulfm explore < examples/explore/by_barrier.ulfm
+
+Exit statuses, and what standard error says:
+  0  all schedules were tried
+  1  ulfm: line N: KIND         line N has this fault: those of scripts, and
+                                rank (outside a section), name (of no line, or of two)
+  1  ulfm: no such outcome      there are fewer than N
+  2  ulfm: bad command line     nothing was read
+  3  ulfm: out of memory        memory was refused
+  3  ulfm: read failed          standard input failed
+  3  ulfm: write failed         standard output failed
+  4  more than STATES states came up, and not all schedules were tried
+  5  ulfm: not confirmed        the step engine didn't show an outcome that was found";
+
 /// What help of `ulfm race` shows behind its options.
 pub(crate) const RACE_HELP: &str =
     "N is 1 to 64, K is 1 to 1000, and R is a rank, from 0, below N. In round k rank r contributes

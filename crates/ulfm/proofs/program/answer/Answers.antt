@@ -1,4 +1,4 @@
-use Rattle.ulfm.proofs.Ends.{checked_out, draw_ran_out, echo_ran_out, explain_ran_out, ran_out, steps_ran_out}
+use Rattle.ulfm.proofs.Ends.{checked_out, draw_ran_out, echo_ran_out, explain_ran_out, explore_ran_out, ran_out, steps_ran_out}
 use Rattle.ulfm.proofs.program.answer.Goals as goal
 
 pub returns-in-Race-clause-bad : goal.returns-in-Race-clause-bad
@@ -26,7 +26,7 @@ pub returns-in-Draw-clause-told : goal.returns-in-Draw-clause-told
 returns-in-Draw-clause-told g c bad clear = absurd (bad.no_draw c.in-Draw.options c.in-Draw.ensures)
 
 pub returns-in-Draw-clause-other : goal.returns-in-Draw-clause-other
-returns-in-Draw-clause-other g c run steps check echo explain none = absurd (none c.in-Draw.options c.in-Draw.ensures)
+returns-in-Draw-clause-other g c run steps check echo explain none others = absurd (none c.in-Draw.options c.in-Draw.ensures)
 
 pub returns-in-Bad-clause-draw : goal.returns-in-Bad-clause-draw
 returns-in-Bad-clause-draw g c options asks = absurd (c.in-Bad.ensures.no_draw options asks)
@@ -39,3 +39,21 @@ returns-in-Memory-clause-echo g c asks = echo_ran_out _ _ _ c.tell_fault.ensures
 
 pub returns-in-Memory-clause-explain : goal.returns-in-Memory-clause-explain
 returns-in-Memory-clause-explain g c asks = explain_ran_out _ _ _ c.tell_fault.ensures.status
+
+pub returns-in-Explore-clause-bad : goal.returns-in-Explore-clause-bad
+returns-in-Explore-clause-bad g c bad = absurd (bad.no_explore c.in-Explore.options c.in-Explore.ensures)
+
+pub returns-in-Explore-clause-told : goal.returns-in-Explore-clause-told
+returns-in-Explore-clause-told g c bad clear = absurd (bad.no_explore c.in-Explore.options c.in-Explore.ensures)
+
+pub returns-in-Explore-clause-other : goal.returns-in-Explore-clause-other
+returns-in-Explore-clause-other g c run steps check echo explain draw none = absurd (none c.in-Explore.options c.in-Explore.ensures)
+
+pub returns-in-Explore-clause-status : goal.returns-in-Explore-clause-status
+returns-in-Explore-clause-status g c none = absurd (none c.in-Explore.options c.in-Explore.ensures)
+
+pub returns-in-Bad-clause-explore : goal.returns-in-Bad-clause-explore
+returns-in-Bad-clause-explore g c options asks = absurd (c.in-Bad.ensures.no_explore options asks)
+
+pub returns-in-Memory-clause-explore : goal.returns-in-Memory-clause-explore
+returns-in-Memory-clause-explore g c options asks = explore_ran_out _ _ _ c.tell_fault.ensures.status
