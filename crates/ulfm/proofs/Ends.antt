@@ -11,6 +11,7 @@ use Rattle.ulfm_echo.specs.Echoes.{echo_scripts}
 use Rattle.ulfm_explain.specs.Explained.{ExplainsText}
 use Rattle.ulfm_explore.specs.Shows.{IsShown}
 use Rattle.ulfm_filters.specs.Statuses.{CheckedWith, EchoedWith, PrintsAt, PrintsWhole, RanWith, StepsRanWith, status_of, verdict_status}
+use Rattle.ulfm_programs.specs.declared.program.Program.{Program}
 use Rattle.ulfm_race.specs.declared.plan.Plan.{Plan}
 use Rattle.ulfm_race.specs.Races.{IsOutcome}
 use Rattle.ulfm_race_text.specs.Lines.{race_text}
@@ -99,17 +100,17 @@ told_trace known old new verdict shown text status explained is printed =
     inl (record { verdict = verdict; shown = shown; explained = explained; printed = subst (λ (t : List ℕ). PrintsAt (verdict_status verdict) t old new status) is printed })
 
 -- the exploration that was made is the one that the words ask for
-pub explored_as : (words : Arguments) (o p : ExploreOptions) (old new : KnownText) (status : ℕ) → AsksExplore words o → AsksExplore words p
-    → ExploredWith o old new status → ExploredWith p old new status
-explored_as words o p old new status a b ended = subst (λ (x : ExploreOptions). ExploredWith x old new status) (same_explored words o p a b) ended
+pub explored_as : (A : Type 0) (words : Arguments) (o p : ExploreOptions) (old new : KnownText) (status : ℕ) → AsksExplore words o → AsksExplore words p
+    → ExploredWith A o old new status → ExploredWith A p old new status
+explored_as A words o p old new status a b ended = subst (λ (x : ExploreOptions). ExploredWith A x old new status) (same_explored words o p a b) ended
 
 -- memory was refused before anything was read or printed: to an exploration
-pub explore_ran_out : (options : ExploreOptions) (out : KnownText) (status : ℕ) → status ≡ status_of (Err Memory) → ExploredWith options out out status
-explore_ran_out options out status is = inr (inr (inl is), keeps_start out)
+pub explore_ran_out : (A : Type 0) (options : ExploreOptions) (out : KnownText) (status : ℕ) → status ≡ status_of (Err Memory) → ExploredWith A options out out status
+explore_ran_out A options out status is = inr (inr (inl is), keeps_start out)
 
 -- a fault, at which nothing was printed
-pub explored_none : (options : ExploreOptions) (out : KnownText) (status : ℕ) → (status ≡ 1) ⊎ ((status ≡ 3) ⊎ (status ≡ 5)) → ExploredWith options out out status
-explored_none options out status is = inr (is, keeps_start out)
+pub explored_none : (A : Type 0) (options : ExploreOptions) (out : KnownText) (status : ℕ) → (status ≡ 1) ⊎ ((status ≡ 3) ⊎ (status ≡ 5)) → ExploredWith A options out out status
+explored_none A options out status is = inr (is, keeps_start out)
 
 -- the status of a text that was printed, or not all of it
 at_its : (is_whole : Bool) (text : List ℕ) (old new : KnownText) (status : ℕ) → PrintsWhole text old new status
@@ -119,11 +120,11 @@ at_its false text old new status (inl printed) = inl (subst (λ (s : ℕ). at_st
 at_its false text old new status (inr printed) = inr (subst (λ (s : ℕ). at_status false s ≡ 3) (sym printed.0) refl, printed.1)
 
 -- what was found, which was printed, or not all of it
-pub explored : (options : ExploreOptions) (old new : KnownText) (shown text : List ℕ) (is_whole : Bool) (status : ℕ)
-    → ((number : ℕ) → options.outcome ≡ Some number → IsShown shown) → text ≡ shown → PrintsWhole text old new status
-    → ExploredWith options old new (at_status is_whole status)
-explored options old new shown text is_whole status script is printed =
-    inl (record {
+pub explored : (A : Type 0) (program : Program A) (options : ExploreOptions) (old new : KnownText) (shown text : List ℕ) (is_whole : Bool) (status : ℕ)
+    → ((number : ℕ) → options.outcome ≡ Some number → IsShown program shown) → text ≡ shown → PrintsWhole text old new status
+    → ExploredWith A options old new (at_status is_whole status)
+explored A program options old new shown text is_whole status script is printed =
+    inl (program, record {
       text = shown;
       is_whole = is_whole;
       script = script;

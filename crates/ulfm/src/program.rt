@@ -22,7 +22,7 @@ use ulfm_draw::{Form, Looks, draw};
 use ulfm_explain::explain;
 use ulfm_explore::{ExploreFault, explore};
 use ulfm_filters::{Filter, print_text, run_filter, tell, tell_bad_line, tell_fault};
-use ulfm_programs::ProgramFault;
+use ulfm_programs::{ProgramFault, read_program};
 use ulfm_race::{Gate, Plan, RaceFault, Turn, race};
 use ulfm_race_text::race_lines;
 use ulfm_script::RunFault;
@@ -72,7 +72,7 @@ pub fn answer<T: Threads + Wait + Sync, A: Allocator + Copy + Drop, R: Read, W: 
         (W.contents output.old) (W.contents output.new) result }
     ensures draw { (options : DrawOptionsOf) → AsksDraw (map (λ word. word.now) words.now) options → DrewWith (form_of options looks)
         (R.remaining input.old) (W.contents output.old) (W.contents output.new) result }
-    ensures explore { (options : ExploreOptionsOf) → AsksExplore (map (λ word. word.now) words.now) options → ExploredWith options
+    ensures explore { (options : ExploreOptionsOf) → AsksExplore (map (λ word. word.now) words.now) options → ExploredWith A options
         (W.contents output.old) (W.contents output.new) result }
     ensures race { (options : OptionsOf) → AsksRace (map (λ word. word.now) words.now) options → RacedWith (plan_of options)
         (W.contents output.old) (W.contents output.new) result }
@@ -178,13 +178,17 @@ fn run_explore<A: Allocator + Copy + Drop, R: Read, W: Write, E: Write>(
     errors: &mut E,
 ) -> u8
     ensures status { result ≤ 5 }
-    ensures explored { ExploredWith options (W.contents output.old) (W.contents output.new) result }
+    ensures explored { ExploredWith A options (W.contents output.old) (W.contents output.new) result }
 {
     let plan = ulfm_explore::Plan {
         most: options.most.unwrap_or(MOST_STATES),
         outcome: options.outcome,
     };
-    match explore(alloc, input, plan) {
+    let program = match read_program(alloc, input) {
+        Ok(program) => program,
+        Err(fault) => return tell_unread(fault, errors),
+    };
+    match explore(alloc, &program, plan) {
         Ok(told) => {
             let status = print_text(&told.text, output, errors);
             status_at(told.is_whole, status)
@@ -200,16 +204,23 @@ fn status_at(is_whole: bool, status: u8) -> u8
     if status == 0 && !is_whole { 4 } else { status }
 }
 
+/// Tells why a program couldn't be read, and gives the status.
+fn tell_unread<E: Write>(fault: ProgramFault, errors: &mut E) -> u8
+    ensures { (result ≡ 1) ⊎ ((result ≡ 3) ⊎ (result ≡ 5)) }
+{
+    let _ = writeln!(errors, "ulfm: {fault}");
+    match fault {
+        ProgramFault::Line { .. } => 1,
+        ProgramFault::Memory | ProgramFault::Read => 3,
+    }
+}
+
 /// Tells why a program wasn't explored, and gives the status.
 fn tell_unexplored<E: Write>(fault: ExploreFault, errors: &mut E) -> u8
     ensures { (result ≡ 1) ⊎ ((result ≡ 3) ⊎ (result ≡ 5)) }
 {
     let _ = writeln!(errors, "ulfm: {fault}");
     match fault {
-        ExploreFault::Program(fault) => match fault {
-            ProgramFault::Line { .. } => 1,
-            ProgramFault::Memory | ProgramFault::Read => 3,
-        },
         ExploreFault::NoSuchOutcome => 1,
         ExploreFault::Memory => 3,
         ExploreFault::Unconfirmed => 5,

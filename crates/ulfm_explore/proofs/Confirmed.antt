@@ -2,11 +2,11 @@
 use Rattle.std.proofs.Common.{◌≡◌, ℕ, List, [], Some, None, Ok, sym, subst}
 use Rattle.ulfm_script.specs.{Ends.{KnownText, PrintsAll}, Scripts.{script_of}}
 use Rattle.ulfm_step_script.specs.StepScripts.{RunsSteps, step_scripts}
-use Rattle.ulfm_explore.specs.Shows.{Shows}
+use Rattle.ulfm_explore.specs.Shows.{Runs}
 
--- a script that was run to its end, into an empty text, shows this text
-pub shown : (script trace : List ℕ) (left : KnownText) → RunsSteps (Some script) left (Some []) (Some trace) (Ok tt) → Shows script trace
-shown script trace left ran =
+-- a script that was run to its end, into an empty text, gives this text
+pub ran : (script trace : List ℕ) (left : KnownText) → RunsSteps (Some script) left (Some []) (Some trace) (Ok tt) → Runs script trace
+ran script trace left ran =
     let runs = ran.2.0 in
     let here : PrintsAll step_scripts script runs.out = subst (λ (t : List ℕ). PrintsAll step_scripts t runs.out) runs.whole runs.printed in
     record {

@@ -1,1 +1,4 @@
+pub mod Readings
 pub mod Shows
+pub mod Tellings
+pub mod Views

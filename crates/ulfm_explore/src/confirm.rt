@@ -1,6 +1,6 @@
 //! An outcome confirmed: its script run by the step engine, and what became of the ranks read off the trace.
-ghost use Rattle.std.specs.Prelude.{◌≡◌, IfOk, IfSome};
-ghost use Rattle.ulfm_explore.specs.Shows.{Shows};
+ghost use Rattle.std.specs.Prelude.{◌≡◌, IfOk, IfSome, map, true};
+ghost use Rattle.ulfm_explore.specs.{Readings.{AreRows}, Shows.{Runs, Shows}, Views.{row_of}};
 
 use crate::reading::read_row;
 use std::alloc::{AllocError, Allocator};
@@ -9,25 +9,26 @@ use ulfm_script::RunFault;
 use ulfm_seats::StepTable;
 use ulfm_step_script::run_step_script;
 
-/// An outcome that the step engine has shown: none is made but of a script that the engine ran to its end.
+/// A script that the step engine ran to its end, with its trace, and what became of the ranks in that.
 #[derive(Drop)]
 pub struct Shown<A: Allocator> {
     /// By rank, what became of it, as it was read off the trace.
     pub rows: Vec<Row<A>, A>,
-    /// A script that shows it.
+    /// The script.
     pub script: Vec<u8, A>,
     /// The legal trace that the engine wrote for it.
     pub trace: Vec<u8, A>,
-    ghost shows: { ∥ Shows script.items trace.items ∥₁ },
+    /// Who called each declaration, in order: a rank, or another number for the outside.
+    pub callers: Vec<u8, A>,
 }
 
 /// The trace of a script, by the step engine; none where it doesn't take the script to its end.
-#[tactic(auto, using(crate::proofs::Confirmed::shown))]
-pub fn trace_of<A: Allocator + Copy + Drop>(
+#[tactic(auto, using(crate::proofs::Confirmed::ran))]
+fn trace_of<A: Allocator + Copy + Drop>(
     alloc: A,
     script: &[u8],
 ) -> Result<Option<Vec<u8, A>>, AllocError>
-    ensures { IfOk result (λ ran. IfSome ran (λ trace. Shows script.now trace.items)) }
+    ensures { IfOk result (λ ran. IfSome ran (λ trace. Runs script.now trace.items)) }
 {
     let mut trace = Vec::new(alloc);
     let mut left = script;
@@ -38,17 +39,19 @@ pub fn trace_of<A: Allocator + Copy + Drop>(
     }
 }
 
-/// The rows of all ranks in a trace; none where a call in it isn't that of its rank's program.
+/// The rows of all ranks in a trace; none where a call in it isn't that of its rank's program, or where a rank isn't at rest, if that is asked for.
 fn read_rows<A: Allocator + Copy + Drop>(
     alloc: A,
     program: &Program<A>,
     callers: &[u8],
     trace: &[u8],
-) -> Result<Option<Vec<Row<A>, A>>, AllocError> {
+    at_rest: bool,
+) -> Result<Option<Vec<Row<A>, A>>, AllocError>
+    ensures { IfOk result (λ found. IfSome found (λ rows. AreRows program.now callers.now trace.now at_rest (map row_of rows.items))) }
+{
     let mut rows = Vec::new(alloc);
     for rank in 0..program.limits.ranks {
-        let rank = u8::try_from(rank).unwrap_or(u8::MAX);
-        match read_row(alloc, program, rank, callers, trace)? {
+        match read_row(alloc, program, callers, trace, at_rest, rank)? {
             Some(row) => rows.push(row)?,
             None => return Ok(None),
         }
@@ -60,26 +63,44 @@ fn read_rows<A: Allocator + Copy + Drop>(
 /// a call in it isn't that of the program.
 ///
 /// `callers` has who called each declaration of the script, in order; 255 for the outside.
-pub fn show<A: Allocator + Copy + Drop>(
+pub fn follow<A: Allocator + Copy + Drop>(
     alloc: A,
     program: &Program<A>,
     script: Vec<u8, A>,
-    callers: &[u8],
+    callers: Vec<u8, A>,
+    at_rest: bool,
 ) -> Result<Option<Shown<A>>, AllocError>
     ensures script { IfOk result (λ found. IfSome found (λ shown. shown.script.items ≡ script.items)) }
-    ensures shows { IfOk result (λ found. IfSome found (λ shown. Shows shown.script.items shown.trace.items)) }
+    ensures runs { IfOk result (λ found. IfSome found (λ shown. Runs shown.script.items shown.trace.items)) }
+    ensures rows { IfOk result (λ found. IfSome found
+        (λ shown. AreRows program.now shown.callers.items shown.trace.items at_rest (map row_of shown.rows.items))) }
 {
     let Some(trace) = trace_of(alloc, &script)? else {
         return Ok(None);
     };
-    match read_rows(alloc, program, callers, &trace)? {
+    match read_rows(alloc, program, &callers, &trace, at_rest)? {
         Some(rows) => Ok(Some(Shown {
             rows,
             script,
             trace,
+            callers,
         })),
         None => Ok(None),
     }
+}
+
+/// An outcome by its script: what became of the ranks where each is at rest at the end, as [`follow`] reads it.
+pub fn show<A: Allocator + Copy + Drop>(
+    alloc: A,
+    program: &Program<A>,
+    script: Vec<u8, A>,
+    callers: Vec<u8, A>,
+) -> Result<Option<Shown<A>>, AllocError>
+    ensures script { IfOk result (λ found. IfSome found (λ shown. shown.script.items ≡ script.items)) }
+    ensures shows { IfOk result (λ found. IfSome found
+        (λ shown. Shows program.now (map row_of shown.rows.items) shown.script.items shown.trace.items shown.callers.items)) }
+{
+    follow(alloc, program, script, callers, true)
 }
 
 /// Whether two rows say the same.

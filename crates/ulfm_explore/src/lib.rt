@@ -2,9 +2,10 @@
 #![tactic(auto)]
 
 pub mod confirm;
+mod asking;
 mod reading;
 pub mod showing;
-pub mod telling;
+mod telling;
 
-pub use confirm::{Shown, are_same, show};
+pub use confirm::{Shown, are_same, follow, show};
 pub use showing::{ExploreFault, Explored, Plan, explore};

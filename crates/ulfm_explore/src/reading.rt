@@ -1,131 +1,97 @@
 //! What became of a rank, read off a trace: its program goes along with the trace's lines.
-use std::alloc::{AllocError, Allocator};
-use ulfm_laws::FlagAnd;
-use ulfm_model::Call;
-use ulfm_programs::{Ask, Fate, May, Move, Op, Place, Program, Row, most_moves, move_at};
-use ulfm_script::words::{read_number, split_word};
-use ulfm_script::{print_call, print_number};
+ghost use Rattle.std.specs.Prelude.{◌≡◌, ◌×◌, ◌<◌, ◌∷◌, [], IfOk, OnOk, MatchOption, length, option_map};
+ghost use Rattle.ulfm_script.specs.{Scripts.{lines_from}, Words.{rest_at}};
+ghost use Rattle.ulfm_programs.specs.Programs.{move_at, op_at};
+ghost use Rattle.ulfm_explore.specs.Readings.{after_reply, answered, begun, behind, declaration_answered, declared, failed, gone_on, made_in, may_begin, may_declare, may_fail, noting, rests, row_in, saying, stands_before, start, takes, takes_all, takes_call, takes_event, takes_reply, told};
+ghost use Rattle.ulfm_explore.specs.Views.{reached, row_of};
 
-/// A rank's program as far as it has gone along with a trace.
+use crate::asking::{
+    asked_by, calls_nobody, declares, dies, is_caller, is_declarable, is_number, is_of_ranks,
+    is_quiet, is_wait, made_in, runs, text_behind,
+};
+use std::alloc::{AllocError, Allocator};
+use ulfm_programs::{Fate, Move, Program, Row, most_moves, move_at};
+use ulfm_script::print_call;
+use ulfm_script::words::{read_number, split_word};
+
+/// How far a rank's program has gone along with a trace.
 #[derive(Drop)]
-struct Reading<'a, A: Allocator> {
-    alloc: A,
-    program: &'a Program<A>,
-    rank: u8,
+pub(crate) struct Reading<A: Allocator> {
     fate: Fate,
     place: u16,
     // The last communicator that it got from a shrink.
     current: u16,
-    // Whether a call is under way.
-    open: bool,
+    // Whether a call of it is under way.
+    is_calling: bool,
     // Whether there was a reply that could be tested, and its text.
-    answered: bool,
+    is_answered: bool,
     last: Vec<u8, A>,
     noted: Vec<u8, A>,
-    // So many declarations were answered.
-    declared: usize,
+    // So many declarations were called and answered, and so many ranks are declared.
+    called: u16,
+    failures: u16,
     // Whether each call was the program's.
     fits: bool,
 }
 
-/// The caller of a reply's line, and the reply; none of another line.
-fn reply_in(line: &[u8]) -> Option<(&[u8], &[u8])> {
-    let (word, rest) = split_word(line);
-    if word != b"reply".as_slice() {
-        return None;
-    }
-    let (by, rest) = split_word(rest?);
-    let (_point, rest) = split_word(rest?);
-    Some((by, rest?))
-}
-
-/// The call behind `call `; none of another line.
-fn call_in(line: &[u8]) -> Option<&[u8]> {
-    let (word, rest) = split_word(line);
-    if word == b"call".as_slice() {
-        rest
-    } else {
-        None
-    }
-}
-
-/// The rank that a call's words name as its caller; `-` of a declaration.
-fn caller_in(call: &[u8]) -> &[u8] {
-    let (verb, rest) = split_word(call);
-    if verb == b"fail".as_slice() {
-        return b"-";
-    }
-    match rest {
-        Some(fields) => split_word(fields).0,
-        None => b"",
-    }
-}
-
-/// The communicator that a reply of a shrink names.
-fn made_in(reply: &[u8]) -> Option<u16> {
-    let (word, rest) = split_word(reply);
-    if word != b"shrunk".as_slice() {
-        return None;
-    }
-    let (comm, _) = split_word(rest?);
-    read_number(comm).ok()
-}
-
-/// The call that a rank makes.
-fn call_of(ask: Ask, rank: u16, comm: u16) -> Call<FlagAnd> {
-    match ask {
-        Ask::GetFailed => Call::GetFailed { rank, comm },
-        Ask::Ack(count) => Call::Ack { rank, comm, count },
-        Ask::Agree(value) => Call::Agree { rank, comm, value },
-        Ask::Shrink => Call::Shrink { rank, comm },
-        Ask::Barrier => Call::Barrier { rank, comm },
-        Ask::Poll | Ask::Wait => Call::Poll { rank, comm },
-        Ask::Revoke => Call::Revoke { rank, comm },
-        Ask::IsRevoked => Call::IsRevoked { rank, comm },
-        Ask::Free => Call::Free { rank, comm },
-    }
-}
-
-impl<'a, A: Allocator + Copy + Drop> Reading<'a, A> {
-    /// The rank's number, in decimal.
-    fn number(&self) -> Result<Vec<u8, A>, AllocError> {
-        let mut number = Vec::new(self.alloc);
-        print_number(&mut number, u16::from(self.rank))?;
-        Ok(number)
+impl<A: Allocator + Copy + Drop> Reading<A> {
+    /// A rank before all steps.
+    fn new(alloc: A) -> Reading<A>
+        ensures { reached result ≡ start }
+    {
+        Reading {
+            fate: Fate::Runs,
+            place: 0,
+            current: 0,
+            is_calling: false,
+            is_answered: false,
+            last: Vec::new(alloc),
+            noted: Vec::new(alloc),
+            called: 0,
+            failures: 0,
+            fits: true,
+        }
     }
 
     /// Takes in a note.
-    fn note(&mut self, words: &[u8]) -> Result<(), AllocError> {
+    fn note(&mut self, words: &[u8]) -> Result<(), AllocError>
+        ensures { OnOk result (reached self.new ≡ noting words.now (reached self.old)) }
+    {
         self.noted.extend_from_slice(words)?;
         self.noted.push(b'\n')?;
         Ok(())
     }
 
-    /// What the program does at its place.
-    fn next_move(&self) -> Move {
-        let last = if self.answered {
-            Some(self.last.as_slice())
-        } else {
-            None
-        };
-        move_at(self.program, self.rank, self.place, last)
+    /// Takes in words of the rank's own.
+    fn say(&mut self, words: &[u8]) -> Result<(), AllocError>
+        ensures { OnOk result (reached self.new ≡ saying words.now (reached self.old)) }
+    {
+        self.noted.extend_from_slice(b"say ")?;
+        self.note(words)
     }
 
-    /// Takes in words of the rank's own.
-    fn say(&mut self, text: u16) -> Result<(), AllocError> {
-        let program = self.program;
-        self.noted.extend_from_slice(b"say ")?;
-        self.note(program.text(text))
+    /// What the program does at its place.
+    fn next_move(&self, program: &Program<A>, rank: u16) -> Move
+        ensures { result ≡ move_at program.now rank self.now.place (reached self.now).last }
+    {
+        if self.is_answered {
+            move_at(program, rank, self.place, Some(self.last.as_slice()))
+        } else {
+            move_at(program, rank, self.place, None)
+        }
     }
 
     /// The program goes on to its next call, or to its end.
-    fn go_on(&mut self) -> Result<(), AllocError> {
-        for _ in 0..most_moves(self.program, self.rank) {
-            match self.next_move() {
+    fn go_on(&mut self, program: &Program<A>, rank: u16) -> Result<(), AllocError>
+        ensures { OnOk result (reached self.new ≡ gone_on program.now rank (reached self.old)) }
+    {
+        let most = most_moves(program, rank);
+        for number in 0..most {
+            match self.next_move(program, rank) {
                 Move::Call => return Ok(()),
                 Move::Go { to } => self.place = to,
                 Move::Say { text, to } => {
-                    self.say(text)?;
+                    self.say(program.text(text))?;
                     self.place = to;
                 }
                 Move::End => {
@@ -137,139 +103,325 @@ impl<'a, A: Allocator + Copy + Drop> Reading<'a, A> {
         Ok(())
     }
 
-    /// The call that the program makes next, as a line has it.
-    fn expected(&self) -> Result<Option<Vec<u8, A>>, AllocError> {
-        let Some(Op::Call { ask, on, .. }) = self.program.op(u16::from(self.rank), self.place)
-        else {
-            return Ok(None);
+    /// Whether the rank may begin this call.
+    fn may_begin(
+        &self,
+        alloc: A,
+        program: &Program<A>,
+        rank: u16,
+        call: &[u8],
+    ) -> Result<bool, AllocError>
+        ensures { IfOk result (λ may. may ≡ may_begin program.now rank call.now (reached self.now)) }
+    {
+        if self.is_calling || !runs(self.fate) {
+            return Ok(false);
+        }
+        let Some(asked) = asked_by(rank, self.current, program.op(rank, self.place)) else {
+            return Ok(false);
         };
-        let comm = match on {
-            Place::Given(comm) => comm,
-            Place::Current => self.current,
-        };
-        let mut text = Vec::new(self.alloc);
-        print_call(&mut text, &call_of(ask, u16::from(self.rank), comm))?;
-        Ok(Some(text))
+        let mut text = Vec::new(alloc);
+        print_call(&mut text, &asked)?;
+        Ok(text.as_slice() == call)
     }
 
     /// A call of the rank begins.
-    fn begin(&mut self, call: &[u8]) -> Result<(), AllocError> {
-        let same = match self.expected()? {
-            Some(expected) => expected.as_slice() == call,
-            None => false,
-        };
-        self.fits = self.fits && same && !self.open && self.fate == Fate::Runs;
-        self.open = true;
+    fn begin(
+        &mut self,
+        alloc: A,
+        program: &Program<A>,
+        rank: u16,
+        call: &[u8],
+    ) -> Result<(), AllocError>
+        ensures { OnOk result (reached self.new ≡ begun program.now rank call.now (reached self.old)) }
+    {
+        if !self.may_begin(alloc, program, rank, call)? {
+            self.fits = false;
+        }
+        self.is_calling = true;
         Ok(())
     }
 
-    /// The rank's call, or its declaration, is answered.
-    fn answer(&mut self, reply: &[u8]) -> Result<(), AllocError> {
-        self.open = false;
-        let (waits, quiet) = match self.program.op(u16::from(self.rank), self.place) {
-            Some(Op::Call { ask, quiet, .. }) => (ask == Ask::Wait, quiet),
-            Some(Op::Declare { quiet, .. }) => (false, quiet),
-            _ => (false, true),
-        };
-        if waits && reply == b"pending".as_slice() {
-            return Ok(());
-        }
-        if let Some(comm) = made_in(reply) {
-            self.current = comm;
-        }
-        self.place = self.place.saturating_add(1);
-        if reply == b"started".as_slice() {
-            return self.go_on();
-        }
-        self.answered = true;
+    /// A reply is the last one, and is noted where it isn't quiet.
+    fn tell(&mut self, reply: &[u8], quiet: bool) -> Result<(), AllocError>
+        ensures { OnOk result (reached self.new ≡ told reply.now quiet (reached self.old)) }
+    {
+        self.is_answered = true;
         self.last.clear();
         self.last.extend_from_slice(reply)?;
-        if !quiet {
-            self.note(reply)?;
+        if quiet {
+            return Ok(());
         }
+        self.note(reply)
+    }
+
+    /// The rank goes on behind a reply that it took in: who is declared failed is out.
+    fn go_behind_reply(
+        &mut self,
+        program: &Program<A>,
+        rank: u16,
+        reply: &[u8],
+    ) -> Result<(), AllocError>
+        ensures { OnOk result (reached self.new ≡ after_reply program.now rank reply.now (reached self.old)) }
+    {
         if reply == b"refused 1 self-failed".as_slice() {
             self.fate = Fate::Out;
             return Ok(());
         }
-        self.go_on()
+        self.go_on(program, rank)
+    }
+
+    /// The rank goes on behind its operation, with this reply.
+    fn go_behind(
+        &mut self,
+        program: &Program<A>,
+        rank: u16,
+        reply: &[u8],
+        quiet: bool,
+    ) -> Result<(), AllocError>
+        ensures { OnOk result (reached self.new ≡ behind program.now rank reply.now quiet (reached self.old)) }
+    {
+        if reply == b"started".as_slice() {
+            return self.go_on(program, rank);
+        }
+        self.tell(reply, quiet)?;
+        self.go_behind_reply(program, rank, reply)
+    }
+
+    /// The rank's call, or its declaration, is answered.
+    fn answer(&mut self, program: &Program<A>, rank: u16, reply: &[u8]) -> Result<(), AllocError>
+        ensures { OnOk result (reached self.new ≡ answered program.now rank reply.now (reached self.old)) }
+    {
+        let here = program.op(rank, self.place);
+        self.is_calling = false;
+        if is_wait(here) && reply == b"pending".as_slice() {
+            return Ok(());
+        }
+        self.current = made_in(reply, self.current);
+        self.place = self.place.saturating_add(1);
+        self.go_behind(program, rank, reply, is_quiet(here))
+    }
+
+    /// Whether the rank stands before the declaration of this one.
+    fn stands_before(&self, program: &Program<A>, rank: u16, whom: &[u8]) -> bool
+        ensures { result ≡ stands_before program.now rank whom.now (reached self.now) }
+    {
+        if self.is_calling || !runs(self.fate) {
+            return false;
+        }
+        declares(program.op(rank, self.place), whom)
+    }
+
+    /// Whether the outside may declare this rank.
+    fn may_fail(&self, program: &Program<A>, whom: &[u8]) -> bool
+        ensures { result ≡ may_fail program.now whom.now (reached self.now) }
+    {
+        if self.failures >= program.most {
+            return false;
+        }
+        match read_number(whom) {
+            Ok(rank) => is_declarable(program.may_be_declared(rank)),
+            Err(_) => false,
+        }
+    }
+
+    /// Whether a declaration by this caller fits.
+    fn may_declare(
+        &self,
+        program: &Program<A>,
+        rank: u16,
+        caller: Option<u8>,
+        whom: &[u8],
+    ) -> bool
+        ensures { result ≡ may_declare program.now rank caller whom.now (reached self.now) }
+    {
+        if is_caller(rank, caller) {
+            self.stands_before(program, rank, whom)
+        } else if is_of_ranks(program.limits.ranks, caller) {
+            true
+        } else {
+            self.may_fail(program, whom)
+        }
+    }
+
+    /// A declaration is called.
+    fn declare(&mut self, program: &Program<A>, callers: &[u8], rank: u16, whom: &[u8])
+        ensures { reached self.new ≡ declared program.now callers.now rank whom.now (reached self.old) }
+    {
+        let caller = callers.get(usize::from(self.called)).copied();
+        if !self.may_declare(program, rank, caller, whom) {
+            self.fits = false;
+        }
     }
 
     /// A declaration is answered: that of this rank, where it is the one who declared.
-    fn answer_declaration(&mut self, reply: &[u8], callers: &[u8]) -> Result<(), AllocError> {
-        let caller = callers.get(self.declared).copied();
-        self.declared = self.declared.saturating_add(1);
-        if caller != Some(self.rank) || self.fate != Fate::Runs {
-            return Ok(());
+    fn answer_declaration(
+        &mut self,
+        program: &Program<A>,
+        callers: &[u8],
+        rank: u16,
+        reply: &[u8],
+    ) -> Result<(), AllocError>
+        ensures { OnOk result (reached self.new ≡ declaration_answered program.now callers.now rank reply.now (reached self.old)) }
+    {
+        let caller = callers.get(usize::from(self.called)).copied();
+        self.called = self.called.saturating_add(1);
+        if is_caller(rank, caller) && runs(self.fate) {
+            return self.answer(program, rank, reply);
         }
-        let stands = match self.program.op(u16::from(self.rank), self.place) {
-            Some(Op::Declare { .. }) => true,
-            _ => false,
-        };
-        self.fits = self.fits && stands;
-        self.answer(reply)
-    }
-
-    /// Takes a line of the trace. `callers` has who called each declaration, in order; another number than a rank's for the outside.
-    fn take(&mut self, line: &[u8], number: &[u8], callers: &[u8]) -> Result<(), AllocError> {
-        if let Some(call) = call_in(line) {
-            if caller_in(call) == number {
-                return self.begin(call);
-            }
-            return Ok(());
-        }
-        if let Some((by, reply)) = reply_in(line) {
-            if by == number {
-                return self.answer(reply);
-            }
-            if by == b"-".as_slice() {
-                return self.answer_declaration(reply, callers);
-            }
-            return Ok(());
-        }
-        self.take_event(line, number);
         Ok(())
     }
 
-    /// Takes an event: a rank that dies makes no further step.
-    fn take_event(&mut self, line: &[u8], number: &[u8]) {
-        let Some(rank) = line.strip_prefix(b"event - fail ".as_slice()) else {
-            return;
-        };
-        let dies = self.program.may_be_declared(u16::from(self.rank)) == May::Die;
-        if rank == number && dies && self.fate == Fate::Runs {
+    /// Somebody is declared: a rank that dies makes no further step.
+    fn fail(&mut self, program: &Program<A>, rank: u16, whom: &[u8])
+        ensures { reached self.new ≡ failed program.now rank whom.now (reached self.old) }
+    {
+        self.failures = self.failures.saturating_add(1);
+        if is_number(whom, rank) && dies(program.may_be_declared(rank)) && runs(self.fate) {
             self.fate = Fate::Died;
         }
     }
+
+    /// Takes the line of a call, behind its first word.
+    fn take_call(
+        &mut self,
+        alloc: A,
+        program: &Program<A>,
+        callers: &[u8],
+        rank: u16,
+        text: &[u8],
+    ) -> Result<(), AllocError>
+        ensures { OnOk result (reached self.new ≡ takes_call program.now callers.now rank text.now (reached self.old)) }
+    {
+        let (verb, rest) = split_word(text);
+        let fields = text_behind(rest);
+        if verb == b"fail".as_slice() {
+            self.declare(program, callers, rank, fields);
+            return Ok(());
+        }
+        if is_number(split_word(fields).0, rank) {
+            return self.begin(alloc, program, rank, text);
+        }
+        Ok(())
+    }
+
+    /// Takes the line of a reply, behind its first word.
+    fn take_reply(
+        &mut self,
+        program: &Program<A>,
+        callers: &[u8],
+        rank: u16,
+        fields: &[u8],
+    ) -> Result<(), AllocError>
+        ensures { OnOk result (reached self.new ≡ takes_reply program.now callers.now rank fields.now (reached self.old)) }
+    {
+        let (by, rest) = split_word(fields);
+        let (_, rest) = split_word(text_behind(rest));
+        let reply = text_behind(rest);
+        if by == b"-".as_slice() {
+            return self.answer_declaration(program, callers, rank, reply);
+        }
+        if is_number(by, rank) {
+            return self.answer(program, rank, reply);
+        }
+        Ok(())
+    }
+
+    /// Takes the line of an event, behind its first word.
+    fn take_event(&mut self, program: &Program<A>, rank: u16, fields: &[u8])
+        ensures { reached self.new ≡ takes_event program.now rank fields.now (reached self.old) }
+    {
+        let (_, rest) = split_word(fields);
+        let (verb, rest) = split_word(text_behind(rest));
+        if verb == b"fail".as_slice() {
+            self.fail(program, rank, text_behind(rest));
+        }
+    }
+
+    /// Takes a line of the trace.
+    fn take(
+        &mut self,
+        alloc: A,
+        program: &Program<A>,
+        callers: &[u8],
+        rank: u16,
+        line: &[u8],
+    ) -> Result<(), AllocError>
+        ensures { OnOk result (reached self.new ≡ takes program.now callers.now rank line.now (reached self.old)) }
+    {
+        let (word, rest) = split_word(line);
+        let fields = text_behind(rest);
+        if word == b"call".as_slice() {
+            return self.take_call(alloc, program, callers, rank, fields);
+        }
+        if word == b"reply".as_slice() {
+            return self.take_reply(program, callers, rank, fields);
+        }
+        if word == b"event".as_slice() {
+            self.take_event(program, rank, fields);
+        }
+        Ok(())
+    }
+
+    /// Takes the lines of a trace.
+    fn take_all(
+        &mut self,
+        alloc: A,
+        program: &Program<A>,
+        callers: &[u8],
+        rank: u16,
+        trace: &[u8],
+    ) -> Result<(), AllocError>
+        ensures { OnOk result (reached self.new ≡ takes_all program.now callers.now rank (lines_from [] trace.now) (reached self.old)) }
+    {
+        let mut left = trace;
+        'lines: while let Some((line, rest)) = split_line(left) {
+            self.take(alloc, program, callers, rank, line)?;
+            left = rest;
+        }
+        Ok(())
+    }
+
+    /// Whether the rank is at rest: its program is over, or stands before a wait, or goes round without a call.
+    fn rests(&self, program: &Program<A>, rank: u16) -> bool
+        ensures { result ≡ rests program.now rank (reached self.now) }
+    {
+        if !runs(self.fate) {
+            return true;
+        }
+        let here = program.op(rank, self.place);
+        !self.is_calling && (is_wait(here) || calls_nobody(here))
+    }
 }
 
-/// What became of a rank in a trace, read off its lines; none where a call of the rank in it isn't that of its program.
+/// The first line of a text, and what stands behind its newline; none where there is no newline.
+pub(crate) fn split_line(text: &[u8]) -> Option<(&[u8], &[u8])>
+    ensures { MatchOption result (lines_from [] text.now ≡ []) (λ parts. (lines_from [] text.now ≡ parts.0.now ∷ lines_from [] parts.1.now)
+        × (length parts.1.now < length text.now)) }
+{
+    for (i, byte) in text.iter().enumerate() {
+        if *byte == b'\n' {
+            return Some((&text[..i], &text[i + 1..]));
+        }
+    }
+    None
+}
+
+/// What became of a rank in a trace, and what it noted; none where a call in it isn't that of its program, or where the rank isn't at rest at the end, if
+/// that is asked for. `callers` has who called each declaration, in order; another number than a rank's for the outside.
 pub(crate) fn read_row<A: Allocator + Copy + Drop>(
     alloc: A,
     program: &Program<A>,
-    rank: u8,
     callers: &[u8],
     trace: &[u8],
-) -> Result<Option<Row<A>>, AllocError> {
-    let mut reading = Reading {
-        alloc,
-        program,
-        rank,
-        fate: Fate::Runs,
-        place: 0,
-        current: 0,
-        open: false,
-        answered: false,
-        last: Vec::new(alloc),
-        noted: Vec::new(alloc),
-        declared: 0,
-        fits: true,
-    };
-    reading.go_on()?;
-    let number = reading.number()?;
-    for line in trace.split(|byte| *byte == b'\n') {
-        reading.take(line, &number, callers)?;
-    }
-    if !reading.fits {
+    at_rest: bool,
+    rank: u16,
+) -> Result<Option<Row<A>>, AllocError>
+    ensures { IfOk result (λ row. option_map row_of row ≡ row_in program.now callers.now trace.now at_rest rank) }
+{
+    let mut reading = Reading::new(alloc);
+    reading.go_on(program, rank)?;
+    reading.take_all(alloc, program, callers, rank, trace)?;
+    if !reading.fits || (at_rest && !reading.rests(program, rank)) {
         return Ok(None);
     }
     Ok(Some(Row {

@@ -1,13 +1,13 @@
 //! A program explored: what is found, confirmed by the step engine, and told.
-ghost use Rattle.std.specs.Prelude.{◌≡◌, ℕ, IfOk, Some};
-ghost use Rattle.ulfm_explore.specs.Shows.{IsShown, Shows};
+ghost use Rattle.std.specs.Prelude.{◌≡◌, ℕ, IfOk, List, None, Some, map};
+ghost use Rattle.std.specs.List.{All};
+ghost use Rattle.ulfm_explore.specs.{Shows.{IsOutcome, IsShown, Shows, Tells}, Tellings.{Told, told_text}, Views.{row_of, told_of}};
 
 use crate::confirm::{Shown, are_same, show};
 use crate::telling::tell;
 use std::alloc::{AllocError, Allocator};
-use std::io::Read;
 use thiserror::Error;
-use ulfm_programs::{Program, ProgramFault, read_program};
+use ulfm_programs::Program;
 use ulfm_schedules::{Searched, search};
 
 /// How a program is explored.
@@ -22,9 +22,6 @@ pub struct Plan {
 /// Why nothing is told of a program.
 #[derive(Clone, Copy, Debug, PartialEq, Eq, Error)]
 pub enum ExploreFault {
-    /// The program has a fault, or couldn't be read.
-    #[error("{0}")]
-    Program(ProgramFault),
     /// Memory was refused.
     #[error("out of memory")]
     Memory,
@@ -61,12 +58,12 @@ fn confirmed<A: Allocator + Copy + Drop>(
     searched: &mut Searched<A>,
     number: u32,
 ) -> Result<Shown<A>, ExploreFault>
-    ensures { IfOk result (λ shown. Shows shown.script.items shown.trace.items) }
+    ensures { IfOk result (λ shown. Shows program.now (map row_of shown.rows.items) shown.script.items shown.trace.items shown.callers.items) }
 {
     let Some(found) = searched.script(number)? else {
         return Err(ExploreFault::Unconfirmed);
     };
-    let Some(shown) = show(alloc, program, found.text, &found.callers)? else {
+    let Some(shown) = show(alloc, program, found.text, found.callers)? else {
         return Err(ExploreFault::Unconfirmed);
     };
     if are_same(&shown.rows, &found.rows) {
@@ -81,7 +78,9 @@ fn confirm_all<A: Allocator + Copy + Drop>(
     alloc: A,
     program: &Program<A>,
     searched: &mut Searched<A>,
-) -> Result<Vec<Shown<A>, A>, ExploreFault> {
+) -> Result<Vec<Shown<A>, A>, ExploreFault>
+    ensures { IfOk result (λ shown. All (IsOutcome program.now) (map told_of shown.items)) }
+{
     let mut shown = Vec::new(alloc);
     for number in 0..searched.count() {
         let one = confirmed(alloc, program, searched, number)?;
@@ -99,7 +98,7 @@ fn one_script<A: Allocator + Copy + Drop>(
     searched: &mut Searched<A>,
     number: u32,
 ) -> Result<Vec<u8, A>, ExploreFault>
-    ensures { IfOk result (λ script. IsShown script.items) }
+    ensures { IfOk result (λ script. IsShown program.now script.items) }
 {
     if number == 0 || number > searched.count() {
         return Err(ExploreFault::NoSuchOutcome);
@@ -108,73 +107,53 @@ fn one_script<A: Allocator + Copy + Drop>(
     Ok(shown.script)
 }
 
-/// What is told of all outcomes.
+/// What is told of all outcomes of a search, of which this many states came up.
 fn all_outcomes<A: Allocator + Copy + Drop>(
     alloc: A,
     program: &Program<A>,
     searched: &mut Searched<A>,
-) -> Result<Vec<u8, A>, ExploreFault> {
+    is_whole: bool,
+    states: u32,
+) -> Result<Vec<u8, A>, ExploreFault>
+    ensures { IfOk result (λ text. (told : List Told) × All (IsOutcome program.now) told × (text.items ≡ told_text program.now told is_whole states)) }
+{
     let shown = confirm_all(alloc, program, searched)?;
-    let is_whole = searched.is_whole();
-    let text = tell(alloc, program, &shown, is_whole, searched.states())?;
+    let text = tell(alloc, program, &shown, is_whole, states)?;
     Ok(text)
 }
 
-/// What is told of a search that has ended: the script of one outcome, or all of them.
-fn text_of<A: Allocator + Copy + Drop>(
-    alloc: A,
-    program: &Program<A>,
-    searched: &mut Searched<A>,
-    outcome: Option<u32>,
-) -> Result<Vec<u8, A>, ExploreFault>
-    ensures { (number : ℕ) → outcome ≡ Some number → IfOk result (λ text. IsShown text.items) }
-{
-    match outcome {
-        Some(number) => one_script(alloc, program, searched, number),
-        None => all_outcomes(alloc, program, searched),
-    }
-}
-
-/// What is told of a program.
-fn told<A: Allocator + Copy + Drop>(
-    alloc: A,
-    program: &Program<A>,
-    plan: Plan,
-) -> Result<Explored<A>, ExploreFault>
-    ensures { (number : ℕ) → plan.outcome ≡ Some number → IfOk result (λ told. IsShown told.text.items) }
-{
-    let mut searched = search(alloc, program, plan.most)?;
-    let text = text_of(alloc, program, &mut searched, plan.outcome)?;
-    Ok(Explored {
-        text,
-        is_whole: searched.is_whole(),
-        states: searched.states(),
-        bytes: searched.bytes(),
-    })
-}
-
-/// Explores the program that the reader gives: each order of atomic steps of its ranks, with each moment at which one may be declared.
+/// Explores a program: each order of atomic steps of its ranks, with each moment at which one may be declared.
 ///
 /// It tells each outcome once, then the answers to the program's questions, each with a short script, and how many states there are. Where more
 /// than `plan.most` states come up, it stops there and says so.
 ///
 /// ```
-/// let mut program = b"ulfm-explore 1 1 1 2\nrank 0\nagree 0 000000ff\nwait 0\n".as_slice();
-/// let told = explore(alloc, &mut program, Plan { most: 1000, outcome: None })?;
+/// let mut text = b"ulfm-explore 1 1 1 2\nrank 0\nagree 0 000000ff\nwait 0\n".as_slice();
+/// let program = read_program(alloc, &mut text)?;
+/// let told = explore(alloc, &program, Plan { most: 1000, outcome: None })?;
 /// assert!(rt; told.text.ends_with(b"all outcomes 1 states 9\n"));
 /// ```
-pub fn explore<A: Allocator + Copy + Drop, R: Read>(
+pub fn explore<A: Allocator + Copy + Drop>(
     alloc: A,
-    reader: &mut R,
+    program: &Program<A>,
     plan: Plan,
 ) -> Result<Explored<A>, ExploreFault>
-    // Where one outcome's script is wanted, what is told is a script that the step engine ran to its end.
-    ensures script { (number : ℕ) → plan.outcome ≡ Some number → IfOk result (λ told. IsShown told.text.items) }
+    // Where one outcome's script is wanted, what is told is a script that shows an outcome of the program.
+    ensures script { (number : ℕ) → plan.outcome ≡ Some number → IfOk result (λ told. IsShown program.now told.text.items) }
+    // Else each outcome that is told was shown, and the answers are what these give.
+    ensures outcomes { plan.outcome ≡ None → IfOk result (λ told. Tells program.now plan.most told.is_whole told.states told.text.items) }
 {
-    let program = match read_program(alloc, reader) {
-        Ok(program) => program,
-        Err(ProgramFault::Memory) => return Err(ExploreFault::Memory),
-        Err(fault) => return Err(ExploreFault::Program(fault)),
+    let mut searched = search(alloc, program, plan.most)?;
+    let is_whole = searched.is_whole();
+    let states = searched.states();
+    let text = match plan.outcome {
+        Some(number) => one_script(alloc, program, &mut searched, number)?,
+        None => all_outcomes(alloc, program, &mut searched, is_whole, states)?,
     };
-    told(alloc, &program, plan)
+    Ok(Explored {
+        text,
+        is_whole,
+        states,
+        bytes: searched.bytes(),
+    })
 }

@@ -1,18 +1,19 @@
 //! What is told of outcomes: each once, the questions' answers, and how many states there are.
-ghost use Rattle.std.specs.Prelude.{◌≡◌, codes, false, true};
+ghost use Rattle.std.specs.Prelude.{◌≡◌, OnOk, IfOk, codes, false, map, option_map, slice_get, true, ◌∷◌, [], ◌++◌};
+ghost use Rattle.std.specs.Fmt.{decimal};
+ghost use Rattle.ulfm_script.specs.Scripts.{lines_from};
+ghost use Rattle.ulfm_explore.specs.{Tellings.{answer_to, count_text, counts_to, differ, ended_otherwise, fate_text, has_all, has_noted, is_answer, is_asked_for, is_stuck, is_stuck_one, is_unlike, next_number, none_text, notes_to, number_to, outcome_to, outcomes_to, question_text, question_to, questions_to, row_to, rows_to, short, some, some_note, told_text}, Views.{row_of, told_of}};
 
 use crate::confirm::Shown;
+use crate::reading::split_line;
 use std::alloc::{AllocError, Allocator};
 use ulfm_programs::{Fate, Find, Program, Row, has_words};
 use ulfm_script::print_point;
 
-/// A number of 32 bits; the greatest where it has more.
-fn number_of(count: usize) -> u32 {
-    u32::try_from(count).unwrap_or(u32::MAX)
-}
-
 /// The word of a fate.
-fn fate_word(fate: Fate) -> &'static [u8] {
+fn fate_word(fate: Fate) -> &'static [u8]
+    ensures { result.now ≡ fate_text fate }
+{
     match fate {
         Fate::Runs => b"stuck",
         Fate::Ended => b"ended",
@@ -21,26 +22,48 @@ fn fate_word(fate: Fate) -> &'static [u8] {
     }
 }
 
-/// A word, a number and a newline.
-fn print_counted<A: Allocator>(
-    text: &mut Vec<u8, A>,
-    word: &[u8],
-    number: u32,
-) -> Result<(), AllocError> {
-    text.extend_from_slice(word)?;
-    print_point(text, number)
+/// What a rank noted, behind its fate.
+fn print_noted<A: Allocator>(text: &mut Vec<u8, A>, noted: &[u8]) -> Result<(), AllocError>
+    ensures { OnOk result (text.new.items ≡ notes_to text.old.items (codes ": ") (lines_from [] noted.now)) }
+{
+    let mut sign: &[u8] = b": ";
+    let mut left = noted;
+    'notes: while let Some((note, rest)) = split_line(left) {
+        text.extend_from_slice(sign)?;
+        text.extend_from_slice(note)?;
+        sign = b"; ";
+        left = rest;
+    }
+    Ok(())
 }
 
-/// What a rank noted, behind its fate.
-fn print_noted<A: Allocator>(text: &mut Vec<u8, A>, noted: &[u8]) -> Result<(), AllocError> {
-    let mut sign: &[u8] = b": ";
-    for note in noted.split(|byte| *byte == b'\n') {
-        if !note.is_empty() {
-            text.extend_from_slice(sign)?;
-            text.extend_from_slice(note)?;
-            sign = b"; ";
-        }
-    }
+/// The line of a rank.
+fn print_row<A: Allocator>(
+    text: &mut Vec<u8, A>,
+    number: u32,
+    row: &Row<A>,
+) -> Result<(), AllocError>
+    ensures { OnOk result (text.new.items ≡ row_to text.old.items number (row_of row.now)) }
+{
+    text.extend_from_slice(b"rank ")?;
+    print_point(text, number)?;
+    text.push(b' ')?;
+    text.extend_from_slice(fate_word(row.fate))?;
+    print_noted(text, &row.noted)?;
+    text.push(b'\n')?;
+    Ok(())
+}
+
+/// A line `outcome NUMBER`.
+fn print_outcome_number<A: Allocator>(
+    text: &mut Vec<u8, A>,
+    number: u32,
+) -> Result<(), AllocError>
+    ensures { OnOk result (text.new.items ≡ number_to text.old.items number) }
+{
+    text.extend_from_slice(b"outcome ")?;
+    print_point(text, number)?;
+    text.push(b'\n')?;
     Ok(())
 }
 
@@ -49,68 +72,147 @@ fn print_outcome<A: Allocator>(
     text: &mut Vec<u8, A>,
     number: u32,
     rows: &[Row<A>],
-) -> Result<(), AllocError> {
-    print_counted(text, b"outcome ", number)?;
-    text.push(b'\n')?;
-    for (rank, row) in rows.iter().enumerate() {
-        print_counted(text, b"rank ", number_of(rank))?;
-        text.push(b' ')?;
-        text.extend_from_slice(fate_word(row.fate))?;
-        print_noted(text, &row.noted)?;
-        text.push(b'\n')?;
+) -> Result<(), AllocError>
+    ensures { OnOk result (text.new.items ≡ outcome_to text.old.items number (map row_of rows.now)) }
+{
+    print_outcome_number(text, number)?;
+    let mut rank = 0u32;
+    for row in rows {
+        print_row(text, rank, row)?;
+        rank = rank.saturating_add(1);
     }
     Ok(())
 }
 
-/// Whether two of these ranks ended with different words.
-fn is_unlike<A: Allocator>(rows: &[Row<A>], ranks: &[u16]) -> bool {
-    let mut first: Option<&[u8]> = None;
-    for rank in ranks {
-        if let Some(row) = rows.get(usize::from(*rank)) {
-            if row.fate == Fate::Ended {
-                match first {
-                    Some(noted) if noted != row.noted.as_slice() => return true,
-                    _ => first = Some(row.noted.as_slice()),
-                }
-            }
-        }
+/// All outcomes.
+fn print_outcomes<A: Allocator>(
+    text: &mut Vec<u8, A>,
+    shown: &[Shown<A>],
+) -> Result<(), AllocError>
+    ensures { OnOk result (text.new.items ≡ outcomes_to text.old.items 1 (map told_of shown.now)) }
+{
+    let mut number = 1u32;
+    for outcome in shown {
+        print_outcome(text, number, &outcome.rows)?;
+        number = number.saturating_add(1);
     }
-    false
+    Ok(())
 }
 
-/// Whether one of these ranks is stuck.
-fn is_stuck<A: Allocator>(rows: &[Row<A>], ranks: &[u16]) -> bool {
-    for rank in ranks {
-        if let Some(row) = rows.get(usize::from(*rank)) {
-            if row.fate == Fate::Runs {
-                return true;
-            }
-        }
+/// Whether a rank ended with other words.
+fn ended_otherwise<A: Allocator>(words: &[u8], row: Option<&Row<A>>) -> bool
+    ensures { result ≡ ended_otherwise words.now (option_map (λ row. row_of row.now) row.entry) }
+{
+    match row {
+        Some(row) => match row.fate {
+            Fate::Ended => row.noted.as_slice() != words,
+            Fate::Runs => false,
+            Fate::Out => false,
+            Fate::Died => false,
+        },
+        None => false,
     }
-    false
 }
 
-/// Whether a rank has these words in one of its notes, or as its fate.
-fn has_noted<A: Allocator>(row: &Row<A>, words: &[u8]) -> bool {
-    if fate_word(row.fate) == words {
-        return true;
+/// Whether two ranks ended with different words.
+fn differ<A: Allocator>(row: Option<&Row<A>>, other: Option<&Row<A>>) -> bool
+    ensures { result ≡ differ (option_map (λ row. row_of row.now) row.entry) (option_map (λ row. row_of row.now) other.entry) }
+{
+    match row {
+        Some(row) => match row.fate {
+            Fate::Ended => ended_otherwise(&row.noted, other),
+            Fate::Runs => false,
+            Fate::Out => false,
+            Fate::Died => false,
+        },
+        None => false,
     }
-    for note in row.noted.split(|byte| *byte == b'\n') {
-        if has_words(note, words) {
+}
+
+/// Whether one of these ranks ended with other words than this one.
+fn differs_from<A: Allocator>(rows: &[Row<A>], rank: u16, ranks: &[u16]) -> bool
+    ensures { result ≡ some (λ other. differ (slice_get (map row_of rows.now) rank) (slice_get (map row_of rows.now) other)) ranks.now }
+{
+    for other in ranks {
+        if differ(rows.get(usize::from(rank)), rows.get(usize::from(*other))) {
             return true;
         }
     }
     false
 }
 
+/// Whether two of these ranks ended with different words.
+fn is_unlike<A: Allocator>(rows: &[Row<A>], ranks: &[u16]) -> bool
+    ensures { result ≡ is_unlike (map row_of rows.now) ranks.now }
+{
+    for rank in ranks {
+        if differs_from(rows, *rank, ranks) {
+            return true;
+        }
+    }
+    false
+}
+
+/// Whether a rank is stuck.
+fn is_stuck_one<A: Allocator>(row: Option<&Row<A>>) -> bool
+    ensures { result ≡ is_stuck_one (option_map (λ row. row_of row.now) row.entry) }
+{
+    match row {
+        Some(row) => match row.fate {
+            Fate::Runs => true,
+            Fate::Ended => false,
+            Fate::Out => false,
+            Fate::Died => false,
+        },
+        None => false,
+    }
+}
+
+/// Whether one of these ranks is stuck.
+fn is_stuck<A: Allocator>(rows: &[Row<A>], ranks: &[u16]) -> bool
+    ensures { result ≡ is_stuck (map row_of rows.now) ranks.now }
+{
+    for rank in ranks {
+        if is_stuck_one(rows.get(usize::from(*rank))) {
+            return true;
+        }
+    }
+    false
+}
+
+/// Whether words stand together in one of these notes.
+fn some_note(noted: &[u8], words: &[u8]) -> bool
+    ensures { result ≡ some_note words.now (lines_from [] noted.now) }
+{
+    let mut left = noted;
+    'notes: while let Some((note, rest)) = split_line(left) {
+        if has_words(note, words) {
+            return true;
+        }
+        left = rest;
+    }
+    false
+}
+
+/// Whether words are a rank's fate, or stand together in one of its notes.
+fn has_noted<A: Allocator>(words: &[u8], row: Option<&Row<A>>) -> bool
+    ensures { result ≡ has_noted words.now (option_map (λ row. row_of row.now) row.entry) }
+{
+    match row {
+        Some(row) => fate_word(row.fate) == words || some_note(&row.noted, words),
+        None => false,
+    }
+}
+
 /// Whether all of what is to be found stands in an outcome.
-fn has_all<A: Allocator>(program: &Program<A>, rows: &[Row<A>], find: &[Find]) -> bool {
+fn has_all<A: Allocator>(program: &Program<A>, rows: &[Row<A>], find: &[Find]) -> bool
+    ensures { result ≡ has_all program.now (map row_of rows.now) find.now }
+{
     for wanted in find {
-        let holds = match rows.get(usize::from(wanted.rank)) {
-            Some(row) => has_noted(row, program.text(wanted.text)),
-            None => false,
-        };
-        if !holds {
+        if !has_noted(
+            program.text(wanted.text),
+            rows.get(usize::from(wanted.rank)),
+        ) {
             return false;
         }
     }
@@ -126,7 +228,9 @@ enum Question {
 }
 
 /// The word of a question.
-fn question_word(question: Question) -> &'static [u8] {
+fn question_word(question: Question) -> &'static [u8]
+    ensures { result.now ≡ question_text question }
+{
     match question {
         Question::Alike => b"alike ",
         Question::Ended => b"ended ",
@@ -135,7 +239,9 @@ fn question_word(question: Question) -> &'static [u8] {
 }
 
 /// Whether a program asks a question.
-fn is_asked<A: Allocator>(program: &Program<A>, question: Question) -> bool {
+fn is_asked<A: Allocator>(program: &Program<A>, question: Question) -> bool
+    ensures { result ≡ is_asked_for program.now question }
+{
     match question {
         Question::Alike => !program.alike.is_empty(),
         Question::Ended => !program.ended.is_empty(),
@@ -144,7 +250,9 @@ fn is_asked<A: Allocator>(program: &Program<A>, question: Question) -> bool {
 }
 
 /// Whether an outcome answers a question.
-fn is_answer<A: Allocator>(program: &Program<A>, question: Question, rows: &[Row<A>]) -> bool {
+fn is_answer<A: Allocator>(program: &Program<A>, question: Question, rows: &[Row<A>]) -> bool
+    ensures { result ≡ is_answer program.now question (map row_of rows.now) }
+{
     match question {
         Question::Alike => is_unlike(rows, &program.alike),
         Question::Ended => is_stuck(rows, &program.ended),
@@ -153,9 +261,8 @@ fn is_answer<A: Allocator>(program: &Program<A>, question: Question, rows: &[Row
 }
 
 /// That no outcome answers a question: of those that came up, where not all schedules were tried.
-pub fn none_word(is_whole: bool) -> &'static [u8]
-    ensures whole { is_whole ≡ true → result.now ≡ codes "none\n" }
-    ensures part { is_whole ≡ false → result.now ≡ codes "none so far\n" }
+fn none_word(is_whole: bool) -> &'static [u8]
+    ensures { result.now ≡ none_text is_whole }
 {
     if is_whole {
         b"none\n"
@@ -165,9 +272,8 @@ pub fn none_word(is_whole: bool) -> &'static [u8]
 }
 
 /// How many outcomes there are: all, or some, where not all schedules were tried.
-pub fn count_word(is_whole: bool) -> &'static [u8]
-    ensures whole { is_whole ≡ true → result.now ≡ codes "all" }
-    ensures part { is_whole ≡ false → result.now ≡ codes "some" }
+fn count_word(is_whole: bool) -> &'static [u8]
+    ensures { result.now ≡ count_text is_whole }
 {
     if is_whole { b"all" } else { b"some" }
 }
@@ -177,19 +283,70 @@ fn print_answer<A: Allocator>(
     text: &mut Vec<u8, A>,
     program: &Program<A>,
     question: Question,
-    shown: &[Shown<A>],
     is_whole: bool,
-) -> Result<(), AllocError> {
-    text.extend_from_slice(question_word(question))?;
-    for (at, outcome) in shown.iter().enumerate() {
+    shown: &[Shown<A>],
+) -> Result<(), AllocError>
+    ensures { OnOk result (text.new.items ≡ answer_to text.old.items program.now question is_whole 1 (map told_of shown.now)) }
+{
+    let mut number = 1u32;
+    for outcome in shown {
         if is_answer(program, question, &outcome.rows) {
-            print_counted(text, b"outcome ", number_of(at).saturating_add(1))?;
-            text.push(b'\n')?;
+            print_outcome_number(text, number)?;
             text.extend_from_slice(&outcome.script)?;
             return text.extend_from_slice(b"end\n");
         }
+        number = number.saturating_add(1);
     }
     text.extend_from_slice(none_word(is_whole))
+}
+
+/// The answer to a question, where it is asked.
+fn print_question<A: Allocator>(
+    text: &mut Vec<u8, A>,
+    program: &Program<A>,
+    question: Question,
+    is_whole: bool,
+    shown: &[Shown<A>],
+) -> Result<(), AllocError>
+    ensures { OnOk result (text.new.items ≡ question_to text.old.items program.now question is_whole (map told_of shown.now)) }
+{
+    if !is_asked(program, question) {
+        return Ok(());
+    }
+    text.extend_from_slice(question_word(question))?;
+    print_answer(text, program, question, is_whole, shown)
+}
+
+/// The answers to all questions.
+fn print_questions<A: Allocator>(
+    text: &mut Vec<u8, A>,
+    program: &Program<A>,
+    is_whole: bool,
+    shown: &[Shown<A>],
+) -> Result<(), AllocError>
+    ensures { OnOk result (text.new.items ≡ questions_to text.old.items program.now is_whole (map told_of shown.now)) }
+{
+    print_question(text, program, Question::Alike, is_whole, shown)?;
+    print_question(text, program, Question::Ended, is_whole, shown)?;
+    print_question(text, program, Question::Find, is_whole, shown)
+}
+
+/// The last line: how many outcomes and states there are.
+fn print_counts<A: Allocator>(
+    text: &mut Vec<u8, A>,
+    is_whole: bool,
+    outcomes: u32,
+    states: u32,
+) -> Result<(), AllocError>
+    ensures { OnOk result (text.new.items ≡ counts_to text.old.items is_whole outcomes states) }
+{
+    text.extend_from_slice(count_word(is_whole))?;
+    text.extend_from_slice(b" outcomes ")?;
+    print_point(text, outcomes)?;
+    text.extend_from_slice(b" states ")?;
+    print_point(text, states)?;
+    text.push(b'\n')?;
+    Ok(())
 }
 
 /// What is told of a program whose outcomes are these.
@@ -199,19 +356,13 @@ pub(crate) fn tell<A: Allocator + Copy + Drop>(
     shown: &[Shown<A>],
     is_whole: bool,
     states: u32,
-) -> Result<Vec<u8, A>, AllocError> {
+) -> Result<Vec<u8, A>, AllocError>
+    ensures { IfOk result (λ text. text.items ≡ told_text program.now (map told_of shown.now) is_whole states) }
+{
     let mut text = Vec::new(alloc);
-    for (at, outcome) in shown.iter().enumerate() {
-        print_outcome(&mut text, number_of(at).saturating_add(1), &outcome.rows)?;
-    }
-    for question in [Question::Alike, Question::Ended, Question::Find] {
-        if is_asked(program, question) {
-            print_answer(&mut text, program, question, shown, is_whole)?;
-        }
-    }
-    text.extend_from_slice(count_word(is_whole))?;
-    print_counted(&mut text, b" outcomes ", number_of(shown.len()))?;
-    print_counted(&mut text, b" states ", states)?;
-    text.push(b'\n')?;
+    print_outcomes(&mut text, shown)?;
+    print_questions(&mut text, program, is_whole, shown)?;
+    let outcomes = u32::try_from(shown.len()).unwrap_or(u32::MAX);
+    print_counts(&mut text, is_whole, outcomes, states)?;
     Ok(text)
 }

@@ -1,6 +1,7 @@
 //! What is told of small programs.
 use std::alloc::Global;
 use ulfm_explore::{ExploreFault, Plan, explore};
+use ulfm_programs::read_program;
 
 /// A program of two ranks, of which one may be declared.
 const AGREE: &str =
@@ -9,7 +10,10 @@ const AGREE: &str =
 /// The text of an exploration, and whether all schedules were tried.
 fn told(alloc: Global, most: u32, outcome: Option<u32>) -> Result<(Vec<u8>, bool), ExploreFault> {
     let mut text = AGREE.as_bytes();
-    let told = explore(alloc, &mut text, Plan { most, outcome })?;
+    let Ok(program) = read_program(alloc, &mut text) else {
+        return Err(ExploreFault::Memory);
+    };
+    let told = explore(alloc, &program, Plan { most, outcome })?;
     Ok((told.text, told.is_whole))
 }
 

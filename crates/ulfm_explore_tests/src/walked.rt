@@ -1,6 +1,6 @@
 //! The model of the search beside the step engine, step by step.
 use std::alloc::Global;
-use ulfm_explore::{are_same, show};
+use ulfm_explore::{are_same, follow};
 use ulfm_programs::read_program;
 use ulfm_schedules::walk;
 
@@ -22,7 +22,7 @@ fn goes_along(alloc: Global, text: &str, seed: u64, most: u32) -> bool {
     let Ok(script) = walk(alloc, &program, seed, most) else {
         return false;
     };
-    match show(alloc, &program, script.text, &script.callers) {
+    match follow(alloc, &program, script.text, script.callers, false) {
         Ok(Some(shown)) => are_same(&shown.rows, &script.rows),
         _ => false,
     }

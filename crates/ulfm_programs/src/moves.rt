@@ -1,4 +1,8 @@
 //! What a rank's program does by itself, between its calls, and what becomes of the rank.
+ghost use Rattle.std.specs.Prelude.{◌≡◌};
+ghost use Rattle.ulfm_script.specs.Words.{rest_at};
+ghost use Rattle.ulfm_programs.specs.Programs.{most_moves, move_at};
+
 use crate::program::{Op, Program, has_words};
 use std::alloc::Allocator;
 
@@ -40,12 +44,14 @@ pub enum Move {
 /// What a rank's program does at a place, where its last reply has this text.
 pub fn move_at<A: Allocator>(
     program: &Program<A>,
-    rank: u8,
+    rank: u16,
     place: u16,
     last: Option<&[u8]>,
-) -> Move {
+) -> Move
+    ensures { result ≡ move_at program.now rank place (rest_at last.entry) }
+{
     let next = place.saturating_add(1);
-    match program.op(u16::from(rank), place) {
+    match program.op(rank, place) {
         None | Some(Op::End) => Move::End,
         Some(Op::Call { .. }) | Some(Op::Declare { .. }) => Move::Call,
         Some(Op::Go { to }) => Move::Go { to },
@@ -63,9 +69,13 @@ pub fn move_at<A: Allocator>(
 }
 
 /// So many moves at most lead from one call to the next. A program that makes more goes round for good.
-pub fn most_moves<A: Allocator>(program: &Program<A>, rank: u8) -> usize {
+pub fn most_moves<A: Allocator>(program: &Program<A>, rank: u16) -> u16
+    ensures { result ≡ most_moves program.now rank }
+{
     match program.ranks.get(usize::from(rank)) {
-        Some(ops) => ops.len().saturating_add(1),
+        Some(ops) => u16::try_from(ops.len())
+            .unwrap_or(u16::MAX)
+            .saturating_add(1),
         None => 0,
     }
 }

@@ -1,7 +1,13 @@
 //! What stands in a program of ranks.
+ghost use Rattle.std.specs.Prelude.{◌≡◌};
+ghost use Rattle.ulfm_script.specs.Words.{rest_at};
+ghost use Rattle.ulfm_programs.specs.Programs.{may_at, op_at, text_at};
+ghost use Rattle.ulfm_programs.specs.Words.{begin_with, has_words, have, words_in, words_of};
+
 use std::alloc::Allocator;
 use ulfm_laws::FlagAnd;
 use ulfm_model::Limits;
+use ulfm_script::words::split_word;
 
 /// Whether, and how, a rank may be declared failed from outside.
 #[derive(Clone, Copy, Debug, PartialEq, Eq)]
@@ -90,13 +96,17 @@ pub struct Program<A: Allocator> {
 
 impl<A: Allocator> Program<A> {
     /// A rank's operation at a place; none behind its last one.
-    pub fn op(&self, rank: u16, at: u16) -> Option<Op> {
+    pub fn op(&self, rank: u16, at: u16) -> Option<Op>
+        ensures { result ≡ op_at self.now rank at }
+    {
         let ops = self.ranks.get(usize::from(rank))?;
         ops.get(usize::from(at)).copied()
     }
 
     /// Whether, and how, a rank may be declared from outside.
-    pub fn may_be_declared(&self, rank: u16) -> May {
+    pub fn may_be_declared(&self, rank: u16) -> May
+        ensures { result ≡ may_at self.now rank }
+    {
         self.may
             .get(usize::from(rank))
             .copied()
@@ -104,7 +114,9 @@ impl<A: Allocator> Program<A> {
     }
 
     /// The text of a number; an empty one where there is none.
-    pub fn text(&self, number: u16) -> &[u8] {
+    pub fn text(&self, number: u16) -> &[u8]
+        ensures { result.now ≡ text_at self.now number }
+    {
         match self.texts.get(usize::from(number)) {
             Some(text) => text.as_slice(),
             None => b"",
@@ -112,46 +124,45 @@ impl<A: Allocator> Program<A> {
     }
 }
 
-/// The first word of a text, and what stands behind the space after it.
-fn split_first(text: &[u8]) -> (&[u8], Option<&[u8]>) {
-    ulfm_script::words::split_word(text)
+/// Whether a text begins with these words, of which `_` is any word.
+#[tactic(auto, using(crate::proofs::WordLemmas::first_and_rest, crate::proofs::WordLemmas::shorter))]
+fn begins_with(text: Option<&[u8]>, words: Option<&[u8]>) -> bool
+    ensures { result ≡ begin_with (words_in (rest_at text.entry)) (words_in (rest_at words.entry)) }
+{
+    let Some(wanted) = words else {
+        return true;
+    };
+    let Some(found) = text else {
+        return false;
+    };
+    let (wanted_word, more) = split_word(wanted);
+    let (word, behind) = split_word(found);
+    if wanted_word != b"_".as_slice() && wanted_word != word {
+        return false;
+    }
+    begins_with(behind, more)
 }
 
-/// Whether a text begins with these words, of which `_` is any word.
-fn begins_with(text: &[u8], words: &[u8]) -> bool {
-    let mut left = Some(text);
-    let mut wanted = Some(words);
-    for _ in 0..=words.len() {
-        let Some(next) = wanted else {
-            return true;
-        };
-        let Some(rest) = left else {
-            return false;
-        };
-        let (word, behind) = split_first(next);
-        let (found, beyond) = split_first(rest);
-        if word != b"_".as_slice() && word != found {
-            return false;
-        }
-        wanted = behind;
-        left = beyond;
+/// Whether words stand together somewhere in a text, if there is one.
+#[tactic(auto, using(crate::proofs::WordLemmas::first_and_rest, crate::proofs::WordLemmas::shorter))]
+fn stand_in(text: Option<&[u8]>, words: &[u8]) -> bool
+    ensures { result ≡ have (words_in (rest_at text.entry)) (words_of words.now) }
+{
+    let Some(left) = text else {
+        return false;
+    };
+    if begins_with(Some(left), Some(words)) {
+        return true;
     }
-    true
+    let (_, behind) = split_word(left);
+    stand_in(behind, words)
 }
 
 /// Whether words stand together somewhere in a text, of which `_` is any word.
 ///
 /// `failed 1` stands in `agreed 0000000f failed 1 raised`, and so does `failed _ raised`.
-pub fn has_words(text: &[u8], words: &[u8]) -> bool {
-    let mut left = Some(text);
-    for _ in 0..=text.len() {
-        let Some(rest) = left else {
-            return false;
-        };
-        if begins_with(rest, words) {
-            return true;
-        }
-        left = split_first(rest).1;
-    }
-    false
+pub fn has_words(text: &[u8], words: &[u8]) -> bool
+    ensures { result ≡ has_words text.now words.now }
+{
+    stand_in(Some(text), words)
 }

@@ -115,8 +115,9 @@ impl<'a, A: Allocator + Copy + Drop> Engine<'a, A> {
     /// A rank's program goes on to its next call, or to its end.
     fn go_on(&mut self, state: &mut State<A>, rank: u8) -> Result<(), AllocError> {
         let mut seat = state.seat(rank);
-        for _ in 0..most_moves(self.program, rank) {
-            match move_at(self.program, rank, seat.place, self.answers.text(seat.last)) {
+        let number = u16::from(rank);
+        for _ in 0..most_moves(self.program, number) {
+            match move_at(self.program, number, seat.place, self.answers.text(seat.last)) {
                 Move::Call => break,
                 Move::Go { to } => seat.place = to,
                 Move::Say { text, to } => {

@@ -1,4 +1,6 @@
 //! The search: state by state, breadth first, until no new one is found.
+ghost use Rattle.std.specs.Prelude.{◌≡◌, ◌≤◌, IfOk, true};
+
 use crate::choices::{Act, can_act, is_settled, take_act};
 use crate::engine::Engine;
 use crate::state::State;
@@ -27,6 +29,8 @@ pub(crate) struct Candidate<A: Allocator> {
 pub(crate) struct Found<A: Allocator> {
     pub(crate) table: Table<A>,
     pub(crate) outcomes: Vec<Candidate<A>, A>,
+    /// How many states there are.
+    pub(crate) states: u32,
     /// Whether each state was gone on from.
     pub(crate) is_whole: bool,
 }
@@ -109,7 +113,9 @@ pub(crate) fn find_all<A: Allocator + Copy + Drop>(
     alloc: A,
     engine: &mut Engine<A>,
     most: u32,
-) -> Result<Found<A>, AllocError> {
+) -> Result<Found<A>, AllocError>
+    ensures { IfOk result (λ found. found.is_whole ≡ true → found.states ≤ most) }
+{
     let state = engine.first(alloc)?;
     let mut table = Table::new(alloc, state.bytes.len())?;
     table.add(&state.bytes, None)?;
@@ -122,12 +128,14 @@ pub(crate) fn find_all<A: Allocator + Copy + Drop>(
         row: Vec::new(alloc),
     };
     let mut is_whole = false;
+    let mut states = 0;
     for number in 0..u32::MAX {
-        if number >= search.table.count() {
-            is_whole = !search.engine.full;
+        states = search.table.count();
+        if states > most || search.engine.full {
             break;
         }
-        if search.table.count() > most || search.engine.full {
+        if number >= states {
+            is_whole = true;
             break;
         }
         search.go_from(number)?;
@@ -135,6 +143,7 @@ pub(crate) fn find_all<A: Allocator + Copy + Drop>(
     Ok(Found {
         table: search.table,
         outcomes: search.outcomes,
+        states,
         is_whole,
     })
 }

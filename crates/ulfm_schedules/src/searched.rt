@@ -1,4 +1,7 @@
 //! A search that has ended: how many outcomes it found, and for each a script.
+ghost use Rattle.std.specs.Prelude.{◌≡◌, ◌≤◌, IfOk, true};
+ghost use Rattle.ulfm_schedules.specs.Searches.{states_of, whole_of};
+
 use crate::answers::Note;
 use crate::engine::Engine;
 use crate::finding::{Found, Part, find_all};
@@ -34,7 +37,10 @@ pub fn search<'a, A: Allocator + Copy + Drop>(
     alloc: A,
     program: &'a Program<A>,
     most: u32,
-) -> Result<Searched<'a, A>, AllocError> {
+) -> Result<Searched<'a, A>, AllocError>
+    // All schedules were tried only where no more states came up than are allowed.
+    ensures { IfOk result (λ searched. whole_of searched ≡ true → states_of searched ≤ most) }
+{
     let mut engine = Engine::new(alloc, program);
     let found = find_all(alloc, &mut engine, most)?;
     Ok(Searched {
@@ -90,13 +96,17 @@ impl<'a, A: Allocator + Copy + Drop> Searched<'a, A> {
     }
 
     /// Whether each state was gone on from.
-    pub fn is_whole(&self) -> bool {
+    pub fn is_whole(&self) -> bool
+        ensures { result ≡ whole_of self.now }
+    {
         self.found.is_whole
     }
 
     /// How many states were found.
-    pub fn states(&self) -> u32 {
-        self.found.table.count()
+    pub fn states(&self) -> u32
+        ensures { result ≡ states_of self.now }
+    {
+        self.found.states
     }
 
     /// How many bytes are kept of them.

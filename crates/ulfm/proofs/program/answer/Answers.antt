@@ -56,4 +56,4 @@ pub returns-in-Bad-clause-explore : goal.returns-in-Bad-clause-explore
 returns-in-Bad-clause-explore g c options asks = absurd (c.in-Bad.ensures.no_explore options asks)
 
 pub returns-in-Memory-clause-explore : goal.returns-in-Memory-clause-explore
-returns-in-Memory-clause-explore g c options asks = explore_ran_out _ _ _ c.tell_fault.ensures.status
+returns-in-Memory-clause-explore g c options asks = explore_ran_out _ _ _ _ c.tell_fault.ensures.status
