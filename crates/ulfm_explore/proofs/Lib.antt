@@ -1,1 +1,4 @@
 pub mod Confirmed
+pub mod Outcomes
+pub mod Steps
+pub mod Walks

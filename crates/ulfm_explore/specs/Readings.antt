@@ -1,5 +1,5 @@
 -- What became of a rank, read off a trace: the rank's program goes along with the trace's lines.
-use Rattle.std.specs.Prelude.{◌≡◌, ℕ, zero, suc, ◌+◌, Bool, true, false, ◌==◌, nat_lt, if◌then◌else◌, List, [], ◌∷◌, ◌++◌, map, Option, Some, None, Result, Ok, Err, codes, slice_get, unwrap_or}
+use Rattle.std.specs.Prelude.{◌≡◌, ℕ, zero, suc, Bool, true, false, ◌==◌, nat_lt, if◌then◌else◌, List, [], ◌∷◌, ◌++◌, map, Option, Some, None, Result, Ok, Err, codes, slice_get, unwrap_or}
 use Rattle.std.specs.Str.{bytes_eq}
 use Rattle.ulfm_laws.specs.declared.flag_and.FlagAnd.{FlagAnd}
 use Rattle.ulfm_model.specs.declared.call.Call.{Call}
@@ -56,17 +56,26 @@ noting words it = record it { noted = (it.noted ++ words) ++ 10 ∷ [] }
 abbrev pub saying : List ℕ → Reached → Reached
 saying words it = noting words (record it { noted = it.noted ++ codes "say " })
 
--- a rank whose program made this move, and then goes on so
-abbrev pub made : {A : Type 0} → Program A → (Reached → Reached) → Move → Reached → Reached
-made program further move.Call it = it
-made program further (move.Go to) it = further (record it { at = to })
-made program further (move.Say text to) it = further (record (saying (text_at program text) it) { at = to })
-made program further move.End it = record it { fate = Ended }
+-- whether a program goes on behind a move by itself
+abbrev pub is_on : Move → Bool
+is_on move.Call = false
+is_on (move.Go to) = true
+is_on (move.Say text to) = true
+is_on move.End = false
+
+-- a rank whose program made this move
+abbrev pub moved : {A : Type 0} → Program A → Move → Reached → Reached
+moved program move.Call it = it
+moved program (move.Go to) it = record it { at = to }
+moved program (move.Say text to) it = record (saying (text_at program text) it) { at = to }
+moved program move.End it = record it { fate = Ended }
 
 -- a rank whose program went on to its next call or to its end, by so many moves at most
 abbrev pub goes_on : {A : Type 0} → Program A → ℕ → ℕ → Reached → Reached
 goes_on program rank zero it = it
-goes_on program rank (suc left) it = made program (goes_on program rank left) (move_at program rank it.at it.last) it
+goes_on program rank (suc left) it =
+    let next = move_at program rank it.at it.last in
+    if is_on next then goes_on program rank left (moved program next it) else moved program next it
 
 -- the same, by as many moves as it takes
 abbrev pub gone_on : {A : Type 0} → Program A → ℕ → Reached → Reached

@@ -1,5 +1,5 @@
 -- What an outcome that is printed rests on.
-use Rattle.std.specs.Prelude.{◌≡◌, ◌≤◌, ℕ, Bool, true, List, None}
+use Rattle.std.specs.Prelude.{◌≡◌, ℕ, Bool, true, List, None}
 use Rattle.std.specs.List.{All}
 use Rattle.ulfm_programs.specs.declared.moves.Fate.{Fate}
 use Rattle.ulfm_programs.specs.declared.program.Program.{Program}
@@ -26,10 +26,8 @@ IsShown program script = (rows : List (Fate × List ℕ)) × (trace : List ℕ) 
 abbrev pub IsOutcome : {A : Type 0} → Program A → Told → Type 0
 IsOutcome program told = (trace : List ℕ) × (callers : List ℕ) × Shows program told.0 told.1 trace callers
 
--- What is told of a program are outcomes, each of which was shown, and the answers that these give. All schedules are said to have been tried only where no more
--- states came up than were allowed.
-pub record Tells {A : Type 0} (program : Program A) (most : ℕ) (is_whole : Bool) (states : ℕ) (text : List ℕ) : Type 0 where
+-- what is told of a program are outcomes, each of which was shown, and the answers that these give
+pub record Tells {A : Type 0} (program : Program A) (is_whole : Bool) (states : ℕ) (text : List ℕ) : Type 0 where
   pub told : List Told
   pub shown : All (IsOutcome program) told
   pub text_is : text ≡ told_text program told is_whole states
-  pub within : is_whole ≡ true → states ≤ most

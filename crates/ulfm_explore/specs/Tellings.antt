@@ -1,5 +1,5 @@
 -- What is told of outcomes: each once, the questions' answers, and how many there are. A text that is told stands behind what was told before.
-use Rattle.std.specs.Prelude.{ℕ, ◌+◌, min, Bool, true, false, if◌then◌else◌, List, [], ◌∷◌, ◌++◌, length, map, Option, Some, None, codes, slice_get}
+use Rattle.std.specs.Prelude.{ℕ, ◌+◌, min, Bool, true, false, if◌then◌else◌, List, [], ◌∷◌, ◌++◌, length, Option, Some, None, codes, slice_get}
 use Rattle.std.specs.{Fmt.{decimal}, Str.{bytes_eq}}
 use Rattle.ulfm_script.specs.Scripts.{lines_from}
 use Rattle.ulfm_programs.specs.{Programs.{text_at}, Words.{has_words}}
@@ -135,11 +135,15 @@ is_asked_for program question.Find = has_some program.find.items
 abbrev pub none_text : Bool → List ℕ
 none_text is_whole = if is_whole then codes "none\n" else codes "none so far\n"
 
+-- the outcome of this number, with its script
+abbrev pub found_to : List ℕ → ℕ → List ℕ → List ℕ
+found_to out number script = (number_to out number ++ script) ++ codes "end\n"
+
 -- the first outcome that answers a question, counted from this number, with its script; or that there is none
 abbrev pub answer_to : {A : Type 0} → List ℕ → Program A → Question → Bool → ℕ → List Told → List ℕ
 answer_to out program question is_whole number [] = out ++ none_text is_whole
 answer_to out program question is_whole number (told ∷ more) =
-    if is_answer program question told.0 then (number_to out number ++ told.1) ++ codes "end\n"
+    if is_answer program question told.0 then found_to out number told.1
     else answer_to out program question is_whole (next_number number) more
 
 -- the answer to a question, where it is asked

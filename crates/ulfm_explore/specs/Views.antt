@@ -1,5 +1,5 @@
 -- What a reading of a trace has come to, as definitions see it.
-use Rattle.std.specs.Prelude.{ℕ, true, false, if◌then◌else◌, List, map, Some, None}
+use Rattle.std.specs.Prelude.{ℕ, if◌then◌else◌, List, map, Some, None}
 use Rattle.ulfm_explore.specs.{Readings.{Reached}, Tellings.{Told}}
 use Rattle.ulfm_explore.specs.declared.confirm.Shown.{Shown}
 use Rattle.ulfm_explore.specs.declared.reading.Reading.{Reading}

@@ -1,11 +1,11 @@
 //! What an operation of a rank's program asks for, and the words of a trace's lines.
 ghost use Rattle.std.specs.Prelude.{◌≡◌};
 ghost use Rattle.ulfm_script.specs.Words.{rest_at};
-ghost use Rattle.ulfm_explore.specs.Readings.{asked_by, call_of, calls_nobody, comm_at, declares, dies, is_caller, is_declarable, is_number, is_of_ranks, is_quiet, is_wait, made_in, runs, text_behind, waits_by};
+ghost use Rattle.ulfm_explore.specs.Readings.{asked_by, call_of, calls_nobody, comm_at, declares, dies, is_caller, is_declarable, is_number, is_of_ranks, is_on, is_quiet, is_wait, made_in, runs, text_behind, waits_by};
 
 use ulfm_laws::FlagAnd;
 use ulfm_model::Call;
-use ulfm_programs::{Ask, Fate, May, Op, Place};
+use ulfm_programs::{Ask, Fate, May, Move, Op, Place};
 use ulfm_script::words::{read_number, split_word};
 
 /// Whether a rank goes on or waits.
@@ -212,5 +212,17 @@ pub(crate) fn is_of_ranks(ranks: u16, caller: Option<u8>) -> bool
     match caller {
         Some(number) => u16::from(number) < ranks,
         None => false,
+    }
+}
+
+/// Whether a program goes on behind a move by itself.
+pub(crate) fn is_on(next: Move) -> bool
+    ensures { result ≡ is_on next }
+{
+    match next {
+        Move::Call => false,
+        Move::Go { .. } => true,
+        Move::Say { .. } => true,
+        Move::End => false,
     }
 }

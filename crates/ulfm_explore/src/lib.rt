@@ -1,8 +1,8 @@
 //! Small programs of ranks explored: each outcome of every schedule, shown by a script that the step engine has run.
 #![tactic(auto)]
 
-pub mod confirm;
 mod asking;
+pub mod confirm;
 mod reading;
 pub mod showing;
 mod telling;

@@ -1,13 +1,13 @@
 //! What became of a rank, read off a trace: its program goes along with the trace's lines.
-ghost use Rattle.std.specs.Prelude.{◌≡◌, ◌×◌, ◌<◌, ◌∷◌, [], IfOk, OnOk, MatchOption, length, option_map};
+ghost use Rattle.std.specs.Prelude.{◌≡◌, ◌<◌, ◌∷◌, [], IfOk, OnOk, MatchOption, length, option_map};
 ghost use Rattle.ulfm_script.specs.{Scripts.{lines_from}, Words.{rest_at}};
 ghost use Rattle.ulfm_programs.specs.Programs.{move_at, op_at};
-ghost use Rattle.ulfm_explore.specs.Readings.{after_reply, answered, begun, behind, declaration_answered, declared, failed, gone_on, made_in, may_begin, may_declare, may_fail, noting, rests, row_in, saying, stands_before, start, takes, takes_all, takes_call, takes_event, takes_reply, told};
+ghost use Rattle.ulfm_explore.specs.Readings.{after_reply, answered, begun, behind, declaration_answered, declared, failed, gone_on, made_in, may_begin, may_declare, may_fail, moved, noting, rests, row_in, saying, stands_before, start, takes, takes_all, takes_call, takes_event, takes_reply, told};
 ghost use Rattle.ulfm_explore.specs.Views.{reached, row_of};
 
 use crate::asking::{
     asked_by, calls_nobody, declares, dies, is_caller, is_declarable, is_number, is_of_ranks,
-    is_quiet, is_wait, made_in, runs, text_behind,
+    is_on, is_quiet, is_wait, made_in, runs, text_behind,
 };
 use std::alloc::{AllocError, Allocator};
 use ulfm_programs::{Fate, Move, Program, Row, most_moves, move_at};
@@ -81,23 +81,38 @@ impl<A: Allocator + Copy + Drop> Reading<A> {
         }
     }
 
+    /// The program makes a move.
+    fn make(&mut self, program: &Program<A>, next: Move) -> Result<(), AllocError>
+        ensures { OnOk result (reached self.new ≡ moved program.now next (reached self.old)) }
+    {
+        match next {
+            Move::Call => Ok(()),
+            Move::Go { to } => {
+                self.place = to;
+                Ok(())
+            }
+            Move::Say { text, to } => {
+                self.say(program.text(text))?;
+                self.place = to;
+                Ok(())
+            }
+            Move::End => {
+                self.fate = Fate::Ended;
+                Ok(())
+            }
+        }
+    }
+
     /// The program goes on to its next call, or to its end.
     fn go_on(&mut self, program: &Program<A>, rank: u16) -> Result<(), AllocError>
         ensures { OnOk result (reached self.new ≡ gone_on program.now rank (reached self.old)) }
     {
         let most = most_moves(program, rank);
         for number in 0..most {
-            match self.next_move(program, rank) {
-                Move::Call => return Ok(()),
-                Move::Go { to } => self.place = to,
-                Move::Say { text, to } => {
-                    self.say(program.text(text))?;
-                    self.place = to;
-                }
-                Move::End => {
-                    self.fate = Fate::Ended;
-                    return Ok(());
-                }
+            let next = self.next_move(program, rank);
+            self.make(program, next)?;
+            if !is_on(next) {
+                return Ok(());
             }
         }
         Ok(())
@@ -225,13 +240,7 @@ impl<A: Allocator + Copy + Drop> Reading<A> {
     }
 
     /// Whether a declaration by this caller fits.
-    fn may_declare(
-        &self,
-        program: &Program<A>,
-        rank: u16,
-        caller: Option<u8>,
-        whom: &[u8],
-    ) -> bool
+    fn may_declare(&self, program: &Program<A>, rank: u16, caller: Option<u8>, whom: &[u8]) -> bool
         ensures { result ≡ may_declare program.now rank caller whom.now (reached self.now) }
     {
         if is_caller(rank, caller) {

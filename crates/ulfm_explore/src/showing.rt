@@ -1,11 +1,11 @@
 //! A program explored: what is found, confirmed by the step engine, and told.
-ghost use Rattle.std.specs.Prelude.{◌≡◌, ℕ, IfOk, List, None, Some, map};
+ghost use Rattle.std.specs.Prelude.{◌≡◌, ◌≤◌, ℕ, IfOk, None, Some, map, true};
 ghost use Rattle.std.specs.List.{All};
-ghost use Rattle.ulfm_explore.specs.{Shows.{IsOutcome, IsShown, Shows, Tells}, Tellings.{Told, told_text}, Views.{row_of, told_of}};
+ghost use Rattle.ulfm_explore.specs.{Shows.{IsOutcome, IsShown, Shows, Tells}, Views.{row_of, told_of}};
 
 use crate::confirm::{Shown, are_same, show};
 use crate::telling::tell;
-use std::alloc::{AllocError, Allocator};
+use std::alloc::{AllocError, AllocFailed, Allocator};
 use thiserror::Error;
 use ulfm_programs::Program;
 use ulfm_schedules::{Searched, search};
@@ -35,6 +35,12 @@ pub enum ExploreFault {
 
 impl From<AllocError> for ExploreFault {
     fn from(_error: AllocError) -> ExploreFault {
+        ExploreFault::Memory
+    }
+}
+
+impl<T: Drop> From<AllocFailed<T>> for ExploreFault {
+    fn from(_error: AllocFailed<T>) -> ExploreFault {
         ExploreFault::Memory
     }
 }
@@ -84,9 +90,7 @@ fn confirm_all<A: Allocator + Copy + Drop>(
     let mut shown = Vec::new(alloc);
     for number in 0..searched.count() {
         let one = confirmed(alloc, program, searched, number)?;
-        if shown.push(one).is_err() {
-            return Err(ExploreFault::Memory);
-        }
+        shown.push(one)?;
     }
     Ok(shown)
 }
@@ -115,11 +119,29 @@ fn all_outcomes<A: Allocator + Copy + Drop>(
     is_whole: bool,
     states: u32,
 ) -> Result<Vec<u8, A>, ExploreFault>
-    ensures { IfOk result (λ text. (told : List Told) × All (IsOutcome program.now) told × (text.items ≡ told_text program.now told is_whole states)) }
+    ensures { IfOk result (λ text. Tells program.now is_whole states text.items) }
 {
     let shown = confirm_all(alloc, program, searched)?;
     let text = tell(alloc, program, &shown, is_whole, states)?;
     Ok(text)
+}
+
+/// What is told of a search that has ended: the script of one outcome, or all of them.
+fn text_of<A: Allocator + Copy + Drop>(
+    alloc: A,
+    program: &Program<A>,
+    searched: &mut Searched<A>,
+    outcome: Option<u32>,
+    is_whole: bool,
+    states: u32,
+) -> Result<Vec<u8, A>, ExploreFault>
+    ensures script { (number : ℕ) → outcome ≡ Some number → IfOk result (λ text. IsShown program.now text.items) }
+    ensures all { outcome ≡ None → IfOk result (λ text. Tells program.now is_whole states text.items) }
+{
+    match outcome {
+        Some(number) => one_script(alloc, program, searched, number),
+        None => all_outcomes(alloc, program, searched, is_whole, states),
+    }
 }
 
 /// Explores a program: each order of atomic steps of its ranks, with each moment at which one may be declared.
@@ -141,15 +163,21 @@ pub fn explore<A: Allocator + Copy + Drop>(
     // Where one outcome's script is wanted, what is told is a script that shows an outcome of the program.
     ensures script { (number : ℕ) → plan.outcome ≡ Some number → IfOk result (λ told. IsShown program.now told.text.items) }
     // Else each outcome that is told was shown, and the answers are what these give.
-    ensures outcomes { plan.outcome ≡ None → IfOk result (λ told. Tells program.now plan.most told.is_whole told.states told.text.items) }
+    ensures outcomes { plan.outcome ≡ None → IfOk result (λ told. Tells program.now told.is_whole told.states told.text.items) }
+    // All schedules are said to have been tried only where no more states came up than are allowed.
+    ensures within { IfOk result (λ told. told.is_whole ≡ true → told.states ≤ plan.most) }
 {
     let mut searched = search(alloc, program, plan.most)?;
     let is_whole = searched.is_whole();
     let states = searched.states();
-    let text = match plan.outcome {
-        Some(number) => one_script(alloc, program, &mut searched, number)?,
-        None => all_outcomes(alloc, program, &mut searched, is_whole, states)?,
-    };
+    let text = text_of(
+        alloc,
+        program,
+        &mut searched,
+        plan.outcome,
+        is_whole,
+        states,
+    )?;
     Ok(Explored {
         text,
         is_whole,

@@ -2,7 +2,7 @@
 ghost use Rattle.std.specs.Prelude.{◌≡◌, OnOk, IfOk, codes, false, map, option_map, slice_get, true, ◌∷◌, [], ◌++◌};
 ghost use Rattle.std.specs.Fmt.{decimal};
 ghost use Rattle.ulfm_script.specs.Scripts.{lines_from};
-ghost use Rattle.ulfm_explore.specs.{Tellings.{answer_to, count_text, counts_to, differ, ended_otherwise, fate_text, has_all, has_noted, is_answer, is_asked_for, is_stuck, is_stuck_one, is_unlike, next_number, none_text, notes_to, number_to, outcome_to, outcomes_to, question_text, question_to, questions_to, row_to, rows_to, short, some, some_note, told_text}, Views.{row_of, told_of}};
+ghost use Rattle.ulfm_explore.specs.{Tellings.{answer_to, count_text, counts_to, differ, ended_otherwise, fate_text, found_to, has_all, has_noted, is_answer, is_asked_for, is_stuck, is_stuck_one, is_unlike, next_number, none_text, notes_to, number_to, outcome_to, outcomes_to, question_text, question_to, questions_to, row_to, rows_to, short, some, some_note, told_text}, Views.{row_of, told_of}};
 
 use crate::confirm::Shown;
 use crate::reading::split_line;
@@ -55,10 +55,7 @@ fn print_row<A: Allocator>(
 }
 
 /// A line `outcome NUMBER`.
-fn print_outcome_number<A: Allocator>(
-    text: &mut Vec<u8, A>,
-    number: u32,
-) -> Result<(), AllocError>
+fn print_outcome_number<A: Allocator>(text: &mut Vec<u8, A>, number: u32) -> Result<(), AllocError>
     ensures { OnOk result (text.new.items ≡ number_to text.old.items number) }
 {
     text.extend_from_slice(b"outcome ")?;
@@ -85,10 +82,7 @@ fn print_outcome<A: Allocator>(
 }
 
 /// All outcomes.
-fn print_outcomes<A: Allocator>(
-    text: &mut Vec<u8, A>,
-    shown: &[Shown<A>],
-) -> Result<(), AllocError>
+fn print_outcomes<A: Allocator>(text: &mut Vec<u8, A>, shown: &[Shown<A>]) -> Result<(), AllocError>
     ensures { OnOk result (text.new.items ≡ outcomes_to text.old.items 1 (map told_of shown.now)) }
 {
     let mut number = 1u32;
@@ -129,12 +123,19 @@ fn differ<A: Allocator>(row: Option<&Row<A>>, other: Option<&Row<A>>) -> bool
     }
 }
 
+/// What became of a rank, by its number.
+fn row_at<A: Allocator>(rows: &[Row<A>], rank: u16) -> Option<&Row<A>>
+    ensures { option_map (λ row. row_of row.now) result ≡ slice_get (map row_of rows.now) rank }
+{
+    rows.get(usize::from(rank))
+}
+
 /// Whether one of these ranks ended with other words than this one.
 fn differs_from<A: Allocator>(rows: &[Row<A>], rank: u16, ranks: &[u16]) -> bool
     ensures { result ≡ some (λ other. differ (slice_get (map row_of rows.now) rank) (slice_get (map row_of rows.now) other)) ranks.now }
 {
     for other in ranks {
-        if differ(rows.get(usize::from(rank)), rows.get(usize::from(*other))) {
+        if differ(row_at(rows, rank), row_at(rows, *other)) {
             return true;
         }
     }
@@ -173,7 +174,7 @@ fn is_stuck<A: Allocator>(rows: &[Row<A>], ranks: &[u16]) -> bool
     ensures { result ≡ is_stuck (map row_of rows.now) ranks.now }
 {
     for rank in ranks {
-        if is_stuck_one(rows.get(usize::from(*rank))) {
+        if is_stuck_one(row_at(rows, *rank)) {
             return true;
         }
     }
@@ -209,10 +210,7 @@ fn has_all<A: Allocator>(program: &Program<A>, rows: &[Row<A>], find: &[Find]) -
     ensures { result ≡ has_all program.now (map row_of rows.now) find.now }
 {
     for wanted in find {
-        if !has_noted(
-            program.text(wanted.text),
-            rows.get(usize::from(wanted.rank)),
-        ) {
+        if !has_noted(program.text(wanted.text), row_at(rows, wanted.rank)) {
             return false;
         }
     }
@@ -278,6 +276,19 @@ fn count_word(is_whole: bool) -> &'static [u8]
     if is_whole { b"all" } else { b"some" }
 }
 
+/// The outcome that answers a question, with its script.
+fn print_found<A: Allocator>(
+    text: &mut Vec<u8, A>,
+    number: u32,
+    script: &[u8],
+) -> Result<(), AllocError>
+    ensures { OnOk result (text.new.items ≡ found_to text.old.items number script.now) }
+{
+    print_outcome_number(text, number)?;
+    text.extend_from_slice(script)?;
+    text.extend_from_slice(b"end\n")
+}
+
 /// The answer to a question: the first outcome, with its script; or that there is none.
 fn print_answer<A: Allocator>(
     text: &mut Vec<u8, A>,
@@ -291,9 +302,7 @@ fn print_answer<A: Allocator>(
     let mut number = 1u32;
     for outcome in shown {
         if is_answer(program, question, &outcome.rows) {
-            print_outcome_number(text, number)?;
-            text.extend_from_slice(&outcome.script)?;
-            return text.extend_from_slice(b"end\n");
+            return print_found(text, number, &outcome.script);
         }
         number = number.saturating_add(1);
     }
