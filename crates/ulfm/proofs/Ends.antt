@@ -1,5 +1,5 @@
 -- How a run or a race ended, by what its parts gave.
-use Rattle.std.proofs.Common.{◌≡◌, ◌⊎◌, ℕ, Bool, true, false, List, Some, Err, inl, inr, refl, subst, sym}
+use Rattle.std.proofs.Common.{◌≡◌, ◌≤◌, ◌⊎◌, ℕ, Bool, true, false, List, None, Some, Err, inl, inr, refl, subst, sym}
 use Rattle.ulfm_laws.specs.declared.flag_and.FlagAnd.{FlagAnd}
 use Rattle.ulfm_model.specs.declared.reply.Reply.{Reply}
 use Rattle.ulfm_model.specs.History.{History}
@@ -9,7 +9,7 @@ use Rattle.ulfm_draw.specs.declared.{drawing.Form.{Form}, sheet.Looks.{Looks}}
 use Rattle.ulfm_draw.specs.Drawings.{DrawsText}
 use Rattle.ulfm_echo.specs.Echoes.{echo_scripts}
 use Rattle.ulfm_explain.specs.Explained.{ExplainsText}
-use Rattle.ulfm_explore.specs.Shows.{IsShown}
+use Rattle.ulfm_explore.specs.Shows.{IsShown, Tells}
 use Rattle.ulfm_filters.specs.Statuses.{CheckedWith, EchoedWith, PrintsAt, PrintsWhole, RanWith, StepsRanWith, status_of, verdict_status}
 use Rattle.ulfm_programs.specs.declared.program.Program.{Program}
 use Rattle.ulfm_race.specs.declared.plan.Plan.{Plan}
@@ -24,7 +24,7 @@ use Rattle.ulfm_script.proofs.RunLemmas.{ran_none}
 use Rattle.ulfm_step_script.specs.StepScripts.{step_scripts}
 use Rattle.ulfm.specs.Drawn.{DrewWith, form_of}
 use Rattle.ulfm.specs.Explained.{ExplainedWith}
-use Rattle.ulfm.specs.Explored.{ExploredWith, at_status, whole_status}
+use Rattle.ulfm.specs.Explored.{ExploredWith, at_status, most_states, whole_status}
 use Rattle.ulfm.specs.Races.{RacedWith, plan_of}
 use Rattle.ulfm_trace.specs.declared.verdict.CheckFault.TheVariants as fault
 use Rattle.ulfm_trace.specs.declared.verdict.Verdict.{Verdict}
@@ -120,13 +120,18 @@ at_its false text old new status (inl printed) = inl (subst (λ (s : ℕ). at_st
 at_its false text old new status (inr printed) = inr (subst (λ (s : ℕ). at_status false s ≡ 3) (sym printed.0) refl, printed.1)
 
 -- what was found, which was printed, or not all of it
-pub explored : (A : Type 0) (program : Program A) (options : ExploreOptions) (old new : KnownText) (shown text : List ℕ) (is_whole : Bool) (status : ℕ)
-    → ((number : ℕ) → options.outcome ≡ Some number → IsShown program shown) → text ≡ shown → PrintsWhole text old new status
+pub explored : (A : Type 0) (program : Program A) (options : ExploreOptions) (old new : KnownText) (shown text : List ℕ) (is_whole : Bool) (states status : ℕ)
+    → ((number : ℕ) → options.outcome ≡ Some number → IsShown program shown) → (options.outcome ≡ None → Tells program is_whole states shown)
+    → (is_whole ≡ true → states ≤ most_states options) → text ≡ shown → PrintsWhole text old new status
     → ExploredWith A options old new (at_status is_whole status)
-explored A program options old new shown text is_whole status script is printed =
-    inl (program, record {
+explored A program options old new shown text is_whole states status script outcomes within is printed =
+    inl
+    (program, record {
       text = shown;
       is_whole = is_whole;
+      states = states;
       script = script;
+      outcomes = outcomes;
+      within = within;
       printed = subst (λ (t : List ℕ). PrintsAt (whole_status is_whole) t old new (at_status is_whole status)) is (at_its is_whole text old new status printed);
     })

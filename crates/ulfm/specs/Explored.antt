@@ -1,8 +1,8 @@
 -- How a program of ranks was explored, behind an exit status.
-use Rattle.std.specs.Prelude.{◌≡◌, ◌⊎◌, ◌==◌, ℕ, Bool, Some, List, if◌then◌else◌}
+use Rattle.std.specs.Prelude.{◌≡◌, ◌≤◌, ◌⊎◌, ◌==◌, ℕ, Bool, true, None, Some, List, if◌then◌else◌, unwrap_or}
 use Rattle.std.specs.Io.KnownBytes.{Keeps}
 use Rattle.ulfm_command.specs.declared.asked.ExploreOptions.{ExploreOptions}
-use Rattle.ulfm_explore.specs.Shows.{IsShown}
+use Rattle.ulfm_explore.specs.Shows.{IsShown, Tells}
 use Rattle.ulfm_programs.specs.declared.program.Program.{Program}
 use Rattle.ulfm_filters.specs.Statuses.{PrintsAt}
 use Rattle.ulfm_script.specs.Ends.{KnownText}
@@ -15,12 +15,20 @@ whole_status is_whole = if is_whole then 0 else 4
 abbrev pub at_status : Bool → ℕ → ℕ
 at_status is_whole status = if is_whole then status else (if status == 0 then 4 else status)
 
--- A program was explored, and what was found was printed, or at 3 a beginning of it. Where one outcome's script was asked for, it is one that shows an
--- outcome of the program.
+-- so many states there may be
+abbrev pub most_states : ExploreOptions → ℕ
+most_states options = unwrap_or options.most 5000000
+
+-- A program was explored, and what was found was printed, or at 3 a beginning of it: outcomes, each of which was shown, and the answers that these give. Where
+-- the script of one outcome was asked for, it is a script that shows an outcome. All schedules are said to have been tried only where no more states came up
+-- than there may be.
 pub record Explored {A : Type 0} (program : Program A) (options : ExploreOptions) (old new : KnownText) (status : ℕ) : Type 0 where
   pub text : List ℕ
   pub is_whole : Bool
+  pub states : ℕ
   pub script : (number : ℕ) → options.outcome ≡ Some number → IsShown program text
+  pub outcomes : options.outcome ≡ None → Tells program is_whole states text
+  pub within : is_whole ≡ true → states ≤ most_states options
   pub printed : PrintsAt (whole_status is_whole) text old new status
 
 -- a program was explored; or nothing was printed, at 1, 3 or 5

@@ -1,7 +1,7 @@
 -- How an option that takes no value is read.
-use Rattle.std.proofs.Common.{◌≡◌, ◌≢◌, ◌∙◌, ℕ, Bool, true, false, List, Option, Some, None, Result, Ok, Err, refl, sym, ap, codes}
+use Rattle.std.proofs.Common.{◌≡◌, ◌≢◌, ℕ, Bool, true, false, List, Option, Some, None, Result, Ok, Err, refl, sym, ap, codes}
 use Rattle.std.specs.{Option.{option_map_or}, Str.{bytes_eq}}
-use Rattle.std.specs.Str.Parse.{ParsesBool, true_text, false_text}
+use Rattle.std.specs.Str.Parse.{ParsesBool, true_text}
 use Rattle.std.proofs.lemmas.Slice.Eq.{bytes_eq-Decides}
 use Rattle.clap.specs.Matches.{TriesOne}
 

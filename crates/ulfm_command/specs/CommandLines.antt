@@ -1,6 +1,6 @@
 -- The command lines of the program, and what each of them asks for.
 use Rattle.std.specs.Prelude.{◌≡◌, ◌⊎◌, ◌<◌, ◌^◌, ◌&&◌, ℕ, Bool, List, [], ◌∷◌, ⊤}
-use Rattle.std.specs.Prelude.{codes, true, false, pos, nat_le, nat_lt, Option, Some, None, option_map, Result, Ok, Err}
+use Rattle.std.specs.Prelude.{codes, true, false, pos, nat_le, nat_lt, Option, Some, None, Result, Ok, Err}
 use Rattle.std.specs.{Option.{option_map_or}, Str.{bytes_eq}}
 use Rattle.std.specs.Str.Parse.{IsNumeral, digits_value, without_leading_plus}
 use Rattle.clap.specs.Words.{App, IsAmong, Row, Rule, Text, app_of, fault_of, new_app, new_rule, one_of, subcommand_of, with_rule, with_subcommand}

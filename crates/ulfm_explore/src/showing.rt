@@ -26,7 +26,7 @@ pub enum ExploreFault {
     #[error("out of memory")]
     Memory,
     /// The step engine didn't confirm an outcome that was found.
-    #[error("an outcome isn't confirmed")]
+    #[error("not confirmed")]
     Unconfirmed,
     /// There are fewer outcomes.
     #[error("no such outcome")]

@@ -1,4 +1,5 @@
-use Rattle.ulfm.proofs.Ends.{checked_out, draw_ran_out, echo_ran_out, explain_ran_out, explore_ran_out, ran_out, steps_ran_out}
+use Rattle.std.proofs.Common.{map}
+use Rattle.ulfm.proofs.Ends.{checked_out, draw_ran_out, echo_ran_out, explain_ran_out, explore_ran_out, explored_as, ran_out, steps_ran_out}
 use Rattle.ulfm.proofs.program.answer.Goals as goal
 
 pub returns-in-Race-clause-bad : goal.returns-in-Race-clause-bad
@@ -57,3 +58,17 @@ returns-in-Bad-clause-explore g c options asks = absurd (c.in-Bad.ensures.no_exp
 
 pub returns-in-Memory-clause-explore : goal.returns-in-Memory-clause-explore
 returns-in-Memory-clause-explore g c options asks = explore_ran_out _ _ _ _ c.tell_fault.ensures.status
+
+pub returns-in-Explore-clause-explore : goal.returns-in-Explore-clause-explore
+returns-in-Explore-clause-explore g c options asks =
+    explored_as
+    g.row.A.Denot
+    (map (λ word. word.now) c.args.words.now)
+    c.in-Explore.options
+    options
+    (g.W.Write.contents c.args.output.now)
+    (g.W.Write.contents c.run_explore.new.output)
+    c.run_explore.result
+    c.in-Explore.ensures
+    asks
+    c.run_explore.ensures.explored

@@ -1,4 +1,4 @@
-use Rattle.std.proofs.Common.{◌≡◌, ◌∙◌, Bool, Ok, Option, sym, ap}
+use Rattle.std.proofs.Common.{◌∙◌, Bool, Ok, Option, sym, ap}
 use Rattle.clap.specs.Words.{found_of}
 use Rattle.clap.proofs.WalkLemmas.{one_text-rows}
 use Rattle.ulfm_command.proofs.Flags.{flag_is, is_true}
