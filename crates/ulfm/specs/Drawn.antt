@@ -1,5 +1,5 @@
 -- How a trace was drawn, behind an exit status.
-use Rattle.std.specs.Prelude.{◌≡◌, ◌⊎◌, ℕ, Bool, true, false, if◌then◌else◌, List}
+use Rattle.std.specs.Prelude.{◌≡◌, ◌⊎◌, ℕ, if◌then◌else◌, List}
 use Rattle.std.specs.Io.KnownBytes.{Keeps}
 use Rattle.ulfm_command.specs.declared.asked.DrawOptions.{DrawOptions}
 use Rattle.ulfm_draw.specs.declared.drawing.{Form.{Form}, Form.TheVariants.{Picture, Text}}
