@@ -125,13 +125,15 @@ pub explored : (A : Type 0) (program : Program A) (options : ExploreOptions) (ol
     → (is_whole ≡ true → states ≤ most_states options) → text ≡ shown → PrintsWhole text old new status
     → ExploredWith A options old new (at_status is_whole status)
 explored A program options old new shown text is_whole states status script outcomes within is printed =
-    inl
-    (program, record {
-      text = shown;
-      is_whole = is_whole;
-      states = states;
-      script = script;
-      outcomes = outcomes;
-      within = within;
-      printed = subst (λ (t : List ℕ). PrintsAt (whole_status is_whole) t old new (at_status is_whole status)) is (at_its is_whole text old new status printed);
-    })
+    inl (
+      program,
+      record {
+        text = shown;
+        is_whole = is_whole;
+        states = states;
+        script = script;
+        outcomes = outcomes;
+        within = within;
+        printed = subst (λ (t : List ℕ). PrintsAt (whole_status is_whole) t old new (at_status is_whole status)) is (at_its is_whole text old new status printed);
+      },
+    )

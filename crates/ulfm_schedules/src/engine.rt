@@ -117,7 +117,12 @@ impl<'a, A: Allocator + Copy + Drop> Engine<'a, A> {
         let mut seat = state.seat(rank);
         let number = u16::from(rank);
         for _ in 0..most_moves(self.program, number) {
-            match move_at(self.program, number, seat.place, self.answers.text(seat.last)) {
+            match move_at(
+                self.program,
+                number,
+                seat.place,
+                self.answers.text(seat.last),
+            ) {
                 Move::Call => break,
                 Move::Go { to } => seat.place = to,
                 Move::Say { text, to } => {

@@ -23,7 +23,7 @@ pub(crate) struct Layout {
     blocks: usize,
     seats: usize,
     held: usize,
-    /// The number of bytes.
+    /// The number of bytes, in whole groups of eight.
     pub(crate) width: usize,
 }
 
@@ -35,6 +35,11 @@ fn behind(base: usize, count: usize, size: usize) -> usize {
 /// A number of at most 255.
 fn small(number: u16) -> u8 {
     u8::try_from(number).unwrap_or(u8::MAX)
+}
+
+/// A number of bytes rounded up to whole groups of eight.
+fn in_groups(bytes: usize) -> usize {
+    bytes.saturating_add(7) & !7
 }
 
 impl Layout {
@@ -62,7 +67,7 @@ impl Layout {
             blocks,
             seats,
             held,
-            width: behind(held, holds, HELD_BYTES),
+            width: in_groups(behind(held, holds, HELD_BYTES)),
         }
     }
 

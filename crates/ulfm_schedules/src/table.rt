@@ -22,47 +22,59 @@ pub(crate) struct Table<A: Allocator> {
     row: Vec<u8, A>,
 }
 
+/// A sum with one more number.
+fn sum_with(sum: u64, number: u64) -> u64 {
+    (sum.rotate_left(23) ^ number).wrapping_mul(0x9e37_79b9_7f4a_7c15)
+}
+
 /// A sum of bytes, for places in the table.
 fn sum_of(bytes: &[u8]) -> u64 {
+    let (groups, rest) = bytes.as_chunks::<8>();
     let mut sum = 0xcbf2_9ce4_8422_2325u64;
-    for byte in bytes {
-        sum = (sum ^ u64::from(*byte)).wrapping_mul(0x0000_0100_0000_01b3);
+    for group in groups {
+        sum = sum_with(sum, u64::from_le_bytes(*group));
+    }
+    for byte in rest {
+        sum = sum_with(sum, u64::from(*byte));
     }
     sum ^ (sum >> 29)
 }
 
-/// Adds a group of eight bytes at most.
-fn pack_group<A: Allocator>(group: &[u8], packed: &mut Vec<u8, A>) -> Result<(), AllocError> {
+/// Adds a group of eight bytes.
+fn pack_group<A: Allocator>(group: &[u8; 8], packed: &mut Vec<u8, A>) -> Result<(), AllocError> {
+    let mut kept = [0u8; 9];
+    let mut count = 1usize;
     let mut bits = 0u8;
     let mut bit = 1u8;
     for byte in group {
         if *byte != 0 {
             bits |= bit;
+            if let Some(place) = kept.get_mut(count) {
+                *place = *byte;
+            }
+            count = count.saturating_add(1);
         }
         bit = bit.wrapping_shl(1);
     }
-    packed.push(bits)?;
-    if bits == 0 {
-        return Ok(());
-    }
-    for byte in group {
-        if *byte != 0 {
-            packed.push(*byte)?;
-        }
-    }
-    Ok(())
+    kept[0] = bits;
+    packed.extend_from_slice(kept.get(..count).unwrap_or(&kept))
 }
 
 /// A row as it is kept, in place of what the vector held.
 fn pack<A: Allocator>(row: &[u8], packed: &mut Vec<u8, A>) -> Result<(), AllocError> {
     packed.clear();
-    for group in row.chunks(8) {
-        pack_group(group, packed)?;
+    let (groups, _) = row.as_chunks::<8>();
+    for group in groups {
+        if u64::from_le_bytes(*group) == 0 {
+            packed.push(0)?;
+        } else {
+            pack_group(group, packed)?;
+        }
     }
     Ok(())
 }
 
-/// The row of what is kept, in place of what the vector held.
+/// The row of what is kept, of so many bytes, in place of what the vector held.
 fn unpack<A: Allocator>(
     packed: &[u8],
     width: usize,
@@ -70,18 +82,18 @@ fn unpack<A: Allocator>(
 ) -> Result<(), AllocError> {
     row.clear();
     let mut bytes = packed.iter();
-    let mut bits = 0u8;
-    for at in 0..width {
-        if at & 7 == 0 {
-            bits = bytes.next().copied().unwrap_or(0);
+    for _ in 0..width >> 3 {
+        let mut bits = bytes.next().copied().unwrap_or(0);
+        let mut group = [0u8; 8];
+        if bits != 0 {
+            for place in group.iter_mut() {
+                if bits & 1 == 1 {
+                    *place = bytes.next().copied().unwrap_or(0);
+                }
+                bits >>= 1;
+            }
         }
-        let byte = if bits & 1 == 1 {
-            bytes.next().copied().unwrap_or(0)
-        } else {
-            0
-        };
-        row.push(byte)?;
-        bits >>= 1;
+        row.extend_from_slice(&group)?;
     }
     Ok(())
 }
