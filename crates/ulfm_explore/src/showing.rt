@@ -4,7 +4,7 @@ ghost use Rattle.std.specs.List.{All};
 ghost use Rattle.ulfm_explore.specs.{Shows.{IsOutcome, IsShown, Shows, Tells}, Views.{row_of, told_of}};
 
 use crate::confirm::{Shown, are_same, show};
-use crate::telling::tell;
+use crate::telling::{is_first_answer, tell};
 use std::alloc::{AllocError, AllocFailed, Allocator};
 use thiserror::Error;
 use ulfm_programs::Program;
@@ -57,16 +57,17 @@ pub struct Explored<A: Allocator> {
     pub bytes: u64,
 }
 
-/// The outcome of a number, counted from 0, confirmed.
+/// The outcome of a number, counted from 0, confirmed by a script, a short one where that is wanted.
 fn confirmed<A: Allocator + Copy + Drop>(
     alloc: A,
     program: &Program<A>,
     searched: &mut Searched<A>,
     number: u32,
+    is_short: bool,
 ) -> Result<Shown<A>, ExploreFault>
     ensures { IfOk result (λ shown. Shows program.now (map row_of shown.rows.items) shown.script.items shown.trace.items shown.callers.items) }
 {
-    let Some(found) = searched.script(number)? else {
+    let Some(found) = searched.script(number, is_short)? else {
         return Err(ExploreFault::Unconfirmed);
     };
     let Some(shown) = show(alloc, program, found.text, found.callers)? else {
@@ -79,6 +80,23 @@ fn confirmed<A: Allocator + Copy + Drop>(
     }
 }
 
+/// The outcome of a number, counted from 0, confirmed: by a short script where it is the first to answer a question.
+fn confirmed_behind<A: Allocator + Copy + Drop>(
+    alloc: A,
+    program: &Program<A>,
+    searched: &mut Searched<A>,
+    number: u32,
+    earlier: &[Shown<A>],
+) -> Result<Shown<A>, ExploreFault>
+    ensures { IfOk result (λ shown. Shows program.now (map row_of shown.rows.items) shown.script.items shown.trace.items shown.callers.items) }
+{
+    let plain = confirmed(alloc, program, searched, number, false)?;
+    if !is_first_answer(program, earlier, &plain.rows) {
+        return Ok(plain);
+    }
+    confirmed(alloc, program, searched, number, true)
+}
+
 /// All outcomes, each confirmed.
 fn confirm_all<A: Allocator + Copy + Drop>(
     alloc: A,
@@ -89,7 +107,7 @@ fn confirm_all<A: Allocator + Copy + Drop>(
 {
     let mut shown = Vec::new(alloc);
     for number in 0..searched.count() {
-        let one = confirmed(alloc, program, searched, number)?;
+        let one = confirmed_behind(alloc, program, searched, number, &shown)?;
         shown.push(one)?;
     }
     Ok(shown)
@@ -107,7 +125,7 @@ fn one_script<A: Allocator + Copy + Drop>(
     if number == 0 || number > searched.count() {
         return Err(ExploreFault::NoSuchOutcome);
     }
-    let shown = confirmed(alloc, program, searched, number.saturating_sub(1))?;
+    let shown = confirmed(alloc, program, searched, number.saturating_sub(1), true)?;
     Ok(shown.script)
 }
 

@@ -258,6 +258,39 @@ fn is_answer<A: Allocator>(program: &Program<A>, question: Question, rows: &[Row
     }
 }
 
+/// Whether one of these outcomes answers a question.
+fn is_answered<A: Allocator>(program: &Program<A>, question: Question, shown: &[Shown<A>]) -> bool {
+    for outcome in shown {
+        if is_answer(program, question, &outcome.rows) {
+            return true;
+        }
+    }
+    false
+}
+
+/// Whether an outcome answers a question that is asked, and none of these earlier ones does.
+fn answers_first<A: Allocator>(
+    program: &Program<A>,
+    question: Question,
+    earlier: &[Shown<A>],
+    rows: &[Row<A>],
+) -> bool {
+    is_asked(program, question)
+        && is_answer(program, question, rows)
+        && !is_answered(program, question, earlier)
+}
+
+/// Whether an outcome is the first to answer a question of the program: its script will be told.
+pub(crate) fn is_first_answer<A: Allocator>(
+    program: &Program<A>,
+    earlier: &[Shown<A>],
+    rows: &[Row<A>],
+) -> bool {
+    answers_first(program, Question::Alike, earlier, rows)
+        || answers_first(program, Question::Ended, earlier, rows)
+        || answers_first(program, Question::Find, earlier, rows)
+}
+
 /// That no outcome answers a question: of those that came up, where not all schedules were tried.
 fn none_word(is_whole: bool) -> &'static [u8]
     ensures { result.now ≡ none_text is_whole }

@@ -5,7 +5,7 @@ ghost use Rattle.ulfm_schedules.specs.Searches.{states_of, whole_of};
 use crate::answers::Note;
 use crate::engine::Engine;
 use crate::finding::{Found, Part, find_all};
-use crate::paths::path_to;
+use crate::paths::{path_to, take_path};
 use crate::scripts::script_text;
 use crate::shorten::shortest;
 use std::alloc::{AllocError, Allocator};
@@ -114,25 +114,31 @@ impl<'a, A: Allocator + Copy + Drop> Searched<'a, A> {
         self.found.table.bytes()
     }
 
-    /// A short script that is to show the outcome of a number, counted from 0; none where there is no such outcome.
-    pub fn script(&mut self, number: u32) -> Result<Option<Script<A>>, AllocError> {
+    /// A script that is to show the outcome of a number, counted from 0, a short one where that is wanted; none where there is no such outcome.
+    pub fn script(&mut self, number: u32, is_short: bool) -> Result<Option<Script<A>>, AllocError> {
         let alloc = self.alloc;
-        script_of(alloc, &mut self.engine, &self.found, number)
+        script_of(alloc, &mut self.engine, &self.found, number, is_short)
     }
 }
 
-/// A short script that is to show the outcome of a number; none where there is no such outcome.
+/// A script that is to show the outcome of a number, a short one where that is wanted; none where there is no such outcome.
 fn script_of<A: Allocator + Copy + Drop>(
     alloc: A,
     engine: &mut Engine<A>,
     found: &Found<A>,
     number: u32,
+    is_short: bool,
 ) -> Result<Option<Script<A>>, AllocError> {
     let Some(candidate) = found.outcomes.get(number as usize) else {
         return Ok(None);
     };
     let acts = path_to(alloc, found, candidate.state)?;
-    let Some(taken) = shortest(alloc, engine, acts, &candidate.parts)? else {
+    let taken = if is_short {
+        shortest(alloc, engine, acts, &candidate.parts)?
+    } else {
+        take_path(alloc, engine, &acts)?
+    };
+    let Some(taken) = taken else {
         return Ok(None);
     };
     let limits = engine.program.limits;
