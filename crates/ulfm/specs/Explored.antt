@@ -33,4 +33,6 @@ pub record Explored {A : Type 0} (program : Program A) (options : ExploreOptions
 
 -- a program was explored; or nothing was printed, at 1, 3 or 5
 abbrev pub ExploredWith : Type 0 → ExploreOptions → KnownText → KnownText → ℕ → Type 0
-ExploredWith A options old new status = ((program : Program A) × Explored program options old new status) ⊎ (((status ≡ 1) ⊎ ((status ≡ 3) ⊎ (status ≡ 5))) × Keeps old new)
+ExploredWith A options old new status =
+    ((program : Program A) × Explored program options old new status)
+    ⊎ (((status ≡ 1) ⊎ ((status ≡ 3) ⊎ (status ≡ 5))) × Keeps old new)

@@ -182,7 +182,8 @@ named_or comm (Ok made) = made
 named_or comm (Err kind) = comm
 
 abbrev pub made_in : List ℕ → ℕ → ℕ
-made_in reply comm = if bytes_eq (first_word reply).0 (codes "shrunk") then named_or comm (read_number (first_word (text_behind (first_word reply).1)).0) else comm
+made_in reply comm =
+    if bytes_eq (first_word reply).0 (codes "shrunk") then named_or comm (read_number (first_word (text_behind (first_word reply).1)).0) else comm
 
 -- a rank whose last reply is this one
 abbrev pub told : List ℕ → Bool → Reached → Reached
@@ -312,7 +313,8 @@ come_in program callers trace rank = takes_all program callers rank (lines_from 
 -- whether a rank is at rest: its program is over, or stands before a wait, or goes round without a call
 abbrev pub rests : {A : Type 0} → Program A → ℕ → Reached → Bool
 rests program rank it =
-    if runs it.fate then (if it.is_calling then false else (if is_wait (op_at program rank it.at) then true else calls_nobody (op_at program rank it.at))) else true
+    let here = op_at program rank it.at in
+    if runs it.fate then (if it.is_calling then false else (if is_wait here then true else calls_nobody here)) else true
 
 -- What became of a rank in a trace, and what it noted; none where a call in it isn't that of its program, or where it isn't at rest at the end,
 -- if that is asked for.
