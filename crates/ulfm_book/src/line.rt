@@ -1,3 +1,4 @@
+//! The lines of the log that stands beside shared words in the proofs: the limits, the events and the blocks.
 use ulfm_model::block::Block;
 use ulfm_model::event::Entry;
 use ulfm_model::limits::Limits;

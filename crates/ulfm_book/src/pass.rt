@@ -1,3 +1,4 @@
+//! What one caller has seen of shared words, the atomic steps that it makes from there, and what it tells another.
 ghost use Rattle.std.specs.Prelude.{◌≡◌, ◌%◌, ◌^◌, [], false};
 ghost use Rattle.ulfm_model.specs.Blocks.{IsBlock, IsBlockWithin};
 ghost use Rattle.ulfm_model.specs.History.{IsLegal};

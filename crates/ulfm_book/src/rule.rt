@@ -1,3 +1,5 @@
+//! The rule that ties shared words to their log at every moment, and what each step may do by it. Both are for the
+//! proofs alone.
 use crate::line::Line;
 use logbook::{Gain, Opening, Plain, Play, Rule};
 use std::marker::PhantomData;

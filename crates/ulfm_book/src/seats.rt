@@ -12,8 +12,11 @@ use ulfm_model::place::Place;
 /// Where in the row the slots begin, where the arrivals, and where the blocks.
 #[derive(Clone, Copy)]
 pub(crate) struct Starts {
+    /// Where the first slot stands; positions are counted in words, from 0.
     pub slots: usize,
+    /// Where the first arrival stands.
     pub arrivals: usize,
+    /// Where the first block stands, behind the words of all places.
     pub blocks: usize,
 }
 

@@ -1,3 +1,4 @@
+//! The words of a world as threads share them: a row in memory, with the steps that `ulfm_words` asks of words.
 ghost use Rattle.std.specs.Prelude.{◌≡◌, true, false, IfOk, IfErr};
 ghost use Rattle.ulfm_model.specs.Blocks.{IsBlockWithin};
 ghost use Rattle.ulfm_model.specs.Words.{MayOpen, size_of};

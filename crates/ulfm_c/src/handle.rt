@@ -1,3 +1,4 @@
+//! The handle that a program in C holds: a pointer to a rank or the outside of a world, or null.
 ghost use Rattle.std.specs.Prelude.{◌≡◌, None, Some, MatchOption};
 ghost use Rattle.std.specs.declared.option.Option.{Option};
 ghost use Rattle.std.specs.Coded.{coded_option};

@@ -1,3 +1,5 @@
+// A rank: what it keeps between its calls, as the communicators that it holds and the failures that it has seen; and
+// what a user may ask of that.
 ghost use Rattle.std.specs.Prelude.{◌≡◌, ◌≢◌, ◌<◌, ◌≤◌, ◌+◌, ◌-◌, ◌==◌, ℕ, [], true, false, filter, length, map, nat_eq, not, take, Some, None};
 ghost use Rattle.std.specs.Prelude.{MatchOption, IfOk};
 ghost use Rattle.std.specs.List.{IsDistinct};
@@ -334,6 +336,7 @@ impl<P: Packed, A: Allocator + Copy> LocalState<P, A> {
 /// more. A rank that was refused as `SelfFailed` is refused so for good, without a step. Examples are of rank 0 in a world of two.
 #[derive(Drop)]
 pub struct Rank<P: Packed, A: Allocator> {
+    // What it keeps between its calls.
     pub(crate) own: LocalState<P, A>,
     // The steps of its last call.
     pub(crate) last: u32,

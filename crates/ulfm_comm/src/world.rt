@@ -1,3 +1,4 @@
+// A world, which is opened over words with its ranks. It makes passes, and lets one learn what another has seen.
 ghost use Rattle.std.specs.Prelude.{◌≡◌, [], map, MatchResult, IfOk};
 ghost use Rattle.std.specs.List.{AllByRecursion};
 ghost use Rattle.ulfm_model.specs.History.{first_ranks as all_below};

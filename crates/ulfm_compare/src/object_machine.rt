@@ -1,3 +1,4 @@
+// The machine that answers a script's calls by the sequential object, to be compared with that over words.
 use std::alloc::{AllocError, Allocator};
 use ulfm_laws::FlagAnd;
 use ulfm_model::call::comm_of;

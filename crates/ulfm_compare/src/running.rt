@@ -1,3 +1,4 @@
+// A script of calls, run over the sequential object from a reader to a writer.
 ghost use Rattle.ulfm_script.specs.Runs.{RunsBuffered};
 
 use crate::object_machine::ObjectMachine;

@@ -1,3 +1,4 @@
+//! A reader for tests: it gives a text in pieces, and fails at a call of the test's choice.
 ghost use Rattle.std.specs.Prelude.{◌≡◌};
 
 use std::io::{self, ErrorKind, Read};
@@ -7,6 +8,7 @@ use std::io::{self, ErrorKind, Read};
 pub struct Pieces<'a> {
     /// What wasn't given yet.
     pub text: &'a [u8],
+    /// How many bytes it gives a call at most.
     pub most: usize,
     /// How often it was read.
     pub calls: u32,

@@ -1,3 +1,4 @@
+//! A writer for tests: it takes few bytes a call, and fails at a call of the test's choice, or at each flush.
 ghost use Rattle.std.specs.Prelude.{◌≡◌, []};
 
 use std::alloc::Global;
@@ -21,6 +22,7 @@ pub enum FailureMode {
 pub struct LimitedWriter {
     /// What was taken.
     pub bytes: Vec<u8>,
+    /// How many bytes it takes a call at most.
     pub most: usize,
     /// How often it was written to.
     pub calls: u32,
@@ -28,6 +30,7 @@ pub struct LimitedWriter {
     pub flushes: u32,
     /// The call that fails, counted from 1; none for 0.
     pub failing: u32,
+    /// How it fails: by that call, or at each flush.
     pub how: FailureMode,
 }
 

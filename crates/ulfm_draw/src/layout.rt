@@ -92,6 +92,7 @@ impl Scale {
 /// Where things stand in a picture.
 #[derive(Drop)]
 pub(crate) struct Layout<A: Allocator> {
+    /// How much room a lane and a row have.
     pub(crate) scale: Scale,
     /// By lane, how many lanes stand before it.
     places: Vec<u16, A>,

@@ -15,11 +15,17 @@ use ulfm_trace_model::Line;
 /// A row, with all that is drawn in it.
 #[derive(Drop)]
 pub(crate) struct Drawn<'a, A: Allocator> {
+    /// Where things stand in the picture.
     pub(crate) layout: &'a Layout<A>,
+    /// The lanes that are drawn, in their order.
     pub(crate) lanes: &'a [u16],
+    /// The number of the row, counted from 0.
     pub(crate) index: u16,
+    /// What the line tells, and in which lanes.
     pub(crate) row: &'a Row,
+    /// The text of the line.
     pub(crate) line: &'a [u8],
+    /// What the row brings about for all, if anything.
     pub(crate) note: Option<&'a Note<A>>,
 }
 

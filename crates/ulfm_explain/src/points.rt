@@ -11,6 +11,7 @@ const MOST_POINTS: usize = 40;
 pub(crate) struct Placed {
     /// How many events there were before it.
     pub(crate) at: u32,
+    /// The event, in its caller's name.
     pub(crate) entry: Entry<FlagAnd>,
 }
 
@@ -18,6 +19,7 @@ pub(crate) struct Placed {
 #[derive(Drop)]
 pub(crate) struct Relevant<A: Allocator> {
     alloc: A,
+    /// These events, each with its place among all.
     pub(crate) events: Vec<Placed, A>,
 }
 

@@ -16,6 +16,7 @@ use ulfm_trace_model::Line;
 /// The call that a caller has under way.
 #[derive(Clone, Copy)]
 pub(crate) struct Begun {
+    /// The call, as its line has it.
     pub(crate) asked: Call<FlagAnd>,
     /// The number of its line.
     pub(crate) line: u32,
@@ -42,7 +43,9 @@ pub(crate) struct OnComm {
 /// What the lines before a bad one tell of its caller.
 #[derive(Drop)]
 pub(crate) struct Scene<A: Allocator> {
+    /// The limits of the trace's world.
     pub(crate) limits: Limits,
+    /// Whose line the bad one is.
     pub(crate) caller: Caller,
     /// The events.
     pub(crate) history: Vec<Entry<FlagAnd>, A>,

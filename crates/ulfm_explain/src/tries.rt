@@ -20,7 +20,9 @@ const MOST_OFFERS: usize = 4;
 /// A line that might stand in a bad one's place, with the ranks that it lists.
 #[derive(Drop)]
 pub(crate) struct Candidate<A: Allocator> {
+    /// What the line tells.
     pub(crate) line: Line<FlagAnd>,
+    /// The ranks that its reply lists, in order; else nobody.
     pub(crate) group: Vec<u16, A>,
 }
 
@@ -125,9 +127,13 @@ impl<'a, A: Allocator + Copy + Drop> Trier<'a, A> {
 /// A call whose reply is bad, and the events that matter to it.
 #[derive(Drop)]
 pub(crate) struct Asked<'a, A: Allocator> {
+    /// What the lines before the bad one tell.
     pub(crate) scene: &'a Scene<A>,
+    /// The call, and where it began.
     pub(crate) begun: Begun,
+    /// The request that is open on its communicator.
     pub(crate) request: Option<Request>,
+    /// The events that matter to the round that the call is about.
     pub(crate) relevant: &'a Relevant<A>,
 }
 

@@ -54,6 +54,7 @@ pub struct Explored<A: Allocator> {
     pub is_whole: bool,
     /// How many states there are, and how many bytes they take.
     pub states: u32,
+    /// How many bytes all states take.
     pub bytes: u64,
 }
 

@@ -25,6 +25,7 @@ use ulfm_words::{
 /// Plain words that aren't alone: just before a chosen step of a pass another's event comes, if it hasn't come before.
 #[derive(Drop)]
 pub struct Intruder<P: Packed> {
+    /// The words of one owner beneath.
     pub plain: PlainWords<P>,
     /// The event, and in whose name it comes. It is one that may come at any time, once: a failure, or of the world's own
     /// communicator a revocation, an arrival or a contribution that knows of no failure. Or it is a communicator that is made
@@ -38,9 +39,11 @@ pub struct Intruder<P: Packed> {
 /// A pass of such words.
 #[derive(Drop)]
 pub struct IntruderPass<P: Packed, A: Allocator = Global> {
+    /// The pass of the words beneath. It makes the intruder's steps too.
     pub plain: PlainPass<P, A>,
     /// How many steps are made before the intrusion, if one is to come.
     pub left: Option<u32>,
+    /// The pass's own steps, without those of an intrusion.
     pub trail: Trail,
     /// For the list of ranks whose places a communicator's intrusion reads first.
     pub alloc: A,

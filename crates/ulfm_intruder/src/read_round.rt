@@ -16,7 +16,9 @@ use ulfm_words::{Words, load_summary};
 /// A reading that is under way.
 #[derive(Clone, Copy)]
 pub struct ReadRound<P: Packed> {
+    /// The communicator's number.
     pub comm: u16,
+    /// The agreement round, counted from 0.
     pub round: u16,
     /// How many members were found settled, the first of the communicator's.
     pub read: usize,

@@ -1,3 +1,4 @@
+// A world, all its ranks and one pass in a single value, which answers call after call: for scripts and tests.
 ghost use Rattle.std.specs.Prelude.{ℕ, List, ◌≡◌, ◌<◌, ◌≤◌, ◌==◌, Some, find, length, vec_capacity, IsTrue, IfOk, OnErr, OnOk, MatchOption, MatchResult};
 ghost use mathlib.Core.List.{IsPrefix};
 ghost use Rattle.ulfm_model.specs.Answers.{polled_by, rank_of as rank_in, traits_of};

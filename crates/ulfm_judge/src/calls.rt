@@ -22,6 +22,7 @@ use ulfm_trace_model::line::Why;
 pub struct OpenCall<P: Copy, A: Allocator> {
     /// Whether a call is under way there; the rest is this call's.
     pub is_open: bool,
+    /// The call, as its line has it.
     pub asked: Call<P>,
     /// How many events there were when it began.
     pub begun: u64,

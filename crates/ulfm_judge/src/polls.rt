@@ -31,11 +31,17 @@ use ulfm_record::record::RankRecord;
 /// declared, the tables at a point, and the call's own events.
 #[derive(Drop)]
 pub(crate) struct View<'a, P: Meld, A: Allocator> {
+    /// The limits of the world.
     pub(crate) limits: Limits,
+    /// What the rank keeps, before this reply.
     pub(crate) caller: &'a RankRecord<A>,
+    /// Whom the call's look found declared, in the order of the failures.
     pub(crate) look: &'a [u16],
+    /// The tables of all events so far.
     pub(crate) numbers: &'a Numbers<P, A>,
+    /// On how many events the reply rests: the first so many.
     pub(crate) point: u64,
+    /// The call's own events, in their order.
     pub(crate) own: &'a [Event<P>],
 }
 
@@ -224,8 +230,11 @@ fn is_unmade<P: Packed, A: Allocator + Copy + Drop>(
 /// A communicator that a reply names as made.
 #[derive(Clone, Copy)]
 pub(crate) struct Named {
+    /// The number of the new communicator.
     pub comm: u16,
+    /// Its context id, as the reply tells it.
     pub context: u8,
+    /// How many members it has, as the reply tells it.
     pub size: u16,
 }
 

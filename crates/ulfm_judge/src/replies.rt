@@ -20,8 +20,11 @@ use ulfm_record::held::HeldComm;
 /// What a contribution is to be: the offer, and how many failures of the communicator were known and acknowledged.
 #[derive(Clone, Copy)]
 pub(crate) struct Due<P> {
+    /// The flag of an agree, or the free context ids of a shrink.
     pub offer: Offer<P>,
+    /// How many failures of the communicator the call's look found.
     pub known: usize,
+    /// How many of them the rank had acknowledged.
     pub acked: u16,
 }
 

@@ -10,6 +10,7 @@ use crate::meld::Meld;
 /// by the greatest. The unit is 0, nobody.
 #[derive(Clone, Copy, Debug, PartialEq, Eq)]
 pub struct Known {
+    /// How many ranks of the failed group, its first ones, are known: 0 to 1024.
     pub count: u16,
     ghost in_range: { count ≤ 1024 },
 }
@@ -41,6 +42,7 @@ impl Meld for Known {
 /// outcome is what each rank has acknowledged. The unit is 2047, everyone.
 #[derive(Clone, Copy, Debug, PartialEq, Eq)]
 pub struct Acked {
+    /// How many ranks of the failed group, its first ones, are acknowledged: 0 to 1024, or 2047 for everyone.
     pub count: u16,
     ghost in_range: { IsTrue (is_acked_count count) },
 }

@@ -1,3 +1,4 @@
+//! The free context ids that ranks contribute to a shrink, and how they are combined: an id stays that is free at all.
 ghost use Rattle.std.specs.Prelude.{◌<◌, ◌^◌};
 
 use crate::meld::Meld;
@@ -8,6 +9,7 @@ use crate::meld::Meld;
 /// free at each rank. The unit has every id.
 #[derive(Clone, Copy, Debug, PartialEq, Eq)]
 pub struct CtxMask {
+    /// Bit i, 0 to 31, is 1 where id i is in the set.
     pub bits: u32,
     ghost fits: { bits < 2 ^ 32 },
 }

@@ -1,3 +1,4 @@
+//! The flags that ranks contribute to an agree, and how they are combined: by a bitwise AND.
 ghost use Rattle.std.specs.Prelude.{◌<◌, ◌^◌};
 
 use crate::meld::{Meld, Packed};
@@ -8,6 +9,7 @@ use crate::meld::{Meld, Packed};
 /// word a flag is its bits, and each word is a flag.
 #[derive(Clone, Copy, Debug, PartialEq, Eq)]
 pub struct FlagAnd {
+    /// The flag's 32 bits.
     pub bits: u32,
     ghost fits: { bits < 2 ^ 32 },
 }

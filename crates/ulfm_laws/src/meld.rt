@@ -1,3 +1,4 @@
+//! What a kind of contribution has to have so that ranks can agree on it: a way to combine two values, with its laws.
 ghost use Rattle.std.specs.Prelude.{◌≡◌, ℕ, ◌<◌, ◌^◌, Option, Some};
 ghost use Rattle.ulfm_laws.specs.Lawful.{IsLawful};
 

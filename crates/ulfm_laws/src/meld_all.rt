@@ -1,3 +1,4 @@
+//! Many contributions combined, as a round's decision is.
 ghost use Rattle.std.specs.Prelude.{◌≡◌};
 ghost use Rattle.ulfm_laws.specs.Combined.{combined};
 

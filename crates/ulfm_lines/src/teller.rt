@@ -11,6 +11,7 @@ use ulfm_trace_model::Line;
 /// The lines of a trace that were told and not yet written.
 #[derive(Drop)]
 pub struct Teller<A: Allocator> {
+    /// The bytes of these lines, each with its newline.
     pub text: Vec<u8, A>,
     last: LastGroup<A>,
 }

@@ -1,3 +1,4 @@
+// What may be asked of the agreement object: the calls of ranks, a declaration, and the requests that some calls open.
 ghost use Rattle.std.specs.Prelude.{◌≡◌};
 ghost use Rattle.ulfm_model.specs.Answers.{rank_of, traits_of};
 

@@ -1,3 +1,4 @@
+// What a rank gives to an agreement round, and what stands at its place there once it is settled: that, or a mark.
 ghost use Rattle.std.specs.Prelude.{◌≡◌, ◌≤◌, ◌<◌};
 
 use std::alloc::AllocError;
@@ -14,6 +15,7 @@ pub enum Offer<P> {
 /// What a rank contributes to an agreement round. Both counts are lengths of beginnings of the communicator's failed group.
 #[derive(Debug, PartialEq, Eq)]
 pub struct Contribution<P> {
+    /// The flag or the context ids that the rank gives.
     pub offer: Offer<P>,
     /// The failures that the rank knew when its call began.
     pub known: Known,
@@ -35,6 +37,7 @@ impl<P: Copy> Clone for Contribution<P> {
 /// How many failures a mark names: those of the communicator up to and with the marked rank, so at least one.
 #[derive(Clone, Copy, Debug, PartialEq, Eq)]
 pub struct MarkCount {
+    /// These failures: the first so many of the communicator's failed group, 1 to 1024.
     pub known: Known,
     ghost counted: { 0 < known.count },
 }

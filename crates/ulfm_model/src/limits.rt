@@ -1,3 +1,4 @@
+// How large a world may be, and why one isn't opened.
 ghost use Rattle.std.specs.Prelude.{◌≡◌, MatchResult};
 
 use thiserror::Error;

@@ -1,3 +1,4 @@
+// Why a call is refused: the reasons, each with its number and the name that is printed.
 ghost use Rattle.std.specs.Prelude.{◌≡◌, Some};
 ghost use Rattle.ulfm_model.specs.Answers.{printed};
 

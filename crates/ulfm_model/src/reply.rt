@@ -1,3 +1,4 @@
+// What calls are answered, refusals among them.
 use crate::refusal::Refusal;
 
 /// What the object replies.

@@ -27,7 +27,9 @@ use ulfm_record::record::RankRecord;
 /// The history after a call, and its reply.
 #[derive(Drop)]
 pub struct Outcome<P: Meld, A: Allocator> {
+    /// All events, those of the call last.
     pub after: Vec<Entry<P>, A>,
+    /// What the call is answered.
     pub reply: Reply<P>,
 }
 

@@ -1,3 +1,4 @@
+// What a race is given, and what it gives: ranks and rounds, the gate that schedules them, the outcome and the faults.
 ghost use Rattle.std.specs.Prelude.{◌≡◌, ℕ, Bool};
 ghost use Rattle.ulfm_race.specs.declared.plan.RaceFault.TheVariants.{Memory};
 ghost use Rattle.ulfm_race.specs.declared.plan.Turn.{Turn as TurnOf};

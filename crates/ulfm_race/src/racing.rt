@@ -1,3 +1,4 @@
+// The race: a world is opened, each rank gets a thread of its own, and what the ranks were answered is gathered.
 ghost use Rattle.std.specs.Prelude.{◌≡◌, ◌+◌, ◌*◌, ◌≤◌, [], None, IfErr, IfOk, IfSome, MatchResult, map, length, vec_capacity};
 ghost use mathlib.Core.List.{IsPrefix};
 ghost use Rattle.ulfm_laws.specs.Flags.{flag_meld};
@@ -20,10 +21,15 @@ use ulfm_model::limits::Limits;
 /// What the worker of this rank promises of its report.
 #[derive(Drop)]
 pub(crate) struct Promised<'a, G: Gate> {
+    /// The scheduler of the race, which is asked before each turn.
     pub(crate) gate: &'a G,
+    /// The world of all ranks that race.
     pub(crate) world: &'a Shared,
+    /// The replies of all ranks.
     pub(crate) said: &'a Replies,
+    /// How many ranks race, and for how many rounds.
     pub(crate) plan: Plan,
+    /// The rank's number, below the plan's ranks.
     pub(crate) number: u16,
 }
 

@@ -37,17 +37,24 @@ pub(crate) type Own = Rank<FlagAnd, Global>;
 /// is found among those that all workers kept.
 #[derive(Drop)]
 pub(crate) struct Worker {
+    /// The rank whose calls it makes.
     pub rank: Own,
+    /// What it has seen of the words.
     pub pass: BookPass<FlagAnd>,
+    /// A token for each reply, in order.
     pub tokens: Vec<Token>,
 }
 
 /// What a worker gives back.
 #[derive(Drop)]
 pub(crate) struct Report {
+    /// The rank, as the last call left it.
     pub rank: Own,
+    /// All that the worker had seen.
     pub told: BookTold<FlagAnd>,
+    /// A token for each reply, in order.
     pub tokens: Vec<Token>,
+    /// Why it stopped, if by a fault.
     pub fault: Option<RaceFault>,
 }
 

@@ -16,6 +16,7 @@ use ulfm_model::refusal::Refusal;
 /// A communicator that a rank holds.
 #[derive(Drop)]
 pub struct HeldComm<A: Allocator> {
+    /// The communicator's number; 0 is the world's own.
     pub comm: u16,
     /// Its members, in order.
     pub group: Vec<u16, A>,

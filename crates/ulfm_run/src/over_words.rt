@@ -1,3 +1,4 @@
+// The machine that answers a script's calls by ranks over plain words, those of one thread.
 use std::alloc::{AllocError, Allocator};
 use ulfm_job::Job;
 use ulfm_laws::FlagAnd;

@@ -1,3 +1,4 @@
+// Scripts of calls and of steps, run from a reader to a writer: what a user of this crate calls.
 ghost use Rattle.std.specs.Prelude.{◌<◌, IfOk};
 ghost use Rattle.ulfm_script.specs.{Ends.{EndsAlone, ended}, Runs.{RunsBuffered}};
 ghost use Rattle.ulfm_step_script.specs.{FailingScripts.{RunsFailing, failing_scripts}, StepScripts.{RunsSteps}};

@@ -10,7 +10,9 @@ use ulfm_script::{LastGroup, print_reply};
 /// A reply, with the ranks that it lists.
 #[derive(Clone, Copy, Debug, PartialEq, Eq)]
 pub(crate) struct Answer {
+    /// What a call is answered.
     pub(crate) reply: Reply<FlagAnd>,
+    /// A failed group, or the members of a new communicator; else nobody.
     pub(crate) group: Few,
 }
 

@@ -13,8 +13,11 @@ use ulfm_programs::{Ask, Fate, May, Move, Op, Place, Program, most_moves, move_a
 /// A rank's call under way.
 #[derive(Clone, Copy)]
 pub(crate) struct Turn {
+    /// The caller, 0 to 7.
     pub(crate) rank: u8,
+    /// The number of the communicator that it calls on.
     pub(crate) comm: u8,
+    /// What it asks for.
     pub(crate) ask: Ask,
 }
 
@@ -32,8 +35,11 @@ pub(crate) enum Next {
 /// The program, and the words, replies and notes that came up.
 #[derive(Drop)]
 pub(crate) struct Engine<'a, A: Allocator> {
+    /// What each rank does.
     pub(crate) program: &'a Program<A>,
+    /// The replies, by their numbers.
     pub(crate) answers: Answers<A>,
+    /// Lists of notes, by their numbers.
     pub(crate) notes: Notes<A>,
     // The words of members' places, each once.
     words: Vec<Word, A>,

@@ -11,7 +11,9 @@ use ulfm_programs::Fate;
 /// What a rank's part of an outcome is: its fate, and the number of its notes.
 #[derive(Clone, Copy, Debug, PartialEq, Eq)]
 pub(crate) struct Part {
+    /// Whether the rank still runs, and else how it ended.
     pub(crate) fate: Fate,
+    /// The number of the list of its notes; 0 for none.
     pub(crate) notes: u32,
 }
 
@@ -27,7 +29,9 @@ pub(crate) struct Candidate<A: Allocator> {
 /// What was found.
 #[derive(Drop)]
 pub(crate) struct Found<A: Allocator> {
+    /// The states, by their numbers.
     pub(crate) table: Table<A>,
+    /// The outcomes, each once.
     pub(crate) outcomes: Vec<Candidate<A>, A>,
     /// How many states there are.
     pub(crate) states: u32,

@@ -11,8 +11,11 @@ pub(crate) const HELD_BYTES: usize = 3;
 /// Where the parts of a state's row begin.
 #[derive(Clone, Copy)]
 pub(crate) struct Layout {
+    /// How many ranks the world has, at most 8.
     pub(crate) ranks: u8,
+    /// How many communicators it has room for, at most 8.
     pub(crate) comms: u8,
+    /// How many rounds of each sort a communicator has, at most 15.
     pub(crate) rounds: u8,
     /// The ranks that are declared, in order, behind their number, which is the first byte.
     failures: usize,

@@ -6,6 +6,7 @@ use std::alloc::Allocator;
 /// What stands in a member's place.
 #[derive(Clone, Copy, Debug, PartialEq, Eq)]
 pub(crate) struct Word {
+    /// What its writer gives, or that the member is left out.
     pub(crate) offer: Offer,
     /// So many failures its writer knew.
     pub(crate) known: u8,

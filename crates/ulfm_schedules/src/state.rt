@@ -43,7 +43,9 @@ pub(crate) enum Phase {
 /// What is kept of a rank.
 #[derive(Clone, Copy)]
 pub(crate) struct Seat {
+    /// Whether it still runs, and else how it ended.
     pub(crate) fate: Fate,
+    /// The step of its call that is next.
     pub(crate) phase: Phase,
     /// The operation that is next.
     pub(crate) place: u16,
@@ -55,6 +57,7 @@ pub(crate) struct Seat {
     pub(crate) seen: u8,
     /// How far its phase has come.
     pub(crate) at: u8,
+    /// What its phase has found, as `Phase` says.
     pub(crate) known: u8,
     /// The last communicator that it got from a shrink.
     pub(crate) current: u8,
@@ -72,32 +75,41 @@ pub(crate) enum Open {
 /// What a rank holds of a communicator. All counts are at most 15.
 #[derive(Clone, Copy)]
 pub(crate) struct Held {
+    /// Whether the rank holds it.
     pub(crate) holds: bool,
+    /// The request that the rank has open on it.
     pub(crate) open: Open,
     /// So many failures are acknowledged.
     pub(crate) acked: u8,
     /// The next round of agreements, and of barriers.
     pub(crate) agrees: u8,
+    /// The next round of barriers.
     pub(crate) barriers: u8,
     /// The round of the open request.
     pub(crate) round: u8,
+    /// Its context id.
     pub(crate) context: u8,
 }
 
 /// A communicator.
 #[derive(Clone, Copy)]
 pub(crate) struct Comm {
+    /// The communicator that it was made of; 0 for the world's own.
     pub(crate) parent: u8,
+    /// The round of its parent that it was made of, counted from 0.
     pub(crate) round: u8,
     /// Its members, as a set.
     pub(crate) members: u8,
+    /// Whether it is revoked, for all ranks.
     pub(crate) revoked: bool,
 }
 
 /// A state.
 #[derive(Drop)]
 pub(crate) struct State<A: Allocator> {
+    /// Where its parts stand among the bytes.
     pub(crate) layout: Layout,
+    /// The row: as many bytes as the layout is wide.
     pub(crate) bytes: Vec<u8, A>,
 }
 

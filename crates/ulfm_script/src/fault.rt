@@ -1,3 +1,4 @@
+//! Why the run of a script stopped: a line has a fault, or memory, the reader or the writer failed.
 ghost use Rattle.std.specs.Prelude.{◌≡◌};
 ghost use Rattle.ulfm_script.specs.declared.fault.RunFault.TheVariants.{Memory};
 

@@ -1,3 +1,4 @@
+//! The three kinds of texts, which the first word of the first line tells apart.
 ghost use Rattle.std.specs.Prelude.{◌≡◌};
 ghost use Rattle.ulfm_script.specs.Headers.{kind_text};
 

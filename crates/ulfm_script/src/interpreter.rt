@@ -1,3 +1,4 @@
+//! What is promised by whatever runs the lines of one kind of script, so that one engine reads and writes for all.
 ghost use Rattle.std.specs.Prelude.{◌≡◌, ℕ, List, [], IfOk};
 ghost use Rattle.ulfm_model.specs.declared.limits.Limits.{Limits};
 ghost use Rattle.ulfm_model.specs.Words.{MayOpen};

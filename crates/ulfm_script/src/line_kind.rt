@@ -1,3 +1,4 @@
+//! What can be wrong with a line of a script, in the order of testing, with the names that are printed.
 use std::error::Error;
 use std::fmt::{self, Display, Formatter, Write};
 

@@ -1,3 +1,4 @@
+//! What is promised by whatever answers the calls of a script: each reply is one that the sequential object gives.
 ghost use Rattle.std.specs.Prelude.{◌≡◌, IfOk};
 ghost use Rattle.ulfm_laws.specs.declared.flag_and.FlagAnd.{FlagAnd};
 ghost use Rattle.ulfm_model.specs.{Answers.{traits_of}, Runs.{State, new_state}, Words.{MayOpen}};

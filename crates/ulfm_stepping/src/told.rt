@@ -8,7 +8,9 @@ use ulfm_model::reply::Reply;
 /// The reply to a call, and its point: on how many events it rests.
 #[derive(Clone, Copy)]
 pub struct Answer<P> {
+    /// On how many events the reply rests: the first so many.
     pub point: u32,
+    /// What the call is answered.
     pub reply: Reply<P>,
 }
 

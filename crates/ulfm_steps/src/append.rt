@@ -25,6 +25,7 @@ pub enum Appended {
 /// An appending that is under way.
 #[derive(Clone, Copy, Debug, PartialEq, Eq)]
 pub struct Append {
+    /// What is to stand in its list.
     pub item: Item,
     /// In whose name.
     pub by: Caller,

@@ -30,7 +30,9 @@ pub enum Missing {
 /// A reading of arrivals that is under way.
 #[derive(Clone, Copy, Debug, PartialEq, Eq)]
 pub struct Arrivals {
+    /// The communicator's number.
     pub comm: u16,
+    /// The barrier round, counted from 0.
     pub round: u16,
     /// Whether the declared members were found there, so that the others are read.
     pub others: bool,

@@ -19,7 +19,9 @@ use ulfm_words::{Words, block_word, load_said, load_summary};
 /// What is known of the two blocks of an agreement round: what the members of each say together, where that is known.
 #[derive(Clone, Copy)]
 pub struct RoundBlocks<P: Packed> {
+    /// What the members of the front block say together; `None` where that isn't known.
     pub front: Option<Summary<P>>,
+    /// The same of the back block, which not every round has.
     pub back: Option<Summary<P>>,
 }
 
@@ -84,7 +86,9 @@ impl<P: Packed> RoundBlocks<P> {
 /// A peek at a round's blocks that is under way.
 #[derive(Clone, Copy)]
 pub struct Peek<P: Packed> {
+    /// The communicator's number.
     pub comm: u16,
+    /// The agreement round, counted from 0.
     pub round: u16,
     /// What is known of the blocks that were loaded.
     pub blocks: RoundBlocks<P>,
@@ -177,7 +181,9 @@ pub enum Found<P: Packed> {
 /// A reading of blocks that is under way.
 #[derive(Clone, Copy)]
 pub struct ReadBlocks<P: Packed> {
+    /// The communicator's number.
     pub comm: u16,
+    /// The agreement round, counted from 0.
     pub round: u16,
     /// The block that is read.
     pub side: Side,

@@ -1,3 +1,5 @@
+// The lists of failures and of communicators, which fill from the front: how many places each has, and one load or one
+// exchange at a place.
 ghost use Rattle.std.specs.Prelude.{◌≡◌, ◌<◌, Some, is_ok, slice_get, MatchResult};
 ghost use Rattle.ulfm_words.specs.Steps.{view_of, IsView, Loads, limits_in, seen_in};
 ghost use Rattle.ulfm_words.specs.Tries.{attempt, Tries, entry};

@@ -18,8 +18,11 @@ use ulfm_words::{Words, put_slot};
 /// A marking that is under way, in a rank's name.
 #[derive(Clone, Copy, Debug, PartialEq, Eq)]
 pub struct MarkAll {
+    /// The rank in whose name members are marked.
     pub rank: u16,
+    /// The communicator's number.
     pub comm: u16,
+    /// The agreement round, counted from 0.
     pub round: u16,
     /// Where the next member to be marked stands among the declared ranks; their number where none is left.
     pub next: usize,

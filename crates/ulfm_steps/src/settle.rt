@@ -18,9 +18,13 @@ use ulfm_words::{Words, set_slot};
 /// A rank's contribution to a round, to be made at the rank's own place and in its name.
 #[derive(Drop)]
 pub struct Settle<P: Packed> {
+    /// The communicator's number.
     pub comm: u16,
+    /// The agreement round, counted from 0.
     pub round: u16,
+    /// The rank that contributes, at its own place.
     pub rank: u16,
+    /// Its flag or context ids, and how many failures it knew and had acknowledged.
     pub given: Contribution<P>,
 }
 

@@ -30,6 +30,7 @@ struct Begun {
 /// Calls, lanes and arrivals so far.
 #[derive(Drop)]
 pub(crate) struct Calls<A: Allocator> {
+    /// The calls that have their reply, in the order of the replies; in the end also the others.
     pub(crate) bars: Vec<Bar, A>,
     /// The lanes of those who are declared, with the row from which on they are.
     pub(crate) declared: Vec<(u16, u16), A>,

@@ -15,6 +15,7 @@ pub const OUTSIDE: u16 = 0;
 /// A line of the trace as it is drawn.
 #[derive(Clone, Copy)]
 pub struct Row {
+    /// What the line of the trace tells.
     pub line: Line<FlagAnd>,
     /// The lane of whose line it is.
     pub lane: u16,
@@ -29,12 +30,15 @@ pub struct Row {
 /// What a row brings about for all: a round's decision, or that all have arrived in a barrier.
 #[derive(Drop)]
 pub struct Note<A: Allocator> {
+    /// The row whose event brings it about, counted from 0.
     pub row: u16,
+    /// What it says, for the picture.
     pub words: Vec<u8, A>,
     /// The round that is decided; none of a barrier.
     pub round: Option<u16>,
     /// The lanes of the first and the last member.
     pub first: u16,
+    /// That of the last member.
     pub last: u16,
 }
 

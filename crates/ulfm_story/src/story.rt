@@ -16,6 +16,7 @@ use ulfm_script::{HeaderKind, read_header};
 /// What a trace tells.
 #[derive(Drop)]
 pub struct Story<A: Allocator> {
+    /// The limits that the header tells.
     pub limits: Limits,
     /// For each line behind the header its row, up to 20,000.
     pub rows: Vec<Row, A>,

@@ -21,11 +21,17 @@ use ulfm_trace_model::Line;
 /// What is told of a trace so far.
 #[derive(Drop)]
 pub(crate) struct Telling<A: Allocator> {
+    /// Where memory comes from.
     pub(crate) alloc: A,
+    /// The limits of the trace's world.
     pub(crate) limits: Limits,
+    /// A row for each line so far.
     pub(crate) rows: Vec<Row, A>,
+    /// What rounds decided so far, and where all had arrived.
     pub(crate) notes: Vec<Note<A>, A>,
+    /// How far each round has come.
     pub(crate) rounds: Rounds<A>,
+    /// Calls, lanes and arrivals so far.
     pub(crate) calls: Calls<A>,
 }
 

@@ -12,18 +12,25 @@ pub enum Line<P> {
     Called(Call<P>),
     /// The look of a rank's call has ended, and found so many failures.
     Looked {
+        /// The caller.
         rank: u16,
+        /// How many failures it found, those that earlier looks had found among them.
         failures: u16,
     },
     /// An event in its caller's name; none where no contribution and no mark has the counts that are told.
     Happened {
+        /// In whose name it came.
         by: Caller,
+        /// What happened.
         event: Option<Event<P>>,
     },
     /// The reply to a caller's call, which rests on the first `point` events; none where no communicator has the context id that is told.
     Replied {
+        /// Who made the call.
         by: Caller,
+        /// How many events the reply rests on.
         point: u32,
+        /// What the call is answered.
         reply: Option<Reply<P>>,
     },
 }

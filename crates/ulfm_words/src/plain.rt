@@ -23,6 +23,7 @@ use ulfm_model::place::Place;
 /// the same limits.
 #[derive(Drop)]
 pub struct PlainWords<P: Packed> {
+    /// The limits that the words were opened with.
     pub limits: Limits,
     flags: PhantomData<P>,
     pub ghost may_open: { MayOpen limits },
@@ -31,6 +32,7 @@ pub struct PlainWords<P: Packed> {
 /// What a plain pass tells: nothing but its limits.
 #[derive(Drop)]
 pub struct PlainTold {
+    /// The limits of the words whose pass told it.
     pub limits: Limits,
 }
 
@@ -119,7 +121,9 @@ impl<P: Packed, A: Allocator + Copy + Drop> OpenWords<P, A> for PlainWords<P> {
 /// A place that was set, and in whose name.
 #[derive(Clone, Copy)]
 pub(crate) struct Setting {
+    /// The place of the word.
     pub place: Place,
+    /// In whose name: a rank's or the outside's.
     pub by: Caller,
 }
 
@@ -127,6 +131,7 @@ pub(crate) struct Setting {
 #[derive(Drop)]
 pub struct Trail {
     count: u64,
+    /// The steps in their order, for contracts alone: it takes no memory.
     pub log: StepLog,
     ghost counted: { count ≡ length log.items % 2 ^ 64 },
 }

@@ -120,6 +120,7 @@ const SHORT: usize = 4096;
 /// The words of a world. Contracts see its limits, and the words by their keys.
 #[derive(Drop)]
 pub(crate) struct Row<A: Allocator> {
+    /// How many ranks, communicators and rounds there are words for.
     pub limits: Limits,
     // Those of the lists and the revocations.
     heads: Vec<u64, A>,

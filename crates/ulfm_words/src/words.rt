@@ -1,3 +1,5 @@
+// What calls and machines ask of words: atomic loads and exchanges over a caller's pass. What is proved of calls holds
+// over any words that promise this.
 ghost use Rattle.std.specs.Prelude.{◌≡◌, ◌%◌, ◌^◌, Bool, IfOk};
 ghost use Rattle.ulfm_model.specs.Blocks.{IsBlockWithin};
 ghost use Rattle.ulfm_model.specs.Words.{MayOpen};

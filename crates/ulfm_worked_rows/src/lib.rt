@@ -8,6 +8,7 @@ pub mod traces;
 /// A text that the program reads, and what it gives for it.
 #[derive(Clone, Copy)]
 pub struct Row {
+    /// What the worked case is called, as `one_rank`.
     pub name: &'static str,
     /// A script or a trace.
     pub script: &'static str,

@@ -1,3 +1,4 @@
+// The call by which a rank acknowledges failures of a communicator (`MPI_Comm_ack_failed`).
 ghost use Rattle.ulfm_model.specs.declared.call.Call.TheVariants.{Ack as Asked};
 ghost use Rattle.ulfm_model.specs.declared.reply.Reply.TheVariants.{Acked as Answered};
 ghost use Rattle.ulfm_words.specs.Steps.{view_of, IsView};

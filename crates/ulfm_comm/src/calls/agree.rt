@@ -1,3 +1,4 @@
+// The call that starts an agree on a flag (`MPI_Comm_iagree`). A poll asks for its reply.
 ghost use Rattle.ulfm_model.specs.declared.call.Call.TheVariants.{Agree as Asked};
 ghost use Rattle.ulfm_model.specs.declared.reply.Reply.TheVariants.{Started};
 ghost use Rattle.ulfm_words.specs.Steps.{view_of, IsView};

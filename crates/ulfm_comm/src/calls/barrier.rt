@@ -1,3 +1,4 @@
+// The call that starts a barrier. A poll asks for its reply.
 ghost use Rattle.ulfm_model.specs.declared.call.Call.TheVariants.{Barrier as Asked};
 ghost use Rattle.ulfm_model.specs.declared.reply.Reply.TheVariants.{Started};
 ghost use Rattle.ulfm_words.specs.Steps.{view_of, IsView};

@@ -1,3 +1,4 @@
+// How a rank is declared failed: by the outside, say a failure detector, and not by a call of any rank.
 ghost use Rattle.ulfm_words.specs.Steps.{view_of, IsView};
 ghost use Rattle.ulfm_comm.specs.Calls.{reply_of};
 ghost use Rattle.ulfm_comm.specs.Fails.{Fails, declared};

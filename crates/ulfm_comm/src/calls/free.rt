@@ -1,3 +1,4 @@
+// The call by which a rank gives a communicator back. It waits for nobody, unlike `MPI_Comm_free`.
 ghost use Rattle.ulfm_model.specs.declared.call.Call.TheVariants.{Free as Asked};
 ghost use Rattle.ulfm_model.specs.declared.reply.Reply.TheVariants.{Freed};
 ghost use Rattle.ulfm_words.specs.Steps.{view_of, IsView};

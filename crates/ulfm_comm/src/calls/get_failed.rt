@@ -1,3 +1,4 @@
+// The call by which a rank asks which members of a communicator are known to have failed (`MPI_Comm_get_failed`).
 ghost use Rattle.ulfm_comm.specs.Excludes.{failed_in};
 ghost use Rattle.std.specs.Prelude.{◌≡◌, ◌<◌, Err, IfOk, OnErr, length, vec_capacity};
 ghost use Rattle.ulfm_model.specs.declared.{call.Call.TheVariants.{GetFailed as Asked}, refusal.Refusal.TheVariants.{OutOfMemory as NoMemory}};

@@ -1,3 +1,4 @@
+// The call by which a rank asks whether a communicator is revoked (`MPI_Comm_is_revoked`).
 ghost use Rattle.ulfm_model.specs.declared.call.Call.TheVariants.{IsRevoked as Asked};
 ghost use Rattle.ulfm_model.specs.declared.reply.Reply.TheVariants.{Standing};
 ghost use Rattle.ulfm_words.specs.Steps.{view_of, IsView};

@@ -1,3 +1,4 @@
+// Who is still missing in the round of an open request, so that whoever waits can tell for whom. No call of MPI's.
 ghost use Rattle.std.specs.Prelude.{◌≡◌, ◌+◌, ◌<◌, ◌≤◌, [], false, Err, IfOk, OnErr, length, vec_capacity};
 ghost use Rattle.ulfm_model.specs.Records.{held_at};
 ghost use Rattle.ulfm_model.specs.declared.refusal.Refusal.TheVariants.{OutOfMemory as NoMemory};

@@ -1,3 +1,4 @@
+// The call that asks for the reply to an agree, a shrink or a barrier that is open, as `MPI_Test` does.
 ghost use Rattle.std.specs.Prelude.{IfOk};
 ghost use Rattle.ulfm_model.specs.declared.call.Call.TheVariants.{Poll as Asked};
 ghost use Rattle.ulfm_words.specs.Steps.{view_of, IsView};

@@ -1,3 +1,4 @@
+// The call that revokes a communicator, for all ranks and for good (`MPI_Comm_revoke`).
 ghost use Rattle.ulfm_model.specs.declared.call.Call.TheVariants.{Revoke as Asked};
 ghost use Rattle.ulfm_words.specs.Steps.{view_of, IsView};
 ghost use Rattle.ulfm_comm.specs.Calls.{Calls, reply_of};

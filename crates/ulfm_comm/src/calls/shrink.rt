@@ -1,3 +1,4 @@
+// The call that starts a shrink of a communicator to its survivors (`MPI_Comm_ishrink`). A poll asks for its reply.
 ghost use Rattle.std.specs.Prelude.{IfOk};
 ghost use Rattle.ulfm_model.specs.declared.call.Call.TheVariants.{Shrink as Asked};
 ghost use Rattle.ulfm_model.specs.declared.reply.Reply.TheVariants.{Started};

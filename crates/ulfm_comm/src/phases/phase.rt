@@ -16,7 +16,9 @@ use ulfm_steps::{Append, Arrivals, MarkAll, Missing, Peek, ReadBlocks, ReadOn, R
 // What a decided shrink makes: a communicator of this round, with this context id.
 #[derive(Clone, Copy)]
 pub(crate) struct Made {
+    /// The parent's round, counted from 0.
     pub round: u16,
+    /// The context ids that are free at all contributors. It gets the lowest.
     pub mask: CtxMask,
     // How many failures of the parent are left out.
     pub count: u16,
@@ -33,11 +35,14 @@ pub(crate) enum Phase<P: Packed> {
     Looking,
     // The rank contributes to its next agreement round.
     Settling {
+        // What the rank starts, with its round.
         request: Request,
+        // What the rank gives to the round.
         offer: Offer<P>,
     },
     // It arrives in its next barrier round.
     Arriving {
+        // That round, counted from 0.
         round: u16,
     },
     // It revokes the communicator.
@@ -46,37 +51,51 @@ pub(crate) enum Phase<P: Packed> {
     Asking,
     // The blocks of a round are loaded.
     Peeking {
+        // How far the loads have come.
         peek: Peek<P>,
+        // Whether the open request is a shrink.
         shrinks: bool,
     },
     // Its declared members are marked. Not all of these blocks were set.
     Marking {
+        // How far the marks have come.
         marks: MarkAll,
+        // What is known of the round's blocks.
         blocks: RoundBlocks<P>,
+        // Whether the open request is a shrink.
         shrinks: bool,
     },
     // The blocks that weren't set are read, and cached.
     Reading {
+        // How far the reading has come.
         reading: ReadBlocks<P>,
+        // Whether the open request is a shrink.
         shrinks: bool,
     },
     // The list of failures is read on, as far as the decision's failed group reaches.
     ReadingOn {
+        // How far the reading has come.
         on: ReadOn,
+        // What the decided round makes.
         made: Made,
     },
     // The list of communicators is read, and gets the new one. So many failures that were seen reach as far as that group.
     Spawning {
+        // How far the list was read.
         append: Append,
+        // The context id of the new communicator, 0 to 31.
         context: u8,
+        // How many of the failures that were seen reach as far as that group.
         reach: usize,
     },
     // Who has arrived in a barrier round is read.
     Waiting {
+        // How far the reading has come.
         arrivals: Arrivals,
     },
     // Last, whether the communicator is revoked.
     Checking {
+        // Who was found missing before.
         missing: Missing,
     },
 }
@@ -114,7 +133,9 @@ impl<P: Packed> Phase<P> {
 // Where a call of a rank stands.
 #[derive(Drop)]
 pub(crate) struct Way<P: Packed, A: Allocator> {
+    /// The call, with its rank and its communicator.
     pub asked: Call<P>,
+    /// What it does next.
     pub phase: Phase<P>,
     // The members of a communicator that is being made.
     pub group: Vec<u16, A>,
@@ -132,6 +153,7 @@ impl<P: Packed, A: Allocator> Model for Way<P, A> {
 /// until its reply.
 #[derive(Drop)]
 pub struct Doing<P: Packed, A: Allocator> {
+    // What is asked, and how far it has come.
     pub(crate) way: Way<P, A>,
     // The steps that it has made.
     pub(crate) made: u32,
