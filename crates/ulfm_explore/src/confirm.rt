@@ -34,7 +34,8 @@ fn trace_of<A: Allocator + Copy + Drop>(
     let mut left = script;
     match run_step_script::<StepTable<A>, A, &[u8], Vec<u8, A>>(alloc, &mut left, &mut trace) {
         Ok(()) => Ok(Some(trace)),
-        Err(RunFault::Memory) => Err(AllocError),
+        // (a vector that is written to fails where memory is refused, and nowhere else)
+        Err(RunFault::Memory | RunFault::Write) => Err(AllocError),
         Err(_) => Ok(None),
     }
 }
